@@ -1,0 +1,6 @@
+pub mod Letters
+pub mod Tokens
+pub mod FirstForm
+pub mod Steps
+pub mod Script
+pub mod Forms

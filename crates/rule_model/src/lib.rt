@@ -1,0 +1,4 @@
+// Behaviours, derivations, and the inference rules.
+#![tactic(auto)]
+
+pub mod beh;
