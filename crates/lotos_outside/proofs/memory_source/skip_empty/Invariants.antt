@@ -1,0 +1,9 @@
+use Rattle.std.proofs.Common.{◌≡◌, map, vec_len}
+use Rattle.std.specs.List.{concat}
+use Rattle.lotos_outside.proofs.memory_source.skip_empty.Given as goal
+
+abbrev pub invariant-loop-first : goal.invariant-loop-first
+invariant-loop-first l = concat (map (λ piece. piece.items) l.pieces.items) ≡ concat (map (λ piece. piece.items) l.initial.pieces.items)
+
+abbrev pub decreases-loop-first : goal.decreases-loop-first
+decreases-loop-first l = vec_len l.pieces

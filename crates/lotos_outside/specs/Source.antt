@@ -1,0 +1,19 @@
+-- What a source has left.
+use Rattle.std.specs.Prelude.{ℕ, ◌<◌, List, [], ◌∷◌, ◌++◌, length, Option, option_map}
+
+-- what a source has left, where it tells it, with these bytes before it
+abbrev pub with_first : List ℕ → Option (List ℕ) → Option (List ℕ)
+with_first bytes rest = option_map (λ left. bytes ++ left) rest
+
+-- A source in memory: the pieces that are left, of which a call gives at most the rest of one; the numbers of the calls
+-- that fail; how many calls there were; and how many faults.
+pub record SourceState : Type 0 where
+  pub pieces : List (List ℕ)
+  pub fails : List ℕ
+  pub calls : ℕ
+  pub faults : ℕ
+
+-- no empty piece stands at the front
+abbrev pub BeginsFilled : List (List ℕ) → Type 0
+BeginsFilled [] = Unit {0}
+BeginsFilled (piece ∷ pieces) = 0 < length piece

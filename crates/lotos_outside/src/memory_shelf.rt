@@ -1,0 +1,100 @@
+// A shelf in memory.
+
+ghost use Rattle.std.specs.Prelude.{◌≡◌, [], ◌∷◌, ◌++◌, map, string_bytes, option_map, OnOk, OnErr};
+ghost use Rattle.lotos_outside.specs.Shelf.{first_file};
+
+use crate::shelf::{Shelf, ShelfFault};
+use std::alloc::AllocError;
+use std::marker::Model;
+
+/// A shelf in memory, which fails at the calls that it was told to fail at, and where it has no file of the name.
+#[derive(Drop)]
+pub struct MemoryShelf {
+    files: Vec<(String, Vec<u8>)>,
+    fails: Vec<u64>,
+    calls: u64,
+    failed: Vec<String>,
+}
+
+impl Model for MemoryShelf {
+    ghost use Rattle.std.specs.Prelude.{map, string_bytes};
+    ghost use Rattle.lotos_outside.specs.Shelf.{ShelfState};
+
+    ghost Value = { ShelfState };
+
+    ghost view = { λ s. record { files = map (λ f. (string_bytes f.0, f.1.items)) s.files.items; fails = s.fails.items; calls = s.calls; failed = map string_bytes s.failed.items } };
+}
+
+impl MemoryShelf {
+    /// A shelf with these files, each a name and its bytes, which fails at the calls with these numbers, counted from 1.
+    ///
+    /// Of two files with one name the first counts.
+    pub fn new(files: Vec<(String, Vec<u8>)>, fails: Vec<u64>) -> MemoryShelf
+        ensures { result ≡ record { files = map (λ f. (string_bytes f.0, f.1.items)) files.items; fails = fails.items; calls = 0; failed = [] } }
+    {
+        let failed = Vec::new(*files.allocator());
+        MemoryShelf {
+            files,
+            fails,
+            calls: 0,
+            failed,
+        }
+    }
+}
+
+// The bytes of the first file with this name.
+fn find<'a>(files: &'a [(String, Vec<u8>)], name: &str) -> Option<&'a Vec<u8>>
+    ensures { option_map (λ v. v.now.items) result ≡ first_file (map (λ f. (string_bytes f.0, f.1.items)) files.now) name.now }
+{
+    match files {
+        [] => None,
+        [file, rest @ ..] => {
+            if file.0.as_str() == name {
+                Some(&file.1)
+            } else {
+                find(rest, name)
+            }
+        }
+    }
+}
+
+// Adds a name behind the others.
+fn note(failed: &mut Vec<String>, name: &str) -> Result<(), AllocError>
+    ensures ok { OnOk result (map string_bytes failed.new.items ≡ map string_bytes failed.old.items ++ name.now ∷ []) }
+    ensures err { OnErr result (failed.new.items ≡ failed.old.items) }
+{
+    let name = String::from_str(*failed.allocator(), name)?;
+    failed.push(name)?;
+    Ok(())
+}
+
+impl Shelf for MemoryShelf {
+    ghost use Rattle.std.specs.Prelude.{Some};
+    ghost use Rattle.lotos_outside.specs.Shelf.{first_file};
+
+    ghost files = { λ shelf. Some (first_file shelf.files) };
+
+    ghost failed = { λ shelf. shelf.failed };
+
+    fn fetch(&mut self, name: &str, most: usize, into: &mut Vec<u8>) -> Result<(), ShelfFault> {
+        self.calls = self.calls.saturating_add(1);
+        let found = if self.fails.contains(&self.calls) {
+            None
+        } else {
+            find(&self.files, name)
+        };
+        match found {
+            Some(bytes) => {
+                let count = bytes.len().min(most);
+                match into.extend_from_slice(&bytes[..count]) {
+                    Ok(()) => Ok(()),
+                    Err(_) => Err(ShelfFault::Memory),
+                }
+            }
+            None => match note(&mut self.failed, name) {
+                Ok(()) => Err(ShelfFault::Failed),
+                Err(_) => Err(ShelfFault::Memory),
+            },
+        }
+    }
+}
