@@ -13,6 +13,12 @@ pub record SourceState : Type 0 where
   pub calls : ℕ
   pub faults : ℕ
 
+-- the first piece that isn't empty, or the empty one
+abbrev pub next_piece : List (List ℕ) → List ℕ
+next_piece [] = []
+next_piece ([] ∷ pieces) = next_piece pieces
+next_piece ((byte ∷ bytes) ∷ pieces) = byte ∷ bytes
+
 -- no empty piece stands at the front
 abbrev pub BeginsFilled : List (List ℕ) → Type 0
 BeginsFilled [] = Unit {0}

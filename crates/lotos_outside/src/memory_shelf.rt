@@ -1,6 +1,7 @@
 // A shelf in memory.
 
-ghost use Rattle.std.specs.Prelude.{◌≡◌, [], ◌∷◌, ◌++◌, map, string_bytes, option_map, OnOk, OnErr};
+ghost use Rattle.std.specs.Prelude.{◌≡◌, ◌⊎◌, [], ◌∷◌, ◌++◌, map, take, Contains, string_bytes, option_map, IsSomeAnd, OnOk, OnErr, IsErrOf};
+ghost use Rattle.lotos_outside.specs.Counts.{next_count};
 ghost use Rattle.lotos_outside.specs.Shelf.{first_file};
 
 use crate::shelf::{Shelf, ShelfFault};
@@ -76,25 +77,30 @@ impl Shelf for MemoryShelf {
 
     ghost failed = { λ shelf. shelf.failed };
 
-    fn fetch(&mut self, name: &str, most: usize, into: &mut Vec<u8>) -> Result<(), ShelfFault> {
+    fn fetch(&mut self, name: &str, most: usize, into: &mut Vec<u8>) -> Result<(), ShelfFault>
+        ensures ok { OnOk result (IsSomeAnd (first_file self.old.files name.now) (λ text. into.new.items ≡ into.old.items ++ take most text)) }
+        ensures err { OnErr result (into.new.items ≡ into.old.items) }
+
+        // It fails at the calls that it was told to fail at, and where it has no file of the name.
+        ensures ok_only { OnOk result (¬ Contains self.old.fails (next_count self.old.calls)) }
+        ensures failed_only { IsErrOf result ShelfFault.Failed → Contains self.old.fails (next_count self.old.calls) ⊎ (first_file self.old.files name.now ≡ None) }
+
+        ensures ok_state { OnOk result (self.new ≡ record self.old { calls = next_count self.old.calls }) }
+        ensures failed_state { IsErrOf result ShelfFault.Failed → self.new ≡ record self.old { calls = next_count self.old.calls; failed = self.old.failed ++ name.now ∷ [] } }
+        ensures memory_state { IsErrOf result ShelfFault.Memory → self.new ≡ record self.old { calls = next_count self.old.calls } }
+    {
         self.calls = self.calls.saturating_add(1);
         let found = if self.fails.contains(&self.calls) {
             None
         } else {
             find(&self.files, name)
         };
-        match found {
-            Some(bytes) => {
-                let count = bytes.len().min(most);
-                match into.extend_from_slice(&bytes[..count]) {
-                    Ok(()) => Ok(()),
-                    Err(_) => Err(ShelfFault::Memory),
-                }
-            }
-            None => match note(&mut self.failed, name) {
-                Ok(()) => Err(ShelfFault::Failed),
-                Err(_) => Err(ShelfFault::Memory),
-            },
-        }
+        let Some(bytes) = found else {
+            note(&mut self.failed, name)?;
+            return Err(ShelfFault::Failed);
+        };
+        let count = bytes.len().min(most);
+        into.extend_from_slice(&bytes[..count])?;
+        Ok(())
     }
 }

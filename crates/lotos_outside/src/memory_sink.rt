@@ -1,6 +1,7 @@
 // A sink in memory.
 
-ghost use Rattle.std.specs.Prelude.{◌≡◌, []};
+ghost use Rattle.std.specs.Prelude.{◌≡◌, ◌≤◌, ◌↔◌, [], ◌++◌, length, Contains, IfOk, OnOk, IsErrOf};
+ghost use Rattle.lotos_outside.specs.Counts.{next_count};
 
 use crate::sink::{Sink, SinkFault};
 use std::marker::Model;
@@ -51,15 +52,20 @@ impl Sink for MemorySink {
 
     ghost faults = { λ sink. sink.faults };
 
-    fn write(&mut self, piece: &[u8]) -> Result<usize, SinkFault> {
+    fn write(&mut self, piece: &[u8]) -> Result<usize, SinkFault>
+        ensures ok { OnOk result (self.new ≡ record self.old { calls = next_count self.old.calls; written = self.old.written ++ piece.now }) }
+        ensures whole { IfOk result (λ count. count ≡ length piece.now) }
+        ensures failed { IsErrOf result SinkFault.Failed → self.new ≡ record self.old { calls = next_count self.old.calls; faults = next_count self.old.faults } }
+        ensures memory { IsErrOf result SinkFault.Memory → self.new ≡ record self.old { calls = next_count self.old.calls } }
+        ensures fails { IsErrOf result SinkFault.Failed ↔ Contains self.old.fails (next_count self.old.calls) }
+        ensures never_fewer { self.old.faults ≤ self.new.faults }
+    {
         self.calls = self.calls.saturating_add(1);
         if self.fails.contains(&self.calls) {
             self.faults = self.faults.saturating_add(1);
             return Err(SinkFault::Failed);
         }
-        match self.into.extend_from_slice(piece) {
-            Ok(()) => Ok(piece.len()),
-            Err(_) => Err(SinkFault::Memory),
-        }
+        self.into.extend_from_slice(piece)?;
+        Ok(piece.len())
     }
 }

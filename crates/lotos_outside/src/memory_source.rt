@@ -1,8 +1,9 @@
 // A source in memory.
 
-ghost use Rattle.std.specs.Prelude.{◌≡◌, ◌<◌, ◌≤◌, [], ◌++◌, map, min, length, take, drop, vec_len};
+ghost use Rattle.std.specs.Prelude.{◌≡◌, ◌<◌, ◌≤◌, ◌↔◌, [], ◌++◌, map, min, length, take, drop, Contains, vec_len, Ok, IfOk, OnOk, OnErr, IsErr};
 ghost use Rattle.std.specs.List.{concat};
-ghost use Rattle.lotos_outside.specs.Source.{BeginsFilled};
+ghost use Rattle.lotos_outside.specs.Counts.{next_count};
+ghost use Rattle.lotos_outside.specs.Source.{next_piece, BeginsFilled};
 
 use crate::source::{Source, SourceFault};
 use std::marker::Model;
@@ -44,6 +45,7 @@ impl MemorySource {
 // Removes the empty pieces at the front.
 fn skip_empty(pieces: &mut Vec<Vec<u8>>)
     ensures same { concat (map (λ piece. piece.items) pieces.new.items) ≡ concat (map (λ piece. piece.items) pieces.old.items) }
+    ensures next { next_piece (map (λ piece. piece.items) pieces.new.items) ≡ next_piece (map (λ piece. piece.items) pieces.old.items) }
     ensures filled { BeginsFilled (map (λ piece. piece.items) pieces.new.items) }
 {
     while let Some(first) = pieces.first() {
@@ -57,7 +59,7 @@ fn skip_empty(pieces: &mut Vec<Vec<u8>>)
 // Moves as many bytes of the first piece as there is room for to the beginning of `piece`.
 fn move_first(pieces: &mut [Vec<u8>], piece: &mut [u8]) -> usize
     requires { BeginsFilled (map (λ piece. piece.items) pieces.old) }
-    ensures within { result ≤ length piece.old }
+    ensures count { result ≡ min (length (next_piece (map (λ piece. piece.items) pieces.old))) (length piece.old) }
     ensures moved { concat (map (λ piece. piece.items) pieces.old) ≡ take result piece.new ++ concat (map (λ piece. piece.items) pieces.new) }
     ensures end { result ≡ 0 → 0 < length piece.old → pieces.old ≡ [] }
 {
@@ -88,7 +90,15 @@ impl Source for MemorySource {
 
     ghost faults = { λ source. source.faults };
 
-    fn read(&mut self, piece: &mut [u8]) -> Result<usize, SourceFault> {
+    fn read(&mut self, piece: &mut [u8]) -> Result<usize, SourceFault>
+        ensures ok { IfOk result (λ count. concat self.old.pieces ≡ take count piece.new ++ concat self.new.pieces) }
+        ensures one_piece { IfOk result (λ count. count ≡ min (length (next_piece self.old.pieces)) (length piece.old)) }
+        ensures end { result ≡ Ok 0 → 0 < length piece.old → concat self.old.pieces ≡ [] }
+        ensures ok_state { OnOk result (self.new ≡ record self.old { calls = next_count self.old.calls; pieces = self.new.pieces }) }
+        ensures err_state { OnErr result (self.new ≡ record self.old { calls = next_count self.old.calls; faults = next_count self.old.faults }) }
+        ensures fails { IsErr result ↔ Contains self.old.fails (next_count self.old.calls) }
+        ensures never_fewer { self.old.faults ≤ self.new.faults }
+    {
         self.calls = self.calls.saturating_add(1);
         if self.fails.contains(&self.calls) {
             self.faults = self.faults.saturating_add(1);

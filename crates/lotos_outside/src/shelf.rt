@@ -19,12 +19,22 @@ pub enum ShelfFault {
 }
 
 impl From<Memory> for ShelfFault {
+    ghost use Rattle.std.specs.Prelude.{◌≡◌};
+    ghost use Rattle.lotos_outside.specs.declared.shelf.ShelfFault.TheVariants.{Memory};
+
+    ghost from_gives = { λ _ fault. fault ≡ Memory };
+
     fn from(_: Memory) -> ShelfFault {
         ShelfFault::Memory
     }
 }
 
 impl From<AllocError> for ShelfFault {
+    ghost use Rattle.std.specs.Prelude.{◌≡◌};
+    ghost use Rattle.lotos_outside.specs.declared.shelf.ShelfFault.TheVariants.{Memory};
+
+    ghost from_gives = { λ _ fault. fault ≡ Memory };
+
     fn from(_: AllocError) -> ShelfFault {
         ShelfFault::Memory
     }

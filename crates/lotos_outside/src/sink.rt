@@ -20,12 +20,22 @@ pub enum SinkFault {
 }
 
 impl From<Memory> for SinkFault {
+    ghost use Rattle.std.specs.Prelude.{◌≡◌};
+    ghost use Rattle.lotos_outside.specs.declared.sink.SinkFault.TheVariants.{Memory};
+
+    ghost from_gives = { λ _ fault. fault ≡ Memory };
+
     fn from(_: Memory) -> SinkFault {
         SinkFault::Memory
     }
 }
 
 impl From<AllocError> for SinkFault {
+    ghost use Rattle.std.specs.Prelude.{◌≡◌};
+    ghost use Rattle.lotos_outside.specs.declared.sink.SinkFault.TheVariants.{Memory};
+
+    ghost from_gives = { λ _ fault. fault ≡ Memory };
+
     fn from(_: AllocError) -> SinkFault {
         SinkFault::Memory
     }
