@@ -4,8 +4,7 @@ ghost use Rattle.std.specs.Prelude.{◌≡◌, ◌⊎◌, [], ◌∷◌, ◌++�
 ghost use Rattle.lotos_outside.specs.Counts.{next_count};
 ghost use Rattle.lotos_outside.specs.Shelf.{first_file};
 
-use crate::shelf::{Shelf, ShelfFault};
-use std::alloc::AllocError;
+use crate::shelf::{Shelf, ShelfFault, note};
 use std::marker::Model;
 
 /// A shelf in memory, which fails at the calls that it was told to fail at, and where it has no file of the name.
@@ -57,16 +56,6 @@ fn find<'a>(files: &'a [(String, Vec<u8>)], name: &str) -> Option<&'a Vec<u8>>
             }
         }
     }
-}
-
-// Adds a name behind the others.
-fn note(failed: &mut Vec<String>, name: &str) -> Result<(), AllocError>
-    ensures ok { OnOk result (map string_bytes failed.new.items ≡ map string_bytes failed.old.items ++ name.now ∷ []) }
-    ensures err { OnErr result (failed.new.items ≡ failed.old.items) }
-{
-    let name = String::from_str(*failed.allocator(), name)?;
-    failed.push(name)?;
-    Ok(())
 }
 
 impl Shelf for MemoryShelf {

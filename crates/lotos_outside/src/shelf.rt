@@ -1,6 +1,6 @@
 // Where files are fetched.
 
-ghost use Rattle.std.specs.Prelude.{◌≡◌, ◌++◌, ℕ, List, Option, OnOk, OnErr, IsErrOf, take};
+ghost use Rattle.std.specs.Prelude.{◌≡◌, ◌++◌, ℕ, List, Option, OnOk, OnErr, IsErrOf, map, string_bytes, take};
 ghost use Rattle.lotos_outside.specs.Shelf.{Notes, OnFetched};
 
 use spec_core::memory::Memory;
@@ -60,4 +60,14 @@ pub trait Shelf {
         ensures ok_notes_nothing { OnOk result (failed self.new ≡ failed self.old) }
         ensures memory_notes_nothing { IsErrOf result ShelfFault.Memory → failed self.new ≡ failed self.old }
         ensures same_files { files self.new ≡ files self.old };
+}
+
+// Adds a name behind those that failed.
+pub(crate) fn note(failed: &mut Vec<String>, name: &str) -> Result<(), AllocError>
+    ensures ok { OnOk result (Notes (map string_bytes failed.old.items) (map string_bytes failed.new.items) name.now) }
+    ensures err { OnErr result (failed.new.items ≡ failed.old.items) }
+{
+    let name = String::from_str(*failed.allocator(), name)?;
+    failed.push(name)?;
+    Ok(())
 }
