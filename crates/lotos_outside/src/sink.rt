@@ -5,7 +5,7 @@ ghost use Rattle.lotos_outside.specs.Counts.{Rose};
 ghost use Rattle.lotos_outside.specs.Sink.{with_more, AppendsPrefix};
 
 use spec_core::memory::Memory;
-use std::alloc::AllocError;
+use std::alloc::{AllocError, AllocFailed};
 use thiserror::Error;
 
 /// Why a write wrote nothing.
@@ -37,6 +37,17 @@ impl From<AllocError> for SinkFault {
     ghost from_gives = { λ _ fault. fault ≡ Memory };
 
     fn from(_: AllocError) -> SinkFault {
+        SinkFault::Memory
+    }
+}
+
+impl<T: Drop> From<AllocFailed<T>> for SinkFault {
+    ghost use Rattle.std.specs.Prelude.{◌≡◌};
+    ghost use Rattle.lotos_outside.specs.declared.sink.SinkFault.TheVariants.{Memory};
+
+    ghost from_gives = { λ _ fault. fault ≡ Memory };
+
+    fn from(_: AllocFailed<T>) -> SinkFault {
         SinkFault::Memory
     }
 }
@@ -79,4 +90,75 @@ pub fn write_all<K: Sink>(sink: &mut K, bytes: &[u8]) -> Result<(), SinkFault>
         done += count;
     }
     Ok(())
+}
+
+#[cfg(test)]
+mod tests {
+    use super::*;
+    use crate::memory_sink::MemorySink;
+    use std::test::Fail;
+
+    // A sink that takes at most one byte a call, and none once it is full.
+    #[derive(Drop)]
+    struct Narrow {
+        bytes: Vec<u8>,
+        room: usize,
+        faults: u64,
+    }
+
+    impl Sink for Narrow {
+        ghost use Rattle.std.specs.Prelude.{Some};
+
+        ghost written = { λ sink. Some sink.bytes.items };
+
+        ghost faults = { λ sink. sink.faults };
+
+        fn write(&mut self, piece: &[u8]) -> Result<usize, SinkFault> {
+            if self.bytes.len() >= self.room {
+                self.faults = self.faults.saturating_add(1);
+                return Ok(0);
+            }
+            let Some(byte) = piece.first() else {
+                return Ok(0);
+            };
+            self.bytes.push(*byte)?;
+            Ok(1)
+        }
+    }
+
+    #[test]
+    fn all_is_written_in_as_many_calls_as_it_takes(rt: HostRuntime) -> Result<(), Fail> {
+        let mut sink = Narrow {
+            bytes: Vec::new(rt.alloc()),
+            room: 9,
+            faults: 0,
+        };
+        write_all(&mut sink, b"abc")?;
+        write_all(&mut sink, b"")?;
+        write_all(&mut sink, b"d")?;
+        assert_eq!(rt; sink.bytes.as_slice(), b"abcd".as_slice());
+        Ok(())
+    }
+
+    #[test]
+    fn a_sink_that_takes_nothing_more_is_a_fault(rt: HostRuntime) -> Result<(), Fail> {
+        let mut sink = Narrow {
+            bytes: Vec::new(rt.alloc()),
+            room: 2,
+            faults: 0,
+        };
+        assert_eq!(rt; write_all(&mut sink, b"abc"), Err(SinkFault::Failed));
+        assert_eq!(rt; sink.bytes.as_slice(), b"ab".as_slice());
+        Ok(())
+    }
+
+    #[test]
+    fn a_sink_that_fails_ends_the_writing(rt: HostRuntime) -> Result<(), Fail> {
+        let fails = Vec::from_slice(rt.alloc(), &[2])?;
+        let mut sink = MemorySink::new(Vec::new(rt.alloc()), fails);
+        write_all(&mut sink, b"ab")?;
+        assert_eq!(rt; write_all(&mut sink, b"cd"), Err(SinkFault::Failed));
+        assert_eq!(rt; sink.bytes(), b"ab".as_slice());
+        Ok(())
+    }
 }
