@@ -1,5 +1,6 @@
 -- What a source has left.
-use Rattle.std.specs.Prelude.{ℕ, ◌<◌, List, [], ◌∷◌, ◌++◌, length, Option, option_map}
+use Rattle.std.specs.Prelude.{ℕ, ◌<◌, List, [], ◌∷◌, ◌++◌, map, length, Option, Vec, option_map}
+use Rattle.std.specs.declared.alloc.Global.{Global}
 
 -- what a source has left, where it tells it, with these bytes before it
 abbrev pub with_first : List ℕ → Option (List ℕ) → Option (List ℕ)
@@ -12,6 +13,10 @@ pub record SourceState : Type 0 where
   pub fails : List ℕ
   pub calls : ℕ
   pub faults : ℕ
+
+-- the bytes of each piece
+abbrev pub pieces_of : List (Vec ℕ Global) → List (List ℕ)
+pieces_of pieces = map (λ piece. piece.items) pieces
 
 -- the first piece that isn't empty, or the empty one
 abbrev pub next_piece : List (List ℕ) → List ℕ

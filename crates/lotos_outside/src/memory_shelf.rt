@@ -1,8 +1,9 @@
 // A shelf in memory.
 
-ghost use Rattle.std.specs.Prelude.{◌≡◌, ◌⊎◌, [], ◌∷◌, ◌++◌, map, take, Contains, string_bytes, option_map, IsSomeAnd, OnOk, OnErr, IsErrOf};
+ghost use Rattle.std.specs.Prelude.{◌≡◌, ◌⊎◌, [], ◌∷◌, ◌++◌, take, Contains, option_map, IsSomeAnd, OnOk, OnErr, IsErrOf};
+ghost use Rattle.std.specs.Io.{StartsWith};
 ghost use Rattle.lotos_outside.specs.Counts.{next_count};
-ghost use Rattle.lotos_outside.specs.Shelf.{first_file};
+ghost use Rattle.lotos_outside.specs.Shelf.{files_of, first_file};
 
 use crate::shelf::{Shelf, ShelfFault, note};
 use std::marker::Model;
@@ -18,11 +19,11 @@ pub struct MemoryShelf {
 
 impl Model for MemoryShelf {
     ghost use Rattle.std.specs.Prelude.{map, string_bytes};
-    ghost use Rattle.lotos_outside.specs.Shelf.{ShelfState};
+    ghost use Rattle.lotos_outside.specs.Shelf.{ShelfState, files_of};
 
     ghost Value = { ShelfState };
 
-    ghost view = { λ s. record { files = map (λ f. (string_bytes f.0, f.1.items)) s.files.items; fails = s.fails.items; calls = s.calls; failed = map string_bytes s.failed.items } };
+    ghost view = { λ s. record { files = files_of s.files.items; fails = s.fails.items; calls = s.calls; failed = map string_bytes s.failed.items } };
 }
 
 impl MemoryShelf {
@@ -30,7 +31,7 @@ impl MemoryShelf {
     ///
     /// Of two files with one name the first counts.
     pub fn new(files: Vec<(String, Vec<u8>)>, fails: Vec<u64>) -> MemoryShelf
-        ensures { result ≡ record { files = map (λ f. (string_bytes f.0, f.1.items)) files.items; fails = fails.items; calls = 0; failed = [] } }
+        ensures { result ≡ record { files = files_of files.items; fails = fails.items; calls = 0; failed = [] } }
     {
         let failed = Vec::new(*files.allocator());
         MemoryShelf {
@@ -44,7 +45,7 @@ impl MemoryShelf {
 
 // The bytes of the first file with this name.
 fn find<'a>(files: &'a [(String, Vec<u8>)], name: &str) -> Option<&'a Vec<u8>>
-    ensures { option_map (λ v. v.now.items) result ≡ first_file (map (λ f. (string_bytes f.0, f.1.items)) files.now) name.now }
+    ensures { option_map (λ v. v.now.items) result ≡ first_file (files_of files.now) name.now }
 {
     match files {
         [] => None,
@@ -68,6 +69,7 @@ impl Shelf for MemoryShelf {
 
     fn fetch(&mut self, name: &str, most: usize, into: &mut Vec<u8>) -> Result<(), ShelfFault>
         ensures ok { OnOk result (IsSomeAnd (first_file self.old.files name.now) (λ text. into.new.items ≡ into.old.items ++ take most text)) }
+        ensures appends { StartsWith into.new.items into.old.items }
         ensures err { OnErr result (into.new.items ≡ into.old.items) }
 
         // It fails at the calls that it was told to fail at, and where it has no file of the name.

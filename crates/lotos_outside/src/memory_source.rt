@@ -1,9 +1,9 @@
 // A source in memory.
 
-ghost use Rattle.std.specs.Prelude.{◌≡◌, ◌<◌, ◌≤◌, ◌↔◌, [], ◌++◌, map, min, length, take, drop, Contains, vec_len, Ok, IfOk, OnOk, OnErr, IsErr};
+ghost use Rattle.std.specs.Prelude.{◌≡◌, ◌<◌, ◌≤◌, ◌↔◌, [], ◌++◌, min, length, take, drop, Contains, vec_len, Ok, IfOk, OnOk, OnErr, IsErr};
 ghost use Rattle.std.specs.List.{concat};
 ghost use Rattle.lotos_outside.specs.Counts.{next_count};
-ghost use Rattle.lotos_outside.specs.Source.{next_piece, BeginsFilled};
+ghost use Rattle.lotos_outside.specs.Source.{pieces_of, next_piece, BeginsFilled};
 
 use crate::source::{Source, SourceFault};
 use std::marker::Model;
@@ -18,12 +18,11 @@ pub struct MemorySource {
 }
 
 impl Model for MemorySource {
-    ghost use Rattle.std.specs.Prelude.{map};
-    ghost use Rattle.lotos_outside.specs.Source.{SourceState};
+    ghost use Rattle.lotos_outside.specs.Source.{SourceState, pieces_of};
 
     ghost Value = { SourceState };
 
-    ghost view = { λ s. record { pieces = map (λ piece. piece.items) s.pieces.items; fails = s.fails.items; calls = s.calls; faults = s.faults } };
+    ghost view = { λ s. record { pieces = pieces_of s.pieces.items; fails = s.fails.items; calls = s.calls; faults = s.faults } };
 }
 
 impl MemorySource {
@@ -31,7 +30,7 @@ impl MemorySource {
     ///
     /// A call gives at most the rest of one piece.
     pub fn new(pieces: Vec<Vec<u8>>, fails: Vec<u64>) -> MemorySource
-        ensures { result ≡ record { pieces = map (λ piece. piece.items) pieces.items; fails = fails.items; calls = 0; faults = 0 } }
+        ensures { result ≡ record { pieces = pieces_of pieces.items; fails = fails.items; calls = 0; faults = 0 } }
     {
         MemorySource {
             pieces,
@@ -44,9 +43,9 @@ impl MemorySource {
 
 // Removes the empty pieces at the front.
 fn skip_empty(pieces: &mut Vec<Vec<u8>>)
-    ensures same { concat (map (λ piece. piece.items) pieces.new.items) ≡ concat (map (λ piece. piece.items) pieces.old.items) }
-    ensures next { next_piece (map (λ piece. piece.items) pieces.new.items) ≡ next_piece (map (λ piece. piece.items) pieces.old.items) }
-    ensures filled { BeginsFilled (map (λ piece. piece.items) pieces.new.items) }
+    ensures same { concat (pieces_of pieces.new.items) ≡ concat (pieces_of pieces.old.items) }
+    ensures next { next_piece (pieces_of pieces.new.items) ≡ next_piece (pieces_of pieces.old.items) }
+    ensures filled { BeginsFilled (pieces_of pieces.new.items) }
 {
     while let Some(first) = pieces.first() {
         if !first.is_empty() {
@@ -58,9 +57,9 @@ fn skip_empty(pieces: &mut Vec<Vec<u8>>)
 
 // Moves as many bytes of the first piece as there is room for to the beginning of `piece`.
 fn move_first(pieces: &mut [Vec<u8>], piece: &mut [u8]) -> usize
-    requires { BeginsFilled (map (λ piece. piece.items) pieces.old) }
-    ensures count { result ≡ min (length (next_piece (map (λ piece. piece.items) pieces.old))) (length piece.old) }
-    ensures moved { concat (map (λ piece. piece.items) pieces.old) ≡ take result piece.new ++ concat (map (λ piece. piece.items) pieces.new) }
+    requires { BeginsFilled (pieces_of pieces.old) }
+    ensures count { result ≡ min (length (next_piece (pieces_of pieces.old))) (length piece.old) }
+    ensures moved { concat (pieces_of pieces.old) ≡ take result piece.new ++ concat (pieces_of pieces.new) }
     ensures end { result ≡ 0 → 0 < length piece.old → pieces.old ≡ [] }
 {
     match pieces {

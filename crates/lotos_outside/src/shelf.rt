@@ -1,6 +1,7 @@
 // Where files are fetched.
 
 ghost use Rattle.std.specs.Prelude.{◌≡◌, ◌++◌, ℕ, List, Option, OnOk, OnErr, IsErrOf, map, string_bytes, take};
+ghost use Rattle.std.specs.Io.{StartsWith};
 ghost use Rattle.lotos_outside.specs.Shelf.{Notes, OnFetched};
 
 use spec_core::memory::Memory;
@@ -64,6 +65,7 @@ pub trait Shelf {
     /// After an error `into` is as it was.
     fn fetch(&mut self, name: &str, most: usize, into: &mut Vec<u8>) -> Result<(), ShelfFault>
         ensures ok { OnOk result (OnFetched (files self.old) name.now (λ text. into.new.items ≡ into.old.items ++ take most text)) }
+        ensures appends { StartsWith into.new.items into.old.items }
         ensures err { OnErr result (into.new.items ≡ into.old.items) }
 
         // A fault is noted under just this name, and nothing else is ever noted.
