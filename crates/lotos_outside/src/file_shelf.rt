@@ -1,0 +1,98 @@
+// The files of the file system as a shelf.
+
+ghost use Rattle.std.specs.Prelude.{◌≡◌, []};
+ghost use Rattle.std.specs.Io.{StartsWith};
+
+use crate::shelf::{Shelf, ShelfFault, note};
+use std::io::{ErrorKind, Read};
+use std::marker::Model;
+use std::rt::Files;
+use std::{fs, io};
+
+/// The files of the file system, by their paths. It tells no content, and notes the path at each failure.
+///
+/// A contract sees it as the list of the paths that failed.
+#[derive(Drop)]
+pub struct FileShelf<'a, R> {
+    rt: &'a R,
+    failed: Vec<String>,
+}
+
+impl<'a, R> Model for FileShelf<'a, R> {
+    ghost use Rattle.std.specs.Prelude.{ℕ, List, map, string_bytes};
+
+    ghost Value = { List (List ℕ) };
+
+    ghost view = { λ shelf. map string_bytes shelf.failed.items };
+}
+
+impl<'a, R: Files + AllocGlobal> FileShelf<'a, R> {
+    /// The files that this runtime reaches. It takes no memory.
+    pub fn new(rt: &'a R) -> FileShelf<'a, R>
+        ensures { result ≡ [] }
+    {
+        FileShelf {
+            rt,
+            failed: Vec::new(rt.alloc()),
+        }
+    }
+}
+
+impl<'a, R: Files> Shelf for FileShelf<'a, R> {
+    ghost use Rattle.std.specs.Prelude.{None};
+
+    ghost files = { λ _. None };
+
+    ghost failed = { λ failed. failed };
+
+    fn fetch(&mut self, name: &str, most: usize, into: &mut Vec<u8>) -> Result<(), ShelfFault> {
+        let length = into.len();
+        let Err(error) = append_file(self.rt, name, most as u64, into) else {
+            return Ok(());
+        };
+        into.truncate(length);
+        if error.kind() == ErrorKind::OutOfMemory {
+            return Err(ShelfFault::Memory);
+        }
+        note(&mut self.failed, name)?;
+        Err(ShelfFault::Failed)
+    }
+}
+
+// Appends the first `most` bytes of the file with this path. After an error some of them may have been appended.
+fn append_file<R: Files>(rt: &R, path: &str, most: u64, into: &mut Vec<u8>) -> io::Result<()>
+    ensures { StartsWith into.new.items into.old.items }
+{
+    fs::open(rt, path)?.take(most).read_to_end(into)?;
+    Ok(())
+}
+
+#[cfg(test)]
+mod tests {
+    use super::*;
+    use std::test::Fail;
+
+    #[test]
+    fn a_file_gives_its_first_bytes(rt: HostRuntime) -> Result<(), Fail> {
+        fs::write(&rt, "spec.lotos", "behaviour stop")?;
+        let mut shelf = FileShelf::new(&rt);
+        let mut into = Vec::from_slice(rt.alloc(), b"> ")?;
+        shelf.fetch("spec.lotos", 9, &mut into)?;
+        shelf.fetch("spec.lotos", 100, &mut into)?;
+        assert_eq!(rt; into.as_slice(), b"> behaviourbehaviour stop".as_slice());
+        Ok(())
+    }
+
+    #[test]
+    fn a_missing_file_and_a_folder_fail(rt: HostRuntime) -> Result<(), Fail> {
+        let mut shelf = FileShelf::new(&rt);
+        let mut into = Vec::from_slice(rt.alloc(), b"> ")?;
+        assert_eq!(rt;
+            shelf.fetch("absent", 9, &mut into),
+            Err(ShelfFault::Failed)
+        );
+        assert_eq!(rt; shelf.fetch(".", 9, &mut into), Err(ShelfFault::Failed));
+        assert_eq!(rt; into.as_slice(), b"> ".as_slice());
+        Ok(())
+    }
+}
