@@ -1,2 +1,6 @@
 pub mod PieceLemmas
 pub mod ScriptLemmas
+pub mod WalkLemmas
+pub mod SessionLemmas
+pub mod AnswerLemmas
+pub mod WholeSession

@@ -1,8 +1,10 @@
 -- Lines of a script, one after another.
-use Rattle.std.proofs.Common.{◌≡◌, ℕ, List, [], ◌∷◌, ◌++◌, Bool, true, false, if◌then◌else◌, Option, Some, None, option_map, refl, ap, length, ◌==◌, sym, ◌∙◌, append_assoc}
+use Rattle.std.proofs.Common.{◌≡◌, ℕ, List, [], ◌∷◌, ◌++◌, Bool, true, false, if◌then◌else◌, Option, Some, None, option_map, refl, ap, length, ◌==◌, All, subst, sym, ◌∙◌, append_assoc}
 use Rattle.std.proofs.lemmas.List.{append-nil}
+use Rattle.std.proofs.lemmas.List.Elements.{All-push}
 use Rattle.spec_core.specs.declared.items.Gate.{Gate}
 use Rattle.lotos_run.specs.Tokens.{is_empty, tokens_of}
+use Rattle.lotos_run.specs.FirstForm.{IsGateOf}
 use Rattle.lotos_run.specs.Script.{is_skipped, lines_with, wish_of, wish_before, wishes_of, behind, TakesLine}
 
 behind-wish : (done : List Gate) (gate : Gate) (wishes : Option (List Gate)) → behind done (wish_before (Some gate) wishes) ≡ behind (done ++ gate ∷ []) wishes
@@ -31,3 +33,7 @@ not_empty (c ∷ line) e = refl
 pub last_alone : (gates : List (List ℕ)) (done : List Gate) (line : List ℕ) → (length line == 0) ≡ false → behind done (wishes_of gates (lines_with line [])) ≡ behind done (wishes_of gates (line ∷ []))
 last_alone gates done line e =
     ap (λ (b : Bool). behind done (wishes_of gates (if b then [] else line ∷ []))) (not_empty line e)
+
+-- one gate more of the specification
+pub one_known_more : (gates : List (List ℕ)) (old new : List Gate) (gate : Gate) → IsGateOf gates gate → new ≡ old ++ gate ∷ [] → All (IsGateOf gates) old → All (IsGateOf gates) new
+one_known_more gates old new gate known pushed all = subst (All (IsGateOf gates)) (sym pushed) (All-push (IsGateOf gates) old gate all known)

@@ -6,7 +6,7 @@
 --   una   = ID ";" una | "stop"
 --
 -- It has at most 4,096 bytes; the gates differ, and each ID before a ";" is one of them. Each definition reads one part, from its first token on.
-use Rattle.std.specs.Prelude.{ℕ, List, [], ◌∷◌, ◌++◌, Bool, true, false, ◌&&◌, not, if◌then◌else◌, codes, Option, Some, None, option_map, nat_le, nat_eq, position, length}
+use Rattle.std.specs.Prelude.{ℕ, List, [], ◌∷◌, ◌++◌, Bool, true, false, ◌&&◌, not, if◌then◌else◌, codes, Option, Some, None, option_map, nat_le, nat_eq, position, length, ◌<◌}
 use Rattle.std.specs.List.{list_any}
 use Rattle.spec_core.specs.declared.items.Gate.{Gate}
 use Rattle.rule_model.specs.Behaviours.{Behaviour, stop, act, choice}
@@ -25,6 +25,10 @@ pub record FirstForm : Type 0 where
 -- the gate that a word names: the first one of that name
 abbrev pub gate_at : List (List ℕ) → List ℕ → Option Gate
 gate_at gates word = option_map (λ place. record { 0 = place }) (position (same_word word) gates)
+
+-- the gate is one of these
+abbrev pub IsGateOf : List (List ℕ) → Gate → Type 0
+IsGateOf gates gate = gate.0 < length gates
 
 abbrev pub all_differ : List (List ℕ) → Bool
 all_differ [] = true

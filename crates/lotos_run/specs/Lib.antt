@@ -4,3 +4,5 @@ pub mod FirstForm
 pub mod Steps
 pub mod Script
 pub mod Forms
+pub mod Walk
+pub mod Session

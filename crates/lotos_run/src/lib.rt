@@ -3,6 +3,8 @@
 
 mod pieces;
 mod script;
+mod session;
 mod specification;
 mod stack;
 mod token;
+mod walk;

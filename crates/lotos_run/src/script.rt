@@ -1,10 +1,11 @@
 // Scripts of the first form.
 
-ghost use Rattle.std.specs.Prelude.{◌≡◌, ◌∷◌, ◌++◌, [], ℕ, List, Option, Some, None, IfOk, OnOk, IsErrOf};
+ghost use Rattle.std.specs.Prelude.{◌≡◌, ◌∷◌, ◌++◌, [], ℕ, List, Option, Some, None, IfOk, OnOk, IsErrOf, All};
 ghost use Rattle.spec_core.specs.declared.items.Gate.{Gate};
 ghost use Rattle.lotos_run.specs.declared.token.Token.{Token};
 ghost use Rattle.lotos_run.specs.declared.token.Mark.{Mark};
 ghost use Rattle.lotos_run.specs.declared.token.Token.TheVariants.{Identifier, Fixed};
+ghost use Rattle.lotos_run.specs.FirstForm.{IsGateOf};
 ghost use Rattle.lotos_run.specs.Script.{begins_with, is_skipped, lines_with, wish_of, wishes_of, behind, first_script, IsNoWish, TakesLine, IsUnfitLine};
 ghost use Rattle.lotos_run.specs.Tokens.{tokens_of};
 
@@ -64,6 +65,7 @@ fn last_word(tokens: &mut Tokens) -> Result<Word, ReadFault>
 // The gate that the tokens of a line name.
 fn wish(gates: &[Word], tokens: &mut Tokens) -> Result<Gate, ReadFault>
     ensures ok { IfOk result (λ gate. wish_of gates.now tokens.old ≡ Some gate) }
+    ensures known { IfOk result (IsGateOf gates.now) }
     ensures unfit { IsErrOf result ReadFault.Unfit → wish_of gates.now tokens.old ≡ None }
 {
     let (client, colon) = two_marks(tokens)?;
@@ -84,6 +86,7 @@ fn is_line_skipped(line: &[u8]) -> bool
 // The gate that a line names.
 fn line_wish(alloc: Global, gates: &[Word], line: &[u8]) -> Result<Gate, ReadFault>
     ensures ok { IfOk result (λ gate. wish_of gates.now (tokens_of line.now) ≡ Some gate) }
+    ensures known { IfOk result (IsGateOf gates.now) }
     ensures unfit { IsErrOf result ReadFault.Unfit → wish_of gates.now (tokens_of line.now) ≡ None }
 {
     let mut left = Tokens::new(tokens(alloc, line)?);
@@ -91,7 +94,7 @@ fn line_wish(alloc: Global, gates: &[Word], line: &[u8]) -> Result<Gate, ReadFau
 }
 
 // Takes a line, and puts the gate that it names behind the others.
-#[tactic(auto, using(crate::proofs::ScriptLemmas::named_line))]
+#[tactic(auto, using(crate::proofs::ScriptLemmas::named_line, crate::proofs::ScriptLemmas::one_known_more))]
 fn take_line(
     alloc: Global,
     gates: &[Word],
@@ -99,6 +102,7 @@ fn take_line(
     line: &[u8],
 ) -> Result<(), ReadFault>
     ensures ok { OnOk result (TakesLine gates.now line.now wishes.old.items wishes.new.items) }
+    ensures known { All (IsGateOf gates.now) wishes.old.items → OnOk result (All (IsGateOf gates.now) wishes.new.items) }
     ensures unfit { IsErrOf result ReadFault.Unfit → IsUnfitLine gates.now line.now }
 {
     if is_line_skipped(line) {
@@ -118,6 +122,7 @@ fn take_byte(
     rest: &[u8],
 ) -> Result<Vec<u8>, ReadFault>
     ensures ok { IfOk result (λ hand. behind wishes.old.items (wishes_of gates.now (lines_with line.items (byte ∷ rest.now))) ≡ behind wishes.new.items (wishes_of gates.now (lines_with hand.items rest.now))) }
+    ensures known { All (IsGateOf gates.now) wishes.old.items → OnOk result (All (IsGateOf gates.now) wishes.new.items) }
     ensures unfit { IsErrOf result ReadFault.Unfit → wishes_of gates.now (lines_with line.items (byte ∷ rest.now)) ≡ None }
 {
     if byte == b'\n' {
@@ -140,6 +145,7 @@ fn last_line(
     line: &[u8],
 ) -> Result<Vec<Gate>, ReadFault>
     ensures ok { IfOk result (λ all. behind wishes.items (wishes_of gates.now (lines_with line.now [])) ≡ Some all.items) }
+    ensures known { All (IsGateOf gates.now) wishes.items → IfOk result (λ all. All (IsGateOf gates.now) all.items) }
     ensures unfit { IsErrOf result ReadFault.Unfit → wishes_of gates.now (lines_with line.now []) ≡ None }
 {
     if line.is_empty() {
@@ -152,6 +158,7 @@ fn last_line(
 // The gates that the lines of a text name.
 fn read_lines(alloc: Global, gates: &[Word], text: &[u8]) -> Result<Vec<Gate>, ReadFault>
     ensures ok { IfOk result (λ wishes. wishes_of gates.now (lines_with [] text.now) ≡ Some wishes.items) }
+    ensures known { IfOk result (λ wishes. All (IsGateOf gates.now) wishes.items) }
     ensures unfit { IsErrOf result ReadFault.Unfit → wishes_of gates.now (lines_with [] text.now) ≡ None }
 {
     let mut wishes = Vec::new(alloc);
@@ -165,6 +172,7 @@ fn read_lines(alloc: Global, gates: &[Word], text: &[u8]) -> Result<Vec<Gate>, R
 /// The gates that client 1 names, line by line, where the script is of the first form.
 pub fn read_script(alloc: Global, gates: &[Word], text: &[u8]) -> Result<Vec<Gate>, ReadFault>
     ensures ok { IfOk result (λ wishes. first_script gates.now text.now ≡ Some wishes.items) }
+    ensures known { IfOk result (λ wishes. All (IsGateOf gates.now) wishes.items) }
     ensures unfit { IsErrOf result ReadFault.Unfit → first_script gates.now text.now ≡ None }
 {
     if text.len() > 65536 {

@@ -1,6 +1,6 @@
 // Specifications of the first form, from tokens.
 
-ghost use Rattle.std.specs.Prelude.{◌≡◌, ◌≤◌, ◌∷◌, [], ℕ, List, Option, Some, None, IfOk, OnOk, IfSome, IsErrOf, position};
+ghost use Rattle.std.specs.Prelude.{◌≡◌, ◌<◌, ◌≤◌, length, ◌∷◌, [], ℕ, List, Option, Some, None, IfOk, OnOk, IfSome, IsErrOf, position};
 ghost use Rattle.std.specs.List.{list_any};
 ghost use Rattle.lotos_run.specs.Letters.{same_word};
 ghost use Rattle.rule_model.specs.Behaviours.{behaviour_of, choice};
@@ -8,7 +8,7 @@ ghost use Rattle.lotos_run.specs.declared.token.Token.TheVariants.{Identifier, S
 ghost use Rattle.lotos_run.specs.Steps.{Takes, IsNoStep};
 ghost use Rattle.lotos_run.specs.declared.token.Token.{Token};
 ghost use Rattle.lotos_run.specs.declared.specification.ReadFault.TheVariants.{Memory};
-ghost use Rattle.lotos_run.specs.FirstForm.{FirstForm, gate_at, all_differ, same_mark, after, named, chain, read_alternatives, read_types, read_library, read_kind, read_names, read_gates, read_text, first_form};
+ghost use Rattle.lotos_run.specs.FirstForm.{FirstForm, IsGateOf, gate_at, all_differ, same_mark, after, named, chain, read_alternatives, read_types, read_library, read_kind, read_names, read_gates, read_text, first_form};
 ghost use Rattle.lotos_run.specs.Forms.{form_of};
 
 use crate::pieces::{is_same_word, tokens};
@@ -84,7 +84,8 @@ fn identifier(tokens: &mut Tokens) -> Result<Word, ReadFault>
 
 // The place of the first word that is this one.
 fn place_of(words: &[Word], word: &[u8]) -> Option<usize>
-    ensures { result ≡ position (same_word word.now) words.now }
+    ensures place { result ≡ position (same_word word.now) words.now }
+    ensures within { IfSome result (λ place. place < length words.now) }
 {
     words
         .iter()
@@ -94,6 +95,7 @@ fn place_of(words: &[Word], word: &[u8]) -> Option<usize>
 // The gate that the word names.
 pub fn find_gate(gates: &[Word], word: &Word) -> Result<Gate, ReadFault>
     ensures ok { IfOk result (λ gate. gate_at gates.now word.now ≡ Some gate) }
+    ensures known { IfOk result (IsGateOf gates.now) }
     ensures unfit { IsErrOf result ReadFault.Unfit → gate_at gates.now word.now ≡ None }
 {
     match place_of(gates, word.as_slice()) {

@@ -1,1 +1,12 @@
 pub mod Behaviours
+pub mod Derivations
+pub mod Answers
+pub mod Events
+pub mod Logs
+pub mod Derives
+pub mod Meets
+pub mod States
+pub mod Legal
+pub mod Settling
+pub mod Answering
+pub mod Laws

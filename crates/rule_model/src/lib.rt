@@ -1,4 +1,10 @@
-// Behaviours, derivations, and the inference rules.
+// Behaviours, derivations, logs, and the inference rules as definitions.
 #![tactic(auto)]
 
+pub mod action;
 pub mod beh;
+pub mod laws;
+pub mod log;
+pub mod offer;
+pub mod reply;
+pub mod rules;

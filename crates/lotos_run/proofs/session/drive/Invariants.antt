@@ -1,0 +1,12 @@
+use Rattle.std.proofs.Common.{◌≡◌, ◌≤◌, length, take}
+use Rattle.rule_model.specs.Behaviours.{behaviour_of}
+use Rattle.rule_model.specs.Logs.{events_of}
+use Rattle.lotos_run.specs.Session.{IsSessionSoFar}
+use Rattle.lotos_run.proofs.session.drive.Given as goal
+
+abbrev pub invariant-loop-gate : goal.invariant-loop-gate
+invariant-loop-gate l = record {
+  so_far : IsSessionSoFar (length l.gates) (behaviour_of l.fn.start) (take l.gate-index l.wishes) (events_of l.log) (behaviour_of l.from) l.number l.actions;
+  counted : l.number ≡ l.gate-index;
+  fewer : l.actions ≤ l.gate-index;
+}

@@ -1,0 +1,45 @@
+-- How an offer without fields is answered.
+use Rattle.std.specs.Prelude.{ℕ, ◌+◌, ◌≡◌, Bool, true, false, List, [], ◌∷◌, ◌++◌, Option, Some, None, map}
+use Rattle.spec_core.specs.declared.items.Gate.{Gate}
+use Rattle.rule_model.specs.declared.action.Action.TheVariants.{At}
+use Rattle.rule_model.specs.declared.offer.Offer.{Offer}
+use Rattle.rule_model.specs.Behaviours.{Behaviour}
+use Rattle.rule_model.specs.Derivations.{Derivation}
+use Rattle.rule_model.specs.Derives.{NoStep, SomeStep}
+use Rattle.rule_model.specs.Meets.{NeverMeets}
+use Rattle.rule_model.specs.Answers.{Answer, taken, deadlock, stalls, beyond, not_now, ended, spent, too_large, limit}
+use Rattle.rule_model.specs.Events.{Event, pended, acted, replied, stalled, left}
+use Rattle.rule_model.specs.Settling.{Wish, IsFirstMeeting}
+
+-- an offer at a gate, without fields
+abbrev pub plain : Gate → Offer
+plain gate = record { gate = gate; fields = [] }
+
+abbrev pub plain_wish : Gate → Wish
+plain_wish gate = record { offer = plain gate; ask = false }
+
+-- by this tree the behaviour acts at the gate, and it is the first tree that meets the plain offer
+pub record IsFirstAt (b : Behaviour) (gate : Gate) (d : Derivation) (rest : Behaviour) : Type 0 where
+  pub first_meeting : (result_sort : ℕ → ℕ) → IsFirstMeeting result_sort b (plain gate) d (At gate []) rest
+
+-- no step of the behaviour meets the plain offer
+pub record IsNeverAt (b : Behaviour) (gate : Gate) : Type 0 where
+  pub never_meets : (result_sort : ℕ → ℕ) → NeverMeets result_sort b (plain gate)
+
+-- The entry with which client 1's plain offer of this number is answered, after so many actions; what is left; and how many
+-- actions there were then.
+abbrev pub IsAnswer : Behaviour → Gate → ℕ → ℕ → Event → Behaviour → ℕ → Type 0
+IsAnswer b gate number actions (acted action d by) rest later =
+    (action ≡ At gate []) × (by ≡ Some (1, number)) × IsFirstAt b gate d rest × (later ≡ actions + 1)
+IsAnswer b gate number actions (replied client other (deadlock at)) rest later =
+    (client ≡ 1) × (other ≡ number) × (at ≡ actions) × NoStep b × (rest ≡ b) × (later ≡ actions)
+IsAnswer b gate number actions (replied client other answer) rest later = ⊥
+IsAnswer b gate number actions (stalled names) rest later =
+    (names ≡ (1, number) ∷ []) × IsNeverAt b gate × SomeStep b × (rest ≡ b) × (later ≡ actions)
+IsAnswer b gate number actions (pended client other offer ask) rest later = ⊥
+IsAnswer b gate number actions (left client) rest later = ⊥
+
+-- the offer and its answer stand behind the log
+abbrev pub AppendsAnswer : List Event → List Event → Behaviour → Gate → ℕ → ℕ → Behaviour → ℕ → Type 0
+AppendsAnswer old new b gate number actions rest later =
+    (entry : Event) × (new ≡ old ++ pended 1 number (plain gate) false ∷ entry ∷ []) × IsAnswer b gate number actions entry rest later

@@ -1,0 +1,85 @@
+-- In which order a session answers: of all trees of the whole behaviour at once, whatever the program looks at first.
+use Rattle.std.specs.Prelude.{ℕ, ◌+◌, ◌≤◌, ◌≡◌, ◌⊎◌, Bool, List, [], ◌∷◌, ◌++◌, Option, Some, None, Contains, All}
+use Rattle.rule_model.specs.declared.action.Action.{Action}
+use Rattle.rule_model.specs.declared.offer.Offer.{Offer}
+use Rattle.rule_model.specs.Behaviours.{Behaviour}
+use Rattle.rule_model.specs.Derivations.{Derivation, pre, chl, chr}
+use Rattle.rule_model.specs.Derives.{Derives, NoStep, SomeStep}
+use Rattle.rule_model.specs.Meets.{Meets, NoUnseenStep}
+use Rattle.rule_model.specs.Answers.{Answer, taken, deadlock, stalls, beyond, not_now, ended, spent, too_large, limit}
+use Rattle.rule_model.specs.Events.{OfferName, Event, pended, acted, replied, stalled, left, Ending, exits, deadlocked, waiting, ends_beyond, ends_spent, ends_too_large, ends_at_limit}
+use Rattle.rule_model.specs.States.{PendingOffer, State, after_offer, after_leave}
+use Rattle.rule_model.specs.Legal.{IsPending, IsPossible, NamesAll, NoneMet, AllWait}
+
+-- the order of trees: those of the left side of a choice stand before those of the right side
+abbrev pub Precedes : Derivation → Derivation → Type 0
+Precedes (chl d) (chl e) = Precedes d e
+Precedes (chl d) (chr e) = Unit {0}
+Precedes (chr d) (chr e) = Precedes d e
+Precedes _ _ = ⊥
+
+-- an offer that a client wishes to make, or to ask
+pub record Wish : Type 0 where
+  pub offer : Offer
+  pub ask : Bool
+
+module _ (result_sort : ℕ → ℕ) where
+  -- by this tree the behaviour does an action that meets the offer, and it is the first such tree
+  pub record IsFirstMeeting (b : Behaviour) (offer : Offer) (d : Derivation) (action : Action) (rest : Behaviour) : Type 0 where
+    pub derives : Derives b d action rest
+    pub meets : Meets result_sort action offer
+    pub first : (e : Derivation) (a : Action) (c : Behaviour) → Derives b e a c → Meets result_sort a offer → (e ≡ d) ⊎ Precedes d e
+
+  -- the first pending offer, in log order, that a step meets is taken, by the first such tree
+  pub record TakesFirst (s : State) (action : Action) (d : Derivation) (name : OfferName) : Type 0 where
+    pub before : List PendingOffer
+    pub waits : PendingOffer
+    pub after : List PendingOffer
+    pub pending : s.pending ≡ before ++ waits ∷ after
+    pub none_before : NoneMet result_sort s before
+    pub client : waits.client ≡ name.0
+    pub number : waits.number ≡ name.1
+    pub rest : Behaviour
+    pub meeting : IsFirstMeeting s.behaviour waits.offer d action rest
+
+  -- The entry that comes next in a state, by the first of these rules that applies. What isn't listed here doesn't come yet.
+  --   A step meets a pending offer: the first such offer is taken.
+  --   There is no step at all: the least client with a pending offer is answered deadlock.
+  --   Each open client has an offer pending, there is one, and no step is unseen: all are stalled.
+  abbrev pub IsNextEntry : State → Event → Type 0
+  IsNextEntry s (acted action d None) = ⊥
+  IsNextEntry s (acted action d (Some name)) = TakesFirst s action d name
+  IsNextEntry s (replied client number (deadlock at)) =
+      NoStep s.behaviour × IsPending s (client, number) × ((p : PendingOffer) → Contains s.pending p → client ≤ p.client) × (at ≡ s.actions)
+  IsNextEntry s (replied client number answer) = ⊥
+  IsNextEntry s (stalled names) =
+      NoneMet result_sort s s.pending × SomeStep s.behaviour × NoUnseenStep s.behaviour × AllWait s × (names ≡ [] → ⊥) × NamesAll s names
+  IsNextEntry s (pended client number offer ask) = ⊥
+  IsNextEntry s (left client) = ⊥
+
+  -- nothing comes next
+  abbrev pub IsSettled : State → Type 0
+  IsSettled s = (event : Event) → IsNextEntry s event → ⊥
+
+  -- The run of client 1, where there is a client: what comes next is appended, as long as there is something; else the client makes
+  -- the next offer that it wishes; after the last one it leaves.
+  abbrev pub IsSingleClientRun : ℕ → List Wish → List Event → State → State → Type 0
+  IsSingleClientRun gates wishes [] s t = (wishes ≡ []) × (s.open_clients ≡ []) × IsSettled s × (t ≡ s)
+  IsSingleClientRun gates wishes (pended client number offer ask ∷ log) s t =
+      (others : List Wish) × (wishes ≡ record { offer = offer; ask = ask } ∷ others) × (client ≡ 1) × IsSettled s
+      × (next : State) × IsPossible result_sort gates s (pended client number offer ask) next × IsSingleClientRun gates others log next t
+  IsSingleClientRun gates wishes (left client ∷ log) s t =
+      (wishes ≡ []) × (client ≡ 1) × IsSettled s × (next : State) × IsPossible result_sort gates s (left client) next × IsSingleClientRun gates [] log next t
+  IsSingleClientRun gates wishes (event ∷ log) s t =
+      IsNextEntry s event × (next : State) × IsPossible result_sort gates s event next × IsSingleClientRun gates wishes log next t
+
+-- How a session ends in a state. What isn't listed here doesn't come yet.
+--   deadlock: no rule gives a step; waiting: a rule gives one.
+abbrev pub IsEndOf : State → Ending → Type 0
+IsEndOf s deadlocked = NoStep s.behaviour
+IsEndOf s waiting = SomeStep s.behaviour
+IsEndOf s exits = ⊥
+IsEndOf s ends_beyond = ⊥
+IsEndOf s (ends_spent term) = ⊥
+IsEndOf s (ends_too_large term) = ⊥
+IsEndOf s (ends_at_limit kind) = ⊥

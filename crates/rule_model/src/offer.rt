@@ -1,0 +1,59 @@
+// What a client offers.
+
+ghost use Rattle.std.specs.Prelude.{◌≡◌};
+
+use spec_core::items::{Gate, Sort};
+use spec_core::value::Value;
+use std::marker::Model;
+
+/// A field of an offer: this value, or any value of a sort.
+#[derive(Drop)]
+pub enum Field {
+    Give(Value),
+    Take(Sort),
+}
+
+/// Fields in order, which contracts see as a list.
+#[derive(Drop)]
+pub struct Fields {
+    fields: Vec<Field>,
+}
+
+impl Model for Fields {
+    ghost use Rattle.std.specs.Prelude.{List};
+    ghost use Rattle.rule_model.specs.declared.offer.Field.{Field};
+
+    ghost Value = { List Field };
+
+    ghost view = { λ fields. fields.fields.items };
+}
+
+impl Fields {
+    /// These fields. It takes no memory.
+    pub fn new(fields: Vec<Field>) -> Fields
+        ensures { result ≡ fields.items }
+    {
+        Fields { fields }
+    }
+
+    /// The fields as a slice. It takes no memory.
+    pub fn as_slice(&self) -> &[Field]
+        ensures { result.now ≡ self.now }
+    {
+        self.fields.as_slice()
+    }
+
+    /// Gives the list back. It takes no memory.
+    pub fn into_vec(self) -> Vec<Field>
+        ensures { result.items ≡ self }
+    {
+        self.fields
+    }
+}
+
+/// An offer at a gate.
+#[derive(Drop)]
+pub struct Offer {
+    pub gate: Gate,
+    pub fields: Fields,
+}
