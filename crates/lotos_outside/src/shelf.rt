@@ -62,7 +62,7 @@ pub trait Shelf {
 
     /// Appends the first `most` bytes of the file with this name to `into`, or all of them where there are fewer.
     ///
-    /// After an error `into` is as it was.
+    /// After an error `into` is as it was. `Memory` may come at any call.
     fn fetch(&mut self, name: &str, most: usize, into: &mut Vec<u8>) -> Result<(), ShelfFault>
         ensures ok { OnOk result (OnFetched (files self.old) name.now (λ text. into.new.items ≡ into.old.items ++ take most text)) }
         ensures appends { StartsWith into.new.items into.old.items }

@@ -57,12 +57,12 @@ pub trait Sink {
     // The bytes that were written, where the sink tells them.
     ghost written: { Self → Option (List ℕ) };
 
-    // How many faults there were, at most 2^64 - 1.
+    // How many faults there were; counting ends at 2^64 - 1.
     ghost faults: { Self → ℕ };
 
     /// Writes a prefix of `piece`, and answers how many bytes long it is.
     ///
-    /// None for a piece that isn't empty is a fault. After an error nothing was written.
+    /// None for a piece that isn't empty is a fault. After an error nothing was written. `Memory` may come at any call.
     fn write(&mut self, piece: &[u8]) -> Result<usize, SinkFault>
         ensures within { IfOk result (λ count. count ≤ length piece.now) }
         ensures ok { IfOk result (λ count. written self.new ≡ with_more (take count piece.now) (written self.old)) }
@@ -74,7 +74,7 @@ pub trait Sink {
 
 /// Writes all the bytes, in as many calls as the sink needs.
 ///
-/// After an error a prefix of them was written.
+/// After an error a prefix of them was written. A sink that takes none of a piece that isn't empty makes it fail.
 pub fn write_all<K: Sink>(sink: &mut K, bytes: &[u8]) -> Result<(), SinkFault>
     ensures ok { OnOk result (K.written sink.new ≡ with_more bytes.now (K.written sink.old)) }
     ensures prefix { AppendsPrefix bytes.now (K.written sink.old) (K.written sink.new) }

@@ -19,7 +19,7 @@ pub trait Source {
     // The bytes that are left, where the source tells them.
     ghost rest: { Self → Option (List ℕ) };
 
-    // How many faults there were, at most 2^64 - 1.
+    // How many faults there were; counting ends at 2^64 - 1.
     ghost faults: { Self → ℕ };
 
     /// Reads bytes into the beginning of `piece`, and answers how many. It takes no memory.
