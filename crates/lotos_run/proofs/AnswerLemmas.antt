@@ -1,13 +1,13 @@
 -- The offers of a session and their answers, one offer after another.
-use Rattle.std.proofs.Common.{◌≡◌, ℕ, ◌+◌, ◌<◌, Bool, false, List, [], ◌∷◌, ◌++◌, map, length, Option, Some, None, refl, ap, sym, ◌∙◌, subst, arith, append_assoc}
-use Rattle.std.proofs.lemmas.List.{append-nil, map-append, length-append, length-map}
+use Rattle.std.proofs.Common.{◌≡◌, ℕ, ◌+◌, ◌<◌, false, List, [], ◌∷◌, ◌++◌, map, length, Option, Some, None, refl, ap, sym, ◌∙◌, subst, arith, append_assoc}
+use Rattle.std.proofs.lemmas.List.{map-append, length-append, length-map}
 use Rattle.spec_core.specs.declared.items.Gate.{Gate}
 use Rattle.rule_model.specs.Behaviours.{Behaviour}
-use Rattle.rule_model.specs.Answers.{Answer, taken, deadlock, stalls, beyond, not_now, ended, spent, too_large, limit}
+use Rattle.rule_model.specs.Answers.{taken, deadlock, stalls, beyond, not_now, ended, spent, too_large, limit}
 use Rattle.rule_model.specs.Events.{OfferName, Event, pended, acted, replied, stalled, left}
-use Rattle.rule_model.specs.States.{PendingOffer, State, start_state}
-use Rattle.rule_model.specs.Settling.{Wish, IsSingleClientRun}
-use Rattle.rule_model.specs.Answering.{name_of, offers_in, answered_in, numbered, AnswersEach}
+use Rattle.rule_model.specs.States.{PendingOffer, start_state}
+use Rattle.rule_model.specs.Settling.{Wish}
+use Rattle.rule_model.specs.Answering.{name_of, offers_in, answered_in, numbered}
 use Rattle.lotos_run.specs.Walk.{plain, plain_wish, IsAnswer, AppendsAnswer}
 use Rattle.lotos_run.specs.Session.{GoesOn, IsSessionSoFar}
 use Rattle.lotos_run.proofs.SessionLemmas.{one_more, begins}
@@ -85,8 +85,8 @@ session_goes_on gates start done old new b number steps gate rest later within h
     let made : PendingOffer = wished (number + 1) (plain_wish gate) in
     record {
       goes = λ result_sort.
-        subst (λ (l : List Event). GoesOn result_sort gates (start_state start (1 ∷ [])) (done ++ gate ∷ []) l rest (number + 1) later) (sym appends.1)
-        (one_more result_sort gates (start_state start (1 ∷ [])) done old b number steps gate event rest later within (h.goes result_sort) appends.2);
+          subst (λ (l : List Event). GoesOn result_sort gates (start_state start (1 ∷ [])) (done ++ gate ∷ []) l rest (number + 1) later) (sym appends.1)
+          (one_more result_sort gates (start_state start (1 ∷ [])) done old b number steps gate event rest later within (h.goes result_sort) appends.2);
       counted = omega (arith, h.counted, length-append done (gate ∷ []));
       offers =
           ap offers_in appends.1

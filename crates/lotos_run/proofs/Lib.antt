@@ -4,3 +4,4 @@ pub mod WalkLemmas
 pub mod SessionLemmas
 pub mod AnswerLemmas
 pub mod WholeSession
+pub mod TraceLemmas

@@ -1,19 +1,18 @@
 -- One offer more, and its answer.
-use Rattle.std.proofs.Common.{◌≡◌, ◌⊎◌, inl, inr, ℕ, zero, suc, ◌+◌, ◌<◌, ◌≤◌, Bool, true, false, nat_eq, not, ◌&&◌, List, [], ◌∷◌, ◌++◌, map, filter, length, Option, Some, None, Contains, refl, ap, sym, ◌∙◌, subst, arith, append_assoc, eq-eqb, if◌then◌else◌}
+use Rattle.std.proofs.Common.{◌≡◌, ℕ, zero, suc, ◌+◌, ◌<◌, ◌≤◌, Bool, false, nat_eq, not, List, [], ◌∷◌, ◌++◌, map, filter, Option, Some, None, Contains, refl, ap, sym, ◌∙◌, subst, arith, append_assoc, eq-eqb, if◌then◌else◌}
 use Rattle.std.proofs.lemmas.List.{append-nil, map-append}
 use Rattle.spec_core.specs.declared.items.Gate.{Gate}
 use Rattle.rule_model.specs.declared.action.Action.{Action}
 use Rattle.rule_model.specs.declared.action.Action.TheVariants.{At}
-use Rattle.rule_model.specs.declared.offer.Offer.{Offer}
 use Rattle.rule_model.specs.Behaviours.{Behaviour}
 use Rattle.rule_model.specs.Derivations.{Derivation}
-use Rattle.rule_model.specs.Derives.{Derives, NoStep, SomeStep}
-use Rattle.rule_model.specs.Meets.{Meets, NeverMeets, NoUnseenStep}
-use Rattle.rule_model.specs.Answers.{Answer, taken, deadlock, stalls, beyond, not_now, ended, spent, too_large, limit}
+use Rattle.rule_model.specs.Derives.{NoStep, SomeStep}
+use Rattle.rule_model.specs.Meets.{NeverMeets}
+use Rattle.rule_model.specs.Answers.{taken, deadlock, stalls, beyond, not_now, ended, spent, too_large, limit}
 use Rattle.rule_model.specs.Events.{OfferName, Event, pended, acted, replied, stalled, left}
-use Rattle.rule_model.specs.States.{PendingOffer, State, start_state, without, without_taken, after_offer, after_action, after_reply, after_stall, after_leave}
-use Rattle.rule_model.specs.Legal.{IsPendingAnd, IsPending, IsIdle, AllWait, NamesAll, NoneMet, IsAgreed, IsPossible}
-use Rattle.rule_model.specs.Settling.{Wish, IsFirstMeeting, TakesFirst, IsNextEntry, IsSettled, IsSingleClientRun}
+use Rattle.rule_model.specs.States.{PendingOffer, State, start_state, without, after_offer, after_action, after_reply, after_stall, after_leave}
+use Rattle.rule_model.specs.Legal.{IsPending, IsIdle, NamesAll, IsPossible}
+use Rattle.rule_model.specs.Settling.{Wish, IsFirstMeeting, IsNextEntry, IsSettled, IsSingleClientRun}
 use Rattle.lotos_run.specs.Walk.{plain, plain_wish, IsFirstAt, IsNeverAt, IsAnswer}
 use Rattle.lotos_run.specs.Session.{GoesOn}
 use Rattle.lotos_run.proofs.WalkLemmas.{all_seen}
@@ -111,7 +110,7 @@ module _ (s : State) (b : Behaviour) (gate : Gate) (number steps : ℕ) (w : Wai
   taken_settles : (result_sort : ℕ → ℕ) (gates : ℕ) (d : Derivation) (rest : Behaviour) → IsFirstAt b gate d rest → Settles result_sort gates s (acted (At gate []) d (Some (1, number))) rest number (steps + 1)
   taken_settles result_sort gates d rest first =
       let meeting : IsFirstMeeting result_sort s.behaviour (plain gate) d (At gate []) rest =
-        subst (λ (x : Behaviour). IsFirstMeeting result_sort x (plain gate) d (At gate []) rest) (sym w.behaviour) (first.first_meeting result_sort) in
+      subst (λ (x : Behaviour). IsFirstMeeting result_sort x (plain gate) d (At gate []) rest) (sym w.behaviour) (first.first_meeting result_sort) in
       record {
         is_next = record {
           before = [];
@@ -226,16 +225,16 @@ pub one_more : (result_sort : ℕ → ℕ) (gates : ℕ) (start : State) (done :
 one_more result_sort gates start done log b number steps gate event rest later within h answer =
     let offered : State = after_offer h.state 1 (number + 1) (plain gate) false in
     let w : Waits offered b gate (number + 1) steps =
-      record {
-        behaviour = h.behaviour;
-        open_clients = h.open_clients;
-        pending = ap (λ (l : List PendingOffer). l ++ plain_offer gate (number + 1) ∷ []) h.pending;
-        made = ap (λ (n : ℕ). n + 1) h.made;
-        actions = h.actions;
-      } in
+    record {
+      behaviour = h.behaviour;
+      open_clients = h.open_clients;
+      pending = ap (λ (l : List PendingOffer). l ++ plain_offer gate (number + 1) ∷ []) h.pending;
+      made = ap (λ (n : ℕ). n + 1) h.made;
+      actions = h.actions;
+    } in
     let settles : Settles result_sort gates offered event rest (number + 1) later = answer_settles offered b gate (number + 1) steps w result_sort gates event rest later answer in
     let possible : IsPossible result_sort gates h.state (pended 1 (number + 1) (plain gate) false) offered =
-      (open_one h.state h.open_clients, idle h.state 1 h.pending, sym (ap (λ (n : ℕ). n + 1) h.made), within, refl) in
+    (open_one h.state h.open_clients, idle h.state 1 h.pending, sym (ap (λ (n : ℕ). n + 1) h.made), within, refl) in
     record {
       state = settles.next;
       behaviour = settles.behaviour;
@@ -244,12 +243,12 @@ one_more result_sort gates start done log b number steps gate event rest later w
       made = settles.made;
       actions = settles.actions;
       goes_on = λ wishes more t run.
-        let inner : IsSingleClientRun result_sort gates wishes (event ∷ more) offered t = append_next result_sort gates wishes event more offered settles.next t settles.is_next settles.possible run in
-        let outer : IsSingleClientRun result_sort gates (plain_wish gate ∷ wishes) (pended 1 (number + 1) (plain gate) false ∷ event ∷ more) h.state t =
+          let inner : IsSingleClientRun result_sort gates wishes (event ∷ more) offered t = append_next result_sort gates wishes event more offered settles.next t settles.is_next settles.possible run in
+          let outer : IsSingleClientRun result_sort gates (plain_wish gate ∷ wishes) (pended 1 (number + 1) (plain gate) false ∷ event ∷ more) h.state t =
           (wishes, refl, refl, none_pending_is_settled result_sort h.state h.pending, offered, possible, inner) in
-        subst (λ (ws : List Wish). IsSingleClientRun result_sort gates ws ((log ++ pended 1 (number + 1) (plain gate) false ∷ event ∷ []) ++ more) start t) (sym (more_wishes done gate wishes))
-        (subst (λ (l : List Event). IsSingleClientRun result_sort gates (map plain_wish done ++ plain_wish gate ∷ wishes) l start t) (sym (append_assoc log (pended 1 (number + 1) (plain gate) false ∷ event ∷ []) more))
-        (h.goes_on (plain_wish gate ∷ wishes) (pended 1 (number + 1) (plain gate) false ∷ event ∷ more) t outer));
+          subst (λ (ws : List Wish). IsSingleClientRun result_sort gates ws ((log ++ pended 1 (number + 1) (plain gate) false ∷ event ∷ []) ++ more) start t) (sym (more_wishes done gate wishes))
+          (subst (λ (l : List Event). IsSingleClientRun result_sort gates (map plain_wish done ++ plain_wish gate ∷ wishes) l start t) (sym (append_assoc log (pended 1 (number + 1) (plain gate) false ∷ event ∷ []) more))
+          (h.goes_on (plain_wish gate ∷ wishes) (pended 1 (number + 1) (plain gate) false ∷ event ∷ more) t outer));
     }
 
 -- at the beginning any run goes on
@@ -269,16 +268,14 @@ pub leaves : (result_sort : ℕ → ℕ) (gates : ℕ) (start : State) (done : L
 leaves result_sort gates start done log b number steps h =
     let gone : State = after_leave h.state 1 in
     let nobody : gone.open_clients ≡ [] = ap (filter (λ (other : ℕ). not (nat_eq other 1))) h.open_clients in
-    let last : IsSingleClientRun result_sort gates [] (left 1 ∷ []) h.state gone =
-      (
-        refl,
-        refl,
-        none_pending_is_settled result_sort h.state h.pending,
-        gone,
-        (open_one h.state h.open_clients, idle h.state 1 h.pending, refl),
-        (refl, nobody, none_pending_is_settled result_sort gone h.pending, refl),
-      ) in
-    (
+    let last : IsSingleClientRun result_sort gates [] (left 1 ∷ []) h.state gone = (
+      refl,
+      refl,
+      none_pending_is_settled result_sort h.state h.pending,
+      gone,
+      (open_one h.state h.open_clients, idle h.state 1 h.pending, refl),
+      (refl, nobody, none_pending_is_settled result_sort gone h.pending, refl),
+    ) in (
       gone,
       h.behaviour,
       nobody,

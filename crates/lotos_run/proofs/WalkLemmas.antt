@@ -1,5 +1,5 @@
 -- Which steps prefixes and choices have.
-use Rattle.std.proofs.Common.{◌≡◌, ◌⊎◌, inl, inr, ℕ, List, [], refl, ap, sym, ◌∙◌, subst}
+use Rattle.std.proofs.Common.{◌≡◌, ◌⊎◌, inl, inr, ℕ, [], refl, ap, sym, ◌∙◌, subst}
 use Rattle.spec_core.specs.declared.items.Gate.{Gate}
 use Rattle.rule_model.specs.declared.action.Action.{Action}
 use Rattle.rule_model.specs.declared.action.Action.TheVariants.{Inner, Exit, At}
@@ -73,13 +73,13 @@ left_first result_sort x y gate d rest f (chr e) a c h m = inr tt
 pub left_steps : (x y : Behaviour) (gate : Gate) (d e : Derivation) (rest left : Behaviour) → e ≡ chl d → left ≡ rest → IsFirstAt x gate d rest → IsFirstAt (choice x y) gate e left
 left_steps x y gate d e rest left tree is f =
     at_tree (choice x y) gate (chl d) e rest left tree is (
-      record {
-        first_meeting = λ result_sort. record {
-          derives = (f.first_meeting result_sort).derives;
-          meets = (f.first_meeting result_sort).meets;
-          first = left_first result_sort x y gate d rest (f.first_meeting result_sort);
-        };
-      }
+    record {
+      first_meeting = λ result_sort. record {
+        derives = (f.first_meeting result_sort).derives;
+        meets = (f.first_meeting result_sort).meets;
+        first = left_first result_sort x y gate d rest (f.first_meeting result_sort);
+      };
+    }
     )
 
 -- where the left side never meets, the first tree of the right side is the first of the choice
@@ -91,13 +91,13 @@ right_first result_sort x y gate d rest never f (chr e) a c h m = right_goes_on 
 pub right_steps : (x y : Behaviour) (gate : Gate) (d e : Derivation) (rest left : Behaviour) → e ≡ chr d → left ≡ rest → IsNeverAt x gate → IsFirstAt y gate d rest → IsFirstAt (choice x y) gate e left
 right_steps x y gate d e rest left tree is never f =
     at_tree (choice x y) gate (chr d) e rest left tree is (
-      record {
-        first_meeting = λ result_sort. record {
-          derives = (f.first_meeting result_sort).derives;
-          meets = (f.first_meeting result_sort).meets;
-          first = right_first result_sort x y gate d rest never (f.first_meeting result_sort);
-        };
-      }
+    record {
+      first_meeting = λ result_sort. record {
+        derives = (f.first_meeting result_sort).derives;
+        meets = (f.first_meeting result_sort).meets;
+        first = right_first result_sort x y gate d rest never (f.first_meeting result_sort);
+      };
+    }
     )
 
 choice_never : (x y : Behaviour) (gate : Gate) → IsNeverAt x gate → IsNeverAt y gate → (result_sort : ℕ → ℕ) → NeverMeets result_sort (choice x y) (plain gate)

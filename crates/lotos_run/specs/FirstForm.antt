@@ -6,7 +6,7 @@
 --   una   = ID ";" una | "stop"
 --
 -- It has at most 4,096 bytes; the gates differ, and each ID before a ";" is one of them. Each definition reads one part, from its first token on.
-use Rattle.std.specs.Prelude.{ℕ, List, [], ◌∷◌, ◌++◌, Bool, true, false, ◌&&◌, not, if◌then◌else◌, codes, Option, Some, None, option_map, nat_le, nat_eq, position, length, ◌<◌}
+use Rattle.std.specs.Prelude.{ℕ, List, [], ◌∷◌, ◌++◌, Bool, true, ◌&&◌, not, if◌then◌else◌, codes, Option, Some, None, option_map, nat_le, nat_eq, position, length, ◌<◌}
 use Rattle.std.specs.List.{list_any}
 use Rattle.spec_core.specs.declared.items.Gate.{Gate}
 use Rattle.rule_model.specs.Behaviours.{Behaviour, stop, act, choice}

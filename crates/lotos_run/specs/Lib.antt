@@ -6,3 +6,5 @@ pub mod Script
 pub mod Forms
 pub mod Walk
 pub mod Session
+pub mod Trace
+pub mod Statuses

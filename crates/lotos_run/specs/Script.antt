@@ -2,10 +2,10 @@
 --
 -- A script has at most 65,536 bytes. A line ends with LF or CR LF, the last one also with the end of the text. A line is empty,
 -- or begins with #, or is the tokens 1, ":" and an identifier that is a gate of the specification.
-use Rattle.std.specs.Prelude.{ℕ, List, [], ◌∷◌, ◌++◌, Bool, true, false, ◌&&◌, ◌||◌, if◌then◌else◌, Option, Some, None, option_map, nat_eq, nat_le, length, ◌≡◌}
+use Rattle.std.specs.Prelude.{ℕ, List, [], ◌∷◌, ◌++◌, Bool, false, ◌&&◌, ◌||◌, if◌then◌else◌, Option, Some, None, option_map, nat_eq, nat_le, length, ◌≡◌}
 use Rattle.spec_core.specs.declared.items.Gate.{Gate}
 use Rattle.lotos_run.specs.declared.token.Token.{Token}
-use Rattle.lotos_run.specs.declared.token.Token.TheVariants.{Identifier, Stop, Semicolon, Brackets, Fixed}
+use Rattle.lotos_run.specs.declared.token.Token.TheVariants.{Identifier, Fixed}
 use Rattle.lotos_run.specs.declared.token.Mark.TheVariants.{One, Colon}
 use Rattle.lotos_run.specs.Tokens.{is_empty, tokens_of}
 use Rattle.lotos_run.specs.FirstForm.{gate_at, same_mark}

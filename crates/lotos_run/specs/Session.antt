@@ -1,5 +1,5 @@
 -- How far a session with client 1 has come.
-use Rattle.std.specs.Prelude.{ℕ, ◌+◌, ◌≡◌, List, [], ◌∷◌, ◌++◌, map, length}
+use Rattle.std.specs.Prelude.{ℕ, ◌≡◌, List, [], ◌∷◌, ◌++◌, map, length}
 use Rattle.spec_core.specs.declared.items.Gate.{Gate}
 use Rattle.rule_model.specs.Behaviours.{Behaviour}
 use Rattle.rule_model.specs.Derives.{NoStep, SomeStep}
@@ -54,7 +54,7 @@ pub record IsSession (gates : ℕ) (start : Behaviour) (wishes : List Gate) (log
   pub answers : AnswersEach (map plain_wish wishes) log
   pub runs :
       (result_sort : ℕ → ℕ) →
-        (last : State)
-        × IsSingleClientRun result_sort gates (map plain_wish wishes) log (start_state start (clients_of wishes)) last
-        × IsLegal result_sort gates log (start_state start (clients_of wishes)) last
-        × IsEndOf last ending
+      (last : State)
+      × IsSingleClientRun result_sort gates (map plain_wish wishes) log (start_state start (clients_of wishes)) last
+      × IsLegal result_sort gates log (start_state start (clients_of wishes)) last
+      × IsEndOf last ending

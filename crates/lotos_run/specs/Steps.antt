@@ -1,5 +1,5 @@
 -- What comes next among the alternatives of a behaviour.
-use Rattle.std.specs.Prelude.{ℕ, List, [], ◌∷◌, Option, None, ◌≡◌}
+use Rattle.std.specs.Prelude.{ℕ, List, [], ◌∷◌, None, ◌≡◌}
 use Rattle.spec_core.specs.declared.items.Gate.{Gate}
 use Rattle.lotos_run.specs.declared.token.Token.{Token}
 use Rattle.lotos_run.specs.declared.token.Token.TheVariants.{Identifier, Stop, Semicolon, Brackets, Fixed}

@@ -1,5 +1,5 @@
 -- How an offer without fields is answered.
-use Rattle.std.specs.Prelude.{ℕ, ◌+◌, ◌≡◌, Bool, true, false, List, [], ◌∷◌, ◌++◌, Option, Some, None, map}
+use Rattle.std.specs.Prelude.{ℕ, ◌+◌, ◌≡◌, false, List, [], ◌∷◌, ◌++◌, Some}
 use Rattle.spec_core.specs.declared.items.Gate.{Gate}
 use Rattle.rule_model.specs.declared.action.Action.TheVariants.{At}
 use Rattle.rule_model.specs.declared.offer.Offer.{Offer}
@@ -7,7 +7,7 @@ use Rattle.rule_model.specs.Behaviours.{Behaviour}
 use Rattle.rule_model.specs.Derivations.{Derivation}
 use Rattle.rule_model.specs.Derives.{NoStep, SomeStep}
 use Rattle.rule_model.specs.Meets.{NeverMeets}
-use Rattle.rule_model.specs.Answers.{Answer, taken, deadlock, stalls, beyond, not_now, ended, spent, too_large, limit}
+use Rattle.rule_model.specs.Answers.{deadlock}
 use Rattle.rule_model.specs.Events.{Event, pended, acted, replied, stalled, left}
 use Rattle.rule_model.specs.Settling.{Wish, IsFirstMeeting}
 

@@ -2,9 +2,65 @@
 #![tactic(auto)]
 
 mod pieces;
+mod run;
 mod script;
 mod session;
 mod specification;
 mod stack;
+pub mod status;
 mod token;
+mod trace;
 mod walk;
+mod words;
+
+ghost use Rattle.std.specs.Prelude.{◌≡◌, ℕ, List, map, string_bytes};
+ghost use Rattle.lotos_outside.specs.Counts.{Rose};
+ghost use Rattle.lotos_outside.specs.Sink.{with_more, AppendsPrefix};
+ghost use Rattle.lotos_run.specs.Statuses.{IsDue, IsFinal, call_of};
+ghost use Rattle.lotos_run.specs.declared.status.Status.{Status};
+
+use crate::run::due_answer;
+use crate::status::Status;
+use lotos_outside::shelf::Shelf;
+use lotos_outside::sink::{Sink, SinkFault, write_all};
+use lotos_outside::source::Source;
+
+// Writes the text that is due with the status.
+fn write<O: Sink>(out: &mut O, status: Status, text: &[u8]) -> Status
+    requires { IsFinal status }
+    ensures same { IsFinal result → result ≡ status }
+    ensures written { IsFinal result → O.written out.new ≡ with_more text.now (O.written out.old) }
+    ensures prefix { result ≡ Status.WriteFault → AppendsPrefix text.now (O.written out.old) (O.written out.new) }
+    ensures write_fault { result ≡ Status.WriteFault → Rose (O.faults out.old) (O.faults out.new) }
+{
+    match write_all(out, text) {
+        Ok(()) => status,
+        Err(SinkFault::Failed) => Status::WriteFault,
+        Err(SinkFault::Memory) => Status::Memory,
+    }
+}
+
+/// Carries out the command that the words name.
+///
+/// `words` are the words behind the program's name, `shelf` is where files are fetched, and all texts go to `out`. No command reads `input`
+/// yet. Want of memory may come at any time; nothing is said of its cause, nor of what was written then.
+pub fn lotos_main<R: AllocGlobal, F: Shelf, I: Source, O: Sink>(
+    rt: &R,
+    words: &[String],
+    shelf: &mut F,
+    input: &mut I,
+    out: &mut O,
+) -> Status
+    // A final status is due, and the text that is due with it was written.
+    ensures due { IsFinal result → (text : List ℕ) × IsDue (F.files shelf.old) (F.failed shelf.old) (F.failed shelf.new) (call_of (map string_bytes words.now)) result text × (O.written out.new ≡ with_more text (O.written out.old)) }
+
+    // Where the output failed, the sink noted a fault in this call, and a prefix of the text that was due was written.
+    ensures write_fault { result ≡ Status.WriteFault → Rose (O.faults out.old) (O.faults out.new) }
+    ensures prefix { result ≡ Status.WriteFault → (status : Status) × (text : List ℕ) × IsDue (F.files shelf.old) (F.failed shelf.old) (F.failed shelf.new) (call_of (map string_bytes words.now)) status text × AppendsPrefix text (O.written out.old) (O.written out.new) }
+{
+    let _ = input;
+    match due_answer(rt.alloc(), words, shelf) {
+        Ok(answer) => write(out, answer.status, &answer.text),
+        Err(_) => Status::Memory,
+    }
+}

@@ -17,7 +17,7 @@ use spec_core::items::Gate;
 use std::alloc::Global;
 
 // Whether the bytes begin with this one.
-fn does_begin_with(byte: u8, bytes: &[u8]) -> bool
+pub fn does_begin_with(byte: u8, bytes: &[u8]) -> bool
     ensures { result ≡ begins_with byte bytes.now }
 {
     match bytes {

@@ -9,6 +9,7 @@ ghost use Rattle.rule_model.specs.Answers.{deadlock};
 ghost use Rattle.rule_model.specs.Events.{event_of, ending_of, acted, replied, stalled};
 ghost use Rattle.rule_model.specs.Logs.{events_of};
 ghost use Rattle.lotos_run.specs.Session.{EndsIn, IsSession, WasDriven};
+ghost use Rattle.lotos_run.specs.Trace.{IsPlain, IsPlainEnd, IsPlainTree};
 ghost use Rattle.lotos_run.specs.Walk.{IsAnswer, AppendsAnswer};
 
 use crate::token::Word;
@@ -32,7 +33,9 @@ struct Settled {
 
 // The offer is taken.
 fn taken(alloc: Global, step: Step, gate: Gate, number: u64, actions: u64) -> Settled
-    requires { actions + 1 < 2 ^ 64 }
+    requires fits { actions + 1 < 2 ^ 64 }
+    requires plain { IsPlainTree (derivation_of step.rules) }
+    ensures plain { IsPlain (event_of result.entry) }
     ensures entry { event_of result.entry ≡ acted (At gate []) (derivation_of step.rules) (Some (1, number)) }
     ensures rest { behaviour_of result.rest ≡ behaviour_of step.rest }
     ensures counted { result.actions ≡ actions + 1 }
@@ -49,6 +52,7 @@ fn taken(alloc: Global, step: Step, gate: Gate, number: u64, actions: u64) -> Se
 // Nothing can be done any more.
 fn dead(from: Beh, number: u64, actions: u64) -> Settled
     ensures entry { event_of result.entry ≡ replied 1 number (deadlock actions) }
+    ensures plain { IsPlain (event_of result.entry) }
     ensures rest { behaviour_of result.rest ≡ behaviour_of from }
     ensures counted { result.actions ≡ actions }
 {
@@ -62,6 +66,7 @@ fn dead(from: Beh, number: u64, actions: u64) -> Settled
 // The offer can't be taken.
 fn stalls(alloc: Global, from: Beh, number: u64, actions: u64) -> Result<Settled, Memory>
     ensures entry { IfOk result (λ s. event_of s.entry ≡ stalled ((1, number) ∷ [])) }
+    ensures plain { IfOk result (λ s. IsPlain (event_of s.entry)) }
     ensures rest { IfOk result (λ s. behaviour_of s.rest ≡ behaviour_of from) }
     ensures counted { IfOk result (λ s. s.actions ≡ actions) }
 {
@@ -84,6 +89,7 @@ fn settle(
     requires { actions + 1 < 2 ^ 64 }
     ensures answer { IfOk result (λ s. IsAnswer (behaviour_of from) gate number actions (event_of s.entry) (behaviour_of s.rest) s.actions) }
     ensures counted { IfOk result (λ s. s.actions ≤ actions + 1) }
+    ensures plain { IfOk result (λ s. IsPlain (event_of s.entry)) }
 {
     match first_step(alloc, &from, gate)? {
         Some(step) => Ok(taken(alloc, step, gate, number, actions)),
@@ -109,6 +115,7 @@ fn answer(
     requires { actions + 1 < 2 ^ 64 }
     ensures answer { IfOk result (λ r. AppendsAnswer (events_of log.old) (events_of log.new) (behaviour_of from) gate number actions (behaviour_of r.0) r.1) }
     ensures counted { IfOk result (λ r. r.1 ≤ actions + 1) }
+    ensures plain { All IsPlain (events_of log.old) → OnOk result (All IsPlain (events_of log.new)) }
 {
     let fields = Fields::new(Vec::new(alloc));
     log.push(Entry::Pend(1, number, Offer { gate, fields }, false))?;
@@ -124,15 +131,10 @@ fn answer(
 
 // The session so far of client 1 with these wishes, and what is left of the behaviour.
 #[tactic(auto, using(crate::proofs::AnswerLemmas::session_begins, crate::proofs::AnswerLemmas::session_goes_on))]
-fn drive(
-    alloc: Global,
-    start: Beh,
-    gates: &[Word],
-    wishes: &[Gate],
-) -> Result<(Log, Beh), Memory>
-    requires few { length wishes.now < 2 ^ 32 }
-    requires known { All (λ gate. gate.0 < length gates.now) wishes.now }
-    ensures { IfOk result (λ r. WasDriven (length gates.now) (behaviour_of start) wishes.now (events_of r.0) (behaviour_of r.1)) }
+fn drive(alloc: Global, start: Beh, gates: &[Word], wishes: &[Gate]) -> Result<(Log, Beh), Memory>
+    requires { All (λ gate. gate.0 < length gates.now) wishes.now }
+    ensures driven { IfOk result (λ r. WasDriven (length gates.now) (behaviour_of start) wishes.now (events_of r.0) (behaviour_of r.1)) }
+    ensures plain { IfOk result (λ r. All IsPlain (events_of r.0)) }
 {
     let mut log = Log::new(alloc);
     let mut from = start;
@@ -149,7 +151,8 @@ fn drive(
 
 /// How a session ends that leaves this behaviour.
 fn end_of(rest: &Beh) -> End
-    ensures { EndsIn (behaviour_of rest.now) (ending_of result) }
+    ensures end { EndsIn (behaviour_of rest.now) (ending_of result) }
+    ensures plain { IsPlainEnd (ending_of result) }
 {
     if is_stuck(rest) {
         End::Deadlock
@@ -165,9 +168,10 @@ pub fn session(
     gates: &[Word],
     wishes: &[Gate],
 ) -> Result<(Log, End), Memory>
-    requires few { length wishes.now < 2 ^ 32 }
-    requires known { All (λ gate. gate.0 < length gates.now) wishes.now }
-    ensures { IfOk result (λ r. IsSession (length gates.now) (behaviour_of start) wishes.now (events_of r.0) (ending_of r.1)) }
+    requires { All (λ gate. gate.0 < length gates.now) wishes.now }
+    ensures session { IfOk result (λ r. IsSession (length gates.now) (behaviour_of start) wishes.now (events_of r.0) (ending_of r.1)) }
+    ensures plain { IfOk result (λ r. All IsPlain (events_of r.0)) }
+    ensures plain_end { IfOk result (λ r. IsPlainEnd (ending_of r.1)) }
 {
     if wishes.is_empty() {
         let end = end_of(&start);

@@ -4,6 +4,7 @@ ghost use Rattle.std.specs.Prelude.{◌≡◌, ◌+◌, ◌<◌, ◌^◌, IfOk, 
 ghost use Rattle.rule_model.specs.Behaviours.{behaviour_of, act};
 ghost use Rattle.rule_model.specs.Derivations.{derivation_of, chl, chr};
 ghost use Rattle.rule_model.specs.Derives.{NoStep, SomeStep};
+ghost use Rattle.lotos_run.specs.Trace.{IsPlainTree};
 ghost use Rattle.lotos_run.specs.Walk.{IsFirstAt, IsNeverAt};
 
 use rule_model::beh::Beh;
@@ -24,6 +25,7 @@ pub struct Step {
 fn prefix_step(alloc: Global, gate: Gate, rest: &Beh, wanted: Gate) -> Result<Option<Step>, Memory>
     ensures some { IfOk result (λ o. IfSome o (λ s. IsFirstAt (act gate (behaviour_of rest.now)) wanted (derivation_of s.rules) (behaviour_of s.rest))) }
     ensures none { IfOk result (λ o. IfNone o (IsNeverAt (act gate (behaviour_of rest.now)) wanted)) }
+    ensures plain { IfOk result (λ o. IfSome o (λ s. IsPlainTree (derivation_of s.rules))) }
 {
     if gate == wanted {
         let rules = Rules::Pre(Slots::new(Vec::new(alloc)));
@@ -63,6 +65,7 @@ fn right_step(alloc: Global, part: Step) -> Result<Step, Memory>
 pub fn first_step(alloc: Global, from: &Beh, gate: Gate) -> Result<Option<Step>, Memory>
     ensures some { IfOk result (λ o. IfSome o (λ s. IsFirstAt (behaviour_of from.now) gate (derivation_of s.rules) (behaviour_of s.rest))) }
     ensures none { IfOk result (λ o. IfNone o (IsNeverAt (behaviour_of from.now) gate)) }
+    ensures plain { IfOk result (λ o. IfSome o (λ s. IsPlainTree (derivation_of s.rules))) }
 {
     match from {
         Beh::Stop => Ok(None),

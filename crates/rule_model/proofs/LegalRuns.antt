@@ -1,10 +1,10 @@
 -- Each run of a single client is legal, and each legal log is a derivation.
-use Rattle.std.specs.Prelude.{ℕ, List, [], ◌∷◌, Option, Some, None}
+use Rattle.std.specs.Prelude.{ℕ, [], ◌∷◌}
 use Rattle.rule_model.specs.Answers.{Answer, taken, deadlock, stalls, beyond, not_now, ended, spent, too_large, limit}
-use Rattle.rule_model.specs.Events.{Event, pended, acted, replied, stalled, left}
+use Rattle.rule_model.specs.Events.{pended, acted, replied, stalled, left}
 use Rattle.rule_model.specs.States.{State}
-use Rattle.rule_model.specs.Legal.{IsLegal, IsDerivation, Justifies}
-use Rattle.rule_model.specs.Settling.{Wish, IsNextEntry, IsSingleClientRun}
+use Rattle.rule_model.specs.Legal.{Justifies}
+use Rattle.rule_model.specs.Settling.{IsNextEntry}
 use Rattle.rule_model.specs.Laws.{RunsAreLegal, LegalLogsAreDerivations}
 
 -- a reply that comes next is justified

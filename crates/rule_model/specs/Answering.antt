@@ -1,5 +1,5 @@
 -- Which offers a log holds, and which of them it answers.
-use Rattle.std.specs.Prelude.{ℕ, ◌+◌, ◌≡◌, Bool, List, [], ◌∷◌, ◌++◌, map, Option, Some, None}
+use Rattle.std.specs.Prelude.{ℕ, ◌+◌, ◌≡◌, List, [], ◌∷◌, ◌++◌, map, Some, None}
 use Rattle.rule_model.specs.Events.{OfferName, Event, pended, acted, replied, stalled, left}
 use Rattle.rule_model.specs.States.{PendingOffer}
 use Rattle.rule_model.specs.Settling.{Wish}

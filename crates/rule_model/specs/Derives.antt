@@ -1,9 +1,9 @@
 -- The inference rules (ISO 8807, dynamic semantics of behaviour expressions): what a behaviour does by a tree of rules, and what it becomes.
-use Rattle.std.specs.Prelude.{List, [], ◌≡◌}
+use Rattle.std.specs.Prelude.{[], ◌≡◌}
 use Rattle.spec_core.specs.declared.items.Gate.{Gate}
 use Rattle.rule_model.specs.declared.action.Action.{Action}
 use Rattle.rule_model.specs.declared.action.Action.TheVariants.{At}
-use Rattle.rule_model.specs.Behaviours.{Behaviour, stop, act, choice}
+use Rattle.rule_model.specs.Behaviours.{Behaviour, act, choice}
 use Rattle.rule_model.specs.Derivations.{Derivation, pre, chl, chr}
 
 -- the fact holds of the parts of a prefix; any other behaviour is none

@@ -1,14 +1,14 @@
 -- In which order a session answers: of all trees of the whole behaviour at once, whatever the program looks at first.
-use Rattle.std.specs.Prelude.{ℕ, ◌+◌, ◌≤◌, ◌≡◌, ◌⊎◌, Bool, List, [], ◌∷◌, ◌++◌, Option, Some, None, Contains, All}
+use Rattle.std.specs.Prelude.{ℕ, ◌≤◌, ◌≡◌, ◌⊎◌, Bool, List, [], ◌∷◌, ◌++◌, Some, None, Contains}
 use Rattle.rule_model.specs.declared.action.Action.{Action}
 use Rattle.rule_model.specs.declared.offer.Offer.{Offer}
 use Rattle.rule_model.specs.Behaviours.{Behaviour}
-use Rattle.rule_model.specs.Derivations.{Derivation, pre, chl, chr}
+use Rattle.rule_model.specs.Derivations.{Derivation, chl, chr}
 use Rattle.rule_model.specs.Derives.{Derives, NoStep, SomeStep}
 use Rattle.rule_model.specs.Meets.{Meets, NoUnseenStep}
-use Rattle.rule_model.specs.Answers.{Answer, taken, deadlock, stalls, beyond, not_now, ended, spent, too_large, limit}
+use Rattle.rule_model.specs.Answers.{deadlock}
 use Rattle.rule_model.specs.Events.{OfferName, Event, pended, acted, replied, stalled, left, Ending, exits, deadlocked, waiting, ends_beyond, ends_spent, ends_too_large, ends_at_limit}
-use Rattle.rule_model.specs.States.{PendingOffer, State, after_offer, after_leave}
+use Rattle.rule_model.specs.States.{PendingOffer, State}
 use Rattle.rule_model.specs.Legal.{IsPending, IsPossible, NamesAll, NoneMet, AllWait}
 
 -- the order of trees: those of the left side of a choice stand before those of the right side

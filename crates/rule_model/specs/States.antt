@@ -1,5 +1,5 @@
 -- The state of a session, and what each entry of a log makes of it.
-use Rattle.std.specs.Prelude.{ℕ, ◌+◌, Bool, ◌&&◌, not, nat_eq, if◌then◌else◌, List, [], ◌∷◌, ◌++◌, filter, map, Option, Some, None}
+use Rattle.std.specs.Prelude.{ℕ, ◌+◌, Bool, ◌&&◌, not, nat_eq, if◌then◌else◌, List, [], ◌∷◌, ◌++◌, filter, Option, Some, None}
 use Rattle.rule_model.specs.declared.action.Action.{Action}
 use Rattle.rule_model.specs.declared.offer.Offer.{Offer}
 use Rattle.rule_model.specs.Behaviours.{Behaviour}
@@ -20,7 +20,6 @@ pub record State : Type 0 where
   pub made : ℕ → ℕ
   pub actions : ℕ
   pub last : Option Action
-
 
 -- at the beginning the clients are open, and nothing was offered or done
 abbrev pub start_state : Behaviour → List ℕ → State

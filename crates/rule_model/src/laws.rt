@@ -6,12 +6,10 @@ ghost use Rattle.rule_model.specs.Laws.{RunsAreLegal, LegalLogsAreDerivations};
 #[tactic(auto, using(crate::proofs::LegalRuns::runs_are_legal))]
 pub fn runs_are_legal()
     ensures { RunsAreLegal }
-{
-}
+{}
 
 /// Each legal log is a derivation by the inference rules.
 #[tactic(auto, using(crate::proofs::LegalRuns::legal_logs_are_derivations))]
 pub fn legal_logs_are_derivations()
     ensures { LegalLogsAreDerivations }
-{
-}
+{}

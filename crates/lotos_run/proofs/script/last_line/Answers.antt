@@ -1,5 +1,4 @@
-use Rattle.std.proofs.Common.{rules, ◌∙◌, ap, []}
-use Rattle.lotos_run.specs.Script.{wishes_of, behind}
+use Rattle.std.proofs.Common.{rules, ◌∙◌, []}
 use Rattle.lotos_run.proofs.ScriptLemmas.{last_alone, none_behind}
 use Rattle.lotos_run.proofs.script.last_line.Goals as goal
 

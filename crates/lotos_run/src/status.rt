@@ -1,0 +1,38 @@
+// How a call ends.
+
+ghost use Rattle.std.specs.Prelude.{◌≡◌};
+
+/// How a call of the program ends.
+#[derive(Clone, Copy, Debug, PartialEq, Eq)]
+pub enum Status {
+    /// The command was carried out.
+    Done,
+    /// The words are no call.
+    Usage,
+    /// A file that the words name could not be read.
+    ReadFault,
+    /// The output could not be written.
+    WriteFault,
+    /// Want of memory.
+    Memory,
+    /// The files use what the program can't run yet.
+    NotBuilt,
+}
+
+impl Status {
+    ghost use Rattle.lotos_run.specs.Statuses.{number_of};
+
+    /// The number with which the program ends, from 0 to 10.
+    pub fn number(self) -> u8
+        ensures { result ≡ number_of self }
+    {
+        match self {
+            Status::Done => 0,
+            Status::Usage => 2,
+            Status::ReadFault => 3,
+            Status::WriteFault => 4,
+            Status::Memory => 5,
+            Status::NotBuilt => 10,
+        }
+    }
+}
