@@ -1,5 +1,8 @@
 // The whole call, over objects in memory and over real files.
 
+mod forms;
+mod sessions;
+
 use crate::lotos_main;
 use crate::status::Status;
 use lotos_outside::file_shelf::FileShelf;
@@ -247,5 +250,29 @@ fn one_side_of_a_choice_is_lost(rt: HostRuntime) -> Result<(), Fail> {
         second.written.as_slice(),
         b"lotos-trace 1\npend 1.1 b\nact b by 1.1 rules chr(pre)\nleave 1\nend deadlock\n".as_slice()
     );
+    Ok(())
+}
+
+// The texts of the greatest length that is allowed, and of one byte more, with the blanks between the parts.
+#[test]
+fn lengths_are_limited(rt: HostRuntime) -> Result<(), Fail> {
+    for (blanks, status) in [(4042, Status::Done), (4043, Status::NotBuilt)] {
+        let mut spec = Vec::from_slice(
+            rt.alloc(),
+            b"specification S [a] : noexit behaviour a; stop endspec",
+        )?;
+        for _ in 0..blanks {
+            spec.push(b' ')?;
+        }
+        assert_eq!(rt; run(&rt, &spec, b"")?.status, status, "{blanks}");
+    }
+    for (blanks, status) in [(65532, Status::Done), (65533, Status::NotBuilt)] {
+        let mut script = Vec::from_slice(rt.alloc(), b"1: a")?;
+        for _ in 0..blanks {
+            script.push(b' ')?;
+        }
+        let spec = b"specification S [a] : noexit behaviour a; stop endspec";
+        assert_eq!(rt; run(&rt, spec, &script)?.status, status, "{blanks}");
+    }
     Ok(())
 }
