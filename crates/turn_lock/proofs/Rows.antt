@@ -1,6 +1,8 @@
 -- Rows of seats that grow and shrink at their end.
 use Rattle.std.proofs.Common.{◌≡◌, ◌⊎◌, ℕ, zero, suc, ◌+◌, ◌-◌, ◌<◌, ◌≤◌, List, [], ◌∷◌, ◌++◌, length, map, refl, sym, ap, ◌∙◌, subst, inl, inr, ⊎_elim, arith}
 use Rattle.std.specs.Prelude.{slice_index_or, Contains}
+use Rattle.std.proofs.lemmas.List.{length-map, get_or-map, get_or_default}
+use Rattle.std.proofs.lemmas.List.FromFn.{length-range_with_len, get_or-range_with_len}
 use Rattle.std.specs.List.{AllByRecursion, range_with_len}
 use Rattle.turn_lock.specs.declared.rule.Account.{Account}
 use Rattle.turn_lock.specs.Seats.{SeatModel}
@@ -32,7 +34,17 @@ module _ {A : Type 0} where
   all_and_last P [] x h p = (p, tt)
   all_and_last P (y ∷ ys) x h p = (h.0, all_and_last P ys x h.1 p)
 
+-- each number below the count
+pub range_contains : (count n : ℕ) → n < count → Contains (range_with_len 0 count) n
+range_contains count n below = (n, (let size = length-range_with_len 0 count in omega arith), get_or-range_with_len 0 count n n below ∙ omega arith)
+
 module _ {E : Type 0} where
+  -- where the seat at each place has the place as its number, the row has each number
+  pub row_contains : (seats : List (SeatModel E)) → ((i : ℕ) (s : SeatModel E) → i < length seats → s ≡ slice_index_or seats i s → s.number ≡ i) → (n : ℕ) → n < length seats → Contains (map (λ (s : SeatModel E). s.number) seats) n
+  row_contains [] numbered n below = absurd (omega arith)
+  row_contains (s ∷ ss) numbered n below = let number : SeatModel E → ℕ = λ s. s.number in let x = slice_index_or (s ∷ ss) n s in
+      (n, (let size = length-map (s ∷ ss) number in omega arith), get_or-map number (s ∷ ss) n s n below ∙ numbered n x below (get_or_default (s ∷ ss) n s x below))
+
   has_account_right : (a : Account E) (xs ys : List (Account E)) → HasAccount ys a → HasAccount (xs ++ ys) a
   has_account_right a [] ys h = h
   has_account_right a (x ∷ xs) ys h = inr (has_account_right a xs ys h)

@@ -10,3 +10,6 @@ mod turns;
 pub use seat::TurnSeat;
 pub use standing::Standing;
 pub use turns::{Held, Turns};
+
+#[cfg(test)]
+mod tests;
