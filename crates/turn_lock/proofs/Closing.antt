@@ -9,7 +9,7 @@ use Rattle.atomic_table.specs.Table.{State, Final, Seen}
 use Rattle.turn_lock.specs.declared.rule.Account.{Account}
 use Rattle.turn_lock.specs.declared.rule.View.{View}
 use Rattle.turn_lock.specs.declared.rule.Phase.TheVariants.{Idle}
-use Rattle.turn_lock.specs.Entries.{Begins, made_by}
+use Rattle.turn_lock.specs.Entries.{Begins, made_by, NamesBelow}
 use Rattle.turn_lock.specs.Seats.{SeatModel, AgreesWith}
 use Rattle.turn_lock.specs.Rule.{HasSlot, HasNumber, FitsList, AllFit, accounts_of, IsSlot, KeepsRule}
 use Rattle.turn_lock.specs.Closing.{account_of, HasAccount, AllNoted}
@@ -50,7 +50,7 @@ module _ {T E F : Type 0} (list : T → List E) (fixed : T → F) (maker : E →
   pub closing : (id : ℕ) (v : View E F) (words : List ℕ) (slots : List (Option T)) (row : List (SeatModel E)) (last : SeatModel E)
       → Final (Seen Rule id v) words slots → v.phase ≡ Idle → v.spent ≡ false → ((n : ℕ) → n < seats → Contains (map (λ (s : SeatModel E). s.number) (row ++ last ∷ [])) n) → AllNoted v.joined row
       → v.account.number ≡ last.number → v.account.own ≡ last.own → Begins last.seen v.account.seen → (out : Option T) → get_elem? slots 0 ≡ some out
-      → (x : T) × (out ≡ Some x) × (fixed x ≡ fixed opened) × All (AgreesWith maker (list x)) (row ++ last ∷ [])
+      → (x : T) × (out ≡ Some x) × (fixed x ≡ fixed opened) × All (AgreesWith maker (list x)) (row ++ last ∷ []) × NamesBelow maker seats (list x)
   closing id v words slots row last f idle alive all noted number own begins out is = let s = f.0 in let r = f.1.0 in let at = f.1.1 in
       let home = at_home s r id v at idle alive (λ n l. ⊎_elim (λ e. inl (number ∙ e)) inr (number_is_noted n v.joined row last noted (all n l))) in
       let slot = subst (λ b. IsSlot list fixed (fixed opened) b r.longest s.homes) home r.slot in let x = slot.0 in let same : r.longest ≡ list x = sym slot.2 in
@@ -61,4 +61,5 @@ module _ {T E F : Type 0} (list : T → List E) (fixed : T → F) (maker : E →
         All-from_recursion (AgreesWith maker (list x)) (row ++ last ∷ [])
             (all_and_last (AgreesWith maker (list x)) row last (noted_agree maker (list x) r.made r.place id v.joined row fit.1 noted)
             (begins_on last.seen v.account.seen (list x) begins p.prefix, ap (λ n. made_by maker n (list x)) (sym number) ∙ (p.own ∙ own))),
+        subst (NamesBelow maker seats) same r.named,
       )

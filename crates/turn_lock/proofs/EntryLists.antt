@@ -1,8 +1,9 @@
 -- Lists of entries that go on from one another.
-use Rattle.std.proofs.Common.{◌≡◌, ◌≢◌, ℕ, eqb, Bool, false, cond, List, [], ◌∷◌, ◌++◌, length, get_or, drop, Option, Some, None, refl, sym, ap, ◌∙◌, ne_eqb, append_assoc, append-nil}
+use Rattle.std.proofs.Common.{◌≡◌, ◌≢◌, ◌<◌, ℕ, eqb, Bool, false, cond, List, [], ◌∷◌, ◌++◌, length, get_or, drop, Option, Some, None, refl, sym, ap, ◌∙◌, subst, arith, ne_eqb, append_assoc, append-nil}
 use Rattle.std.specs.List.{AllByRecursion}
-use Rattle.std.proofs.lemmas.List.Elements.{All-nil, filter-append, recursion_from_All}
-use Rattle.turn_lock.specs.Entries.{is_named, Begins, made_by, NamesOnly, Continues}
+use Rattle.std.specs.Prelude.{All}
+use Rattle.std.proofs.lemmas.List.Elements.{All-nil, All-append, filter-append, recursion_from_All}
+use Rattle.turn_lock.specs.Entries.{is_named, Begins, made_by, NamesOnly, NamesBelow, Continues}
 
 module _ {A : Type 0} where
   pub begins_all : (xs : List A) → Begins xs xs
@@ -35,3 +36,10 @@ module _ {E : Type 0} (maker : E → Option ℕ) where
 
   pub continues_itself : (n : ℕ) (xs : List E) → Continues maker n xs xs
   continues_itself n xs = ([], sym (append-nil xs), All-nil _)
+
+  -- the entries name seats of the lock alone, also after a seat of the lock went on
+  pub names_below_longer : (n seats : ℕ) (xs ys : List E) → n < seats → Continues maker n xs ys → NamesBelow maker seats xs → NamesBelow maker seats ys
+  names_below_longer n seats xs ys below c named =
+      let P : E → Type 0 = λ e. (k : ℕ) → maker e ≡ Some k → k < seats in
+      let added : All P c.0 = λ i d inside k is. let same = c.2 i d inside k is in omega arith in
+      subst (NamesBelow maker seats) (sym c.1) (All-append P xs c.0 named added)

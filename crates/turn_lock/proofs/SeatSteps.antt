@@ -12,7 +12,7 @@ use Rattle.turn_lock.specs.declared.rule.Origin.{Origin}
 use Rattle.turn_lock.specs.declared.rule.View.{View}
 use Rattle.turn_lock.specs.declared.rule.Phase.{Phase}
 use Rattle.turn_lock.specs.declared.rule.Phase.TheVariants.{Idle}
-use Rattle.turn_lock.specs.Entries.{made_by}
+use Rattle.turn_lock.specs.Entries.{made_by, NamesBelow}
 use Rattle.turn_lock.specs.Rule.{HasTicket, HasSlot, FitsPhase, HasNumber, AllDiffer, AnswersFor, accounts_of, FitsList, AllFit, origin_of, first_view, FitsView, KeepsRule}
 use Rattle.turn_lock.specs.Steps.{after_split, new_view, after_join, spent_view}
 use Rattle.turn_lock.proofs.Places.{put, put_here, put_else, bool_cases, set_at, at_end, at_only, at_changed}
@@ -32,8 +32,8 @@ module _ {T E F : Type 0} (list : T → List E) (fixed : T → F) (maker : E →
   abbrev O : Origin E F
   O = origin_of list fixed opened seats
 
-  pub opening_keeps_rule : (len : ℕ) → len ≡ length (list opened) → 1 ≤ seats → Rule (opening (0 ∷ 0 ∷ len ∷ []) (Some opened ∷ []) (first_view list fixed maker opened seats))
-  opening_keeps_rule len size some_seat = let v0 : V = first_view list fixed maker opened seats in record {
+  pub opening_keeps_rule : (len : ℕ) → len ≡ length (list opened) → 1 ≤ seats → NamesBelow maker seats (list opened) → Rule (opening (0 ∷ 0 ∷ len ∷ []) (Some opened ∷ []) (first_view list fixed maker opened seats))
+  opening_keeps_rule len size some_seat named = let v0 : V = first_view list fixed maker opened seats in record {
     ticket = 0;
     serving = 0;
     longest = list opened;
@@ -46,6 +46,7 @@ module _ {T E F : Type 0} (list : T → List E) (fixed : T → F) (maker : E →
     ordered = (omega arith, omega arith, some_seat);
     slot = (opened, refl, refl, refl);
     began = begins_all (list opened);
+    named = named;
     unmade = λ _ _. refl;
     each = λ j u e. let t = at_only j v0 u e in subst (λ (x : ℕ × V). FitsView list fixed maker O 0 0 1 (list opened) false (λ _. 0) (λ _. 0) 0 x.0 x.1) (λ i. (sym t.0 i, t.1 i)) record {
       origin_stays = λ _. refl;
@@ -77,6 +78,7 @@ module _ {T E F : Type 0} (list : T → List E) (fixed : T → F) (maker : E →
         ordered = (o.0, o.1, omega arith);
         slot = r.slot;
         began = r.began;
+        named = r.named;
         unmade = λ n l. r.unmade n (omega arith);
         each = λ j u e. ⊎_elim
             (λ was. ⊎_elim
@@ -143,6 +145,7 @@ module _ {T E F : Type 0} (list : T → List E) (fixed : T → F) (maker : E →
         ordered = r.ordered;
         slot = r.slot;
         began = r.began;
+        named = r.named;
         unmade = r.unmade;
         each = λ j u e. ⊎_elim
             (λ (t : (j ≡ other) × (spent_view ≡ u)). subst (λ (y : V). FitsView list fixed maker O r.serving r.ticket r.made r.longest r.out r.holder place' first_at' j y) t.1 record {

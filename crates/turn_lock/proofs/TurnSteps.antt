@@ -13,11 +13,11 @@ use Rattle.turn_lock.specs.declared.rule.Origin.{Origin}
 use Rattle.turn_lock.specs.declared.rule.View.{View}
 use Rattle.turn_lock.specs.declared.rule.Phase.{Phase}
 use Rattle.turn_lock.specs.declared.rule.Phase.TheVariants.{Idle, Drawn, Called, Published}
-use Rattle.turn_lock.specs.Entries.{Begins, made_by, Continues}
+use Rattle.turn_lock.specs.Entries.{Begins, made_by, NamesBelow, Continues}
 use Rattle.turn_lock.specs.Rule.{HasTicket, HasSlot, FitsPhase, HasNumber, AnswersFor, accounts_of, FitsList, AllFit, origin_of, IsSlot, FitsView, KeepsRule}
 use Rattle.turn_lock.specs.Steps.{in_phase, with_lists, drew, passed, Gets, looked, published}
 use Rattle.turn_lock.proofs.Places.{put, put_here, put_else, bool_cases, not_both, set_at, at_changed}
-use Rattle.turn_lock.proofs.EntryLists.{begins_all, begins_on, made_by_more, continues_itself}
+use Rattle.turn_lock.proofs.EntryLists.{begins_all, begins_on, made_by_more, continues_itself, names_below_longer}
 use Rattle.turn_lock.proofs.Accounts.{place_of_number, all_fit_longer}
 
 module _ {T E F : Type 0} (list : T → List E) (fixed : T → F) (maker : E → Option ℕ) (opened : T) (seats : ℕ) where
@@ -61,6 +61,7 @@ module _ {T E F : Type 0} (list : T → List E) (fixed : T → F) (maker : E →
         ordered = (ordered.0, ordered.1, r.ordered.2);
         slot = slot;
         began = begins_on (list opened) r.longest longest' r.began (goes.0, goes.1);
+        named = names_below_longer maker v.account.number seats r.longest longest' (let b = p.below in let o = r.ordered in omega arith) goes r.named;
         unmade = λ n l. made_by_more maker v.account.number n r.longest longest' goes (λ e. let b = p.below in omega arith) ∙ r.unmade n l;
         each = λ j u e. ⊎_elim
             (λ (t : (j ≡ id) × (w ≡ u)). subst (λ (x : ℕ × V). FitsView list fixed maker (origin_of list fixed opened seats) serving' ticket' r.made longest' out' holder' r.place r.first_at x.0 x.1) (λ i. (sym t.0 i, t.1 i)) record {
@@ -168,10 +169,10 @@ module _ {T E F : Type 0} (list : T → List E) (fixed : T → F) (maker : E →
   beside_call serving ticket id t0 longest out holder j seen (Called t) apart mine now home k = absurd (not_both out k.3 home)
   beside_call serving ticket id t0 longest out holder j seen (Published t) apart mine now home k = absurd (not_both out k.3 home)
 
-  pub look_keeps_rule : (slots id t : ℕ) (expected : Option F) (me : M) → expected ≡ Some (fixed opened) → me.0.phase ≡ Drawn t → me.0.spent ≡ false
-      → Allows Rule slots id me 1 (λ n. n) (looked list fixed maker expected (step slots 1 0 0 none) me)
+  pub look_keeps_rule : (slots id t : ℕ) (fixed_part : Option F) (count : ℕ) (me : M) → fixed_part ≡ Some (fixed opened) → count ≡ seats → me.0.phase ≡ Drawn t → me.0.spent ≡ false
+      → Allows Rule slots id me 1 (λ n. n) (looked list fixed maker fixed_part count (step slots 1 0 0 none) me)
   unfolding ticket_or
-  look_keeps_rule slots id t expected me fixed_is is alive s r deep at _ = let n : ℕ = get_or s.words 1 0 in let v = me.0 in
+  look_keeps_rule slots id t fixed_part count me fixed_is count_is is alive s r deep at _ = let n : ℕ = get_or s.words 1 0 in let v = me.0 in
       let same_ticket : (u : ℕ) → v.phase ≡ Drawn u → t ≡ u = λ u e. ap (ticket_or 0) (sym is ∙ e) in dite (ℕ_discrete n t)
       (λ hit. let k = phase_at s r id v (Drawn t) at is in let now : r.serving ≡ t = sym (word s r 1) ∙ hit in let home = k.3 (sym now) in let x = slot_is s r false home in let p = ((r.each id v at).accounts alive).0 in
       let o = r.ordered in let w : V = with_lists v (Called t) (list x.0) v.account.own in let one : get_elem? s.homes 0 ≡ some (some (Some x.0)) = ap (λ h. get_elem? h 0) x.1 in (
@@ -188,7 +189,7 @@ module _ {T E F : Type 0} (list : T → List E) (fixed : T → F) (maker : E →
           (λ _. (
             x.0,
             (λ i. (with_lists v (Called (same_ticket u e i)) (list x.0) v.account.own, (0, Some x.0) ∷ me.1)),
-            record { prefix = subst (λ l. Begins v.account.seen l) (sym x.2) p.prefix; own = ap (made_by maker v.account.number) x.2 ∙ p.own; fixed_stays = ap Some x.3 ∙ sym fixed_is },
+            record { prefix = subst (λ l. Begins v.account.seen l) (sym x.2) p.prefix; own = ap (made_by maker v.account.number) x.2 ∙ p.own; named = subst (λ n. NamesBelow maker n (list x.0)) (sym count_is) (subst (NamesBelow maker seats) (sym x.2) r.named); fixed_stays = ap Some x.3 ∙ sym fixed_is },
           )),
           λ ne. absurd (ne (hit ∙ same_ticket u e)),
         )),

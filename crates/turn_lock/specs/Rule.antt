@@ -10,7 +10,7 @@ use Rattle.turn_lock.specs.declared.rule.Origin.{Origin}
 use Rattle.turn_lock.specs.declared.rule.View.{View}
 use Rattle.turn_lock.specs.declared.rule.Phase.{Phase}
 use Rattle.turn_lock.specs.declared.rule.Phase.TheVariants.{Idle, Drawn, Called, Published}
-use Rattle.turn_lock.specs.Entries.{Begins, made_by}
+use Rattle.turn_lock.specs.Entries.{Begins, made_by, NamesBelow}
 
 -- a seat in this phase has this ticket
 abbrev pub HasTicket : ℕ → Phase → Type 0
@@ -114,6 +114,7 @@ module _ {T E F : Type 0} (list : T → List E) (fixed : T → F) (maker : E →
     pub ordered : (serving ≤ ticket) × (ticket < 2 ^ 64) × (made ≤ seats)
     pub slot : IsSlot list fixed (fixed opened) out longest s.homes
     pub began : Begins (list opened) longest
+    pub named : NamesBelow maker seats longest
     -- a number that isn't made yet has its entries of the opening list and no others
     pub unmade : (n : ℕ) → made ≤ n → made_by maker n longest ≡ made_by maker n (list opened)
     pub each : (j : ℕ) (v : View E F) → get_elem? s.views j ≡ some v → FitsView (origin_of list fixed opened seats) serving ticket made longest out holder place first_at j v

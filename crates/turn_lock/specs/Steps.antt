@@ -6,7 +6,7 @@ use Rattle.turn_lock.specs.declared.rule.Account.{Account}
 use Rattle.turn_lock.specs.declared.rule.View.{View}
 use Rattle.turn_lock.specs.declared.rule.Phase.{Phase}
 use Rattle.turn_lock.specs.declared.rule.Phase.TheVariants.{Idle, Drawn, Called, Published}
-use Rattle.turn_lock.specs.Entries.{Begins, made_by}
+use Rattle.turn_lock.specs.Entries.{Begins, made_by, NamesBelow}
 use Rattle.turn_lock.specs.Rule.{accounts_of}
 
 -- whether a seat in this phase is in its turn, or waits for it
@@ -46,16 +46,18 @@ module _ {T E F : Type 0} where
   passed st m found m' = m' ≡ (in_phase m.0 Idle, [])
 
   module _ (list : T → List E) (fixed : T → F) (maker : E → Option ℕ) where
-    -- what is known of the value that a seat gets with its turn: its list begins with all that the seat has seen, the seat's own entries there are those that it made, and its fixed part is the expected one
-    pub record Gets (expected : Option F) (v : View E F) (x : T) : Type 0 where
+    -- What is known of the value that a seat gets with its turn: its list begins with all that the seat has seen, the seat's own entries there are those that it made, the entries name seats of the lock alone, and
+    -- its fixed part is the lock's. The lock's fixed part and the number of its seats are named by the caller
+    pub record Gets (fixed_part : Option F) (seats : ℕ) (v : View E F) (x : T) : Type 0 where
       pub prefix : Begins v.account.seen (list x)
       pub own : made_by maker v.account.number (list x) ≡ v.account.own
-      pub fixed_stays : Some (fixed x) ≡ expected
+      pub named : NamesBelow maker seats (list x)
+      pub fixed_stays : Some (fixed x) ≡ fixed_part
 
     -- look: where the seat's ticket is served, it is called, and it gets the slot with a value, whose list it has then seen
-    abbrev pub looked : Option F → Step (Option T) → Me (Option T) (View E F) → ℕ → Me (Option T) (View E F) → Type 0
-    looked expected st m found m' = (t : ℕ) → m.0.phase ≡ Drawn t
-        → (found ≡ t → (x : T) × (m' ≡ (with_lists m.0 (Called t) (list x) m.0.account.own, (0, Some x) ∷ m.1)) × Gets expected m.0 x) × (found ≢ t → m' ≡ m)
+    abbrev pub looked : Option F → ℕ → Step (Option T) → Me (Option T) (View E F) → ℕ → Me (Option T) (View E F) → Type 0
+    looked fixed_part seats st m found m' = (t : ℕ) → m.0.phase ≡ Drawn t
+        → (found ≡ t → (x : T) × (m' ≡ (with_lists m.0 (Called t) (list x) m.0.account.own, (0, Some x) ∷ m.1)) × Gets fixed_part seats m.0 x) × (found ≢ t → m' ≡ m)
 
   -- publish the length of the list that is given: the seat has seen that list, and made its own entries there
   abbrev pub published : (E → Option ℕ) → List E → Step (Option T) → Me (Option T) (View E F) → ℕ → Me (Option T) (View E F) → Type 0

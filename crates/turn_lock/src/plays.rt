@@ -18,17 +18,21 @@ impl<E> Publishes<E> for Brand {
     ghost given = { [] };
 }
 
-/// Names the fixed part that the value has. Each call picks it.
-pub(crate) trait Expects<F> {
-    ghost use Rattle.std.specs.Prelude.{Option};
+/// Names the fixed part and the number of seats that the lock was made with. Each call picks them.
+pub(crate) trait MadeWith<F> {
+    ghost use Rattle.std.specs.Prelude.{ℕ, Option};
 
-    ghost expected: { Option F };
+    ghost fixed_part: { Option F };
+
+    ghost seats: { ℕ };
 }
 
-impl<F> Expects<F> for Brand {
+impl<F> MadeWith<F> for Brand {
     ghost use Rattle.std.specs.Prelude.{None};
 
-    ghost expected = { None };
+    ghost fixed_part = { None };
+
+    ghost seats = { 0 };
 }
 
 /// Draws a ticket.
@@ -45,10 +49,10 @@ pub(crate) struct Look<T, J> {
     of: PhantomData<(T, J)>,
 }
 
-impl<T: Standing, J: Expects<T::Fixed>> Play<Option<T>, View<T::Entry, T::Fixed>> for Look<T, J> {
+impl<T: Standing, J: MadeWith<T::Fixed>> Play<Option<T>, View<T::Entry, T::Fixed>> for Look<T, J> {
     ghost use Rattle.turn_lock.specs.Steps.{looked};
 
-    ghost then = { looked T.list T.fixed T.maker J.expected };
+    ghost then = { looked T.list T.fixed T.maker J.fixed_part J.seats };
 }
 
 /// Publishes the length of the list.

@@ -9,7 +9,7 @@ ghost use Rattle.turn_lock.specs.Rule.{first_view};
 ghost use Rattle.turn_lock.specs.Steps.{IsResting, HasTurn, Gets, in_phase, with_lists};
 ghost use Rattle.turn_lock.specs.Closing.{AllNoted};
 
-use crate::plays::{Deal, Draw, Expects, Gather, Look, Pass, Publish, Publishes};
+use crate::plays::{Deal, Draw, Gather, Look, MadeWith, Pass, Publish, Publishes};
 use crate::rule::{Opening, TurnRule, View};
 use crate::seat::{Place, TurnSeat};
 use crate::standing::Standing;
@@ -76,7 +76,7 @@ fn draw<T: Standing, R: Wait>(rt: &R, top: &Top<T>, place: &mut Place<T>) -> u64
 }
 
 // Looks until the ticket is served, and then has the slot.
-fn wait<T: Standing, J: Expects<T::Fixed>, R: Wait>(
+fn wait<T: Standing, J: MadeWith<T::Fixed>, R: Wait>(
     rt: &R,
     top: &Top<T>,
     place: &mut Place<T>,
@@ -84,9 +84,9 @@ fn wait<T: Standing, J: Expects<T::Fixed>, R: Wait>(
 )
     requires table { (place.old.table_id ≡ top.now.table_id) × (top.now.table_id.words ≡ 3) × (top.now.table_id.slots ≡ 1) }
     requires drawn { (place.old.me.0.phase ≡ Drawn ticket) × (place.old.me.0.spent ≡ false) × (place.old.me.1 ≡ []) }
-    requires fixed { J.expected ≡ Some (T.fixed top.now.key.value.value) }
+    requires made_with { (J.fixed_part ≡ Some (T.fixed top.now.key.value.value)) × (J.seats ≡ top.now.key.seats) }
     ensures table { place.new.table_id ≡ place.old.table_id }
-    ensures value { (x : T) × (place.new.me ≡ (with_lists place.old.me.0 (Called ticket) (T.list x) place.old.me.0.account.own, (0, Some x) ∷ [])) × Gets T.list T.fixed T.maker J.expected place.old.me.0 x }
+    ensures value { (x : T) × (place.new.me ≡ (with_lists place.old.me.0 (Called ticket) (T.list x) place.old.me.0.account.own, (0, Some x) ∷ [])) × Gets T.list T.fixed T.maker J.fixed_part J.seats place.old.me.0 x }
 {
     let backoff = Backoff::new();
     for _ in rt.forever() {
@@ -179,6 +179,7 @@ impl<T: Standing> Turns<T> {
         requires resting { IsAtRest self.now.id seat.old }
         ensures seat { seat.new ≡ record seat.old { seen = T.list result.value; holds_turn = true } }
         ensures list { AgreesWith T.maker (T.list result.value) seat.old }
+        ensures named { NamesBelow T.maker self.now.seats (T.list result.value) }
         ensures fixed { T.fixed result.value ≡ self.now.fixed }
     {
         let top = &self.table.shared;
@@ -211,6 +212,7 @@ impl<T: Standing> Turns<T> {
         requires complete { (n : ℕ) → n < self.seats → Contains (map (λ seat. seat.number) seats.items) n }
         ensures fixed { T.fixed result ≡ self.fixed }
         ensures lists { All (AgreesWith T.maker (T.list result)) seats.items }
+        ensures named { NamesBelow T.maker self.seats (T.list result) }
     {
         let Turns { table } = self;
         let Some(last) = seats.pop() else {

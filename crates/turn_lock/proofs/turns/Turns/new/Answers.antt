@@ -10,7 +10,7 @@ use Rattle.turn_lock.proofs.turns.Turns.new.Goals as goal
 pub new-requires : goal.new-requires
 new-requires g c = let L = g.T.Standing.list in let F = g.T.Standing.fixed in let M = g.T.Standing.maker in let seats : ℕ = c.from.result in let opened = c.of.result.value in
     let items : c.push.new.self.items ≡ Some opened ∷ [] = search rules in let size : c.length-length.result ≡ length (L opened) = search rules in let count : seats ≡ c.args.seats = search rules in
-    subst (λ l. KeepsRule L F M opened seats (opening (0 ∷ 0 ∷ c.length-length.result ∷ []) l (first_view L F M opened seats))) (sym items) (opening_keeps_rule L F M opened seats c.length-length.result size (omega (arith, c.requires.some_seat)))
+    subst (λ l. KeepsRule L F M opened seats (opening (0 ∷ 0 ∷ c.length-length.result ∷ []) l (first_view L F M opened seats))) (sym items) (opening_keeps_rule L F M opened seats c.length-length.result size (omega (arith, c.requires.some_seat)) (search rules))
 
 pub returns-clause-seats : goal.returns-clause-seats
 returns-clause-seats g c = let M = g.T.Standing.maker in let id = c.in-Ok.table.shared.table_id in let opened = c.in-Ok.table.shared.key.value.value in
