@@ -1,5 +1,5 @@
 -- Accounts of seats: their numbers, and what the rule says of them as the list and the seats change.
-use Rattle.std.proofs.Common.{◌≡◌, ◌≢◌, ◌⊎◌, ℕ, ◌<◌, ◌≤◌, List, [], ◌∷◌, ◌++◌, Option, refl, sym, ap, ◌∙◌, ⊎_elim, inl, inr, arith}
+use Rattle.std.proofs.Common.{◌≡◌, ◌⊎◌, ℕ, ◌<◌, ◌≤◌, List, [], ◌∷◌, ◌++◌, Option, refl, sym, ap, ◌∙◌, ⊎_elim, inl, inr, arith}
 use Rattle.turn_lock.specs.declared.rule.Account.{Account}
 use Rattle.turn_lock.specs.Entries.{Continues}
 use Rattle.turn_lock.specs.Rule.{HasNumber, AllDiffer, FitsList, AllFit}

@@ -1,5 +1,5 @@
 -- What a lock has once all seats are joined into one.
-use Rattle.std.proofs.Common.{◌≡◌, ◌⊎◌, ℕ, ◌<◌, Bool, true, false, List, [], ◌∷◌, ◌++◌, Option, Some, sym, ap, ◌∙◌, subst, ⊎_elim, inl, inr, arith}
+use Rattle.std.proofs.Common.{◌≡◌, ℕ, ◌<◌, true, false, List, [], ◌∷◌, ◌++◌, Option, Some, sym, ap, ◌∙◌, subst, ⊎_elim, inl, inr, arith}
 use Rattle.std.specs.Prelude.{All, Contains, map}
 use Rattle.std.specs.List.{AllByRecursion}
 use Rattle.std.proofs.lemmas.List.Elements.{All-from_recursion}

@@ -1,9 +1,9 @@
 -- Lists of entries that go on from one another.
-use Rattle.std.proofs.Common.{◌≡◌, ◌≢◌, ◌<◌, ℕ, eqb, Bool, false, cond, List, [], ◌∷◌, ◌++◌, length, get_or, drop, Option, Some, None, refl, sym, ap, ◌∙◌, subst, arith, ne_eqb, append_assoc, append-nil}
+use Rattle.std.proofs.Common.{◌≡◌, ◌≢◌, ◌<◌, ℕ, false, cond, List, [], ◌∷◌, ◌++◌, length, get_or, drop, Option, Some, None, refl, sym, ap, ◌∙◌, subst, arith, ne_eqb, append_assoc, append-nil}
 use Rattle.std.specs.List.{AllByRecursion}
 use Rattle.std.specs.Prelude.{All}
 use Rattle.std.proofs.lemmas.List.Elements.{All-nil, All-append, filter-append, recursion_from_All}
-use Rattle.turn_lock.specs.Entries.{is_named, Begins, made_by, NamesOnly, NamesBelow, Continues}
+use Rattle.turn_lock.specs.Entries.{is_named, Begins, made_by, NamesBelow, Continues}
 
 module _ {A : Type 0} where
   pub begins_all : (xs : List A) → Begins xs xs

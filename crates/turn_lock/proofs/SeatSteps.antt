@@ -1,5 +1,5 @@
 -- A new lock keeps the rule, and each seat that is split off or joined does.
-use Rattle.std.proofs.Common.{◌≡◌, ◌≢◌, ◌⊎◌, ℕ, ◌+◌, ◌^◌, ◌<◌, ◌≤◌, Bool, true, false, true≢false, cond, List, [], ◌∷◌, ◌++◌, length, set, Option, Some, refl, sym, ap, ◌∙◌, subst, ⊎_elim, inl, inr, arith, length-set}
+use Rattle.std.proofs.Common.{◌≡◌, ◌≢◌, ℕ, ◌+◌, ◌<◌, ◌≤◌, Bool, true, false, true≢false, cond, List, [], ◌∷◌, ◌++◌, length, set, Option, Some, refl, sym, ap, ◌∙◌, subst, ⊎_elim, inl, inr, arith, length-set}
 use Rattle.std.specs.Prelude.{◌||◌}
 use mathlib.Core.Logic.{dite}
 use mathlib.Core.Option.{some, some-injective}
@@ -7,17 +7,16 @@ use native.Mathlib.Decide.{ℕ_discrete}
 use lib.ListN.{get_elem?}
 use Rattle.atomic_table.specs.Table.{State, Splits, Joins, opening}
 use Rattle.atomic_table.proofs.Lists.{at_set, set_else, at_longer, at_last}
-use Rattle.turn_lock.specs.declared.rule.Account.{Account}
 use Rattle.turn_lock.specs.declared.rule.Origin.{Origin}
 use Rattle.turn_lock.specs.declared.rule.View.{View}
 use Rattle.turn_lock.specs.declared.rule.Phase.{Phase}
 use Rattle.turn_lock.specs.declared.rule.Phase.TheVariants.{Idle}
 use Rattle.turn_lock.specs.Entries.{made_by, NamesBelow}
-use Rattle.turn_lock.specs.Rule.{HasTicket, HasSlot, FitsPhase, HasNumber, AllDiffer, AnswersFor, accounts_of, FitsList, AllFit, origin_of, first_view, FitsView, KeepsRule}
+use Rattle.turn_lock.specs.Rule.{HasTicket, HasSlot, FitsPhase, HasNumber, AnswersFor, accounts_of, origin_of, first_view, FitsView, KeepsRule}
 use Rattle.turn_lock.specs.Steps.{after_split, new_view, after_join, spent_view}
 use Rattle.turn_lock.proofs.Places.{put, put_here, put_else, bool_cases, set_at, at_end, at_only, at_changed}
 use Rattle.turn_lock.proofs.EntryLists.{begins_all, either_begins}
-use Rattle.turn_lock.proofs.Accounts.{has_number_left, has_number_right, has_number_cases, differ_append, place_of_number, fits_moved, all_fit_moved, all_fit_append}
+use Rattle.turn_lock.proofs.Accounts.{has_number_left, has_number_right, has_number_cases, differ_append, place_of_number, all_fit_moved, all_fit_append}
 
 module _ {T E F : Type 0} (list : T → List E) (fixed : T → F) (maker : E → Option ℕ) (opened : T) (seats : ℕ) where
   abbrev V : Type 0

@@ -1,5 +1,5 @@
 -- Each step of a turn keeps the rule: draw, look, publish, pass.
-use Rattle.std.proofs.Common.{◌≡◌, ◌≢◌, ℕ, ◌+◌, ◌-◌, ◌%◌, ◌^◌, ◌<◌, ◌≤◌, eqb, Bool, true, false, true≢false, List, [], ◌∷◌, length, get_or, set, Option, Some, None, refl, sym, ap, ◌∙◌, subst, ⊎_elim, arith, eq-eqb, ne_eqb}
+use Rattle.std.proofs.Common.{◌≡◌, ◌≢◌, ℕ, ◌+◌, ◌-◌, ◌%◌, ◌^◌, ◌<◌, ◌≤◌, eqb, Bool, true, false, true≢false, List, [], ◌∷◌, length, get_or, set, Option, Some, refl, sym, ap, ◌∙◌, subst, ⊎_elim, arith, eq-eqb, ne_eqb}
 use Rattle.std.proofs.lemmas.List.{set-get_or}
 use mathlib.Core.Logic.{dite}
 use mathlib.Core.Option.{none, some}
@@ -9,13 +9,12 @@ use lib.ListN.{get_elem?}
 use prog.Atomic.{either}
 use Rattle.atomic_table.specs.Table.{State, Me, step, keeps, takes, gives, stepped, Allows, rest}
 use Rattle.atomic_table.proofs.Lists.{at_set, set_again}
-use Rattle.turn_lock.specs.declared.rule.Origin.{Origin}
 use Rattle.turn_lock.specs.declared.rule.View.{View}
 use Rattle.turn_lock.specs.declared.rule.Phase.{Phase}
 use Rattle.turn_lock.specs.declared.rule.Phase.TheVariants.{Idle, Drawn, Called, Published}
 use Rattle.turn_lock.specs.Entries.{Begins, made_by, NamesBelow, Continues}
-use Rattle.turn_lock.specs.Rule.{HasTicket, HasSlot, FitsPhase, HasNumber, AnswersFor, accounts_of, FitsList, AllFit, origin_of, IsSlot, FitsView, KeepsRule}
-use Rattle.turn_lock.specs.Steps.{in_phase, with_lists, drew, passed, Gets, looked, published}
+use Rattle.turn_lock.specs.Rule.{HasTicket, HasSlot, FitsPhase, AnswersFor, accounts_of, origin_of, IsSlot, FitsView, KeepsRule}
+use Rattle.turn_lock.specs.Steps.{in_phase, with_lists, drew, passed, looked, published}
 use Rattle.turn_lock.proofs.Places.{put, put_here, put_else, bool_cases, not_both, set_at, at_changed}
 use Rattle.turn_lock.proofs.EntryLists.{begins_all, begins_on, made_by_more, continues_itself, names_below_longer}
 use Rattle.turn_lock.proofs.Accounts.{place_of_number, all_fit_longer}

@@ -49,22 +49,24 @@ impl Tally {
     }
 }
 
-/// One turn of the seat with this number, in which it adds its number.
+/// One turn of the seat with this number, in which it adds its number. It answers how many numbers it found.
 fn add_in_turn<R: Wait>(
     rt: &R,
     lock: &Turns<Tally>,
     seat: &mut TurnSeat<Tally>,
     number: u32,
-) -> Result<(), Memory>
+) -> Result<usize, Memory>
     requires resting { IsAtRest lock.now.id seat.old }
     requires number { seat.old.number ≡ number }
     ensures resting { IsAtRest lock.now.id seat.new }
     ensures number { seat.new.number ≡ number }
 {
     let mut held = lock.take(rt, seat);
+    let found = held.value.numbers.len();
     let added = held.value.add(number);
     lock.give(seat, held);
-    added
+    added?;
+    Ok(found)
 }
 
 /// A tally with one entry, of the seat 1.
@@ -135,11 +137,10 @@ fn two_seats_take_turns_over_one_list(rt: HostRuntime) {
     let (lock, mut seats) = Turns::new(alloc, tally, 2).expect(&rt, "memory");
     let mut second = seats.pop().expect(&rt, "the seat 1");
     let mut first = seats.pop().expect(&rt, "the seat 0");
-    let mut held = lock.take(&rt, &mut first);
-    assert_eq!(rt; held.value.numbers.as_slice(), [1].as_slice());
-    held.value.add(0).expect(&rt, "memory");
-    lock.give(&mut first, held);
-    add_in_turn(&rt, &lock, &mut second, 1).expect(&rt, "memory");
+    let found = add_in_turn(&rt, &lock, &mut first, 0).expect(&rt, "memory");
+    assert_eq!(rt; found, 1);
+    let found = add_in_turn(&rt, &lock, &mut second, 1).expect(&rt, "memory");
+    assert_eq!(rt; found, 2);
     let row = row_of_two(alloc, first, second).expect(&rt, "memory");
     let tally = lock.close(row);
     assert_eq!(rt; tally.numbers.as_slice(), [1, 0, 1].as_slice());

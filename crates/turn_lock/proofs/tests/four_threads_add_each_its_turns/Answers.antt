@@ -1,4 +1,4 @@
-use Rattle.std.proofs.Common.{◌≡◌, ◌<◌, ℕ, length, arith, rules}
+use Rattle.std.proofs.Common.{◌≡◌, length, arith, rules}
 use Rattle.turn_lock.proofs.Rows.{row_contains}
 use Rattle.turn_lock.proofs.tests.four_threads_add_each_its_turns.Goals as goal
 

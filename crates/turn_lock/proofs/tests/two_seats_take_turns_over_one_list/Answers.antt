@@ -1,4 +1,4 @@
-use Rattle.std.proofs.Common.{◌≡◌, ◌<◌, ℕ, sym, subst, map, arith, rules}
+use Rattle.std.proofs.Common.{◌≡◌, sym, subst, map, arith, rules}
 use Rattle.std.specs.Prelude.{Contains}
 use Rattle.std.specs.List.{range_with_len}
 use Rattle.turn_lock.proofs.Rows.{range_contains}

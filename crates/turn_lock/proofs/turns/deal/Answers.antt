@@ -1,4 +1,4 @@
-use Rattle.std.proofs.Common.{◌≡◌, ◌+◌, ap, ◌∙◌, arith, ◌++◌, ◌∷◌, [], map}
+use Rattle.std.proofs.Common.{◌≡◌, ap, ◌∙◌, arith, ◌++◌, ◌∷◌, []}
 use Rattle.turn_lock.specs.Seats.{SeatModel, new_seat}
 use Rattle.turn_lock.specs.Steps.{after_split, new_view, is_in_turn}
 use Rattle.turn_lock.proofs.SeatSteps.{split_keeps_rule}

@@ -1,4 +1,4 @@
-use Rattle.std.proofs.Common.{◌≡◌, ap, ◌∙◌, arith}
+use Rattle.std.proofs.Common.{ap, ◌∙◌, arith}
 use Rattle.turn_lock.proofs.TurnSteps.{draw_keeps_rule}
 use Rattle.turn_lock.proofs.turns.draw.Goals as goal
 

@@ -1,4 +1,4 @@
-use Rattle.std.proofs.Common.{◌≡◌, ap, sym, ◌∙◌, subst, arith, length, ◌++◌, ◌∷◌, [], drop, append_assoc, inl}
+use Rattle.std.proofs.Common.{ap, sym, ◌∙◌, subst, arith, length, ◌++◌, ◌∷◌, [], drop, append_assoc, inl}
 use Rattle.std.specs.List.{AllByRecursion}
 use Rattle.turn_lock.specs.Seats.{IsAtRest}
 use Rattle.turn_lock.specs.Rule.{accounts_of}

@@ -1,4 +1,4 @@
-use Rattle.std.proofs.Common.{◌≡◌, sym, ap, subst, ◌∙◌, arith, length}
+use Rattle.std.proofs.Common.{sym, ap, subst, ◌∙◌, arith, length}
 use Rattle.turn_lock.specs.Entries.{Continues}
 use Rattle.turn_lock.proofs.TurnSteps.{publish_keeps_rule}
 use Rattle.turn_lock.proofs.turns.publish.Goals as goal

@@ -1,4 +1,4 @@
-use Rattle.std.proofs.Common.{◌≡◌, sym, ap, ◌∙◌, ◌∷◌, Some, rules}
+use Rattle.std.proofs.Common.{sym, ap, ◌∙◌, ◌∷◌, Some, rules}
 use Rattle.atomic_table.specs.Table.{rest}
 use Rattle.turn_lock.proofs.turns.Turns.take.Goals as goal
 
