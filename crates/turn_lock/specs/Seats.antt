@@ -4,16 +4,20 @@ use Rattle.std.specs.List.{range_with_len}
 use Rattle.atomic_table.specs.Seated.{TableId}
 use Rattle.turn_lock.specs.Entries.{Begins, made_by}
 
+-- which lock it is
+abbrev pub LockId : Type 0
+LockId = TableId
+
 -- a lock: which one it is, the list and the fixed part of the value with which it was made, and how many seats it has
 pub record LockModel (E F : Type 0) : Type 0 where
-  pub id : TableId
+  pub id : LockId
   pub opening : List E
   pub fixed : F
   pub seats : ℕ
 
 -- a seat: the lock that it belongs to, its number, the list that it has seen, the entries that it made, and whether it holds the turn
 pub record SeatModel (E : Type 0) : Type 0 where
-  pub lock : TableId
+  pub lock : LockId
   pub number : ℕ
   pub seen : List E
   pub own : List E
@@ -21,7 +25,7 @@ pub record SeatModel (E : Type 0) : Type 0 where
 
 module _ {E : Type 0} where
   -- the seat belongs to this lock and doesn't hold the turn
-  abbrev pub IsAtRest : TableId → SeatModel E → Type 0
+  abbrev pub IsAtRest : LockId → SeatModel E → Type 0
   IsAtRest id seat = (seat.lock ≡ id) × (seat.holds_turn ≡ false)
 
 module _ {E : Type 0} (maker : E → Option ℕ) where
@@ -30,9 +34,9 @@ module _ {E : Type 0} (maker : E → Option ℕ) where
   AgreesWith xs seat = Begins seat.seen xs × (made_by maker seat.number xs ≡ seat.own)
 
   -- the seat n of a new lock: it has seen the whole list
-  abbrev pub new_seat : TableId → List E → ℕ → SeatModel E
+  abbrev pub new_seat : LockId → List E → ℕ → SeatModel E
   new_seat id opening n = record { lock = id; number = n; seen = opening; own = made_by maker n opening; holds_turn = false }
 
   -- the seats of a new lock: the one at place i, from 0, has number i
-  abbrev pub new_seats : TableId → List E → ℕ → List (SeatModel E)
+  abbrev pub new_seats : LockId → List E → ℕ → List (SeatModel E)
   new_seats id opening count = map (new_seat id opening) (range_with_len 0 count)
