@@ -35,8 +35,9 @@ module _ {T E F : Type 0} (list : T → List E) (fixed : T → F) (maker : E →
   abbrev Rule : St → Type 0
   Rule = KeepsRule list fixed maker opened seats
 
-  -- A step of the seat id, which changes the words, the slot, its phase and its lists. What it owes: the words and the slot are as the rule says, the list goes on, the seat's new lists and phase fit it, and the other seats' phases,
-  -- the queue and whoever has the slot are as the rule says
+  -- A step of the seat id, which changes the words, the slot, its phase and its lists. What it owes: the words and the slot
+  -- are as the rule says, the list goes on, the seat's new lists and phase fit it, and the other seats' phases, the queue and
+  -- whoever has the slot are as the rule says
   moved : (s : St) (r : Rule s) (id : ℕ) (v : V) → get_elem? s.views id ≡ some v → v.spent ≡ false
       → (words' : List ℕ) (homes' : Homes) (ticket' serving' : ℕ) (longest' : List E) (out' : Bool) (holder' : ℕ → ℕ) (phase' : Phase) (seen' own' : List E)
       → words' ≡ ticket' ∷ serving' ∷ length longest' ∷ [] → (serving' ≤ ticket') × (ticket' < 2 ^ 64) → IsSlot list fixed (fixed opened) out' longest' homes'

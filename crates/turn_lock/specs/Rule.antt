@@ -1,5 +1,6 @@
 -- The rule of the lock: which seat has which ticket, where the value is, and what each seat has seen of the list.
--- The lock has three words, `ticket` (the next ticket), `serving` (the ticket whose turn it is) and the length of the list, and one slot for the value.
+-- The lock has three words, `ticket` (the next ticket), `serving` (the ticket whose turn it is) and the length of the list,
+-- and one slot for the value.
 use Rattle.std.specs.Prelude.{◌≡◌, ◌⊎◌, ℕ, ◌^◌, ◌<◌, ◌≤◌, Bool, true, false, List, [], ◌∷◌, length, Option, Some}
 use mathlib.Core.Option.{some, none}
 use mathlib.Core.Option as maybe
@@ -26,8 +27,8 @@ HasSlot (Drawn t) = ⊥
 HasSlot (Called t) = Unit {0}
 HasSlot (Published t) = Unit {0}
 
--- What the rule says of the phase of the view j, which has seen a list. `holder t` is the view with ticket t, so two views have different tickets.
--- Whoever has the slot has the ticket that is served, and has seen the longest list
+-- What the rule says of the phase of the view j, which has seen a list. `holder t` is the view with ticket t, so two views
+-- have different tickets. Whoever has the slot has the ticket that is served, and has seen the longest list
 module _ {E : Type 0} (serving ticket : ℕ) (longest : List E) (out : Bool) (holder : ℕ → ℕ) (j : ℕ) where
   abbrev pub FitsPhase : List E → Phase → Type 0
   FitsPhase seen Idle = Unit {0}
@@ -55,7 +56,8 @@ module _ {E F : Type 0} where
   abbrev pub AnswersFor : ℕ → View E F → Type 0
   AnswersFor n v = (v.spent ≡ false) × HasNumber n (accounts_of v)
 
--- What the rule says of an account that the view j has. `place n` is the view that answers for the number n, so two views have different numbers
+-- What the rule says of an account that the view j has. `place n` is the view that answers for the number n, so two views
+-- have different numbers
 module _ {E : Type 0} (maker : E → Option ℕ) (longest : List E) (made : ℕ) (place : ℕ → ℕ) (j : ℕ) where
   pub record FitsList (a : Account E) : Type 0 where
     pub prefix : Begins a.seen longest
@@ -99,8 +101,9 @@ module _ {T E F : Type 0} (list : T → List E) (fixed : T → F) (maker : E →
     pub different : v.spent ≡ false → AllDiffer (accounts_of v)
     pub first : v.is_first ≡ true → (v.spent ≡ false) × (v.next ≡ made) × (j ≡ first_at)
 
-  -- The rule, of a lock that was made round `opened` with so many seats. It says what is there: the next ticket, the ticket that is served, the longest list, whether the slot is out, how many numbers were made, the view
-  -- with each ticket, the view that answers for each number, and where the first seat's view stands
+  -- The rule, of a lock that was made round `opened` with so many seats. It says what is there: the next ticket, the ticket
+  -- that is served, the longest list, whether the slot is out, how many numbers were made, the view with each ticket, the
+  -- view that answers for each number, and where the first seat's view stands
   pub record KeepsRule (opened : T) (seats : ℕ) (s : State (Option T) (View E F)) : Type 0 where
     pub ticket : ℕ
     pub serving : ℕ

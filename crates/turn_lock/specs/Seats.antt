@@ -8,14 +8,14 @@ use Rattle.turn_lock.specs.Entries.{Begins, made_by}
 abbrev pub LockId : Type 0
 LockId = TableId
 
--- a lock: which one it is, the list and the fixed part of the value with which it was made, and how many seats it has
-pub record LockModel (E F : Type 0) : Type 0 where
+-- a lock: which one it is, the fixed part of the value with which it was made, and how many seats it has
+pub record LockModel (F : Type 0) : Type 0 where
   pub id : LockId
-  pub opening : List E
   pub fixed : F
   pub seats : ℕ
 
--- a seat: the lock that it belongs to, its number, the list that it has seen, the entries that it made, and whether it holds the turn
+-- a seat: the lock that it belongs to, its number, the list that it has seen, the entries that it made, and whether it
+-- holds the turn
 pub record SeatModel (E : Type 0) : Type 0 where
   pub lock : LockId
   pub number : ℕ

@@ -45,8 +45,9 @@ module _ {T E F : Type 0} where
   passed st m found m' = m' ≡ (in_phase m.0 Idle, [])
 
   module _ (list : T → List E) (fixed : T → F) (maker : E → Option ℕ) where
-    -- What is known of the value that a seat gets with its turn: its list begins with all that the seat has seen, the seat's own entries there are those that it made, the entries name seats of the lock alone, and
-    -- its fixed part is the lock's. The lock's fixed part and the number of its seats are named by the caller
+    -- What is known of the value that a seat gets with its turn: its list begins with all that the seat has seen, the
+    -- seat's own entries there are those that it made, the entries name seats of the lock alone, and its fixed part is the
+    -- lock's. The lock's fixed part and the number of its seats are named by the caller
     pub record Gets (fixed_part : Option F) (seats : ℕ) (v : View E F) (x : T) : Type 0 where
       pub prefix : Begins v.account.seen (list x)
       pub own : made_by maker v.account.number (list x) ≡ v.account.own
@@ -79,7 +80,8 @@ module _ {E F : Type 0} where
     origin = v.origin;
   }
 
-  -- a seat into which another was joined: it keeps the longer of the two lists, of which the other is a beginning, and the accounts of both
+  -- a seat into which another was joined: it keeps the longer of the two lists, of which the other is a beginning, and the
+  -- accounts of both
   abbrev pub after_join : View E F → View E F → View E F
   after_join v w = record v {
     account = record v.account { seen = v.account.seen ++ drop (length v.account.seen) w.account.seen };

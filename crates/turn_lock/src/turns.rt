@@ -29,7 +29,7 @@ type Top<T> = Shared<
 >;
 
 /// A lock round one value, whose turns are served in the order in which their tickets were drawn. Contracts see which
-/// lock it is, the list and the fixed part of the value with which it was made, and the number of its seats.
+/// lock it is, the fixed part of the value with which it was made, and the number of its seats.
 #[derive(Drop)]
 pub struct Turns<T: Standing> {
     table: Table<Option<T>, View<T::Entry, T::Fixed>, Opening<T>, TurnRule<T>, Global>,
@@ -39,9 +39,9 @@ impl<T: Standing> Model for Turns<T> {
     ghost use Rattle.std.specs.Prelude.{◌≡◌, ◌≤◌};
     ghost use Rattle.turn_lock.specs.Seats.{LockModel};
 
-    ghost Value = { LockModel T.Entry T.Fixed };
+    ghost Value = { LockModel T.Fixed };
 
-    ghost view = { λ l. record { id = l.table.shared.table_id; opening = T.list l.table.shared.key.value.value; fixed = T.fixed l.table.shared.key.value.value; seats = l.table.shared.key.seats } };
+    ghost view = { λ l. record { id = l.table.shared.table_id; fixed = T.fixed l.table.shared.key.value.value; seats = l.table.shared.key.seats } };
 
     ghost invariant = { λ l. (l.table.shared.table_id.words ≡ 3) × (l.table.shared.table_id.slots ≡ 1) × (1 ≤ l.table.shared.key.seats) };
 }
@@ -86,7 +86,9 @@ fn wait<T: Standing, J: MadeWith<T::Fixed>, R: Wait>(
     requires drawn { (place.old.me.0.phase ≡ Drawn ticket) × (place.old.me.0.spent ≡ false) × (place.old.me.1 ≡ []) }
     requires made_with { (J.fixed_part ≡ Some (T.fixed top.now.key.value.value)) × (J.seats ≡ top.now.key.seats) }
     ensures table { place.new.table_id ≡ place.old.table_id }
-    ensures value { (x : T) × (place.new.me ≡ (with_lists place.old.me.0 (Called ticket) (T.list x) place.old.me.0.account.own, (0, Some x) ∷ [])) × Gets T.list T.fixed T.maker J.fixed_part J.seats place.old.me.0 x }
+    ensures value { (x : T)
+        × (place.new.me ≡ (with_lists place.old.me.0 (Called ticket) (T.list x) place.old.me.0.account.own, (0, Some x) ∷ []))
+        × Gets T.list T.fixed T.maker J.fixed_part J.seats place.old.me.0 x }
 {
     let backoff = Backoff::new();
     for _ in rt.forever() {
@@ -102,9 +104,11 @@ fn wait<T: Standing, J: MadeWith<T::Fixed>, R: Wait>(
 fn publish<T: Standing, J: Publishes<T::Entry>>(top: &Top<T>, place: &mut Place<T>, value: &T)
     requires table { (place.old.table_id ≡ top.now.table_id) × (top.now.table_id.words ≡ 3) }
     requires turn { HasTurn place.old }
-    requires list { (J.given ≡ T.list value.now) × Continues T.maker place.old.me.0.account.number place.old.me.0.account.seen (T.list value.now) }
+    requires list { (J.given ≡ T.list value.now)
+        × Continues T.maker place.old.me.0.account.number place.old.me.0.account.seen (T.list value.now) }
     ensures table { place.new.table_id ≡ place.old.table_id }
-    ensures list { (t : ℕ) → place.old.me.0.phase ≡ Called t → place.new.me ≡ (with_lists place.old.me.0 (Published t) (T.list value.now) (made_by T.maker place.old.me.0.account.number (T.list value.now)), place.old.me.1) }
+    ensures list { (t : ℕ) → place.old.me.0.phase ≡ Called t → place.new.me
+        ≡ (with_lists place.old.me.0 (Published t) (T.list value.now) (made_by T.maker place.old.me.0.account.number (T.list value.now)), place.old.me.1) }
 {
     top.store::<Publish<T, J>>(place, 2, value.length());
 }
@@ -120,8 +124,10 @@ fn deal<T: Standing>(
     requires count { (1 ≤ count) × (count ≡ top.now.key.seats) }
     requires first { first.old.me ≡ (first_view T.list T.fixed T.maker top.now.key.value.value count, []) }
     requires row { row.old.items ≡ [] }
-    ensures first { OnOk result ((first.new.table_id ≡ first.old.table_id) × (first.new.me ≡ (record (first_view T.list T.fixed T.maker top.now.key.value.value count) { next = count }, []))) }
-    ensures row { OnOk result (row.new.items ≡ map (new_seat T.maker top.now.table_id (T.list top.now.key.value.value)) (range_with_len 1 (count - 1))) }
+    ensures first { OnOk result ((first.new.table_id ≡ first.old.table_id)
+        × (first.new.me ≡ (record (first_view T.list T.fixed T.maker top.now.key.value.value count) { next = count }, []))) }
+    ensures row { OnOk result (row.new.items
+        ≡ map (new_seat T.maker top.now.table_id (T.list top.now.key.value.value)) (range_with_len 1 (count - 1))) }
 {
     for _number in 1..count {
         let place = top.split_seat::<Deal<T>>(first);
@@ -136,7 +142,9 @@ fn gather<T: Standing>(top: &Top<T>, mut place: Place<T>, mut seats: Vec<TurnSea
     requires first { IsResting place }
     requires others { AllByRecursion (IsAtRest top.now.table_id) seats.items }
     ensures same { (result.table_id ≡ place.table_id) × IsResting result }
-    ensures own { (result.me.0.account.number ≡ place.me.0.account.number) × (result.me.0.account.own ≡ place.me.0.account.own) × Begins place.me.0.account.seen result.me.0.account.seen }
+    ensures own { (result.me.0.account.number ≡ place.me.0.account.number)
+        × (result.me.0.account.own ≡ place.me.0.account.own)
+        × Begins place.me.0.account.seen result.me.0.account.seen }
     ensures others { AllNoted result.me.0.joined seats.items }
 {
     while let Some(seat) = seats.pop() {
@@ -154,7 +162,7 @@ impl<T: Standing> Turns<T> {
         T: Drop,
         requires some_seat { 1 ≤ seats }
         requires named { NamesBelow T.maker seats (T.list value) }
-        ensures lock { IfOk result (λ r. (r.0.opening ≡ T.list value) × (r.0.fixed ≡ T.fixed value) × (r.0.seats ≡ seats)) }
+        ensures lock { IfOk result (λ r. (r.0.fixed ≡ T.fixed value) × (r.0.seats ≡ seats)) }
         ensures seats { IfOk result (λ r. r.1.items ≡ new_seats T.maker r.0.id (T.list value) seats) }
     {
         let length = value.length();
@@ -196,7 +204,11 @@ impl<T: Standing> Turns<T> {
         requires turn { seat.old.holds_turn ≡ true }
         requires list { Continues T.maker seat.old.number seat.old.seen (T.list held.value) }
         requires fixed { T.fixed held.value ≡ self.now.fixed }
-        ensures seat { seat.new ≡ record seat.old { seen = T.list held.value; own = made_by T.maker seat.old.number (T.list held.value); holds_turn = false } }
+        ensures seat { seat.new ≡ record seat.old {
+          seen = T.list held.value;
+          own = made_by T.maker seat.old.number (T.list held.value);
+          holds_turn = false;
+        } }
     {
         let top = &self.table.shared;
         let Held { value } = held;

@@ -1,8 +1,8 @@
 // Where jobs are taken and put.
 
-ghost use Rattle.std.specs.Prelude.{◌≡◌, ℕ, IfOk, OnErr};
+ghost use Rattle.std.specs.Prelude.{◌≡◌, ℕ, IfOk};
 ghost use Rattle.worker_drive.specs.Counts.{raised_by};
-ghost use Rattle.worker_drive.specs.Offers.{MatchOffered};
+ghost use Rattle.worker_drive.specs.Offers.{IfJob, OnOver, jobs_in};
 
 use spec_core::memory::Memory;
 use std::sync::Wait;
@@ -62,8 +62,9 @@ pub trait Desk {
     fn take<R: Wait>(&self, rt: &R, seat: &mut Self::Seat) -> Result<Offered<Self::Job>, Memory>
         requires ours { ours self.now (who seat.old) }
         ensures who { who seat.new ≡ who seat.old }
-        ensures offered { IfOk result (λ offered. MatchOffered offered (λ job. given self.now job × (taken seat.new ≡ raised_by 1 (taken seat.old))) (taken seat.new ≡ taken seat.old) (over seat.new × (taken seat.new ≡ taken seat.old))) }
-        ensures refused { OnErr result (taken seat.new ≡ taken seat.old) }
+        ensures given { IfJob result (λ job. given self.now job) }
+        ensures over { OnOver result (over seat.new) }
+        ensures taken { taken seat.new ≡ raised_by (jobs_in result) (taken seat.old) }
         ensures handed { handed seat.new ≡ handed seat.old };
 
     /// The job's number, counted from 1 in the order in which jobs are taken. No clause speaks of it. It takes no memory.
