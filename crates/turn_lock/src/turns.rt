@@ -21,6 +21,16 @@ use std::marker::{Brand, Model};
 use std::snapshot::Snapshot;
 use std::sync::Wait;
 
+// The word of the next ticket, of the ticket that is served, and of the list's length.
+const TICKET: usize = 0;
+
+const SERVING: usize = 1;
+
+const LENGTH: usize = 2;
+
+// The slot of the value.
+const VALUE: usize = 0;
+
 type Top<T> = Shared<
     Option<T>,
     View<<T as Standing>::Entry, <T as Standing>::Fixed>,
@@ -59,16 +69,16 @@ fn draw<T: Standing, R: Wait>(rt: &R, top: &Top<T>, place: &mut Place<T>) -> u64
     ensures { (place.new.table_id ≡ place.old.table_id) × (place.new.me ≡ (in_phase place.old.me.0 (Drawn result), [])) }
 {
     let backoff = Backoff::new();
-    let mut ticket = top.peek(0);
+    let mut ticket = top.peek(TICKET);
     for _ in rt.forever() {
         if ticket < u64::MAX {
-            let found = top.compare_exchange::<Draw>(place, 0, ticket, ticket + 1);
+            let found = top.compare_exchange::<Draw>(place, TICKET, ticket, ticket + 1);
             if found == ticket {
                 return ticket;
             }
             ticket = found;
         } else {
-            ticket = top.peek(0);
+            ticket = top.peek(TICKET);
         }
         backoff.spin();
     }
@@ -92,7 +102,7 @@ fn wait<T: Standing, J: MadeWith<T::Fixed>, R: Wait>(
 {
     let backoff = Backoff::new();
     for _ in rt.forever() {
-        if top.load::<Look<T, J>>(place, 1) == ticket {
+        if top.load::<Look<T, J>>(place, SERVING) == ticket {
             return;
         }
         backoff.snooze();
@@ -110,7 +120,7 @@ fn publish<T: Standing, J: Publishes<T::Entry>>(top: &Top<T>, place: &mut Place<
     ensures list { (t : ℕ) → place.old.me.0.phase ≡ Called t → place.new.me
         ≡ (with_lists place.old.me.0 (Published t) (T.list value.now) (made_by T.maker place.old.me.0.account.number (T.list value.now)), place.old.me.1) }
 {
-    top.store::<Publish<T, J>>(place, 2, value.length());
+    top.store::<Publish<T, J>>(place, LENGTH, value.length());
 }
 
 // Splits all seats but the first off the first one.
@@ -193,7 +203,7 @@ impl<T: Standing> Turns<T> {
         let top = &self.table.shared;
         let ticket = draw(rt, top, &mut seat.place);
         wait::<T, Brand, R>(rt, top, &mut seat.place, ticket);
-        let value = top.exchange(&mut seat.place, 0, None).unwrap();
+        let value = top.exchange(&mut seat.place, VALUE, None).unwrap();
         Held { value }
     }
 
@@ -213,9 +223,9 @@ impl<T: Standing> Turns<T> {
         let top = &self.table.shared;
         let Held { value } = held;
         publish::<T, Brand>(top, &mut seat.place, &value);
-        let left = top.exchange(&mut seat.place, 0, Some(value));
+        let left = top.exchange(&mut seat.place, VALUE, Some(value));
         let None = left else { unreachable!() };
-        top.fetch_add::<Pass>(&mut seat.place, 1, 1);
+        top.fetch_add::<Pass>(&mut seat.place, SERVING, 1);
     }
 
     /// Takes the value out, where all seats that `new` gave are handed back and none holds the turn. It takes no memory.
@@ -233,7 +243,7 @@ impl<T: Standing> Turns<T> {
         let TurnSeat { place } = last;
         let place = gather(&table.shared, place, seats);
         let mut closed = table.close_with(place);
-        let out = closed.take(0);
+        let out = closed.take(VALUE);
         closed.free();
         out.unwrap()
     }
