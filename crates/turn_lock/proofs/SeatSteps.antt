@@ -14,7 +14,7 @@ use Rattle.turn_lock.specs.declared.rule.Phase.TheVariants.{Idle}
 use Rattle.turn_lock.specs.Entries.{made_by, NamesBelow}
 use Rattle.turn_lock.specs.Rule.{HasTicket, HasSlot, FitsPhase, HasNumber, AnswersFor, accounts_of, origin_of, first_view, FitsView, KeepsRule}
 use Rattle.turn_lock.specs.Steps.{after_split, new_view, after_join, spent_view}
-use Rattle.turn_lock.proofs.Places.{put, put_here, put_else, bool_cases, set_at, at_end, at_only, at_changed}
+use Rattle.turn_lock.proofs.Places.{put, put_here, put_else, bool_cases, or_true, set_at, at_end, at_only, at_changed}
 use Rattle.turn_lock.proofs.EntryLists.{begins_all, either_begins}
 use Rattle.turn_lock.proofs.Accounts.{has_number_left, has_number_right, has_number_cases, differ_append, place_of_number, all_fit_moved, all_fit_append}
 
@@ -57,6 +57,7 @@ module _ {T E F : Type 0} (list : T → List E) (fixed : T → F) (maker : E →
     };
     queue = λ t lo hi. absurd (omega arith);
     busy = λ h. absurd (true≢false (sym h));
+    first_seat = (v0, refl, refl);
     numbers = λ n l. (v0, refl, (refl, inl (omega arith)));
   }
 
@@ -117,6 +118,7 @@ module _ {T E F : Type 0} (list : T → List E) (fixed : T → F) (maker : E →
             (at_end (set s.views id left) new u j e);
         queue = λ t lo hi. let x = at_changed (λ y. HasTicket t y.phase) s.views id v left at (λ h. h) (r.holder t) (r.queue t lo hi) in (x.0, at_longer (set s.views id left) (new ∷ []) (r.holder t) x.0 x.1, x.2);
         busy = λ b. let x = at_changed (λ y. HasSlot y.phase) s.views id v left at (λ h. h) (r.holder r.serving) (r.busy b) in (x.0, at_longer (set s.views id left) (new ∷ []) (r.holder r.serving) x.0 x.1, x.2);
+        first_seat = let x = at_changed (λ y. y.is_first ≡ true) s.views id v left at (λ h. h) r.first_at r.first_seat in (x.0, at_longer (set s.views id left) (new ∷ []) r.first_at x.0 x.1, x.2);
         numbers = λ n l. dite (ℕ_discrete n made)
             (λ e. (new, ap (get_elem? (set s.views id left ++ new ∷ [])) (ap place' e ∙ put_here r.place made end) ∙ at_last (set s.views id left) new end ends, (refl, inl (next ∙ sym e))))
             (λ ne. let x = at_changed (AnswersFor n) s.views id v left at (λ h. h) (r.place n) (r.numbers n (omega arith)) in
@@ -183,6 +185,11 @@ module _ {T E F : Type 0} (list : T → List E) (fixed : T → F) (maker : E →
             (at_set vs other j spent_view u e);
         queue = λ t lo hi. at_changed (λ y. HasTicket t y.phase) vs other w spent_view there (λ h. subst (HasTicket t) rests h) (r.holder t) (at_changed (λ y. HasTicket t y.phase) s.views id v both at (λ h. h) (r.holder t) (r.queue t lo hi));
         busy = λ b. at_changed (λ y. HasSlot y.phase) vs other w spent_view there (λ h. subst HasSlot rests h) (r.holder r.serving) (at_changed (λ y. HasSlot y.phase) s.views id v both at (λ h. h) (r.holder r.serving) (r.busy b));
+        first_seat = let x = r.first_seat in dite (ℕ_discrete r.first_at other)
+            (λ e. let is : x.0 ≡ w = some-injective x.0 w (sym x.1 ∙ (ap (get_elem? s.views) e ∙ at')) in
+            (both, ap (get_elem? (set vs other spent_view)) (ap onto e ∙ put_here (λ k. k) other id) ∙ (set_else vs other id spent_view (λ z. apart (sym z)) ∙ set_at s.views id v both at), ap (λ b. v.is_first || b) (sym (ap (λ (y : V). y.is_first) is) ∙ x.2) ∙ or_true v.is_first))
+            (λ ne. let y = at_changed (λ y. y.is_first ≡ true) s.views id v both at (λ h. ap (λ b. b || w.is_first) h) r.first_at x in
+            (y.0, ap (get_elem? (set vs other spent_view)) (put_else (λ k. k) other id r.first_at ne) ∙ (set_else vs other r.first_at spent_view ne ∙ y.1), y.2));
         numbers = λ n l. let x = r.numbers n l in dite (ℕ_discrete (r.place n) other)
             (λ e. let is : x.0 ≡ w = some-injective x.0 w (sym x.1 ∙ (ap (get_elem? s.views) e ∙ at')) in let a = subst (AnswersFor n) is x.2 in
             (both, ap (get_elem? (set vs other spent_view)) (from_them n l e) ∙ (set_else vs other id spent_view (λ z. apart (sym z)) ∙ set_at s.views id v both at), (alive, inr (has_number_left n (accounts_of w) v.joined a.1))))

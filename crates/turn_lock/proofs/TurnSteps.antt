@@ -87,6 +87,7 @@ module _ {T E F : Type 0} (list : T → List E) (fixed : T → F) (maker : E →
             (at_set s.views id j w u e);
         queue = queue;
         busy = busy;
+        first_seat = at_changed (λ y. y.is_first ≡ true) s.views id v w at (λ h. h) r.first_at r.first_seat;
         numbers = λ n l. at_changed (AnswersFor n) s.views id v w at (λ a. a) (r.place n) (r.numbers n l);
       }
 

@@ -124,4 +124,5 @@ module _ {T E F : Type 0} (list : T → List E) (fixed : T → F) (maker : E →
     -- each ticket from `serving` up to below `ticket` has its view, and each number that was made
     pub queue : (t : ℕ) → serving ≤ t → t < ticket → (v : View E F) × (get_elem? s.views (holder t) ≡ some v) × HasTicket t v.phase
     pub busy : out ≡ true → (v : View E F) × (get_elem? s.views (holder serving) ≡ some v) × HasSlot v.phase
+    pub first_seat : (v : View E F) × (get_elem? s.views first_at ≡ some v) × (v.is_first ≡ true)
     pub numbers : (n : ℕ) → n < made → (v : View E F) × (get_elem? s.views (place n) ≡ some v) × AnswersFor n v
