@@ -93,7 +93,8 @@ module _ {T E F : Type 0} (list : T → List E) (fixed : T → F) (maker : E →
   }
 
   -- What the rule says of the view j. A spent view is only idle
-  pub record FitsView (origin : Origin E F) (serving ticket made : ℕ) (longest : List E) (out : Bool) (holder place : ℕ → ℕ) (first_at j : ℕ) (v : View E F) : Type 0 where
+  pub record FitsView (origin : Origin E F) (serving ticket made : ℕ) (longest : List E) (out : Bool) (holder place : ℕ → ℕ)
+      (first_at j : ℕ) (v : View E F) : Type 0 where
     pub origin_stays : v.spent ≡ false → v.origin ≡ origin
     pub spent_is_idle : v.spent ≡ true → v.phase ≡ Idle
     pub phase : FitsPhase serving ticket longest out holder j v.account.seen v.phase
@@ -115,14 +116,20 @@ module _ {T E F : Type 0} (list : T → List E) (fixed : T → F) (maker : E →
     pub first_at : ℕ
     pub words_are : s.words ≡ ticket ∷ serving ∷ length longest ∷ []
     pub ordered : (serving ≤ ticket) × (ticket < 2 ^ 64) × (made ≤ seats)
+    -- at home the slot has a value with the longest list and the lock's fixed part
     pub slot : IsSlot list fixed (fixed opened) out longest s.homes
     pub began : Begins (list opened) longest
+    -- the entries name seats of the lock alone
     pub named : NamesBelow maker seats longest
     -- a number that isn't made yet has its entries of the opening list and no others
     pub unmade : (n : ℕ) → made ≤ n → made_by maker n longest ≡ made_by maker n (list opened)
-    pub each : (j : ℕ) (v : View E F) → get_elem? s.views j ≡ some v → FitsView (origin_of list fixed opened seats) serving ticket made longest out holder place first_at j v
-    -- each ticket from `serving` up to below `ticket` has its view, and each number that was made
+    pub each : (j : ℕ) (v : View E F) → get_elem? s.views j ≡ some v
+        → FitsView (origin_of list fixed opened seats) serving ticket made longest out holder place first_at j v
+    -- each ticket from `serving` up to below `ticket` has its view
     pub queue : (t : ℕ) → serving ≤ t → t < ticket → (v : View E F) × (get_elem? s.views (holder t) ≡ some v) × HasTicket t v.phase
+    -- where the slot is out, the view with the served ticket has it
     pub busy : out ≡ true → (v : View E F) × (get_elem? s.views (holder serving) ≡ some v) × HasSlot v.phase
+    -- the first seat has its view, whose next number is `made`
     pub first_seat : (v : View E F) × (get_elem? s.views first_at ≡ some v) × (v.is_first ≡ true)
+    -- each number that was made has its view
     pub numbers : (n : ℕ) → n < made → (v : View E F) × (get_elem? s.views (place n) ≡ some v) × AnswersFor n v

@@ -16,6 +16,7 @@ is_in_turn (Called t) = true
 is_in_turn (Published t) = true
 
 module _ {E F : Type 0} where
+  -- the view in another phase
   abbrev pub in_phase : View E F → Phase → View E F
   in_phase v phase = record v { phase = phase }
 
