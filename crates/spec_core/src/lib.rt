@@ -1,9 +1,14 @@
-// What every other crate speaks of: names, numbers of items, terms, values, settings, and want of memory.
+// What every other crate speaks of: names, numbers of items, terms, values, data, settings, and want of memory.
 #![tactic(auto)]
 
+pub mod code;
+pub mod equation;
 pub mod items;
 pub mod memory;
 pub mod name;
+pub mod names;
 pub mod settings;
+pub mod signature;
 pub mod term;
 pub mod value;
+pub mod window;
