@@ -5,6 +5,7 @@ pub mod Equality
 pub mod Evaluation
 pub mod Executable
 pub mod Functionality
+pub mod Laws
 pub mod Lists
 pub mod Names
 pub mod Numbers

@@ -1,18 +1,13 @@
 -- Checked specifications that can be run. (ISO 8807, static semantics; and this profile.)
 use Rattle.std.specs.Prelude.{ℕ, ◌≡◌, ◌⊎◌, ◌<◌, List, [], ◌∷◌, Option, Some, None, length}
 use Rattle.std.specs.List.{slice_get}
-use Rattle.spec_core.specs.Lists.{Each, OneOf, IsOneOf}
+use Rattle.spec_core.specs.Lists.{Each, IsOneOf, NoTwo}
 use Rattle.spec_core.specs.Theories.{Operation, ConditionalEquation, Theory}
 use Rattle.spec_core.specs.Sorts.{no_variables}
 use Rattle.spec_core.specs.Executable.{IsExecutable}
 use Rattle.spec_core.specs.Names.{IsSameName, IsIdentifier, IsOperationName}
 use Rattle.spec_core.specs.Code.{Variable, Node, stop, exit, inner, action, choice, guarded, bound, value_choice, gate_choice, parallel, hide, enable, disable, call, relabel, process, Program}
 use Rattle.spec_core.specs.Functionality.{Functionality, HasFunctionality, ProcessFits}
-
--- no two of the list are related
-abbrev pub NoTwo : {A : Type 0} → (A → A → Type 0) → List A → Type 0
-NoTwo R [] = Unit {0}
-NoTwo R (x ∷ xs) = Each (λ y. R x y → ⊥) xs × NoTwo R xs
 
 -- two operations share name, argument sorts and result sort
 abbrev pub IsSameOperation : Operation → Operation → Type 0

@@ -4,6 +4,7 @@
 pub mod code;
 pub mod equation;
 pub mod items;
+pub mod laws;
 pub mod memory;
 pub mod name;
 pub mod names;
