@@ -1,5 +1,5 @@
 -- Evaluation: arguments first, then the equations in order. (This profile, which follows the tools that run ACT ONE.)
-use Rattle.std.specs.Prelude.{ℕ, ◌≡◌, ◌+◌, List, [], ◌∷◌}
+use Rattle.std.specs.Prelude.{ℕ, ◌≡◌, ◌+◌, ◌↔◌, List, [], ◌∷◌, Bool, IsTrue}
 use Rattle.spec_core.specs.Terms.{TermTree, TermTrees, apply, no_terms, and_term, instance}
 use Rattle.spec_core.specs.Theories.{Premise, premise, ConditionalEquation, Theory}
 use Rattle.spec_core.specs.Constructors.{IsConstructor}
@@ -28,6 +28,17 @@ mutual
     used : {r : TermTree} {s : ℕ → TermTree} {es : List ConditionalEquation} {f : ℕ} {vs : TermTrees} {v : TermTree} {k : ℕ} (n : ℕ) → Evaluates theory (instance s r) v n → k ≡ n + 1 → Asks theory [] r s es f vs v k
     holds : {a b : TermTree} {ps : List Premise} {r : TermTree} {s : ℕ → TermTree} {es : List ConditionalEquation} {f : ℕ} {vs : TermTrees} {v : TermTree} {k : ℕ} (w : TermTree) (n m l : ℕ) → Evaluates theory (instance s a) w n → Evaluates theory (instance s b) w m → Asks theory ps r s es f vs v l → k ≡ n + m + l → Asks theory (premise a b ∷ ps) r s es f vs v k
     fails : {a b : TermTree} {ps : List Premise} {r : TermTree} {s : ℕ → TermTree} {es : List ConditionalEquation} {f : ℕ} {vs : TermTrees} {v : TermTree} {k : ℕ} (w u : TermTree) (n m l : ℕ) → Evaluates theory (instance s a) w n → Evaluates theory (instance s b) u m → (w ≡ u → ⊥) → Tries theory es f vs v l → k ≡ n + m + l → Asks theory (premise a b ∷ ps) r s es f vs v k
+
+-- the two terms have values that are equal or not, after so many uses for both
+pub record HaveValues (theory : Theory) (a b : TermTree) (equal : Bool) (k : ℕ) : Type 0 where
+  pub left : TermTree
+  pub right : TermTree
+  pub left_uses : ℕ
+  pub right_uses : ℕ
+  pub of_left : Evaluates theory a left left_uses
+  pub of_right : Evaluates theory b right right_uses
+  pub compared : IsTrue equal ↔ (left ≡ right)
+  pub total : k ≡ left_uses + right_uses
 
 mutual
   -- a value that the evaluation of the term meets, also if it doesn't end

@@ -14,6 +14,7 @@ pub mod Orthogonality
 pub mod Ready
 pub mod Signatures
 pub mod Sorts
+pub mod Substitutions
 pub mod Terms
 pub mod Theories
 pub mod Values

@@ -2,12 +2,17 @@
 #![tactic(auto)]
 
 pub mod code;
+pub mod constructors;
 pub mod equation;
 pub mod items;
 pub mod laws;
+pub mod matching;
 pub mod memory;
 pub mod name;
 pub mod names;
+pub mod plain_evaluation;
+#[cfg(test)]
+mod samples;
 pub mod settings;
 pub mod signature;
 pub mod term;
