@@ -15,6 +15,7 @@ pub mod Ready
 pub mod Signatures
 pub mod Sorts
 pub mod Substitutions
+pub mod TermText
 pub mod Terms
 pub mod Theories
 pub mod Values

@@ -16,5 +16,6 @@ mod samples;
 pub mod settings;
 pub mod signature;
 pub mod term;
+pub mod term_text;
 pub mod value;
 pub mod window;
