@@ -107,8 +107,8 @@ not_below_itself theory f ps defined (inr (below, inr (inr level))) = not_smalle
 pub left_sides_are_not_below_themselves : LeftSidesAreNotBelowThemselves
 left_sides_are_not_below_themselves theory ex e f ps among left h =
     not_below_itself theory f ps
-      (λ c. at_element (λ d. Heads f d → ⊥) e theory.equations among (heads_none theory ex f c) (ps, left))
-      (subst (IsBelow theory f ps) left h)
+    (λ c. at_element (λ d. Heads f d → ⊥) e theory.equations among (heads_none theory ex f c) (ps, left))
+    (subst (IsBelow theory f ps) left h)
 
 not_less : (xs : List ℕ) → IsLess xs xs → ⊥
 not_less [] h = h

@@ -53,8 +53,8 @@ module _ (theory : Theory) (tight : Each HasNoLooseVariables theory.equations) w
     one_try (like {e = e} s h a) t us q (like z i b) =
         let g : instance s e.left ≡ instance z e.left = cc in
         one_ask a t.1 us q z
-          (λ x o. agree s z e.left g x (t.0.right x o))
-          (λ x o. agree s z e.left g x (t.0.premises x o)) b
+        (λ x o. agree s z e.left g x (t.0.right x o))
+        (λ x o. agree s z e.left g x (t.0.premises x o)) b
 
     one_ask : {ps : List Premise} {r : TermTree} {s : ℕ → TermTree} {es : List ConditionalEquation} {f : ℕ} {vs : TermTrees} {v : TermTree} {n : ℕ} → Asks theory ps r s es f vs v n → Each HasNoLooseVariables es → (us : TermTrees) → vs ≡ us → (z : ℕ → TermTree) → ((x : ℕ) → Occurs x r → s x ≡ z x) → ((x : ℕ) → OccursInPremises x ps → s x ≡ z x) → {w : TermTree} {m : ℕ} → Asks theory ps r z es f us w m → (v ≡ w) × (n ≡ m)
     one_ask {r = r} {s = s} (used n a e) t us q z hr hp {w = w} (used m b g) =

@@ -12,7 +12,6 @@ use Rattle.spec_core.specs.Terms.{TermTree, TermTrees, apply, terms, term_of, wi
 use Rattle.spec_core.specs.TermText.{infix_word, opening, separator, closing, joined, between_at, sort_text, first_gap, application_text, term_text, term_texts}
 use Rattle.spec_core.specs.Theories.{Operation, operation_of}
 
-
 pub no_infix : (name : List ℕ) → ((word : List ℕ) → name ≡ 95 ∷ (word ++ 95 ∷ []) → ⊥) → infix_word name ≡ None
 no_infix name none = go (bytes_eq name (95 ∷ (take (length name - 2) (drop 1 name) ++ 95 ∷ []))) (bytes_eq-Decides name (95 ∷ (take (length name - 2) (drop 1 name) ++ 95 ∷ [])))
   where
@@ -26,7 +25,7 @@ front_taken (b ∷ w) n e = subst (λ k. take k (b ∷ (w ++ 95 ∷ [])) ≡ b �
 
 pub one_infix : (name word : List ℕ) → name ≡ 95 ∷ (word ++ 95 ∷ []) → infix_word name ≡ Some word
 one_infix name word e = subst (λ n. infix_word n ≡ Some word) (sym e)
-  (go (take (length (95 ∷ (word ++ 95 ∷ [])) - 2) (word ++ 95 ∷ [])) (bytes_eq (95 ∷ (word ++ 95 ∷ [])) (95 ∷ (take (length (95 ∷ (word ++ 95 ∷ [])) - 2) (word ++ 95 ∷ []) ++ 95 ∷ [])))
+    (go (take (length (95 ∷ (word ++ 95 ∷ [])) - 2) (word ++ 95 ∷ [])) (bytes_eq (95 ∷ (word ++ 95 ∷ [])) (95 ∷ (take (length (95 ∷ (word ++ 95 ∷ [])) - 2) (word ++ 95 ∷ []) ++ 95 ∷ [])))
     (front_taken word (length (95 ∷ (word ++ 95 ∷ [])) - 2) (let n = length-append word (95 ∷ []) in omega (arith, n)))
     (bytes_eq-Decides (95 ∷ (word ++ 95 ∷ [])) (95 ∷ (take (length (95 ∷ (word ++ 95 ∷ [])) - 2) (word ++ 95 ∷ []) ++ 95 ∷ []))))
   where
@@ -89,7 +88,7 @@ module _ (sorts : List (List ℕ)) (operations : List Operation) (names : List (
       let e : t ≡ get_or args i t = at ∙ ap (λ zs. get_or zs i t) same in
       let r = joined_next between text args i t w in
       let m : joined between (term_texts sorts operations names (terms (map term_of (take (i + 1) args)))) ≡ joined between (map text (take i args)) ++ (between_at between i ++ text t) =
-            ap (joined between) (texts-map (take (i + 1) args)) ∙ ap (λ k. joined between (map text (take k args))) (add-one i) ∙ r ∙ ap (λ u. joined between (map text (take i args)) ++ (between_at between i ++ text u)) (sym e) in
+      ap (joined between) (texts-map (take (i + 1) args)) ∙ ap (λ k. joined between (map text (take k args))) (add-one i) ∙ r ∙ ap (λ u. joined between (map text (take i args)) ++ (between_at between i ++ text u)) (sym e) in
       let p : before ≡ start ++ joined between (map text (take i args)) = a ∙ ap (λ xs. start ++ joined between xs) (texts-map (take i args)) in
       c ∙ ap (λ o. o ++ text t) (b ∙ ap (λ o. o ++ between_at between i) p) ∙ regroup_added start (joined between (map text (take i args))) (between_at between i) (text t) ∙ ap (λ o. start ++ o) (sym m)
     where
@@ -97,7 +96,7 @@ module _ (sorts : List (List ℕ)) (operations : List Operation) (names : List (
       regroup_added o j b x = simp append_assoc
 
   pub spelled : (t : TermTree) (f : ℕ) (args : List Term) (d : Operation) (n : ℕ) (o0 o1 o2 o3 o4 : List ℕ) → t ≡ apply f (terms (map term_of args)) → slice_get operations f ≡ Some d → n ≡ length args →
-    o1 ≡ o0 ++ (opening d.name n ++ first_gap operations names (terms (map term_of args))) → o2 ≡ o1 ++ joined (separator d.name n) (term_texts sorts operations names (terms (map term_of args))) → o3 ≡ o2 ++ closing n → o4 ≡ o3 ++ sort_text sorts operations d → o4 ≡ o0 ++ term_text sorts operations names t
+      o1 ≡ o0 ++ (opening d.name n ++ first_gap operations names (terms (map term_of args))) → o2 ≡ o1 ++ joined (separator d.name n) (term_texts sorts operations names (terms (map term_of args))) → o3 ≡ o2 ++ closing n → o4 ≡ o3 ++ sort_text sorts operations d → o4 ≡ o0 ++ term_text sorts operations names t
   spelled t f args d n o0 o1 o2 o3 o4 te de ne a b c e =
       let ts : TermTrees = terms (map term_of args) in
       let gap : List ℕ = first_gap operations names ts in

@@ -25,8 +25,8 @@ module _ (theory : Theory) where
   pub called_at : (t v : TermTree) (f : ℕ) (ts us vs ws : TermTrees) (es : List ConditionalEquation) (n m : ℕ) → t ≡ apply f us → ts ≡ us → ws ≡ vs → es ≡ theory.equations → EvaluatesAll theory ts vs n → Tries theory es f ws v m → Evaluates theory t v (n + m)
   called_at t v f ts us vs ws es n m a b c d all tries =
       subst (λ u. Evaluates theory u v (n + m)) (sym a)
-        (called vs n m (subst (λ xs. EvaluatesAll theory xs vs n) b all)
-          (subst (λ xs. Tries theory theory.equations f xs v m) c (subst (λ xs. Tries theory xs f ws v m) d tries)) refl)
+      (called vs n m (subst (λ xs. EvaluatesAll theory xs vs n) b all)
+      (subst (λ xs. Tries theory theory.equations f xs v m) c (subst (λ xs. Tries theory xs f ws v m) d tries)) refl)
 
   pub evaluates_push : (ts vs : List TermTree) (t v : TermTree) (n m : ℕ) → EvaluatesAll theory (terms ts) (terms vs) n → Evaluates theory t v m → EvaluatesAll theory (terms (ts ++ t ∷ [])) (terms (vs ++ v ∷ [])) (n + m)
   evaluates_push [] [] t v n m (none e) d = more m 0 d (none refl) (omega arith)

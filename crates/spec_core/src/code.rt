@@ -153,18 +153,48 @@ impl CodeNode {
             CodeNode::Stop => Ok(CodeNode::Stop),
             CodeNode::Exit(fields) => Ok(CodeNode::Exit(copy_exit_fields(alloc, fields)?)),
             CodeNode::Inner(part) => Ok(CodeNode::Inner(*part)),
-            CodeNode::Act { gate, fields, guard, rest } => copy_action(alloc, *gate, fields, guard, *rest),
+            CodeNode::Act {
+                gate,
+                fields,
+                guard,
+                rest,
+            } => copy_action(alloc, *gate, fields, guard, *rest),
             CodeNode::Choice(left, right) => Ok(CodeNode::Choice(*left, *right)),
             CodeNode::Guard(left, right, part) => copy_guarded(alloc, left, right, *part),
-            CodeNode::Let(bindings, part) => Ok(CodeNode::Let(copy_bindings(alloc, bindings)?, *part)),
+            CodeNode::Let(bindings, part) => Ok(CodeNode::Let(
+                copy_bindings(alloc, bindings)?,
+                *part,
+            )),
             CodeNode::Values(variable, sort, part) => Ok(CodeNode::Values(*variable, *sort, *part)),
-            CodeNode::Gates(gate, gates, part) => Ok(CodeNode::Gates(*gate, Vec::from_slice(alloc, gates)?, *part)),
-            CodeNode::Par(gates, left, right) => Ok(CodeNode::Par(gates.copy(alloc)?, *left, *right)),
-            CodeNode::Hide(gates, part) => Ok(CodeNode::Hide(Vec::from_slice(alloc, gates)?, *part)),
-            CodeNode::Enable(left, vars, right) => Ok(CodeNode::Enable(*left, Vec::from_slice(alloc, vars)?, *right)),
+            CodeNode::Gates(gate, gates, part) => Ok(CodeNode::Gates(
+                *gate,
+                Vec::from_slice(alloc, gates)?,
+                *part,
+            )),
+            CodeNode::Par(gates, left, right) => Ok(CodeNode::Par(
+                gates.copy(alloc)?,
+                *left,
+                *right,
+            )),
+            CodeNode::Hide(gates, part) => Ok(CodeNode::Hide(
+                Vec::from_slice(alloc, gates)?,
+                *part,
+            )),
+            CodeNode::Enable(left, vars, right) => Ok(CodeNode::Enable(
+                *left,
+                Vec::from_slice(alloc, vars)?,
+                *right,
+            )),
             CodeNode::Disable(left, right) => Ok(CodeNode::Disable(*left, *right)),
-            CodeNode::Call { process, gates, values } => copy_call(alloc, *process, gates, values),
-            CodeNode::Relabel(pairs, part) => Ok(CodeNode::Relabel(Vec::from_slice(alloc, pairs)?, *part)),
+            CodeNode::Call {
+                process,
+                gates,
+                values,
+            } => copy_call(alloc, *process, gates, values),
+            CodeNode::Relabel(pairs, part) => Ok(CodeNode::Relabel(
+                Vec::from_slice(alloc, pairs)?,
+                *part,
+            )),
             CodeNode::Process { gates, vars, body } => copy_process(alloc, gates, vars, *body),
         }
     }
@@ -186,7 +216,13 @@ impl Checked {
 }
 
 // An equal action prefix.
-fn copy_action(alloc: Global, gate: Gate, fields: &[ActField], guard: &Option<(Term, Term)>, rest: Part) -> Result<CodeNode, Memory>
+fn copy_action(
+    alloc: Global,
+    gate: Gate,
+    fields: &[ActField],
+    guard: &Option<(Term, Term)>,
+    rest: Part,
+) -> Result<CodeNode, Memory>
     ensures { IfOk result (λ node. node_of node ≡ action gate.0 (map action_field_of fields.now) (guard_of guard.now) rest.0) }
 {
     Ok(CodeNode::Act {
@@ -205,7 +241,12 @@ fn copy_guarded(alloc: Global, left: &Term, right: &Term, part: Part) -> Result<
 }
 
 // An equal call.
-fn copy_call(alloc: Global, process: u32, gates: &[Gate], values: &[Term]) -> Result<CodeNode, Memory>
+fn copy_call(
+    alloc: Global,
+    process: u32,
+    gates: &[Gate],
+    values: &[Term],
+) -> Result<CodeNode, Memory>
     ensures { IfOk result (λ node. node_of node ≡ call process (map gate_number gates.now) (map term_of values.now)) }
 {
     Ok(CodeNode::Call {
@@ -216,7 +257,12 @@ fn copy_call(alloc: Global, process: u32, gates: &[Gate], values: &[Term]) -> Re
 }
 
 // An equal process definition.
-fn copy_process(alloc: Global, gates: &[Gate], vars: &[(u32, Sort)], body: Part) -> Result<CodeNode, Memory>
+fn copy_process(
+    alloc: Global,
+    gates: &[Gate],
+    vars: &[(u32, Sort)],
+    body: Part,
+) -> Result<CodeNode, Memory>
     ensures { IfOk result (λ node. node_of node ≡ process (map gate_number gates.now) (map variable_of vars.now) body.0) }
 {
     Ok(CodeNode::Process {
@@ -259,7 +305,10 @@ fn copy_act_fields(alloc: Global, fields: &[ActField]) -> Result<Vec<ActField>, 
 }
 
 // Equal bindings.
-fn copy_bindings(alloc: Global, bindings: &[(u32, Sort, Term)]) -> Result<Vec<(u32, Sort, Term)>, Memory>
+fn copy_bindings(
+    alloc: Global,
+    bindings: &[(u32, Sort, Term)],
+) -> Result<Vec<(u32, Sort, Term)>, Memory>
     ensures { IfOk result (λ all. map binding_of all.items ≡ map binding_of bindings.now) }
 {
     let mut all = Vec::new(alloc);
@@ -283,7 +332,7 @@ fn copy_code(alloc: Global, code: &[CodeNode]) -> Result<Vec<CodeNode>, Memory>
 #[cfg(test)]
 mod tests {
     use super::*;
-    use crate::samples::{constant, naturals, names, ZERO, NAT};
+    use crate::samples::{NAT, ZERO, constant, names, naturals};
     use std::test::Fail;
 
     // g !0 ?x:Nat [x = 0]; exit(x) over the natural numbers, with its gate g.
@@ -292,13 +341,19 @@ mod tests {
         let alloc = rt.alloc();
         let action = CodeNode::Act {
             gate: Gate(0),
-            fields: vec![in alloc; ActField::Give(constant(alloc, ZERO)), ActField::Take(0, NAT)]?,
+            fields: vec![in alloc;
+                ActField::Give(constant(alloc, ZERO)),
+                ActField::Take(0, NAT),
+            ]?,
             guard: Some((Term::Var(0), constant(alloc, ZERO))),
             rest: Part(0),
         };
         let checked = Checked {
             algebra: naturals(alloc)?,
-            code: vec![in alloc; CodeNode::Exit(vec![in alloc; ExitField::Give(Term::Var(0))]?), action]?,
+            code: vec![in alloc;
+                CodeNode::Exit(vec![in alloc; ExitField::Give(Term::Var(0))]?),
+                action,
+            ]?,
             start: 1,
             gates: names(alloc, &["g"])?,
             processes: 0,

@@ -16,7 +16,11 @@ pub fn instantiate(alloc: Global, bound: &[Term], term: &Term) -> Result<Term, M
     match term {
         Term::Var(variable) => {
             let place = *variable as usize;
-            if place < bound.len() { bound[place].copy(alloc) } else { Ok(Term::Var(*variable)) }
+            if place < bound.len() {
+                bound[place].copy(alloc)
+            } else {
+                Ok(Term::Var(*variable))
+            }
         }
         Term::App(op, args) => {
             let mut all = Vec::new(alloc);
@@ -29,7 +33,12 @@ pub fn instantiate(alloc: Global, bound: &[Term], term: &Term) -> Result<Term, M
 }
 
 /// The terms for the variables of a pattern with which it becomes the operation over the values, if there are such.
-pub fn match_pattern(alloc: Global, pattern: &Term, op: Op, values: &[Term]) -> Result<Option<Vec<Term>>, Memory>
+pub fn match_pattern(
+    alloc: Global,
+    pattern: &Term,
+    op: Op,
+    values: &[Term],
+) -> Result<Option<Vec<Term>>, Memory>
     ensures some { IfOk result (λ m. MatchOption m (Unit {0}) (λ bound. instance (substitution_of (map term_of bound.items)) (term_of pattern.now) ≡ apply op.0 (terms (map term_of values.now)))) }
     ensures none { IfOk result (λ m. MatchOption m ((s : ℕ → TermTree) → instance s (term_of pattern.now) ≡ apply op.0 (terms (map term_of values.now)) → ⊥) (λ _. Unit {0})) }
 {
@@ -66,7 +75,11 @@ fn value_at<'a>(variable: u32, pattern: &Term, value: &'a Term) -> Option<&'a Te
     ensures none { IfNone result ((s : ℕ → TermTree) → instance s (term_of pattern.now) ≡ term_of value.now → Occurs variable (term_of pattern.now) → ⊥) }
 {
     match pattern {
-        Term::Var(other) => if *other == variable { Some(value) } else { None },
+        Term::Var(other) => if *other == variable {
+            Some(value)
+        } else {
+            None
+        },
         Term::App(_, patterns) => match value {
             Term::Var(_) => None,
             Term::App(_, values) => {

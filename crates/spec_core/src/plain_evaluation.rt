@@ -90,7 +90,12 @@ struct EvaluatedAll {
 
 /// The value of a ground term, with at most `budget` uses of equations. It recurs as deep as the evaluation, so it is for small
 /// terms of executable data.
-pub fn plain_value(alloc: Global, algebra: &DataSpec, term: &Term, budget: u64) -> Result<Evaluated, EvaluationFault>
+pub fn plain_value(
+    alloc: Global,
+    algebra: &DataSpec,
+    term: &Term,
+    budget: u64,
+) -> Result<Evaluated, EvaluationFault>
     ensures value { IfOk result (λ r. Evaluates (theory_of algebra.now) (term_of term.now) (term_of r.value) r.uses) }
     ensures within { IfOk result (λ r. r.uses ≤ budget) }
 {
@@ -99,7 +104,13 @@ pub fn plain_value(alloc: Global, algebra: &DataSpec, term: &Term, budget: u64) 
 
 // The value of a term.
 #[cycle(evaluation)]
-fn evaluate(alloc: Global, algebra: &DataSpec, term: &Term, budget: u64, depth: u64) -> Result<Evaluated, EvaluationFault>
+fn evaluate(
+    alloc: Global,
+    algebra: &DataSpec,
+    term: &Term,
+    budget: u64,
+    depth: u64,
+) -> Result<Evaluated, EvaluationFault>
     ensures value { IfOk result (λ r. Evaluates (theory_of algebra.now) (term_of term.now) (term_of r.value) r.uses) }
     ensures within { IfOk result (λ r. r.uses ≤ budget) }
 {
@@ -110,7 +121,15 @@ fn evaluate(alloc: Global, algebra: &DataSpec, term: &Term, budget: u64, depth: 
         Term::Var(_) => Err(EvaluationFault::Spent),
         Term::App(op, args) => {
             let all = evaluate_all(alloc, algebra, args, budget, depth - 1)?;
-            let called = try_equations(alloc, algebra, &algebra.equations, *op, &all.values, budget - all.uses, depth - 1)?;
+            let called = try_equations(
+                alloc,
+                algebra,
+                &algebra.equations,
+                *op,
+                &all.values,
+                budget - all.uses,
+                depth - 1,
+            )?;
             Ok(Evaluated {
                 value: called.value,
                 uses: all.uses + called.uses,
@@ -121,7 +140,13 @@ fn evaluate(alloc: Global, algebra: &DataSpec, term: &Term, budget: u64, depth: 
 
 // The values of terms, from the left.
 #[cycle(evaluation)]
-fn evaluate_all(alloc: Global, algebra: &DataSpec, args: &[Term], budget: u64, depth: u64) -> Result<EvaluatedAll, EvaluationFault>
+fn evaluate_all(
+    alloc: Global,
+    algebra: &DataSpec,
+    args: &[Term],
+    budget: u64,
+    depth: u64,
+) -> Result<EvaluatedAll, EvaluationFault>
     ensures values { IfOk result (λ r. EvaluatesAll (theory_of algebra.now) (terms (map term_of args.now)) (terms (map term_of r.values.items)) r.uses) }
     ensures within { IfOk result (λ r. r.uses ≤ budget) }
 {
@@ -140,7 +165,15 @@ fn evaluate_all(alloc: Global, algebra: &DataSpec, args: &[Term], budget: u64, d
 
 // The value of an operation over values, with these equations left to be tried.
 #[cycle(evaluation)]
-fn try_equations(alloc: Global, algebra: &DataSpec, left: &[Equation], op: Op, values: &[Term], budget: u64, depth: u64) -> Result<Evaluated, EvaluationFault>
+fn try_equations(
+    alloc: Global,
+    algebra: &DataSpec,
+    left: &[Equation],
+    op: Op,
+    values: &[Term],
+    budget: u64,
+    depth: u64,
+) -> Result<Evaluated, EvaluationFault>
     ensures value { IfOk result (λ r. Tries (theory_of algebra.now) (map equation_of left.now) op.0 (terms (map term_of values.now)) (term_of r.value) r.uses) }
     ensures within { IfOk result (λ r. r.uses ≤ budget) }
 {
@@ -153,7 +186,18 @@ fn try_equations(alloc: Global, algebra: &DataSpec, left: &[Equation], op: Op, v
             let matched = match_pattern(alloc, &equation.left, op, values)?;
             match matched {
                 None => try_equations(alloc, algebra, others, op, values, budget, depth - 1),
-                Some(bound) => ask_premises(alloc, algebra, &equation.premises, &equation.right, &bound, others, op, values, budget, depth - 1),
+                Some(bound) => ask_premises(
+                    alloc,
+                    algebra,
+                    &equation.premises,
+                    &equation.right,
+                    &bound,
+                    others,
+                    op,
+                    values,
+                    budget,
+                    depth - 1,
+                ),
             }
         }
     }
@@ -184,9 +228,28 @@ fn ask_premises(
         [premise, more @ ..] => {
             let sides = ask_sides(alloc, algebra, premise, bound, budget, depth - 1)?;
             let rest = if sides.equal {
-                ask_premises(alloc, algebra, more, right, bound, others, op, values, budget - sides.uses, depth - 1)?
+                ask_premises(
+                    alloc,
+                    algebra,
+                    more,
+                    right,
+                    bound,
+                    others,
+                    op,
+                    values,
+                    budget - sides.uses,
+                    depth - 1,
+                )?
             } else {
-                try_equations(alloc, algebra, others, op, values, budget - sides.uses, depth - 1)?
+                try_equations(
+                    alloc,
+                    algebra,
+                    others,
+                    op,
+                    values,
+                    budget - sides.uses,
+                    depth - 1,
+                )?
             };
             Ok(Evaluated {
                 value: rest.value,
@@ -198,7 +261,14 @@ fn ask_premises(
 
 // Whether the sides of a premise's instance have one value.
 #[cycle(evaluation)]
-fn ask_sides(alloc: Global, algebra: &DataSpec, premise: &(Term, Term), bound: &[Term], budget: u64, depth: u64) -> Result<Asked, EvaluationFault>
+fn ask_sides(
+    alloc: Global,
+    algebra: &DataSpec,
+    premise: &(Term, Term),
+    bound: &[Term],
+    budget: u64,
+    depth: u64,
+) -> Result<Asked, EvaluationFault>
     ensures sides { IfOk result (λ r. HaveValues (theory_of algebra.now) (instance (substitution_of (map term_of bound.now)) (term_of premise.now.0)) (instance (substitution_of (map term_of bound.now)) (term_of premise.now.1)) r.equal r.uses) }
     ensures within { IfOk result (λ r. r.uses ≤ budget) }
 {
@@ -217,7 +287,14 @@ fn ask_sides(alloc: Global, algebra: &DataSpec, premise: &(Term, Term), bound: &
 
 // The value of a right side's instance, and one use more.
 #[cycle(evaluation)]
-fn use_equation(alloc: Global, algebra: &DataSpec, right: &Term, bound: &[Term], budget: u64, depth: u64) -> Result<Evaluated, EvaluationFault>
+fn use_equation(
+    alloc: Global,
+    algebra: &DataSpec,
+    right: &Term,
+    bound: &[Term],
+    budget: u64,
+    depth: u64,
+) -> Result<Evaluated, EvaluationFault>
     ensures value { IfOk result (λ r. (n : ℕ) × Evaluates (theory_of algebra.now) (instance (substitution_of (map term_of bound.now)) (term_of right.now)) (term_of r.value) n × (r.uses ≡ n + 1)) }
     ensures within { IfOk result (λ r. r.uses ≤ budget) }
 {
@@ -236,7 +313,12 @@ fn use_equation(alloc: Global, algebra: &DataSpec, right: &Term, bound: &[Term],
 }
 
 // The operation over the values is its own value, where it is a constructor.
-fn constructed(alloc: Global, algebra: &DataSpec, op: Op, values: &[Term]) -> Result<Evaluated, EvaluationFault>
+fn constructed(
+    alloc: Global,
+    algebra: &DataSpec,
+    op: Op,
+    values: &[Term],
+) -> Result<Evaluated, EvaluationFault>
     ensures constructor { IfOk result (λ r. IsConstructor (theory_of algebra.now) op.0) }
     ensures value { IfOk result (λ r. term_of r.value ≡ apply op.0 (terms (map term_of values.now))) }
     ensures free { IfOk result (λ r. r.uses ≡ 0) }

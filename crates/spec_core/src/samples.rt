@@ -62,9 +62,13 @@ pub fn equation(alloc: Global, vars: &[Sort], left: Term, right: Term) -> Result
 }
 
 pub const NAT: Sort = Sort(0);
+
 pub const ZERO: Op = Op(0);
+
 pub const SUCC: Op = Op(1);
+
 pub const ACK: Op = Op(2);
+
 pub const DUP: Op = Op(3);
 
 /// The number `n` over `0` and `Succ`.
@@ -108,14 +112,24 @@ fn ack_of_zero(alloc: Global) -> Result<Equation, Memory> {
 
 // ack(Succ(m), 0) = ack(m, Succ(0))
 fn ack_at_zero(alloc: Global) -> Result<Equation, Memory> {
-    let left = binary(alloc, ACK, unary(alloc, SUCC, Term::Var(0))?, constant(alloc, ZERO))?;
+    let left = binary(
+        alloc,
+        ACK,
+        unary(alloc, SUCC, Term::Var(0))?,
+        constant(alloc, ZERO),
+    )?;
     let right = binary(alloc, ACK, Term::Var(0), number(alloc, 1)?)?;
     equation(alloc, &[NAT], left, right)
 }
 
 // ack(Succ(m), Succ(n)) = ack(m, ack(Succ(m), n))
 fn ack_of_successors(alloc: Global) -> Result<Equation, Memory> {
-    let left = binary(alloc, ACK, unary(alloc, SUCC, Term::Var(0))?, unary(alloc, SUCC, Term::Var(1))?)?;
+    let left = binary(
+        alloc,
+        ACK,
+        unary(alloc, SUCC, Term::Var(0))?,
+        unary(alloc, SUCC, Term::Var(1))?,
+    )?;
     let inner = binary(alloc, ACK, unary(alloc, SUCC, Term::Var(0))?, Term::Var(1))?;
     let right = binary(alloc, ACK, Term::Var(0), inner)?;
     equation(alloc, &[NAT, NAT], left, right)

@@ -42,7 +42,9 @@ impl OpDecl {
     fn is_declared_as(&self, name: &str, args: &[Sort], sort: Sort) -> bool
         ensures { IsTrue result ↔ IsDeclaredAs name.now (map sort_number args.now) sort.0 (operation_of self.now) }
     {
-        self.name.as_str().eq_ignore_ascii_case(name) && same_sorts(&self.args, args) && self.result.0 == sort.0
+        self.name.as_str().eq_ignore_ascii_case(name)
+            && same_sorts(&self.args, args)
+            && self.result.0 == sort.0
     }
 
     /// An equal declaration.
@@ -133,6 +135,7 @@ mod tests {
     use std::test::Fail;
 
     const NAT: Sort = Sort(0);
+
     const BOOL: Sort = Sort(1);
 
     // Names are found without case, overloads by their sorts, and what isn't declared isn't found.

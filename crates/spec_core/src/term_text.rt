@@ -16,7 +16,12 @@ use std::alloc::Global;
 /// The term's text, with the variables' names from `names`: a constant and a variable are their names, a prefix application is
 /// `f(t1,t2)`, an infix one `(t1 + t2)`. A term whose operation shares its name, letters of ASCII without case, and its argument
 /// sorts with another operation of the signature has ` of S` after it. An operation or a variable without a name has no text.
-pub fn term_text(alloc: Global, signature: &Signature, term: &Term, names: &[Name]) -> Result<String, Memory>
+pub fn term_text(
+    alloc: Global,
+    signature: &Signature,
+    term: &Term,
+    names: &[Name],
+) -> Result<String, Memory>
     ensures spelled { IfOk result (λ text. string_bytes text ≡ term_text signature.now.sorts.items (operations_of signature.now) names.now (term_of term.now)) }
 {
     let mut out = String::new(alloc);
@@ -25,7 +30,12 @@ pub fn term_text(alloc: Global, signature: &Signature, term: &Term, names: &[Nam
 }
 
 // Appends a term's text.
-fn put_term(out: &mut String, signature: &Signature, term: &Term, names: &[Name]) -> Result<(), Memory>
+fn put_term(
+    out: &mut String,
+    signature: &Signature,
+    term: &Term,
+    names: &[Name],
+) -> Result<(), Memory>
     ensures { OnOk result (string_bytes out.new ≡ string_bytes out.old ++ term_text signature.now.sorts.items (operations_of signature.now) names.now (term_of term.now)) }
 {
     match term {
@@ -57,7 +67,13 @@ fn put_variable(out: &mut String, names: &[Name], variable: u32) -> Result<(), M
 }
 
 // Appends what stands before the arguments of an operation.
-fn put_opening(out: &mut String, signature: &Signature, declaration: &OpDecl, args: &[Term], names: &[Name]) -> Result<(), Memory>
+fn put_opening(
+    out: &mut String,
+    signature: &Signature,
+    declaration: &OpDecl,
+    args: &[Term],
+    names: &[Name],
+) -> Result<(), Memory>
     ensures { OnOk result (string_bytes out.new ≡ string_bytes out.old ++ (opening declaration.now.name (length args.now) ++ first_gap (operations_of signature.now) names.now (terms (map term_of args.now)))) }
 {
     match infix_word_at(declaration.name.as_str(), args.len()) {
@@ -80,7 +96,12 @@ fn put_prefix_opening(out: &mut String, name: &str, count: usize) -> Result<(), 
 }
 
 // Appends a blank where the first argument begins with `*`.
-fn put_first_gap(out: &mut String, signature: &Signature, args: &[Term], names: &[Name]) -> Result<(), Memory>
+fn put_first_gap(
+    out: &mut String,
+    signature: &Signature,
+    args: &[Term],
+    names: &[Name],
+) -> Result<(), Memory>
     ensures { OnOk result (string_bytes out.new ≡ string_bytes out.old ++ first_gap (operations_of signature.now) names.now (terms (map term_of args.now))) }
 {
     match args {
@@ -119,7 +140,11 @@ fn name_at(names: &[Name], place: u32) -> &str
     ensures { result.now ≡ name_text (slice_get names.now place) }
 {
     let place = place as usize;
-    if place < names.len() { names[place].as_str() } else { "" }
+    if place < names.len() {
+        names[place].as_str()
+    } else {
+        ""
+    }
 }
 
 // The name of an operation, or none.
@@ -127,11 +152,20 @@ fn operation_name(signature: &Signature, op: Op) -> &str
     ensures { result.now ≡ operation_name (slice_get (operations_of signature.now) op.0) }
 {
     let place = op.0 as usize;
-    if place < signature.ops.len() { signature.ops[place].name.as_str() } else { "" }
+    if place < signature.ops.len() {
+        signature.ops[place].name.as_str()
+    } else {
+        ""
+    }
 }
 
 // Appends what stands before the argument of this place.
-fn put_separator(out: &mut String, declaration: &OpDecl, count: usize, place: usize) -> Result<(), Memory>
+fn put_separator(
+    out: &mut String,
+    declaration: &OpDecl,
+    count: usize,
+    place: usize,
+) -> Result<(), Memory>
     ensures { OnOk result (string_bytes out.new ≡ string_bytes out.old ++ between_at (separator declaration.now.name count) place) }
 {
     if place == 0 {
@@ -183,7 +217,11 @@ fn count_sharing(declarations: &[OpDecl], declaration: &OpDecl) -> usize
 fn share(declaration: &OpDecl, other: &OpDecl) -> bool
     ensures { result ≡ shares (operation_of declaration.now) (operation_of other.now) }
 {
-    declaration.name.as_str().eq_ignore_ascii_case(other.name.as_str()) && same_sorts(&declaration.args, &other.args)
+    declaration
+        .name
+        .as_str()
+        .eq_ignore_ascii_case(other.name.as_str())
+        && same_sorts(&declaration.args, &other.args)
 }
 
 // The word between two arguments of an infix operation.
@@ -211,12 +249,19 @@ mod tests {
     use std::test::Fail;
 
     const NAT: Sort = Sort(0);
+
     const BOOL: Sort = Sort(1);
+
     const ZERO: Op = Op(0);
+
     const SUCC: Op = Op(1);
+
     const PLUS: Op = Op(2);
+
     const MAX: Op = Op(3);
+
     const STAR: Op = Op(4);
+
     const ZERO_TOO: Op = Op(5);
 
     // Sorts Nat and Bool; 0, Succ, _+_ and max over Nat, the constant `*` of Nat, and another `0` of Bool.
@@ -240,14 +285,29 @@ mod tests {
         let signature = signature(alloc)?;
         let variables = names(alloc, &["x", "y"])?;
         let zero = unary(alloc, SUCC, constant(alloc, ZERO))?;
-        assert_eq!(rt; term_text(alloc, &signature, &zero, &variables)?.as_str(), "Succ(0 of Nat)");
-        assert_eq!(rt; term_text(alloc, &signature, &constant(alloc, ZERO_TOO), &variables)?.as_str(), "0 of Bool");
+        assert_eq!(rt;
+            term_text(alloc, &signature, &zero, &variables)?.as_str(),
+            "Succ(0 of Nat)"
+        );
+        assert_eq!(rt;
+            term_text(alloc, &signature, &constant(alloc, ZERO_TOO), &variables)?.as_str(),
+            "0 of Bool"
+        );
         let sum = binary(alloc, PLUS, Term::Var(0), unary(alloc, SUCC, Term::Var(1))?)?;
-        assert_eq!(rt; term_text(alloc, &signature, &sum, &variables)?.as_str(), "(x + Succ(y))");
+        assert_eq!(rt;
+            term_text(alloc, &signature, &sum, &variables)?.as_str(),
+            "(x + Succ(y))"
+        );
         let most = binary(alloc, MAX, sum, constant(alloc, STAR))?;
-        assert_eq!(rt; term_text(alloc, &signature, &most, &variables)?.as_str(), "max((x + Succ(y)),*)");
+        assert_eq!(rt;
+            term_text(alloc, &signature, &most, &variables)?.as_str(),
+            "max((x + Succ(y)),*)"
+        );
         let starred = binary(alloc, PLUS, constant(alloc, STAR), constant(alloc, STAR))?;
-        assert_eq!(rt; term_text(alloc, &signature, &starred, &variables)?.as_str(), "( * + *)");
+        assert_eq!(rt;
+            term_text(alloc, &signature, &starred, &variables)?.as_str(),
+            "( * + *)"
+        );
         Ok(())
     }
 }

@@ -14,7 +14,7 @@ returns-after-loop-arg t c =
     let e = all_taken c.deref-arg-items.result.now c.loop-arg.arg-index c.loop-arg-test.false ∙ c.deref-arg-items.ensures.value in
     record {
       replaced = a ∙ ap (λ xs. apply c.in-App.op.0 (terms xs)) c.loop-arg.invariant
-        ∙ ap (λ xs. apply c.in-App.op.0 (terms (map (instance s) (map term_of xs)))) e
-        ∙ ap (apply c.in-App.op.0) (instances-terms s (map term_of c.in-App.args.items))
-        ∙ ap (instance s) (sym k);
+          ∙ ap (λ xs. apply c.in-App.op.0 (terms (map (instance s) (map term_of xs)))) e
+          ∙ ap (apply c.in-App.op.0) (instances-terms s (map term_of c.in-App.args.items))
+          ∙ ap (instance s) (sym k);
     }

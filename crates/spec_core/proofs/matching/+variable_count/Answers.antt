@@ -11,9 +11,9 @@ loop-arg-preserved t c =
     let other : c.variable_count-other.result ≤ c.if-count-other.count = elim c.if-count-other.branch [ then-count-other w ↦ omega arith | else-count-other w ↦ omega arith ] in
     record {
       above = λ x o. ⊎_elim
-        (λ before. let h = c.loop-arg.invariant.above x before in omega (arith, h))
-        (λ here. let h = c.variable_count-other.ensures.above x here in omega (arith, h))
-        (occurs-next x _ _ c.arg-item.result c.loop-arg-test.true c.arg-item.is o);
+          (λ before. let h = c.loop-arg.invariant.above x before in omega (arith, h))
+          (λ here. let h = c.variable_count-other.ensures.above x here in omega (arith, h))
+          (occurs-next x _ _ c.arg-item.result c.loop-arg-test.true c.arg-item.is o);
       bounded = elim c.if-count-other.branch [ then-count-other w ↦ omega arith | else-count-other w ↦ omega arith ];
     }
 

@@ -11,10 +11,10 @@ pub loop-i-preserved : goal.loop-i-preserved
 loop-i-preserved t c =
     let n : c.len-in-loop-i.result ≡ length c.in-App.args.items = c.len-in-loop-i.ensures ∙ sym c.deref-arg-items.ensures.len ∙ ap length c.deref-arg-items.ensures.value in
     argument_added c.args.signature.now.sorts.items (operations_of c.args.signature.now) c.args.names.now (separator c.index-declaration.result.now.name (length c.in-App.args.items))
-      c.in-App.args.items c.deref-arg-items.result.now c.loop-i.i c.arg-item.result _ (string_bytes c.put_opening.new.out) _ _
-      c.deref-arg-items.ensures.value c.loop-i-test.true c.arg-item.is c.loop-i.invariant
-      (c.in_ok-put_separator-in-App.ensures ∙ ap (λ k. string_bytes c.loop-i.out ++ between_at (separator c.index-declaration.result.now.name k) c.loop-i.i) n)
-      c.in_ok-put_term-in-App.ensures
+    c.in-App.args.items c.deref-arg-items.result.now c.loop-i.i c.arg-item.result _ (string_bytes c.put_opening.new.out) _ _
+    c.deref-arg-items.ensures.value c.loop-i-test.true c.arg-item.is c.loop-i.invariant
+    (c.in_ok-put_separator-in-App.ensures ∙ ap (λ k. string_bytes c.loop-i.out ++ between_at (separator c.index-declaration.result.now.name k) c.loop-i.i) n)
+    c.in_ok-put_term-in-App.ensures
 
 pub returns-in_ok-put_closing-in-App : goal.returns-in_ok-put_closing-in-App
 returns-in_ok-put_closing-in-App t c =
@@ -27,11 +27,11 @@ returns-in_ok-put_closing-in-App t c =
     let all = c.loop-i.invariant ∙ ap (λ ts. string_bytes c.put_opening.new.out ++ joined (separator c.index-declaration.result.now.name (length c.in-App.args.items)) (term_texts c.args.signature.now.sorts.items (operations_of c.args.signature.now) c.args.names.now (terms (map term_of ts)))) (all_taken c.in-App.args.items c.loop-i.i ended) in
     let closed = c.in_ok-put_closing-in-App.ensures ∙ ap (λ m. string_bytes c.loop-i.out ++ closing m) n in
     on_ok_implied c.put_sort.result
-      (λ h. spelled c.args.signature.now.sorts.items (operations_of c.args.signature.now) c.args.names.now _ c.in-App.op.0 c.in-App.args.items (operation_of c.index-declaration.result.now) (length c.in-App.args.items) _ _ _ _ _ k d refl opened all closed h)
-      c.put_sort.ensures
+    (λ h. spelled c.args.signature.now.sorts.items (operations_of c.args.signature.now) c.args.names.now _ c.in-App.op.0 c.in-App.args.items (operation_of c.index-declaration.result.now) (length c.in-App.args.items) _ _ _ _ _ k d refl opened all closed h)
+    c.put_sort.ensures
 
 pub returns-else-place-len : goal.returns-else-place-len
 returns-else-place-len t c =
     let k : term_of c.args.term.now ≡ apply c.in-App.op.0 (terms (map term_of c.in-App.args.items)) = search (rules, the_lemmas) in
     unspelled c.args.signature.now.sorts.items (operations_of c.args.signature.now) c.args.names.now _ c.in-App.op.0 c.in-App.args.items _ k
-      (no-operation-at c.args.signature.now.ops.items c.in-App.op.0 (let h = c.len.ensures in let l = c.if-place-len.false in omega (arith, h, l)))
+    (no-operation-at c.args.signature.now.ops.items c.in-App.op.0 (let h = c.len.ensures in let l = c.if-place-len.false in omega (arith, h, l)))

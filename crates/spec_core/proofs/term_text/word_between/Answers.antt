@@ -14,6 +14,6 @@ returns-in-Some c =
     let p = strip_prefix_char 95 c.args.name.now c.strip_prefix.result c.strip_prefix.ensures.cases ascii in
     let name : c.args.name.now ≡ 95 ∷ c.in-Some.rest.now = rw c.in-Some.is at p in
     match_option_implied c.strip_suffix.result
-      (λ none. no_infix c.args.name.now (λ word e. let rest : c.in-Some.rest.now ≡ word ++ 95 ∷ [] = cc (name, e) in none word rest))
-      (λ word rest. one_infix c.args.name.now word.now (name ∙ ap (λ r. 95 ∷ r) rest))
-      (strip_suffix_char 95 c.in-Some.rest.now c.strip_suffix.result c.strip_suffix.ensures.cases ascii)
+    (λ none. no_infix c.args.name.now (λ word e. let rest : c.in-Some.rest.now ≡ word ++ 95 ∷ [] = cc (name, e) in none word rest))
+    (λ word rest. one_infix c.args.name.now word.now (name ∙ ap (λ r. 95 ∷ r) rest))
+    (strip_suffix_char 95 c.in-Some.rest.now c.strip_suffix.result c.strip_suffix.ensures.cases ascii)
