@@ -6,7 +6,7 @@ use Rattle.spec_core.specs.Theories.{Premise, ConditionalEquation, Theory}
 use Rattle.spec_core.specs.Sorts.{HasSort, FitsGround, no_variables}
 use Rattle.spec_core.specs.Constructors.{IsConstructor}
 use Rattle.spec_core.specs.Equality.{Equal, AreEqual, PremisesHold, IsGroundFor, EqualityProof, Concludes}
-use Rattle.spec_core.specs.Values.{IsValue}
+use Rattle.spec_core.specs.Values.{IsValue, HasValue}
 use Rattle.spec_core.specs.Evaluation.{Evaluates, EvaluatesAll}
 use Rattle.spec_core.specs.Orthogonality.{HasNoLooseVariables}
 use Rattle.spec_core.specs.Order.{IsInsideAny, IsBelow}
@@ -47,6 +47,10 @@ ConstructorsKeepValues = (theory : Theory) → IsExecutable theory → (f : ℕ)
 -- a value evaluates to itself without a use
 abbrev pub ValuesEvaluateToThemselves : Type 0
 ValuesEvaluateToThemselves = (theory : Theory) → IsExecutable theory → (v : TermTree) → IsValue theory v → Evaluates theory v v 0
+
+-- what a term evaluates to is its value
+abbrev pub EvaluationGivesValues : Type 0
+EvaluationGivesValues = (theory : Theory) → IsExecutable theory → (t v : TermTree) (n : ℕ) → FitsGround theory t → Evaluates theory t v n → HasValue theory t v
 
 abbrev pub ValuesAreGround : Type 0
 ValuesAreGround = (theory : Theory) (v : TermTree) → IsValue theory v → IsGround v

@@ -98,5 +98,5 @@ pub record IsOrthogonal (theory : Theory) : Type 0 where
   pub unmarked : Each (HeadIsUnmarked theory) theory.equations
   pub patterns : Each (HasPatterns theory) theory.equations
   pub linear : Each (λ e. IsLinear e.left) theory.equations
-  pub tight : Each HasNoLooseVariables theory.equations
+  pub closed : Each HasNoLooseVariables theory.equations
   pub apart : AllApart theory theory.equations

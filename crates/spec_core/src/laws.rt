@@ -1,6 +1,6 @@
 // Laws of the definitions: a call does nothing, and its contract is the law.
 
-ghost use Rattle.spec_core.specs.Laws.{EqualIsReflexive, EqualIsSymmetric, EqualIsTransitive, EqualIsCongruent, InstancesAreEqual, EqualTermsHaveProofs, EvaluationIsDeterministic, ConstructorsKeepValues, ValuesEvaluateToThemselves, ValuesAreGround, PartsOfArgumentsAreBelow, LeftSidesAreNotBelowThemselves, UnconditionalGroupsAreFull, WindowsHoldGroundTerms, WindowsAreInOrder};
+ghost use Rattle.spec_core.specs.Laws.{EqualIsReflexive, EqualIsSymmetric, EqualIsTransitive, EqualIsCongruent, InstancesAreEqual, EqualTermsHaveProofs, EvaluationGivesValues, EvaluationIsDeterministic, ConstructorsKeepValues, ValuesEvaluateToThemselves, ValuesAreGround, PartsOfArgumentsAreBelow, LeftSidesAreNotBelowThemselves, UnconditionalGroupsAreFull, WindowsHoldGroundTerms, WindowsAreInOrder};
 
 /// A ground term over the signature is provably equal to itself.
 pub fn equal_is_reflexive()
@@ -46,6 +46,12 @@ pub fn constructors_keep_values()
 pub fn values_evaluate_to_themselves()
     ensures { ValuesEvaluateToThemselves }
 {}
+
+/// What a ground term over executable data evaluates to is a value, and provably equal to the term.
+pub fn evaluation_gives_values()
+    ensures { EvaluationGivesValues }
+{
+}
 
 /// A value has no variables.
 pub fn values_are_ground()
