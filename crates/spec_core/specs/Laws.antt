@@ -1,8 +1,9 @@
 -- Laws of the definitions.
-use Rattle.std.specs.Prelude.{ℕ, ◌≡◌, ◌↔◌, List, [], Option, Bool}
+use Rattle.std.specs.Prelude.{ℕ, ◌≡◌, ◌↔◌, ◌⊎◌, List, [], ◌∷◌, Option, Bool}
+use Rattle.spec_core.specs.Booleans.{booleans}
 use Rattle.spec_core.specs.Lists.{Each, OneOf, IsOneOf, NoTwo}
-use Rattle.spec_core.specs.Terms.{TermTree, TermTrees, apply, instance, IsGround, preorder}
-use Rattle.spec_core.specs.Theories.{Premise, ConditionalEquation, Theory}
+use Rattle.spec_core.specs.Terms.{TermTree, TermTrees, apply, constant, instance, IsGround, preorder}
+use Rattle.spec_core.specs.Theories.{Premise, premise, ConditionalEquation, Theory}
 use Rattle.spec_core.specs.Sorts.{HasSort, FitsGround, no_variables}
 use Rattle.spec_core.specs.Constructors.{IsConstructor}
 use Rattle.spec_core.specs.Equality.{Equal, AreEqual, PremisesHold, IsGroundFor, EqualityProof, Concludes}
@@ -10,7 +11,7 @@ use Rattle.spec_core.specs.Values.{IsValue, HasValue}
 use Rattle.spec_core.specs.Evaluation.{Evaluates, EvaluatesAll}
 use Rattle.spec_core.specs.Orthogonality.{HasNoLooseVariables}
 use Rattle.spec_core.specs.Order.{IsInsideAny, IsBelow}
-use Rattle.spec_core.specs.Cover.{IsFull}
+use Rattle.spec_core.specs.Cover.{IsFull, IsConstant, HasConstants}
 use Rattle.spec_core.specs.Executable.{IsExecutable}
 use Rattle.spec_core.specs.Windows.{IsWindow, IsInOrder}
 
@@ -74,3 +75,11 @@ WindowsHoldGroundTerms = (theory : Theory) (sort k : ℕ) (values : List (List �
 -- the values of a window are in order, and no two are equal
 abbrev pub WindowsAreInOrder : Type 0
 WindowsAreInOrder = (theory : Theory) (sort k : ℕ) (values : List (List ℕ)) (complete : Bool) → IsWindow theory sort k values complete → IsInOrder values × NoTwo (λ v w. v ≡ w) values
+
+-- where a sort has the two constants c and d alone, the premises t = c and t = d are full
+abbrev pub OppositePremisesAreFull : Type 0
+OppositePremisesAreFull = (theory : Theory) (vars : ℕ → Option ℕ) (t : TermTree) (sort c d : ℕ) → HasSort theory vars t sort → HasConstants theory sort → IsConstructor theory c → IsConstructor theory d → ((k : ℕ) → IsConstant theory sort k → (k ≡ c) ⊎ (k ≡ d)) → IsFull theory vars ((premise t (constant c) ∷ []) ∷ (premise t (constant d) ∷ []) ∷ [])
+
+-- truth values with their negation are executable data
+abbrev pub BooleansAreExecutable : Type 0
+BooleansAreExecutable = IsExecutable booleans

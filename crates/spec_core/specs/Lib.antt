@@ -1,3 +1,4 @@
+pub mod Booleans
 pub mod Code
 pub mod Constructors
 pub mod Cover

@@ -1,6 +1,6 @@
 // Laws of the definitions: a call does nothing, and its contract is the law.
 
-ghost use Rattle.spec_core.specs.Laws.{EqualIsReflexive, EqualIsSymmetric, EqualIsTransitive, EqualIsCongruent, InstancesAreEqual, EqualTermsHaveProofs, EvaluationGivesValues, EvaluationIsDeterministic, ConstructorsKeepValues, ValuesEvaluateToThemselves, ValuesAreGround, PartsOfArgumentsAreBelow, LeftSidesAreNotBelowThemselves, UnconditionalGroupsAreFull, WindowsHoldGroundTerms, WindowsAreInOrder};
+ghost use Rattle.spec_core.specs.Laws.{BooleansAreExecutable, OppositePremisesAreFull, EqualIsReflexive, EqualIsSymmetric, EqualIsTransitive, EqualIsCongruent, InstancesAreEqual, EqualTermsHaveProofs, EvaluationGivesValues, EvaluationIsDeterministic, ConstructorsKeepValues, ValuesEvaluateToThemselves, ValuesAreGround, PartsOfArgumentsAreBelow, LeftSidesAreNotBelowThemselves, UnconditionalGroupsAreFull, WindowsHoldGroundTerms, WindowsAreInOrder};
 
 /// A ground term over the signature is provably equal to itself.
 pub fn equal_is_reflexive()
@@ -82,3 +82,15 @@ pub fn windows_hold_ground_terms()
 pub fn windows_are_in_order()
     ensures { WindowsAreInOrder }
 {}
+
+/// Where a sort has two constants alone, a premise for each makes a group full.
+pub fn opposite_premises_are_full()
+    ensures { OppositePremisesAreFull }
+{
+}
+
+/// Truth values with their negation are executable data.
+pub fn booleans_are_executable()
+    ensures { BooleansAreExecutable }
+{
+}
