@@ -1,15 +1,14 @@
 -- The laws of the definitions.
-use Rattle.std.proofs.Common.{ℕ, suc, ◌≡◌, ◌<◌, ◌≤◌, ◌+◌, List, [], ◌∷◌, refl, sym, ap, subst, ◌∙◌, arith, inl, inr, ◌⊎◌, ⊎_elim}
-use Rattle.spec_core.specs.Lists.{Each, OneOf, IsOneOf, NoTwo}
-use Rattle.spec_core.specs.Terms.{TermTree, TermTrees, variable, apply, no_terms, and_term, instance, instances, IsGround, AreGround, preorder}
+use Rattle.std.proofs.Common.{ℕ, suc, ◌≡◌, ◌<◌, ◌≤◌, ◌+◌, List, [], ◌∷◌, refl, sym, ap, subst, ◌∙◌, arith, inl, inr}
+use Rattle.spec_core.specs.Lists.{Each, IsOneOf, NoTwo}
+use Rattle.spec_core.specs.Terms.{TermTree, TermTrees, variable, apply, no_terms, and_term, instance, instances, IsGround, AreGround}
 use Rattle.spec_core.specs.Theories.{ConditionalEquation, Theory, Heads}
-use Rattle.spec_core.specs.Sorts.{HasSort, no_variables}
-use Rattle.spec_core.specs.Constructors.{IsMarked, HeadsNone, IsConstructor, IsConstructed, AreConstructed}
+use Rattle.spec_core.specs.Constructors.{HeadsNone, IsConstructor, IsConstructed, AreConstructed}
 use Rattle.spec_core.specs.Evaluation.{Evaluates, EvaluatesAll, Tries, called, none, more, final, unlike}
-use Rattle.spec_core.specs.Orthogonality.{HeadIsUnmarked, HasPatterns, IsOrthogonal}
-use Rattle.spec_core.specs.Order.{IsInside, IsInsideAny, IsSmaller, IsBelow, DependsOn, itself}
+use Rattle.spec_core.specs.Orthogonality.{HasPatterns}
+use Rattle.spec_core.specs.Order.{IsInside, IsInsideAny, IsSmaller, IsBelow, itself}
 use Rattle.spec_core.specs.Executable.{IsExecutable}
-use Rattle.spec_core.specs.Windows.{IsLess, IsBefore, IsInOrder, IsMember, IsWindow}
+use Rattle.spec_core.specs.Windows.{IsLess, IsBefore, IsInOrder}
 use Rattle.spec_core.specs.Laws.{ConstructorsKeepValues, ValuesEvaluateToThemselves, ValuesAreGround, PartsOfArgumentsAreBelow, LeftSidesAreNotBelowThemselves, WindowsHoldGroundTerms, WindowsAreInOrder}
 
 -- what follows from P for each element

@@ -1,16 +1,15 @@
 -- The definitions can be met: truth values are executable data, and opposite premises are full.
-use Rattle.std.proofs.Common.{ℕ, zero, suc, ◌≡◌, ◌<◌, List, [], ◌∷◌, refl, sym, ap, subst, ◌∙◌, inl, inr, ◌⊎◌, lit<, arith, Option, Some, None, IsTrue, false}
+use Rattle.std.proofs.Common.{ℕ, zero, suc, ◌≡◌, List, [], ◌∷◌, refl, sym, ap, subst, inl, inr, ◌⊎◌, lit<, arith}
 use Rattle.std.specs.List.{slice_get}
 use Rattle.spec_core.specs.Booleans.{booleans, negation}
-use Rattle.spec_core.specs.Lists.{Each, OneOf}
-use Rattle.spec_core.specs.Terms.{TermTree, TermTrees, variable, apply, no_terms, and_term, constant, instance}
-use Rattle.spec_core.specs.Theories.{Premise, premise, ConditionalEquation, Theory, Heads}
-use Rattle.spec_core.specs.Sorts.{OnSome, HasSort, HaveSorts, no_variables, FitsData, EquationFits}
+use Rattle.spec_core.specs.Lists.{OneOf}
+use Rattle.spec_core.specs.Terms.{TermTree, TermTrees, variable, apply, no_terms, and_term, constant}
+use Rattle.spec_core.specs.Theories.{Premise, premise, Heads}
+use Rattle.spec_core.specs.Sorts.{HasSort, HaveSorts, no_variables, EquationFits}
 use Rattle.spec_core.specs.Constructors.{IsMarked, IsConstructor, AreConstructed}
-use Rattle.spec_core.specs.Orthogonality.{IsOrthogonal, Gives, HasNoLooseVariables, HeadIsUnmarked}
-use Rattle.spec_core.specs.Order.{IsDecreasing, Decreases}
-use Rattle.spec_core.specs.Cover.{IsConstant, HasConstants, IsAfter, IsFull, empty_one, by_constants, IsGroup, IsCoveredCall, IsCovered}
-use Rattle.spec_core.specs.Executable.{IsExecutable}
+use Rattle.spec_core.specs.Orthogonality.{Gives, HasNoLooseVariables, HeadIsUnmarked}
+use Rattle.spec_core.specs.Order.{Decreases}
+use Rattle.spec_core.specs.Cover.{IsConstant, IsAfter, empty_one, by_constants, IsGroup, IsCoveredCall, IsCovered}
 use Rattle.spec_core.specs.Laws.{BooleansAreExecutable, OppositePremisesAreFull}
 use Rattle.spec_core.proofs.Lists.{untrue}
 

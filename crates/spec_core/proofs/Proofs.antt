@@ -1,7 +1,7 @@
 -- Provable equality and its proofs as trees.
-use Rattle.std.proofs.Common.{ℕ, ◌≡◌, List, [], ◌∷◌, refl, sym, subst}
-use Rattle.spec_core.specs.Terms.{TermTree, TermTrees, no_terms, and_term, instance}
-use Rattle.spec_core.specs.Theories.{Premise, premise, ConditionalEquation, Theory}
+use Rattle.std.proofs.Common.{ℕ, ◌≡◌, List, refl, sym, subst}
+use Rattle.spec_core.specs.Terms.{TermTree, TermTrees}
+use Rattle.spec_core.specs.Theories.{Premise, Theory}
 use Rattle.spec_core.specs.Equality.{Equal, AreEqual, PremisesHold, by_reflexivity, by_symmetry, by_transitivity, by_congruence, by_equation, none_equal, more_equal, none_asked, more_asked, EqualityProof, EqualityProofs, reflexivity, symmetry, transitivity, congruence, equation_instance, no_proofs, and_proof, Concludes, ConcludeAll, ConcludePremises}
 
 module _ (theory : Theory) where

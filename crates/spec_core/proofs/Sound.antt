@@ -1,15 +1,14 @@
 -- What a term evaluates to is its value.
-use Rattle.std.proofs.Common.{ℕ, ◌≡◌, ◌+◌, List, [], ◌∷◌, refl, sym, ap, subst, ◌∙◌, inl, inr, ◌⊎◌, Option, Some, None}
+use Rattle.std.proofs.Common.{ℕ, ◌≡◌, List, [], ◌∷◌, refl, sym, ap, subst, ◌∙◌, inl, inr, Option, Some, None}
 use Rattle.std.specs.List.{slice_get}
 use Rattle.spec_core.specs.Lists.{Each, IsOneOf}
 use Rattle.spec_core.specs.Terms.{TermTree, TermTrees, variable, apply, no_terms, and_term, instance, instances, Occurs, OccursInAny}
-use Rattle.spec_core.specs.Theories.{Premise, premise, ConditionalEquation, Theory, OccursInPremises, OccursInEquation}
-use Rattle.spec_core.specs.Sorts.{OnSome, HasSort, HaveSorts, no_variables, EquationFits, PremiseFits, FitsGround}
+use Rattle.spec_core.specs.Theories.{Premise, ConditionalEquation, Theory, OccursInPremises}
+use Rattle.spec_core.specs.Sorts.{OnSome, HasSort, HaveSorts, no_variables, EquationFits, PremiseFits}
 use Rattle.spec_core.specs.Constructors.{IsConstructed, AreConstructed}
 use Rattle.spec_core.specs.Equality.{Equal, AreEqual, PremisesHold, IsGroundFor, by_reflexivity, by_symmetry, by_transitivity, by_congruence, by_equation, none_equal, more_equal, none_asked, more_asked}
 use Rattle.spec_core.specs.Evaluation.{Evaluates, EvaluatesAll, Tries, Asks, called, none, more, final, unlike, like, used, holds, fails}
 use Rattle.spec_core.specs.Orthogonality.{HasNoLooseVariables, HasPatterns}
-use Rattle.spec_core.specs.Executable.{IsExecutable}
 use Rattle.spec_core.specs.Laws.{EvaluationGivesValues}
 
 on_both : {A R : Type 0} {P Q : A → Type 0} (o : Option A) → OnSome o P → OnSome o Q → ((d : A) → P d → Q d → R) → R
@@ -111,12 +110,12 @@ module _ (theory : Theory) where
     sound_try (like {e = e} {f = f} {vs = vs} s q a) safe sort h among left =
         let w = left.0 in
         sound_ask a safe sort h (λ d i. among d (inr i)) left.1 e (among e (inl refl)) w q refl
-          (match_is_ground theory e w.fits w.patterns w.closed s f vs q sort h)
-          (right_sort theory e w.fits w.patterns w.closed s f vs q sort h)
-          w.fits.premises (λ x o. o) (λ held. held)
+        (match_is_ground theory e w.fits w.patterns w.closed s f vs q sort h)
+        (right_sort theory e w.fits w.patterns w.closed s f vs q sort h)
+        w.fits.premises (λ x o. o) (λ held. held)
 
     sound_ask : {ps : List Premise} {r : TermTree} {s : ℕ → TermTree} {es : List ConditionalEquation} {f : ℕ} {vs : TermTrees} {v : TermTree} {n : ℕ} → Asks theory ps r s es f vs v n → Each (IsSafe theory) theory.equations → (sort : ℕ) → HasSort theory no_variables (apply f vs) sort → ((e : ConditionalEquation) → IsOneOf e es → IsOneOf e theory.equations) → Each (IsSafe theory) es →
-      (e : ConditionalEquation) → IsOneOf e theory.equations → IsSafe theory e → instance s e.left ≡ apply f vs → r ≡ e.right → IsGroundFor theory e s → HasSort theory no_variables (instance s e.right) sort → Each (PremiseFits theory (slice_get e.sorts)) ps → ((x : ℕ) → OccursInPremises x ps → OccursInPremises x e.premises) → (PremisesHold theory s ps → PremisesHold theory s e.premises) → Reduces theory (apply f vs) v sort
+        (e : ConditionalEquation) → IsOneOf e theory.equations → IsSafe theory e → instance s e.left ≡ apply f vs → r ≡ e.right → IsGroundFor theory e s → HasSort theory no_variables (instance s e.right) sort → Each (PremiseFits theory (slice_get e.sorts)) ps → ((x : ℕ) → OccursInPremises x ps → OccursInPremises x e.premises) → (PremisesHold theory s ps → PremisesHold theory s e.premises) → Reduces theory (apply f vs) v sort
     sound_ask {r = r} {s = s} (used n a k) safe sort h among left e i w q c ground right fit inside held =
         let x = sound a safe sort (subst (λ u. HasSort theory no_variables (instance s u) sort) (sym c) right) in
         (by_transitivity (instance s r) (by_equation e s i ground (held none_asked) (sym q) (ap (instance s) c)) x.0, x.1)

@@ -1,6 +1,6 @@
 -- Steps of an evaluation, at terms and lists known by equations.
-use Rattle.std.proofs.Common.{ℕ, zero, suc, ◌≡◌, ◌<◌, ◌≤◌, ◌+◌, ◌-◌, List, [], ◌∷◌, ◌++◌, length, map, take, drop, get_or, refl, ap, sym, subst, ◌∙◌, arith, Bool, true, false, IsTrue, Result, Ok, Err, IfOk}
-use Rattle.spec_core.specs.Terms.{TermTree, TermTrees, apply, no_terms, and_term, terms, instance}
+use Rattle.std.proofs.Common.{ℕ, ◌≡◌, ◌<◌, ◌≤◌, ◌+◌, ◌-◌, List, [], ◌∷◌, ◌++◌, length, map, take, drop, get_or, refl, ap, sym, subst, ◌∙◌, arith, Bool, true, false, Result, Ok, Err, IfOk}
+use Rattle.spec_core.specs.Terms.{TermTree, TermTrees, apply, terms, instance}
 use Rattle.spec_core.specs.Theories.{Premise, premise, ConditionalEquation, Theory}
 use Rattle.spec_core.specs.Evaluation.{Evaluates, EvaluatesAll, Tries, Asks, HaveValues, called, none, more, holds, fails}
 use Rattle.spec_core.proofs.Lists.{untrue}

@@ -2,7 +2,7 @@
 use Rattle.std.proofs.Common.{ℕ, zero, suc, ◌≡◌, ◌<◌, ◌≤◌, ◌+◌, List, [], ◌∷◌, ◌++◌, length, map, take, get_or, refl, ap, sym, subst, ◌∙◌, arith, add-one, inl, inr, ◌⊎◌}
 use Rattle.spec_core.specs.declared.term.Term.{Term}
 use Rattle.spec_core.specs.Substitutions.{substitution_of}
-use Rattle.spec_core.specs.Terms.{TermTree, TermTrees, variable, apply, no_terms, and_term, terms, term_of, instance, instances, Occurs, OccursInAny}
+use Rattle.spec_core.specs.Terms.{TermTree, TermTrees, variable, apply, and_term, terms, term_of, instance, instances, Occurs, OccursInAny}
 
 pub all_taken : {A : Type 0} (xs : List A) (i : ℕ) → length xs ≤ i → take i xs ≡ xs
 all_taken [] zero h = refl

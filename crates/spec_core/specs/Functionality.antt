@@ -3,7 +3,7 @@ use Rattle.std.specs.Prelude.{ℕ, ◌≡◌, ◌⊎◌, ◌<◌, ◌++◌, List
 use Rattle.std.specs.List.{slice_get}
 use Rattle.spec_core.specs.Lists.{Each, IsOneOf}
 use Rattle.spec_core.specs.Terms.{TermTree}
-use Rattle.spec_core.specs.Theories.{Premise, premise, Theory}
+use Rattle.spec_core.specs.Theories.{Premise, Theory}
 use Rattle.spec_core.specs.Sorts.{HasSort, PremiseFits, IsDeclaredSort, no_variables}
 use Rattle.spec_core.specs.Code.{Variable, Binding, Relabelling, ExitValue, exit_given, exit_any, ActionField, give, accept, Synchronised, every_gate, these_gates, Node, stop, exit, inner, action, choice, guarded, bound, value_choice, gate_choice, parallel, hide, enable, disable, call, relabel, process, Program}
 

@@ -1,7 +1,7 @@
 -- Names that the grammar allows, and when two names are one.
 use Rattle.std.specs.Prelude.{ℕ, ◌≡◌, ◌⊎◌, ◌++◌, ◌<◌, List, [], ◌∷◌, IsTrue, codes, length, map}
 use Rattle.std.specs.Char.{is_ascii_alphabetic, is_ascii_alphanumeric, to_ascii_lowercase}
-use Rattle.spec_core.specs.Lists.{Each, OneOf, IsOneOf}
+use Rattle.spec_core.specs.Lists.{Each, IsOneOf}
 
 -- two names are one: letters of ASCII compare without case
 abbrev pub IsSameName : List ℕ → List ℕ → Type 0

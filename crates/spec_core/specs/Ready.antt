@@ -1,8 +1,8 @@
 -- Checked specifications that can be run. (ISO 8807, static semantics; and this profile.)
-use Rattle.std.specs.Prelude.{ℕ, ◌≡◌, ◌⊎◌, ◌<◌, List, [], ◌∷◌, Option, Some, None, length}
+use Rattle.std.specs.Prelude.{ℕ, ◌≡◌, ◌<◌, List, [], ◌∷◌, Some, length}
 use Rattle.std.specs.List.{slice_get}
 use Rattle.spec_core.specs.Lists.{Each, IsOneOf, NoTwo}
-use Rattle.spec_core.specs.Theories.{Operation, ConditionalEquation, Theory}
+use Rattle.spec_core.specs.Theories.{Operation}
 use Rattle.spec_core.specs.Sorts.{no_variables}
 use Rattle.spec_core.specs.Executable.{IsExecutable}
 use Rattle.spec_core.specs.Names.{IsSameName, IsIdentifier, IsOperationName}
@@ -51,9 +51,15 @@ IsProcess _ = ⊥
 abbrev pub NamesBehaviour : Program → ℕ → Type 0
 NamesBehaviour program part = (node : Node) × (slice_get program.code part ≡ Some node) × (IsProcess node → ⊥)
 
--- each part names a construct of behaviour, with a lower number unless it is a process's body
+-- a call names a process
+abbrev pub CallsProcess : Program → Node → Type 0
+CallsProcess program (call p actual values) = (formal : List ℕ) × (xs : List Variable) × (body : ℕ) × (slice_get program.code p ≡ Some (process formal xs body))
+CallsProcess program _ = Unit {0}
+
+-- each part names a construct of behaviour, with a lower number unless it is a process's body, and a call names a process
 pub record PartsFit (program : Program) (number : ℕ) (node : Node) : Type 0 where
   pub names : Each (NamesBehaviour program) (parts_of node)
+  pub calls : CallsProcess program node
   pub below : (IsProcess node → ⊥) → Each (λ part. part < number) (parts_of node)
 
 -- the parts that are reached before any action of the construct, and before the right side of an enabling

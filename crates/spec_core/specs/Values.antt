@@ -1,5 +1,4 @@
 -- Values of terms.
-use Rattle.std.specs.Prelude.{ℕ}
 use Rattle.spec_core.specs.Terms.{TermTree}
 use Rattle.spec_core.specs.Theories.{Theory}
 use Rattle.spec_core.specs.Constructors.{IsConstructed}

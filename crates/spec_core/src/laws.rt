@@ -50,8 +50,7 @@ pub fn values_evaluate_to_themselves()
 /// What a ground term over executable data evaluates to is a value, and provably equal to the term.
 pub fn evaluation_gives_values()
     ensures { EvaluationGivesValues }
-{
-}
+{}
 
 /// A value has no variables.
 pub fn values_are_ground()
@@ -86,11 +85,9 @@ pub fn windows_are_in_order()
 /// Where a sort has two constants alone, a premise for each makes a group full.
 pub fn opposite_premises_are_full()
     ensures { OppositePremisesAreFull }
-{
-}
+{}
 
 /// Truth values with their negation are executable data.
 pub fn booleans_are_executable()
     ensures { BooleansAreExecutable }
-{
-}
+{}

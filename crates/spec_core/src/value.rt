@@ -72,7 +72,8 @@ impl Value {
     pub fn is_before(&self, other: &Value) -> bool
         ensures decides { IsTrue result ↔ IsBefore self.now other.now }
     {
-        self.ops.len() < other.ops.len() || self.ops.len() == other.ops.len() && is_less(&self.ops, &other.ops)
+        self.ops.len() < other.ops.len()
+            || self.ops.len() == other.ops.len() && is_less(&self.ops, &other.ops)
     }
 }
 
@@ -97,7 +98,8 @@ fn is_less(left: &[Op], right: &[Op]) -> bool
         [] => false,
         [first, rest @ ..] => match right {
             [] => false,
-            [other, others @ ..] => first.0 < other.0 || first.0 == other.0 && is_less(rest, others),
+            [other, others @ ..] => first.0 < other.0
+                || first.0 == other.0 && is_less(rest, others),
         },
     }
 }

@@ -1,6 +1,6 @@
-use Rattle.std.proofs.Common.{rules, ◌≡◌, map, ap, sym, ◌∙◌, eq-eqb, IsTrue}
+use Rattle.std.proofs.Common.{rules, ◌≡◌, map, ap, ◌∙◌}
 use Rattle.spec_core.specs.declared.term.Term.TheFolds.{the_lemmas}
-use Rattle.spec_core.specs.Terms.{TermTrees, apply, terms, term_of}
+use Rattle.spec_core.specs.Terms.{apply, terms, term_of}
 use Rattle.spec_core.proofs.constructors.heads.Goals as goal
 
 pub returns-in-App : goal.returns-in-App

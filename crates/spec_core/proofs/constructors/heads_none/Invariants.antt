@@ -1,4 +1,4 @@
-use Rattle.std.proofs.Common.{take, map}
+use Rattle.std.proofs.Common.{take}
 use Rattle.spec_core.specs.Lists.{Each}
 use Rattle.spec_core.specs.Theories.{Heads, equation_of}
 use Rattle.spec_core.proofs.constructors.heads_none.Given as goal

@@ -1,6 +1,6 @@
-use Rattle.std.proofs.Common.{rules, ℕ, ◌≡◌, map, length, ap, sym, subst, ◌∙◌, arith, ⊎_elim}
+use Rattle.std.proofs.Common.{rules, ◌≡◌, map, ap, sym, subst, ◌∙◌, arith, ⊎_elim}
 use Rattle.spec_core.specs.declared.term.Term.TheFolds.{the_lemmas}
-use Rattle.spec_core.specs.Terms.{TermTree, apply, terms, term_of, instance, instances, Occurs, OccursInAny}
+use Rattle.spec_core.specs.Terms.{apply, terms, term_of, Occurs, OccursInAny}
 use Rattle.spec_core.proofs.Outcomes.{if_some_implied, if_none_holds}
 use Rattle.spec_core.proofs.TermLists.{all_taken, occurs-next, parts_match, instances-length, instance-at}
 use Rattle.spec_core.proofs.matching.+value_at.Goals as goal

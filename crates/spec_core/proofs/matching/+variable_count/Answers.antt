@@ -1,4 +1,4 @@
-use Rattle.std.proofs.Common.{rules, ◌≡◌, ◌<◌, ◌≤◌, map, ap, subst, sym, ◌∙◌, arith, ⊎_elim}
+use Rattle.std.proofs.Common.{rules, ◌≡◌, ◌≤◌, map, subst, sym, ◌∙◌, arith, ⊎_elim}
 use Rattle.spec_core.specs.declared.term.Term.TheFolds.{the_lemmas}
 use Rattle.spec_core.specs.Terms.{apply, terms, term_of, Occurs, OccursInAny}
 use Rattle.spec_core.proofs.TermLists.{all_taken, occurs-next}

@@ -1,6 +1,6 @@
-use Rattle.std.proofs.Common.{ℕ, ◌≡◌, ◌<◌, ◌+◌, ◌++◌, ◌∷◌, [], map, length, ap, sym, subst, ◌∙◌, arith, below_more, length-append}
+use Rattle.std.proofs.Common.{ℕ, ◌≡◌, ◌<◌, ◌+◌, ◌∷◌, [], map, length, ap, ◌∙◌, arith, below_more, length-append}
 use Rattle.spec_core.specs.Substitutions.{substitution_of}
-use Rattle.spec_core.specs.Terms.{TermTree, term_of, instance, Occurs}
+use Rattle.spec_core.specs.Terms.{term_of, Occurs}
 use Rattle.spec_core.proofs.TermLists.{substitution-push, substitution-last}
 use Rattle.spec_core.proofs.matching.bind_variables.Goals as goal
 

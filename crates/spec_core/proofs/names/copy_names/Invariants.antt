@@ -1,4 +1,4 @@
-use Rattle.std.proofs.Common.{◌≡◌, map, take}
+use Rattle.std.proofs.Common.{◌≡◌, take}
 use Rattle.spec_core.proofs.names.copy_names.Given as goal
 
 abbrev pub invariant-loop-name : goal.invariant-loop-name

@@ -1,9 +1,9 @@
 use Rattle.std.proofs.Common.{rules, ◌≡◌, ◌+◌, ◌-◌, ◌++◌, ◌∷◌, [], map, take, drop, length, ap, sym, subst, ◌∙◌, refl, arith}
 use Rattle.std.proofs.lemmas.List.{take_more, map-append}
 use Rattle.spec_core.specs.declared.term.Term.TheFolds.{the_lemmas}
-use Rattle.spec_core.specs.Evaluation.{Evaluates, EvaluatesAll, Tries, Asks, none, used, final, unlike, like}
+use Rattle.spec_core.specs.Evaluation.{EvaluatesAll, Tries, Asks, none, used, final, unlike, like}
 use Rattle.spec_core.specs.Substitutions.{substitution_of}
-use Rattle.spec_core.specs.Terms.{TermTree, apply, no_terms, terms, term_of, instance}
+use Rattle.spec_core.specs.Terms.{apply, no_terms, terms, term_of}
 use Rattle.spec_core.specs.Theories.{equation_of, premise_of, theory_of}
 use Rattle.spec_core.proofs.Outcomes.{if_ok_implied}
 use Rattle.spec_core.proofs.Steps.{no_more, one_more, if_ok_three, called_at, evaluates_push, premise_holds, premise_fails}

@@ -1,4 +1,4 @@
-use Rattle.std.proofs.Common.{rules, refl, ◌≡◌, ◌<◌, ◌≤◌, ◌++◌, map, length, ap, sym, subst, ◌∙◌, arith, string_bytes}
+use Rattle.std.proofs.Common.{rules, refl, ◌≡◌, ◌<◌, ◌≤◌, ◌++◌, map, length, ap, sym, ◌∙◌, arith, string_bytes}
 use Rattle.spec_core.specs.declared.term.Term.TheFolds.{the_lemmas}
 use Rattle.spec_core.specs.Terms.{apply, terms, term_of}
 use Rattle.spec_core.specs.TermText.{separator, closing, opening, first_gap, joined, term_texts, between_at}

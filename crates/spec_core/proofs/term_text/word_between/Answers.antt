@@ -1,6 +1,5 @@
-use Rattle.std.proofs.Common.{ℕ, List, ◌≡◌, ◌<◌, ◌++◌, ◌∷◌, [], ap, sym, ◌∙◌, lit<}
+use Rattle.std.proofs.Common.{◌≡◌, ◌<◌, ◌++◌, ◌∷◌, [], ap, ◌∙◌, lit<}
 use Rattle.std.proofs.lemmas.Str.Pattern.{strip_prefix_char, strip_suffix_char}
-use Rattle.spec_core.specs.TermText.{infix_word}
 use Rattle.spec_core.proofs.Spelling.{no_infix, one_infix, match_option_implied}
 use Rattle.spec_core.proofs.term_text.word_between.Goals as goal
 
