@@ -1,9 +1,21 @@
-// What every other crate speaks of: names, numbers of items, terms, values, settings, and want of memory.
+// What every other crate speaks of: names, numbers of items, terms, values, data, settings, and want of memory.
 #![tactic(auto)]
 
+pub mod code;
+pub mod constructors;
+pub mod equation;
 pub mod items;
+pub mod laws;
+pub mod matching;
 pub mod memory;
 pub mod name;
+pub mod names;
+pub mod plain_evaluation;
+#[cfg(test)]
+mod samples;
 pub mod settings;
+pub mod signature;
 pub mod term;
+pub mod term_text;
 pub mod value;
+pub mod window;

@@ -49,6 +49,17 @@ impl Term {
     }
 }
 
+/// Equal terms, in the same order.
+pub fn copy_terms(alloc: Global, all: &[Term]) -> Result<Vec<Term>, Memory>
+    ensures equal { IfOk result (λ copied. map term_of copied.items ≡ map term_of all.now) }
+{
+    let mut copied = Vec::new(alloc);
+    for term in all {
+        copied.push(term.copy(alloc)?)?;
+    }
+    Ok(copied)
+}
+
 // Whether two lists of terms are equal.
 #[cycle(same)]
 fn all_same(left: &[Term], right: &[Term]) -> bool

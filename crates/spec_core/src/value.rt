@@ -2,6 +2,7 @@
 
 ghost use Rattle.std.specs.Prelude.{◌≡◌, ◌↔◌, IfOk, IsTrue, length, map};
 ghost use Rattle.spec_core.specs.Numbers.{op_number};
+ghost use Rattle.spec_core.specs.Windows.{IsLess, IsBefore};
 
 use crate::items::Op;
 use crate::memory::Memory;
@@ -65,6 +66,15 @@ impl Value {
     {
         same_ops(&self.ops, &other.ops)
     }
+
+    /// Whether this value comes before another in a window: fewer symbols, or as many and a smaller operation's number at the
+    /// first difference. It takes no memory.
+    pub fn is_before(&self, other: &Value) -> bool
+        ensures decides { IsTrue result ↔ IsBefore self.now other.now }
+    {
+        self.ops.len() < other.ops.len()
+            || self.ops.len() == other.ops.len() && is_less(&self.ops, &other.ops)
+    }
 }
 
 // Whether two lists of operations are equal.
@@ -76,6 +86,20 @@ fn same_ops(left: &[Op], right: &[Op]) -> bool
         [first, rest @ ..] => match right {
             [] => false,
             [other, others @ ..] => first.0 == other.0 && same_ops(rest, others),
+        },
+    }
+}
+
+// Whether the first list has the smaller number at the first place at which two lists differ.
+fn is_less(left: &[Op], right: &[Op]) -> bool
+    ensures { IsTrue result ↔ IsLess (map op_number left.now) (map op_number right.now) }
+{
+    match left {
+        [] => false,
+        [first, rest @ ..] => match right {
+            [] => false,
+            [other, others @ ..] => first.0 < other.0
+                || first.0 == other.0 && is_less(rest, others),
         },
     }
 }
@@ -94,6 +118,10 @@ mod tests {
         assert!(rt; copied.same(&succ_zero));
         assert!(rt; !succ_zero.same(&succ_succ));
         assert_eq!(rt; copied.size(), 2);
+        assert!(rt; succ_zero.is_before(&succ_succ));
+        assert!(rt; !succ_zero.is_before(&copied));
+        let zero = Value::new(vec![in rt.alloc(); Op(12)]?);
+        assert!(rt; zero.is_before(&succ_zero));
         Ok(())
     }
 }

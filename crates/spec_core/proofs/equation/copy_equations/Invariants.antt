@@ -1,0 +1,6 @@
+use Rattle.std.proofs.Common.{◌≡◌, map, take}
+use Rattle.spec_core.specs.Theories.{equation_of}
+use Rattle.spec_core.proofs.equation.copy_equations.Given as goal
+
+abbrev pub invariant-loop-equation : goal.invariant-loop-equation
+invariant-loop-equation l = map equation_of l.all.items ≡ map equation_of (take l.equation-index l.equations)

@@ -1,0 +1,370 @@
+// Evaluation as it is defined, step by step and slowly: what faster bodies are tried against.
+
+ghost use Rattle.std.specs.Prelude.{ℕ, ◌≡◌, ◌≤◌, ◌+◌, IfOk, map};
+ghost use Rattle.spec_core.specs.Constructors.{IsConstructor};
+ghost use Rattle.spec_core.specs.Evaluation.{Evaluates, EvaluatesAll, Tries, Asks, HaveValues};
+ghost use Rattle.spec_core.specs.Substitutions.{substitution_of};
+ghost use Rattle.spec_core.specs.Terms.{apply, instance, terms, term_of};
+ghost use Rattle.spec_core.specs.Theories.{equation_of, premise_of, theory_of};
+
+use crate::constructors::is_constructor;
+use crate::equation::{DataSpec, Equation};
+use crate::items::Op;
+use crate::matching::{instantiate, match_pattern};
+use crate::memory::Memory;
+use crate::term::{Term, copy_terms};
+use std::alloc::{AllocError, AllocFailed, Global};
+use std::error::Error;
+use std::fmt;
+
+/// A term's value, and how many uses of equations it took.
+#[derive(Drop)]
+pub struct Evaluated {
+    pub value: Term,
+    pub uses: u64,
+}
+
+/// Why an evaluation gave no value.
+#[derive(Clone, Copy, Debug, PartialEq, Eq)]
+pub enum EvaluationFault {
+    /// The value takes more uses than the budget, or there is none.
+    Spent,
+    /// Want of memory.
+    Memory,
+}
+
+impl fmt::Display for EvaluationFault {
+    fn fmt<W: fmt::Write>(&self, f: &mut fmt::Formatter<W>) -> fmt::Result {
+        match self {
+            EvaluationFault::Spent => write!(f, "no value within the budget"),
+            EvaluationFault::Memory => write!(f, "out of memory"),
+        }
+    }
+}
+
+impl Error for EvaluationFault {}
+
+impl From<Memory> for EvaluationFault {
+    ghost use Rattle.spec_core.specs.declared.plain_evaluation.EvaluationFault.TheVariants.{Memory as NoMemory};
+
+    ghost from_gives = { λ _ e. e ≡ NoMemory };
+
+    fn from(_: Memory) -> EvaluationFault {
+        EvaluationFault::Memory
+    }
+}
+
+impl From<AllocError> for EvaluationFault {
+    ghost use Rattle.spec_core.specs.declared.plain_evaluation.EvaluationFault.TheVariants.{Memory as NoMemory};
+
+    ghost from_gives = { λ _ e. e ≡ NoMemory };
+
+    fn from(_: AllocError) -> EvaluationFault {
+        EvaluationFault::Memory
+    }
+}
+
+impl<T: Drop> From<AllocFailed<T>> for EvaluationFault {
+    ghost use Rattle.spec_core.specs.declared.plain_evaluation.EvaluationFault.TheVariants.{Memory as NoMemory};
+
+    ghost from_gives = { λ _ e. e ≡ NoMemory };
+
+    fn from(_: AllocFailed<T>) -> EvaluationFault {
+        EvaluationFault::Memory
+    }
+}
+
+// Whether the two sides of a premise have one value, and the uses for both.
+#[derive(Drop)]
+struct Asked {
+    equal: bool,
+    uses: u64,
+}
+
+// The values of the terms of a list, and the uses for all.
+#[derive(Drop)]
+struct EvaluatedAll {
+    values: Vec<Term>,
+    uses: u64,
+}
+
+/// The value of a ground term, with at most `budget` uses of equations. It recurs as deep as the evaluation, so it is for small
+/// terms of executable data.
+pub fn plain_value(
+    alloc: Global,
+    algebra: &DataSpec,
+    term: &Term,
+    budget: u64,
+) -> Result<Evaluated, EvaluationFault>
+    ensures value { IfOk result (λ r. Evaluates (theory_of algebra.now) (term_of term.now) (term_of r.value) r.uses) }
+    ensures within { IfOk result (λ r. r.uses ≤ budget) }
+{
+    evaluate(alloc, algebra, term, budget, u64::MAX)
+}
+
+// The value of a term.
+#[cycle(evaluation)]
+fn evaluate(
+    alloc: Global,
+    algebra: &DataSpec,
+    term: &Term,
+    budget: u64,
+    depth: u64,
+) -> Result<Evaluated, EvaluationFault>
+    ensures value { IfOk result (λ r. Evaluates (theory_of algebra.now) (term_of term.now) (term_of r.value) r.uses) }
+    ensures within { IfOk result (λ r. r.uses ≤ budget) }
+{
+    if depth == 0 {
+        return Err(EvaluationFault::Memory);
+    }
+    match term {
+        Term::Var(_) => Err(EvaluationFault::Spent),
+        Term::App(op, args) => {
+            let all = evaluate_all(alloc, algebra, args, budget, depth - 1)?;
+            let called = try_equations(
+                alloc,
+                algebra,
+                &algebra.equations,
+                *op,
+                &all.values,
+                budget - all.uses,
+                depth - 1,
+            )?;
+            Ok(Evaluated {
+                value: called.value,
+                uses: all.uses + called.uses,
+            })
+        }
+    }
+}
+
+// The values of terms, from the left.
+#[cycle(evaluation)]
+fn evaluate_all(
+    alloc: Global,
+    algebra: &DataSpec,
+    args: &[Term],
+    budget: u64,
+    depth: u64,
+) -> Result<EvaluatedAll, EvaluationFault>
+    ensures values { IfOk result (λ r. EvaluatesAll (theory_of algebra.now) (terms (map term_of args.now)) (terms (map term_of r.values.items)) r.uses) }
+    ensures within { IfOk result (λ r. r.uses ≤ budget) }
+{
+    if depth == 0 {
+        return Err(EvaluationFault::Memory);
+    }
+    let mut values = Vec::new(alloc);
+    let mut uses = 0;
+    for term in args {
+        let next = evaluate(alloc, algebra, term, budget - uses, depth - 1)?;
+        uses += next.uses;
+        values.push(next.value)?;
+    }
+    Ok(EvaluatedAll { values, uses })
+}
+
+// The value of an operation over values, with these equations left to be tried.
+#[cycle(evaluation)]
+fn try_equations(
+    alloc: Global,
+    algebra: &DataSpec,
+    left: &[Equation],
+    op: Op,
+    values: &[Term],
+    budget: u64,
+    depth: u64,
+) -> Result<Evaluated, EvaluationFault>
+    ensures value { IfOk result (λ r. Tries (theory_of algebra.now) (map equation_of left.now) op.0 (terms (map term_of values.now)) (term_of r.value) r.uses) }
+    ensures within { IfOk result (λ r. r.uses ≤ budget) }
+{
+    if depth == 0 {
+        return Err(EvaluationFault::Memory);
+    }
+    match left {
+        [] => constructed(alloc, algebra, op, values),
+        [equation, others @ ..] => {
+            let matched = match_pattern(alloc, &equation.left, op, values)?;
+            match matched {
+                None => try_equations(alloc, algebra, others, op, values, budget, depth - 1),
+                Some(bound) => ask_premises(
+                    alloc,
+                    algebra,
+                    &equation.premises,
+                    &equation.right,
+                    &bound,
+                    others,
+                    op,
+                    values,
+                    budget,
+                    depth - 1,
+                ),
+            }
+        }
+    }
+}
+
+// The same, with these premises left to be asked of an equation that matches, before its right side.
+#[cycle(evaluation)]
+fn ask_premises(
+    alloc: Global,
+    algebra: &DataSpec,
+    premises: &[(Term, Term)],
+    right: &Term,
+    bound: &[Term],
+    others: &[Equation],
+    op: Op,
+    values: &[Term],
+    budget: u64,
+    depth: u64,
+) -> Result<Evaluated, EvaluationFault>
+    ensures value { IfOk result (λ r. Asks (theory_of algebra.now) (map premise_of premises.now) (term_of right.now) (substitution_of (map term_of bound.now)) (map equation_of others.now) op.0 (terms (map term_of values.now)) (term_of r.value) r.uses) }
+    ensures within { IfOk result (λ r. r.uses ≤ budget) }
+{
+    if depth == 0 {
+        return Err(EvaluationFault::Memory);
+    }
+    match premises {
+        [] => use_equation(alloc, algebra, right, bound, budget, depth - 1),
+        [premise, more @ ..] => {
+            let sides = ask_sides(alloc, algebra, premise, bound, budget, depth - 1)?;
+            let rest = if sides.equal {
+                ask_premises(
+                    alloc,
+                    algebra,
+                    more,
+                    right,
+                    bound,
+                    others,
+                    op,
+                    values,
+                    budget - sides.uses,
+                    depth - 1,
+                )?
+            } else {
+                try_equations(
+                    alloc,
+                    algebra,
+                    others,
+                    op,
+                    values,
+                    budget - sides.uses,
+                    depth - 1,
+                )?
+            };
+            Ok(Evaluated {
+                value: rest.value,
+                uses: sides.uses + rest.uses,
+            })
+        }
+    }
+}
+
+// Whether the sides of a premise's instance have one value.
+#[cycle(evaluation)]
+fn ask_sides(
+    alloc: Global,
+    algebra: &DataSpec,
+    premise: &(Term, Term),
+    bound: &[Term],
+    budget: u64,
+    depth: u64,
+) -> Result<Asked, EvaluationFault>
+    ensures sides { IfOk result (λ r. HaveValues (theory_of algebra.now) (instance (substitution_of (map term_of bound.now)) (term_of premise.now.0)) (instance (substitution_of (map term_of bound.now)) (term_of premise.now.1)) r.equal r.uses) }
+    ensures within { IfOk result (λ r. r.uses ≤ budget) }
+{
+    if depth == 0 {
+        return Err(EvaluationFault::Memory);
+    }
+    let left = instantiate(alloc, bound, &premise.0)?;
+    let left_value = evaluate(alloc, algebra, &left, budget, depth - 1)?;
+    let right = instantiate(alloc, bound, &premise.1)?;
+    let right_value = evaluate(alloc, algebra, &right, budget - left_value.uses, depth - 1)?;
+    Ok(Asked {
+        equal: left_value.value.same(&right_value.value),
+        uses: left_value.uses + right_value.uses,
+    })
+}
+
+// The value of a right side's instance, and one use more.
+#[cycle(evaluation)]
+fn use_equation(
+    alloc: Global,
+    algebra: &DataSpec,
+    right: &Term,
+    bound: &[Term],
+    budget: u64,
+    depth: u64,
+) -> Result<Evaluated, EvaluationFault>
+    ensures value { IfOk result (λ r. (n : ℕ) × Evaluates (theory_of algebra.now) (instance (substitution_of (map term_of bound.now)) (term_of right.now)) (term_of r.value) n × (r.uses ≡ n + 1)) }
+    ensures within { IfOk result (λ r. r.uses ≤ budget) }
+{
+    if depth == 0 {
+        return Err(EvaluationFault::Memory);
+    }
+    if budget == 0 {
+        return Err(EvaluationFault::Spent);
+    }
+    let replaced = instantiate(alloc, bound, right)?;
+    let result = evaluate(alloc, algebra, &replaced, budget - 1, depth - 1)?;
+    Ok(Evaluated {
+        value: result.value,
+        uses: result.uses + 1,
+    })
+}
+
+// The operation over the values is its own value, where it is a constructor.
+fn constructed(
+    alloc: Global,
+    algebra: &DataSpec,
+    op: Op,
+    values: &[Term],
+) -> Result<Evaluated, EvaluationFault>
+    ensures constructor { IfOk result (λ r. IsConstructor (theory_of algebra.now) op.0) }
+    ensures value { IfOk result (λ r. term_of r.value ≡ apply op.0 (terms (map term_of values.now))) }
+    ensures free { IfOk result (λ r. r.uses ≡ 0) }
+{
+    if is_constructor(algebra, op) {
+        Ok(Evaluated {
+            value: Term::App(op, copy_terms(alloc, values)?),
+            uses: 0,
+        })
+    } else {
+        Err(EvaluationFault::Spent)
+    }
+}
+
+#[cfg(test)]
+mod tests {
+    use super::*;
+    use crate::samples::{ACK, DUP, SUCC, binary, naturals, number, unary};
+    use std::test::Fail;
+
+    // ack(2, 3) is 9 after 44 uses, and no value within 43; dup(dup(1)) is 4 after 2 + 3 uses.
+    #[test]
+    fn values_cost_what_the_definition_says(rt: HostRuntime) -> Result<(), Fail> {
+        let alloc = rt.alloc();
+        let algebra = naturals(alloc)?;
+        let call = binary(alloc, ACK, number(alloc, 2)?, number(alloc, 3)?)?;
+        let nine = plain_value(alloc, &algebra, &call, 44)?;
+        assert!(rt; nine.value.same(&number(alloc, 9)?));
+        assert_eq!(rt; nine.uses, 44);
+        let short = plain_value(alloc, &algebra, &call, 43);
+        assert!(rt; matches!(short, Err(EvaluationFault::Spent)));
+        let doubled = unary(alloc, DUP, unary(alloc, DUP, number(alloc, 1)?)?)?;
+        let four = plain_value(alloc, &algebra, &doubled, 5)?;
+        assert!(rt; four.value.same(&number(alloc, 4)?));
+        assert_eq!(rt; four.uses, 5);
+        Ok(())
+    }
+
+    // A variable has no value, and neither has a call over one.
+    #[test]
+    fn loose_terms_have_no_value(rt: HostRuntime) -> Result<(), Fail> {
+        let alloc = rt.alloc();
+        let algebra = naturals(alloc)?;
+        let call = unary(alloc, SUCC, Term::Var(0))?;
+        let value = plain_value(alloc, &algebra, &call, 100);
+        assert!(rt; matches!(value, Err(EvaluationFault::Spent)));
+        Ok(())
+    }
+}
