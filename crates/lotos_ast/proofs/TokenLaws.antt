@@ -1,10 +1,11 @@
 -- A text has one list of tokens or one refusal, and not both.
-use Rattle.std.proofs.Common.{ℕ, List, ◌<◌, ◌≤◌, ◌≡◌, Bool, refl, sym, subst, take, drop, length, arith}
+use Rattle.std.proofs.Common.{ℕ, List, ◌≡◌, Bool, refl, sym, subst, take, drop, arith}
 use Rattle.lotos_ast.specs.declared.token.Token.{Token}
 use Rattle.lotos_ast.specs.declared.place.Place.{Place}
 use Rattle.lotos_ast.specs.declared.refusal.Refusal.{Refusal}
 use Rattle.lotos_ast.specs.Places.{place_after}
-use Rattle.lotos_ast.specs.Tokenizes.{IsSpelled, ends, parted, spelled, IsStopped, at_byte, at_comment, behind_gap, behind_token, open_after, Tokenizes, IsUnreadable, by_length, by_bytes, text_limit}
+use Rattle.lotos_ast.specs.TokenLaws.{OneTokenList, OneRefusal, NotBoth}
+use Rattle.lotos_ast.specs.Tokenizes.{IsSpelled, ends, parted, spelled, IsStopped, at_byte, at_comment, behind_gap, behind_token, open_after, by_length, by_bytes}
 
 -- what is spelled, or stops, behind so many bytes does so behind an equal number of them
 spelled_behind : (o : Bool) (p : Place) (s : List ℕ) (ts : List Token) (n m : ℕ) → n ≡ m → IsSpelled o (place_after p (take m s)) (drop m s) ts → IsSpelled o (place_after p (take n s)) (drop n s) ts
@@ -20,13 +21,13 @@ stopped_after : (o : Bool) (p : Place) (s : List ℕ) (r : Refusal) (n m : ℕ) 
 stopped_after o p s r n m e h = subst (λ z. IsStopped (open_after o (take z s)) (place_after p (take z s)) (drop z s) r) (sym e) h
 
 one_spelling : {o : Bool} {p : Place} {s : List ℕ} {ts us : List Token} → IsSpelled o p s ts → IsSpelled o p s us → ts ≡ us
-one_spelling (ends c) (ends d) = refl
-one_spelling (ends c) (parted n d h) = cc
-one_spelling (ends c) (spelled k n d h) = cc
-one_spelling (parted n c h) (ends d) = cc
+one_spelling ends ends = refl
+one_spelling ends (parted n d h) = cc
+one_spelling ends (spelled k n d h) = cc
+one_spelling (parted n c h) ends = cc
 one_spelling (parted n c h) (parted m d k) = one_spelling h (spelled_behind _ _ _ _ n m (cc) k)
 one_spelling (parted n c h) (spelled j m d k) = cc
-one_spelling (spelled i n c h) (ends d) = cc
+one_spelling (spelled i n c h) ends = cc
 one_spelling (spelled i n c h) (parted m d k) = cc
 one_spelling (spelled i n c h) (spelled j m d k) =
     let e : i ≡ j = cc in
@@ -35,16 +36,16 @@ one_spelling (spelled i n c h) (spelled j m d k) =
     cc
 
 never_both : {o : Bool} {p : Place} {s : List ℕ} {ts : List Token} {r : Refusal} → IsStopped o p s r → IsSpelled o p s ts → ⊥
-never_both (at_byte b c) (ends d) = cc
+never_both (at_byte b c) ends = cc
 never_both (at_byte b c) (parted n d h) = cc
 never_both (at_byte b c) (spelled k n d h) = cc
-never_both (at_comment c) (ends d) = cc
+never_both (at_comment c) ends = cc
 never_both (at_comment c) (parted n d h) = cc
 never_both (at_comment c) (spelled k n d h) = cc
-never_both (behind_gap n c h) (ends d) = cc
+never_both (behind_gap n c h) ends = cc
 never_both (behind_gap n c h) (parted m d k) = never_both h (spelled_behind _ _ _ _ n m (cc) k)
 never_both (behind_gap n c h) (spelled j m d k) = cc
-never_both (behind_token i n c h) (ends d) = cc
+never_both (behind_token i n c h) ends = cc
 never_both (behind_token i n c h) (parted m d k) = cc
 never_both (behind_token i n c h) (spelled j m d k) =
     let f : n ≡ m = cc in
@@ -70,19 +71,15 @@ one_stop (behind_token i n c h) (behind_token j m d k) =
     let f : n ≡ m = cc in
     one_stop h (stopped_after _ _ _ _ n m f k)
 
-pub one_tokens : (text : List ℕ) (ts us : List Token) → Tokenizes text ts → Tokenizes text us → ts ≡ us
+pub one_tokens : OneTokenList
 one_tokens text ts us h k = one_spelling h k
 
-pub one_refusal : (text : List ℕ) (q r : Refusal) → IsUnreadable text q → IsUnreadable text r → q ≡ r
+pub one_refusal : OneRefusal
 one_refusal text q r (by_length l) (by_length m) = refl
 one_refusal text q r (by_length l) (by_bytes m k) = absurd (omega (arith, l, m))
 one_refusal text q r (by_bytes l h) (by_length m) = absurd (omega (arith, l, m))
 one_refusal text q r (by_bytes l h) (by_bytes m k) = one_stop h k
 
-pub no_refusal : (text : List ℕ) (ts : List Token) (r : Refusal) → length text ≤ text_limit → Tokenizes text ts → IsUnreadable text r → ⊥
+pub no_refusal : NotBoth
 no_refusal text ts r l h (by_length m) = absurd (omega (arith, l, m))
 no_refusal text ts r l h (by_bytes m k) = never_both k h
-
-pub no_tokens : (text : List ℕ) (ts : List Token) (r : Refusal) → IsUnreadable text r → Tokenizes text ts → text_limit < length text
-no_tokens text ts r (by_length m) h = m
-no_tokens text ts r (by_bytes m k) h = absurd (never_both k h)

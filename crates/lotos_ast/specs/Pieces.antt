@@ -7,12 +7,13 @@ use Rattle.lotos_ast.specs.declared.token.TokenKind.TheVariants.{Keyword, Identi
 use Rattle.lotos_ast.specs.Bytes.{is_blank, is_letter_or_digit, is_low_line, is_word_byte, is_operation_byte}
 use Rattle.lotos_ast.specs.Marks.{is_same_word, keyword_of, symbol_of}
 
+-- A number is that of the piece's bytes.
 pub data Piece : Type 0 where
   nothing : Piece  -- the text is empty
-  gap : ℕ → Piece  -- so many bytes part tokens
-  spelling : TokenKind → ℕ → Piece  -- so many bytes spell a token of this class
-  stray : ℕ → Piece  -- this byte begins no token
-  unclosed : Piece  -- the comment that begins here has no end
+  gap : ℕ → Piece  -- what parts tokens
+  spelling : TokenKind → ℕ → Piece  -- a token of this class
+  stray : ℕ → Piece  -- a byte, here given, that begins no token
+  unclosed : Piece  -- a comment that has no end
 
 -- whether a text begins with these bytes
 abbrev pub begins : List ℕ → List ℕ → Bool
@@ -46,12 +47,12 @@ comment_mark comment =
     else if has_word (codes "constructor") comment then Some ConstructorMark
     else None
 
--- so many bytes are a token of this class, or a gap where there is none
+-- the piece that a comment of this length is: a mark, or a gap
 abbrev pub marked : Option TokenKind → ℕ → Piece
 marked None n = gap n
 marked (Some kind) n = spelling kind n
 
--- a comment at the front of a text, so long, if it ends
+-- the comment at the front of a text, which has this length if it ends
 abbrev pub comment_piece : List ℕ → Option ℕ → Piece
 comment_piece s None = unclosed
 comment_piece s (Some n) = marked (comment_mark (take n s)) n
@@ -76,13 +77,13 @@ word_kind first word = if is_some (keyword_of word) then Keyword else if is_asci
 abbrev pub operation_kind : List ℕ → TokenKind
 operation_kind run = if is_some (symbol_of run) then Symbol else Operation
 
--- the other symbols, each before those with which it begins
+-- the symbols that aren't runs of operation bytes, each before those that begin it
 abbrev pub symbols : List (List ℕ)
 symbols =
     codes "[]" ∷ codes "[>" ∷ codes "[" ∷ codes "]" ∷ codes "|||" ∷ codes "||" ∷ codes "|[" ∷ codes ":=" ∷ codes ":" ∷
     codes "(" ∷ codes ")" ∷ codes ";" ∷ codes "," ∷ codes "!" ∷ codes "?" ∷ codes "_" ∷ []
 
--- these symbols, where a `|[` is open and where none is: only an open one is closed by `]|`
+-- these symbols, and `]|` where a `|[` is open
 abbrev pub symbols_where : Bool → List (List ℕ)
 symbols_where opened = if opened then codes "]|" ∷ symbols else symbols
 
@@ -91,7 +92,7 @@ abbrev pub first_length : List ℕ → List (List ℕ) → Option ℕ
 first_length s [] = None
 first_length s (w ∷ ws) = if begins w s then Some (length w) else first_length s ws
 
--- a symbol of this length, or the byte where there is none
+-- a symbol of this length, or the byte with which no symbol begins
 abbrev pub symbol_piece : ℕ → Option ℕ → Piece
 symbol_piece b None = stray b
 symbol_piece b (Some n) = spelling Symbol n
@@ -104,7 +105,7 @@ word_piece b s n = spelling (word_kind b (take n s)) n
 abbrev pub operation_piece : List ℕ → ℕ → Piece
 operation_piece s n = spelling (operation_kind (take n s)) n
 
--- the piece at the front of a text; opened: a `|[` before it has no `]` yet
+-- the piece at the front of a text, by the first rule that fits; opened: no `]` has come yet behind the last `|[`
 abbrev pub first_piece : Bool → List ℕ → Piece
 first_piece opened [] = nothing
 first_piece opened (b ∷ s) =

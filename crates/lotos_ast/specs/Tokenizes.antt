@@ -7,7 +7,7 @@ use Rattle.lotos_ast.specs.declared.token.Token.{Token}
 use Rattle.lotos_ast.specs.declared.refusal.Refusal.{Refusal}
 use Rattle.lotos_ast.specs.declared.refusal.RefusalKind.TheVariants.{BadByte, OpenComment, TooLong}
 use Rattle.lotos_ast.specs.Places.{start_place, place_after}
-use Rattle.lotos_ast.specs.Pieces.{begins, first_piece, nothing, gap, spelling, stray, unclosed}
+use Rattle.lotos_ast.specs.Pieces.{begins, first_piece, gap, spelling, stray, unclosed}
 
 -- the token that these bytes spell; U+FFFD stands for bytes that aren't UTF-8
 abbrev pub token_at : TokenKind → Place → List ℕ → Token
@@ -22,8 +22,7 @@ open_after opened bytes =
 
 -- the text is gaps and the spellings of these tokens in turn; it begins at this place, where a `|[` is open or not
 pub data IsSpelled : Bool → Place → List ℕ → List Token → Type 0 where
-  ends : {opened : Bool} {p : Place} {s : List ℕ} →
-      first_piece opened s ≡ nothing → IsSpelled opened p s []
+  ends : {opened : Bool} {p : Place} → IsSpelled opened p [] []
   parted : {opened : Bool} {p : Place} {s : List ℕ} {ts : List Token} (n : ℕ) →
       first_piece opened s ≡ gap n →
       IsSpelled opened (place_after p (take n s)) (drop n s) ts →

@@ -1,6 +1,7 @@
 // What the parts of the front end speak of: places, tokens and refusals of a text.
 #![tactic(auto)]
 
+pub mod laws;
 pub mod mark;
 pub mod names;
 pub mod place;

@@ -1,5 +1,5 @@
 -- What else holds of the answer, since a text has one list of tokens or one refusal.
-use Rattle.std.proofs.Common.{ℕ, List, ◌<◌, ◌≤◌, ◌≡◌, Result, Ok, Err, Vec, IfOk, OnOk, length, sym, subst}
+use Rattle.std.proofs.Common.{ℕ, List, ◌<◌, ◌≤◌, ◌≡◌, Result, Ok, Err, Vec, IfOk, OnOk, inl, inr, length, sym, subst}
 use Rattle.std.specs.declared.alloc.Global.{Global}
 use Rattle.lotos_ast.specs.declared.refusal.FrontFault.{FrontFault}
 use Rattle.lotos_ast.specs.declared.refusal.FrontFault.TheVariants.{Refused, Memory}
@@ -7,7 +7,8 @@ use Rattle.lotos_ast.specs.declared.refusal.Refusal.{Refusal}
 use Rattle.lotos_ast.specs.declared.token.Token.{Token}
 use Rattle.lotos_ast.specs.Refusals.{IfRefused}
 use Rattle.lotos_ast.specs.Tokenizes.{Tokenizes, Refuses, IsUnreadable, by_length, by_bytes, too_long, text_limit}
-use Rattle.lotos_ast.proofs.TokenLaws.{one_tokens, one_refusal, no_refusal, no_tokens}
+use Rattle.lotos_ast.proofs.TokenLaws.{one_tokens, one_refusal, no_refusal}
+use Rattle.std.proofs.lemmas.Bool.{cases_lt}
 
 abbrev pub Answer : Type 0
 Answer = Result (Vec Token Global) FrontFault
@@ -35,5 +36,5 @@ only_refusal text (Err Memory) h = tt
 
 pub unreadable : (text : List ℕ) (a : Answer) → IfRefused a (IsUnreadable text) → IfRefused a (λ r. (all : List Token) → Tokenizes text all → text_limit < length text)
 unreadable text (Ok all) h = tt
-unreadable text (Err (Refused r)) h = λ all k. no_tokens text all r h k
+unreadable text (Err (Refused r)) h = λ all k. elim (cases_lt text_limit (length text)) [ inl l ↦ l | inr l ↦ absurd (no_refusal text all r l k h) ]
 unreadable text (Err Memory) h = tt

@@ -1,6 +1,7 @@
 -- One piece more, and the end.
 use Rattle.std.proofs.Common.{ℕ, List, [], ◌∷◌, ◌++◌, ◌≡◌, Bool, sym, subst, ap, ◌∙◌, append_assoc, take, drop}
 use Rattle.std.proofs.lemmas.List.{append-nil}
+use Rattle.lotos_ast.proofs.Advances.{nothing_left}
 use Rattle.lotos_ast.specs.declared.place.Place.{Place}
 use Rattle.lotos_ast.specs.declared.refusal.Refusal.{Refusal}
 use Rattle.lotos_ast.specs.declared.token.Token.{Token}
@@ -35,7 +36,9 @@ over_token text before opened p s kind n now q rest t all h c d e f g i =
     }
 
 pub finish : (text : List ℕ) (all : List Token) (opened : Bool) (p : Place) (s : List ℕ) → Reading text all opened p s → first_piece opened s ≡ nothing → IsSpelled Bool.false start_place text all
-finish text all opened p s h e = subst (λ z. IsSpelled Bool.false start_place text z) (append-nil all) (h.tokens [] (ends e))
+finish text all opened p s h e =
+    let last : IsSpelled opened p s [] = subst (λ z. IsSpelled opened p z []) (sym (nothing_left opened s e)) ends in
+    subst (λ z. IsSpelled Bool.false start_place text z) (append-nil all) (h.tokens [] last)
 
 pub stop_at_byte : (text : List ℕ) (all : List Token) (opened : Bool) (p : Place) (s : List ℕ) (b : ℕ) (r : Refusal) → Reading text all opened p s → first_piece opened s ≡ stray b → r ≡ bad_byte b p → IsStopped Bool.false start_place text r
 stop_at_byte text all opened p s b r h c e = subst (λ z. IsStopped Bool.false start_place text z) (sym e) (h.refusal (bad_byte b p) (at_byte b c))
