@@ -23,6 +23,7 @@ pub const TEXT_LIMIT: usize = 4_194_304;
 /// A text of more than [`TEXT_LIMIT`] bytes is refused as `TooLong` at 1:1. Otherwise it is refused where the first byte
 /// outside comments stands that begins no token, as `BadByte` with the byte in two hexadecimal digits, or the first
 /// comment that has no end, as `OpenComment`.
+#[tactic(auto, using(crate::proofs::Readable::too_long_at))]
 pub fn tokens(alloc: Global, text: &[u8]) -> Result<Vec<Token>, FrontFault>
     // The tokens of a text that has some. It has no others, and nothing refuses it.
     ensures tokens { IfOk result (λ all. Tokenizes text.now all.items) }
@@ -41,8 +42,8 @@ pub fn tokens(alloc: Global, text: &[u8]) -> Result<Vec<Token>, FrontFault>
     spelled_tokens(alloc, text)
 }
 
-#[tactic(auto, using(crate::proofs::Steps::begin, crate::proofs::Steps::over_gap, crate::proofs::Steps::over_token, crate::proofs::Steps::finish, crate::proofs::Steps::stop_at_byte, crate::proofs::Steps::stop_at_comment))]
 // The tokens of a text that isn't too long.
+#[tactic(auto, using(crate::proofs::Steps::begin, crate::proofs::Steps::over_gap, crate::proofs::Steps::over_token, crate::proofs::Steps::finish, crate::proofs::Steps::stop_at_byte, crate::proofs::Steps::stop_at_comment))]
 fn spelled_tokens(alloc: Global, text: &[u8]) -> Result<Vec<Token>, FrontFault>
     requires { length text.now ≤ text_limit }
     ensures tokens { IfOk result (λ all. Tokenizes text.now all.items) }

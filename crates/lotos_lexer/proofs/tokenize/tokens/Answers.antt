@@ -1,9 +1,6 @@
 use Rattle.std.proofs.Common.{rules}
-use Rattle.lotos_lexer.proofs.Readable.{too_long_at, only_tokens, readable, refused, only_refusal, unreadable}
+use Rattle.lotos_lexer.proofs.Readable.{only_tokens, readable, refused, only_refusal, unreadable}
 use Rattle.lotos_lexer.proofs.tokenize.tokens.Goals as goal
-
-pub returns-then-text-gt-TEXT_LIMIT-clause-refused : goal.returns-then-text-gt-TEXT_LIMIT-clause-refused
-returns-then-text-gt-TEXT_LIMIT-clause-refused c = too_long_at _ _ (search rules) c.too_long.ensures
 
 pub returns-clause-only : goal.returns-clause-only
 returns-clause-only c = only_tokens _ _ c.spelled_tokens.ensures.tokens
