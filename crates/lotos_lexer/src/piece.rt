@@ -14,6 +14,7 @@ use crate::word::{word_kind, word_rest};
 use lotos_ast::token::TokenKind;
 
 // What stands at the front of a text.
+#[derive(Clone, Copy)]
 pub enum Piece {
     // The text is empty.
     Nothing,
