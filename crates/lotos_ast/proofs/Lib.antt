@@ -1,3 +1,3 @@
 pub mod Advances
 pub mod TokenLaws
-pub mod Told
+pub mod Existence

@@ -1,5 +1,5 @@
 -- What stands at the front of a text: the rules for tokens, in their order. The first that fits makes the piece.
-use Rattle.std.specs.Prelude.{ℕ, ◌+◌, ◌==◌, nat_eq, List, [], ◌∷◌, take, drop, codes, Bool, true, false, ◌&&◌, not, if◌then◌else◌, Option, Some, None, option_map, is_some, length}
+use Rattle.std.specs.Prelude.{ℕ, ◌+◌, nat_eq, nat_lt, List, [], ◌∷◌, take, drop, codes, Bool, true, false, ◌&&◌, ◌||◌, not, if◌then◌else◌, Option, Some, None, option_map, is_some, length}
 use Rattle.std.specs.List.{list_any, prefix_len, starts_with}
 use Rattle.std.specs.Char.{is_ascii_digit}
 use Rattle.lotos_ast.specs.declared.token.TokenKind.{TokenKind}
@@ -57,17 +57,11 @@ abbrev pub comment_piece : List ℕ → Option ℕ → Piece
 comment_piece s None = unclosed
 comment_piece s (Some n) = marked (comment_mark (take n s)) n
 
--- one more than a number that isn't 0
-abbrev pub more : ℕ → ℕ
-more n = if n == 0 then 0 else 1 + n
-
 -- how many bytes go on a word: letters and digits do, and a `_` where the word goes on behind it
 abbrev pub word_rest : List ℕ → ℕ
 word_rest [] = 0
 word_rest (b ∷ s) =
-    if is_letter_or_digit b then 1 + word_rest s
-    else if is_low_line b then more (word_rest s)
-    else 0
+    if is_letter_or_digit b || (is_low_line b && nat_lt 0 (word_rest s)) then 1 + word_rest s else 0
 
 -- the class of a word that begins with this byte
 abbrev pub word_kind : ℕ → List ℕ → TokenKind

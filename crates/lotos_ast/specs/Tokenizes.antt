@@ -75,7 +75,7 @@ pub data IsStopped : Bool → Place → List ℕ → Refusal → Type 0 where
 abbrev pub Refuses : List ℕ → Refusal → Type 0
 Refuses text refusal = IsStopped false start_place text refusal
 
--- the refusal of a text whose tokens can't be told: its length first, then the earliest place
+-- the refusal of a text that can't be read as tokens: its length first, then the earliest place
 pub data IsUnreadable : List ℕ → Refusal → Type 0 where
   by_length : {text : List ℕ} → text_limit < length text → IsUnreadable text too_long
   by_bytes : {text : List ℕ} {r : Refusal} → length text ≤ text_limit → Refuses text r → IsUnreadable text r

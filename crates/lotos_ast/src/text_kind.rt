@@ -11,7 +11,7 @@ pub enum TextKind {
     Client,
     /// The specification has no such gate.
     Gate,
-    /// The specification has no such sort.
+    /// A sort is unknown, or isn't the one that is due.
     Sort,
     /// A term has no reading, or more than one.
     Term,

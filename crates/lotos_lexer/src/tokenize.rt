@@ -27,7 +27,7 @@ pub const TEXT_LIMIT: usize = 4_194_304;
 pub fn tokens(alloc: Global, text: &[u8]) -> Result<Vec<Token>, FrontFault>
     // The tokens of a text that has some. It has no others, and nothing refuses it.
     ensures tokens { IfOk result (λ all. Tokenizes text.now all.items) }
-    ensures length { OnOk result (length text.now ≤ text_limit) }
+    ensures within { OnOk result (length text.now ≤ text_limit) }
     ensures only { IfOk result (λ all. (others : List Token) → Tokenizes text.now others → others ≡ all.items) }
     ensures readable { OnOk result ((refusal : Refusal) → IsUnreadable text.now refusal → ⊥) }
 

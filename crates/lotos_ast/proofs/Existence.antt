@@ -10,11 +10,12 @@ use Rattle.lotos_ast.specs.TokenLaws.{TokensOrRefusal}
 use Rattle.lotos_ast.specs.Tokenizes.{IsSpelled, ends, parted, spelled, IsStopped, at_byte, at_comment, behind_gap, behind_token, bad_byte, open_comment, token_at, open_after, by_length, by_bytes, too_long, text_limit}
 use Rattle.lotos_ast.proofs.Advances.{Advances, advances}
 
-abbrev Told : Bool → Place → List ℕ → Type 0
-Told opened p s = ((ts : List Token) × IsSpelled opened p s ts) ⊎ ((r : Refusal) × IsStopped opened p s r)
+-- tokens or a refusal, from a place on
+abbrev IsDecided : Bool → Place → List ℕ → Type 0
+IsDecided opened p s = ((ts : List Token) × IsSpelled opened p s ts) ⊎ ((r : Refusal) × IsStopped opened p s r)
 
--- a text is told whose rest behind its first piece is
-by_piece : (opened : Bool) (p : Place) (s : List ℕ) → ((o : Bool) (q : Place) (n : ℕ) → 0 < n → Told o q (drop n s)) → (x : Piece) → first_piece opened s ≡ x → Advances x → Told opened p s
+-- a text is decided whose rest behind its first piece is
+by_piece : (opened : Bool) (p : Place) (s : List ℕ) → ((o : Bool) (q : Place) (n : ℕ) → 0 < n → IsDecided o q (drop n s)) → (x : Piece) → first_piece opened s ≡ x → Advances x → IsDecided opened p s
 by_piece opened p s rest nothing e a = absurd a
 by_piece opened p s rest (gap n) e a =
     elim (rest opened (place_after p (take n s)) n a) [ inl h ↦ inl (h.0, parted n e h.1) | inr h ↦ inr (h.0, behind_gap n e h.1) ]
@@ -26,15 +27,15 @@ by_piece opened p s rest (spelling kind n) e a =
 by_piece opened p s rest (stray b) e a = inr (bad_byte b p, at_byte b e)
 by_piece opened p s rest unclosed e a = inr (open_comment p, at_comment e)
 
-told : (bound : ℕ) (opened : Bool) (p : Place) (s : List ℕ) → length s ≤ bound → Told opened p s
-told bound opened p [] h = inl ([], ends)
-told zero opened p (b ∷ s) h = absurd (omega (arith, h))
-told (suc bound) opened p (b ∷ s) h =
-    by_piece opened p (b ∷ s) (λ o q n k. told bound o q (drop n (b ∷ s)) (omega (arith, length-drop n (b ∷ s), h, k))) (first_piece opened (b ∷ s)) refl (advances opened b s)
+decided : (bound : ℕ) (opened : Bool) (p : Place) (s : List ℕ) → length s ≤ bound → IsDecided opened p s
+decided bound opened p [] h = inl ([], ends)
+decided zero opened p (b ∷ s) h = absurd (omega (arith, h))
+decided (suc bound) opened p (b ∷ s) h =
+    by_piece opened p (b ∷ s) (λ o q n k. decided bound o q (drop n (b ∷ s)) (omega (arith, length-drop n (b ∷ s), h, k))) (first_piece opened (b ∷ s)) refl (advances opened b s)
 
 pub tokens_or_refusal : TokensOrRefusal
 tokens_or_refusal text =
     elim (cases_lt text_limit (length text)) [
       | inl l ↦ inr (too_long, by_length l)
-      | inr l ↦ elim (told (length text) false start_place text (omega arith)) [ inl h ↦ inl (h.0, l, h.1) | inr h ↦ inr (h.0, by_bytes l h.1) ]
+      | inr l ↦ elim (decided (length text) false start_place text (omega arith)) [ inl h ↦ inl (h.0, l, h.1) | inr h ↦ inr (h.0, by_bytes l h.1) ]
     ]
