@@ -98,7 +98,7 @@ pub enum Mark {
     ExternalMark,
     /// The end of the tokens.
     End,
-    /// A keyword or symbol of no known spelling, of which a text has none.
+    /// A keyword or symbol of no known spelling.
     Unknown,
 }
 

@@ -18,13 +18,13 @@ use lotos_ast::token::TokenKind;
 pub enum Piece {
     // The text is empty.
     Nothing,
-    // So many bytes part tokens.
+    // A gap of so many bytes.
     Gap(usize),
-    // So many bytes spell a token of this class.
+    // A token of this class, which so many bytes spell.
     Spelling(TokenKind, usize),
-    // This byte begins no token.
+    // A byte that begins no token.
     Stray(u8),
-    // The comment that begins here has no end.
+    // A comment that has no end.
     Unclosed,
 }
 
