@@ -1,4 +1,5 @@
--- What stands at the front of a text: the rules for tokens, in their order. The first that fits makes the piece.
+-- What stands at the front of a text: the rules 1 to 5 for tokens of docs/LANGUAGE.md, in their order (ISO 8807's lexical tokens, with
+-- this profile's choices). The first rule that fits makes the piece.
 use Rattle.std.specs.Prelude.{ℕ, ◌+◌, nat_eq, nat_lt, List, [], ◌∷◌, take, drop, codes, Bool, true, false, ◌&&◌, ◌||◌, not, if◌then◌else◌, Option, Some, None, option_map, is_some, length}
 use Rattle.std.specs.List.{list_any, prefix_len, starts_with}
 use Rattle.std.specs.Char.{is_ascii_digit}
@@ -19,7 +20,7 @@ pub data Piece : Type 0 where
 abbrev pub begins : List ℕ → List ℕ → Bool
 begins bytes s = starts_with nat_eq s bytes
 
--- how many bytes go on a comment, up to the next `*)` and with it, where there is one
+-- Comments, rule 2: how many bytes go on a comment, up to the next `*)` and with it, where there is one
 abbrev pub comment_rest : List ℕ → Option ℕ
 comment_rest [] = None
 comment_rest (b ∷ s) = if begins (codes "*)") (b ∷ s) then Some 2 else option_map (λ n. 1 + n) (comment_rest s)
@@ -57,7 +58,7 @@ abbrev pub comment_piece : List ℕ → Option ℕ → Piece
 comment_piece s None = unclosed
 comment_piece s (Some n) = marked (comment_mark (take n s)) n
 
--- how many bytes go on a word: letters and digits do, and a `_` where the word goes on behind it
+-- Words, rule 3: how many bytes go on a word. Letters and digits do, and a `_` does where the word goes on behind it.
 abbrev pub word_rest : List ℕ → ℕ
 word_rest [] = 0
 word_rest (b ∷ s) =
@@ -67,11 +68,11 @@ word_rest (b ∷ s) =
 abbrev pub word_kind : ℕ → List ℕ → TokenKind
 word_kind first word = if is_some (keyword_of word) then Keyword else if is_ascii_digit first then Numeral else Identifier
 
--- the class of a run of operation bytes
+-- Operation names, rule 4: the class of a run of operation bytes
 abbrev pub operation_kind : List ℕ → TokenKind
 operation_kind run = if is_some (symbol_of run) then Symbol else Operation
 
--- the symbols that aren't runs of operation bytes, each before those that begin it
+-- Other symbols, rule 5: each stands before those with which it begins
 abbrev pub symbols : List (List ℕ)
 symbols =
     codes "[]" ∷ codes "[>" ∷ codes "[" ∷ codes "]" ∷ codes "|||" ∷ codes "||" ∷ codes "|[" ∷ codes ":=" ∷ codes ":" ∷

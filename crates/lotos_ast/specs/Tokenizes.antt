@@ -1,4 +1,4 @@
--- The tokens of a text, and its refusal where it has none.
+-- The tokens of a text, and its refusal where it has none (docs/LANGUAGE.md, "Tokens" and "Refusals").
 use Rattle.std.specs.Prelude.{ℕ, ◌+◌, ◌/◌, ◌%◌, ◌<◌, ◌≤◌, nat_lt, ◌≡◌, List, [], ◌∷◌, take, drop, length, codes, Bool, true, false, if◌then◌else◌}
 use Rattle.std.specs.Str.Lossy.{utf8_lossy}
 use Rattle.lotos_ast.specs.declared.place.Place.{Place}

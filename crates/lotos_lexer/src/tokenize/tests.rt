@@ -1,6 +1,7 @@
 // Texts and their tokens, worked out from the rules of docs/LANGUAGE.md.
 
 use super::*;
+use lotos_ast::mark::Mark;
 use lotos_ast::refusal::Refusal;
 use std::process::Abort;
 use std::test::Fail;
@@ -231,16 +232,26 @@ fn places_and_refusals(rt: HostRuntime) -> Result<(), Fail> {
     Ok(())
 }
 
+// Every reserved word, and then every symbol.
+const KEYWORDS_AND_SYMBOLS: &[u8] =
+    b"accept actualizedby any behavior behaviour choice endlib endproc endspec endtype eqns exit for forall formaleqns \
+    formalopns formalsorts hide i in is let library noexit of ofsort opnnames opns par process renamedby sortnames sorts \
+    specification stop type using where [] [> [ ] |[ ]| ||| || := : = => -> >> ( ) ; , ! ? _";
+
 #[test]
-fn every_reserved_word_is_a_keyword(rt: HostRuntime) -> Result<(), Fail> {
-    let text =
-        b"accept actualizedby any behavior behaviour choice endlib endproc endspec endtype eqns exit for forall formaleqns formalopns formalsorts hide i in is let library noexit of ofsort opnnames opns par process renamedby sortnames sorts specification stop type using where";
-    let Ok(all) = tokens(rt.alloc(), text) else {
+fn keywords_and_symbols_are_known_to_the_grammar(rt: HostRuntime) -> Result<(), Fail> {
+    let Ok(all) = tokens(rt.alloc(), KEYWORDS_AND_SYMBOLS) else {
         return Err(Fail::from(Memory));
     };
-    assert_eq!(rt; all.len(), 38);
-    for token in &all {
-        assert_eq!(rt; token.kind, TokenKind::Keyword);
+    assert_eq!(rt; all.len(), 38 + 21);
+    for (index, token) in all.iter().enumerate() {
+        let due = if index < 38 {
+            TokenKind::Keyword
+        } else {
+            TokenKind::Symbol
+        };
+        assert_eq!(rt; token.kind, due);
+        assert_ne!(rt; token.mark(), Mark::Unknown);
     }
     Ok(())
 }
