@@ -1,4 +1,4 @@
--- A text has one list of tokens or one refusal, and not both.
+-- A text has one list of tokens at most and one refusal at most, and not both unless it is too long.
 use Rattle.std.proofs.Common.{ℕ, List, ◌≡◌, Bool, refl, sym, subst, take, drop, arith}
 use Rattle.lotos_ast.specs.declared.token.Token.{Token}
 use Rattle.lotos_ast.specs.declared.place.Place.{Place}

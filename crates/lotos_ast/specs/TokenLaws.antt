@@ -4,7 +4,7 @@ use Rattle.lotos_ast.specs.declared.refusal.Refusal.{Refusal}
 use Rattle.lotos_ast.specs.declared.token.Token.{Token}
 use Rattle.lotos_ast.specs.Tokenizes.{Tokenizes, IsUnreadable, text_limit}
 
--- a text that isn't too long has tokens, and any other text a refusal
+-- a text isn't too long and has tokens, or it has a refusal
 abbrev pub TokensOrRefusal : Type 0
 TokensOrRefusal = (text : List ℕ) →
     ((tokens : List Token) × (length text ≤ text_limit) × Tokenizes text tokens) ⊎ ((refusal : Refusal) × IsUnreadable text refusal)

@@ -2,7 +2,7 @@
 
 ghost use Rattle.lotos_ast.specs.TokenLaws.{TokensOrRefusal, NotBoth, OneTokenList, OneRefusal};
 
-/// Each text has one list of tokens, or one refusal, and not both. The function does nothing.
+/// Each text either isn't too long and has one list of tokens, or it has one refusal. The function does nothing.
 #[tactic(auto, using(crate::proofs::TokenLaws::no_refusal, crate::proofs::TokenLaws::one_tokens, crate::proofs::TokenLaws::one_refusal))]
 pub fn tokens_are_determined()
     ensures some { TokensOrRefusal }
