@@ -1,0 +1,4 @@
+pub mod CommentLength
+pub mod Readable
+pub mod Steps
+pub mod WordLength

@@ -1,0 +1,7 @@
+use Rattle.std.proofs.Common.{◌≡◌, ◌+◌, drop}
+use Rattle.std.specs.List.{prefix_len}
+use Rattle.lotos_ast.specs.Bytes.{is_operation_byte}
+use Rattle.lotos_lexer.proofs.operation.operation_length.Given as goal
+
+abbrev pub invariant-loop-byte : goal.invariant-loop-byte
+invariant-loop-byte l = (l.count ≡ l.byte-index) × (prefix_len is_operation_byte l.text ≡ l.byte-index + prefix_len is_operation_byte (drop l.byte-index l.text))
