@@ -5,7 +5,7 @@ use crate::status::Status;
 use std::test::Fail;
 
 // A specification, a script, and the status.
-static FORMS: [(&str, &str, Status); 30] = [
+const FORMS: [(&str, &str, Status); 30] = [
     // as few blanks as there may be
     (
         "specification One[a]:noexit behaviour a;stop endspec",

@@ -5,7 +5,7 @@ use crate::status::Status;
 use std::test::Fail;
 
 // A specification, a script, and the trace.
-static SESSIONS: [(&str, &str, &str); 30] = [
+const SESSIONS: [(&str, &str, &str); 30] = [
     // stop without a client
     (
         "specification Session : noexit\nbehaviour stop\nendspec\n",
