@@ -27,7 +27,7 @@ pub struct Evaluated {
 /// Why an evaluation gave no value.
 #[derive(Clone, Copy, Debug, PartialEq, Eq)]
 pub enum EvaluationFault {
-    /// The value takes more uses than the budget, or there is none.
+    /// The evaluation was given up without a value. That no value is within the budget is not promised.
     Spent,
     /// Want of memory.
     Memory,
