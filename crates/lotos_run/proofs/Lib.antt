@@ -5,3 +5,5 @@ pub mod SessionLemmas
 pub mod AnswerLemmas
 pub mod WholeSession
 pub mod TraceLemmas
+pub mod GrammarLemmas
+pub mod HeadingLemmas

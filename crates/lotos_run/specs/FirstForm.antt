@@ -1,11 +1,7 @@
 -- The first form of specifications: a heading, and a behaviour of prefixes and choices.
 --
---   text  = "specification" ID [gates] ":" "noexit" ["library" "Boolean" "," "NaturalNumber" "endlib"] "behaviour" beh "endspec"
---   gates = "[" ID {"," ID} "]"
---   beh   = una ["[]" beh]
---   una   = ID ";" una | "stop"
---
--- It has at most 4,096 bytes; the gates differ, and each ID before a ";" is one of them. Each definition reads one part, from its first token on.
+-- Grammar.antt has its grammar. Here each definition reads one part of it from its first token on, and goes on with the next part; a law says
+-- that both agree. The text has at most 4,096 bytes; the gates differ, and each ID before a ";" is one of them.
 use Rattle.std.specs.Prelude.{ℕ, List, [], ◌∷◌, ◌++◌, Bool, true, ◌&&◌, not, if◌then◌else◌, codes, Option, Some, None, option_map, nat_le, nat_eq, position, length, ◌<◌}
 use Rattle.std.specs.List.{list_any}
 use Rattle.spec_core.specs.declared.items.Gate.{Gate}

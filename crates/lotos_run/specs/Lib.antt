@@ -8,3 +8,4 @@ pub mod Walk
 pub mod Session
 pub mod Trace
 pub mod Statuses
+pub mod Grammar

@@ -1,6 +1,7 @@
 // The program's commands.
 #![tactic(auto)]
 
+pub mod laws;
 mod pieces;
 mod run;
 mod script;
