@@ -6,10 +6,9 @@ use lotos_outside::stream_sink::StreamSink;
 use lotos_outside::stream_source::StreamSource;
 use lotos_run::lotos_main;
 use lotos_run::status::Status;
-use std::env;
-use std::io;
 use std::process::ExitCode;
 use std::rt::Env;
+use std::{env, io};
 
 // The words behind the program's name. A word that isn't UTF-8 is no word of any call, so then there are none.
 fn words(rt: &(impl Env + AllocGlobal)) -> Result<Vec<String>, io::Error> {
