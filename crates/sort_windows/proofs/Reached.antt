@@ -1,12 +1,12 @@
 -- Where each constructor over values of the windows is found, each value is.
-use Rattle.std.proofs.Common.{ℕ, zero, suc, ◌≡◌, ◌<◌, ◌≤◌, ◌+◌, ◌⊎◌, inl, inr, List, [], ◌∷◌, ◌++◌, length, map, refl, ap, sym, subst, ◌∙◌, arith, append_assoc, Option, Some, None}
+use Rattle.std.proofs.Common.{ℕ, ◌≡◌, ◌<◌, ◌≤◌, ◌⊎◌, inl, inr, List, [], ◌∷◌, ◌++◌, length, map, refl, ap, sym, subst, ◌∙◌, arith, append_assoc, Option, Some, None}
 use Rattle.std.proofs.lemmas.List.{append-nil, length-map}
 use Rattle.std.specs.List.{slice_get}
 use Rattle.spec_core.specs.Lists.{Each, IsOneOf}
 use Rattle.spec_core.specs.Terms.{TermTree, TermTrees, variable, apply, no_terms, and_term, preorder, preorders}
-use Rattle.spec_core.specs.Theories.{Operation, Theory}
+use Rattle.spec_core.specs.Theories.{Theory}
 use Rattle.spec_core.specs.Sorts.{OnSome, HasSort, HaveSorts, no_variables}
-use Rattle.spec_core.specs.Constructors.{IsConstructor, IsConstructed, AreConstructed}
+use Rattle.spec_core.specs.Constructors.{IsConstructed, AreConstructed}
 use Rattle.spec_core.specs.Windows.{IsBefore, IsInOrder, IsMember}
 use Rattle.sort_windows.specs.Found.{IsFound, IsClosedFrom, IsClosed, Continues, IsMissing, AreWindows}
 use Rattle.sort_windows.proofs.Order.{before_onward, before_inside, each_implied, each_one, each_of_map, in_order_inside, same_or_shorter}

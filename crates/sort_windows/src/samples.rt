@@ -1,4 +1,4 @@
-// Data for tests: truth values, natural numbers and lists of truth values.
+// Data for tests: truth values, natural numbers, lists of truth values, and a sort without values.
 
 use spec_core::equation::{DataSpec, Equation};
 use spec_core::items::{Op, Sort};
@@ -30,48 +30,64 @@ pub const CONS: Op = Op(5);
 
 pub const NIL: Op = Op(6);
 
-/// The sorts Bool, Nat, List and Empty; true, false, not; 0, Succ; Cons(b, l), Nil; Loop(e) of sort Empty.
+const SORTS: [&str; 4] = ["Bool", "Nat", "List", "Empty"];
+
+// The operations by their numbers: their names, the sorts of their arguments and of their results.
+const OPERATIONS: [(&str, &[Sort], Sort); 8] = [
+    ("true", &[], BOOL),
+    ("false", &[], BOOL),
+    ("not", &[BOOL], BOOL),
+    ("0", &[], NAT),
+    ("Succ", &[NAT], NAT),
+    ("Cons", &[BOOL, LIST], LIST),
+    ("Nil", &[], LIST),
+    ("Loop", &[EMPTY], EMPTY),
+];
+
+/// These sorts and operations, with not(true) = false and not(false) = true.
 pub fn data(alloc: Global) -> Result<DataSpec, Memory> {
     let signature = Signature {
-        sorts: vec![in alloc;
-            name(alloc, "Bool")?,
-            name(alloc, "Nat")?,
-            name(alloc, "List")?,
-            name(alloc, "Empty")?,
-        ]?,
-        ops: vec![in alloc;
-            operation(alloc, "true", &[], BOOL)?,
-            operation(alloc, "false", &[], BOOL)?,
-            operation(alloc, "not", &[BOOL], BOOL)?,
-            operation(alloc, "0", &[], NAT)?,
-            operation(alloc, "Succ", &[NAT], NAT)?,
-            operation(alloc, "Cons", &[BOOL, LIST], LIST)?,
-            operation(alloc, "Nil", &[], LIST)?,
-            operation(alloc, "Loop", &[EMPTY], EMPTY)?,
-        ]?,
+        sorts: sorts(alloc)?,
+        ops: operations(alloc)?,
     };
     Ok(DataSpec {
         signature,
-        equations: vec![in alloc;
-            negation(alloc, TRUE, FALSE)?,
-            negation(alloc, FALSE, TRUE)?,
-        ]?,
+        equations: equations(alloc)?,
     })
 }
 
-fn name(alloc: Global, text: &str) -> Result<Name, Memory> {
-    Ok(Name::new(String::from_str(alloc, text)?))
+fn sorts(alloc: Global) -> Result<Vec<Name>, Memory> {
+    let mut all = Vec::new(alloc);
+    for text in &SORTS {
+        all.push(Name::new(String::from_str(alloc, text)?))?;
+    }
+    Ok(all)
+}
+
+fn operations(alloc: Global) -> Result<Vec<OpDecl>, Memory> {
+    let mut all = Vec::new(alloc);
+    for (text, args, sort) in &OPERATIONS {
+        all.push(operation(alloc, text, args, *sort)?)?;
+    }
+    Ok(all)
 }
 
 fn operation(alloc: Global, text: &str, args: &[Sort], sort: Sort) -> Result<OpDecl, Memory> {
     Ok(OpDecl {
-        name: name(alloc, text)?,
+        name: Name::new(String::from_str(alloc, text)?),
         args: Vec::from_slice(alloc, args)?,
         result: sort,
         marked: false,
         place_line: 1,
         place_column: 1,
     })
+}
+
+fn equations(alloc: Global) -> Result<Vec<Equation>, Memory> {
+    let mut all = Vec::new(alloc);
+    all.push(negation(alloc, TRUE, FALSE)?)?;
+    all.push(negation(alloc, FALSE, TRUE)?)?;
+    Ok(all)
 }
 
 // not(given) = negated
