@@ -1,11 +1,12 @@
 -- Windows stay windows when they gain a value.
-use Rattle.std.proofs.Common.{ℕ, zero, suc, ◌≡◌, ◌≤◌, ◌⊎◌, inl, inr, List, [], ◌∷◌, length, take, drop, get_or, sym, subst, arith}
+use Rattle.std.proofs.Common.{◌<◌, ℕ, zero, suc, ◌≡◌, ◌≤◌, ◌⊎◌, inl, inr, List, [], ◌∷◌, length, take, drop, get_or, sym, subst, arith}
+use Rattle.std.proofs.lemmas.Bool.{cases_order}
 use Rattle.std.proofs.lemmas.List.{length-take}
 use Rattle.std.specs.List.{insert}
 use Rattle.spec_core.specs.Lists.{Each, IsOneOf}
 use Rattle.spec_core.specs.Theories.{Theory}
 use Rattle.spec_core.specs.Windows.{IsBefore, IsInOrder, IsMember}
-use Rattle.sort_windows.specs.Found.{AreWindows, IsMissing, IsPlaceOf, HasGained, HaveGained}
+use Rattle.sort_windows.specs.Found.{AreWindows, IsMissing, IsPlaceOf, HaveGained}
 use Rattle.sort_windows.proofs.Order.{each_implied, before_onward, before_or_after}
 use Rattle.sort_windows.proofs.Reached.{missing_is_member}
 
@@ -56,24 +57,27 @@ place_behind v x xs i h p = record {
 pub place_of_none : (v : List ℕ) → IsPlaceOf v [] 0
 place_of_none v = record { within = omega arith; before = tt; after = tt }
 
+-- what holds of the windows' values before holds after one has gained a value, if it holds of the window that gained it
+each_window : (P : ℕ → List (List ℕ) → Type 0) (limit sort : ℕ) (v : List ℕ) (windows now : ℕ → List (List ℕ)) → HaveGained limit sort v windows now → ((s : ℕ) → P s (windows s)) → ((place : ℕ) → IsPlaceOf v (windows sort) place → P sort (take limit (insert (windows sort) place v))) → (s : ℕ) → P s (now s)
+each_window P limit sort v windows now g before gained s = go (cases_order s sort)
+  where
+    here : P sort (now sort)
+    here = subst (P sort) (sym g.0.2) (gained g.0.0 g.0.1)
+
+    other : (s ≡ sort → ⊥) → P s (now s)
+    other ne = subst (P s) (sym (g.1 s ne)) (before s)
+
+    go : (s ≡ sort) ⊎ ((s < sort) ⊎ (sort < s)) → P s (now s)
+    go (inl e) = subst (λ r. P r (now r)) (sym e) here
+    go (inr (inl h)) = other (λ e. omega arith)
+    go (inr (inr h)) = other (λ e. omega arith)
+
 pub windows_with_more : (theory : Theory) (limit sort : ℕ) (v : List ℕ) (windows now : ℕ → List (List ℕ)) → AreWindows theory limit windows → IsMissing theory windows sort v → HaveGained limit sort v windows now → AreWindows theory limit now
 windows_with_more theory limit sort v windows now h m g = record {
-  members = λ s. members s (g s);
-  in_order = λ s. in_order s (g s);
-  at_most = λ s. at_most s (g s);
+  members = each_window (λ s xs. Each (IsMember theory s) xs) limit sort v windows now g h.members (λ place p. each_take _ limit _ (each_insert _ (windows sort) place v (h.members sort) (missing_is_member theory windows h.members sort v m)));
+  in_order = each_window (λ s xs. IsInOrder xs) limit sort v windows now g h.in_order (λ place p. in_order_take limit _ (in_order_insert (windows sort) place v (h.in_order sort) p.before p.after));
+  at_most = each_window (λ s xs. length xs ≤ limit) limit sort v windows now g h.at_most (λ place p. let e = length-take limit (insert (windows sort) place v) in omega (arith, e));
 }
-  where
-    members : (s : ℕ) → (now s ≡ windows s) ⊎ (s ≡ sort) × HasGained limit v (windows s) (now s) → Each (IsMember theory s) (now s)
-    members s (inl e) = subst (Each (IsMember theory s)) (sym e) (h.members s)
-    members s (inr k) = subst (Each (IsMember theory s)) (sym k.1.2) (each_take _ limit _ (each_insert _ (windows s) k.1.0 v (h.members s) (subst (λ r. IsMember theory r v) (sym k.0) (missing_is_member theory windows h.members sort v m))))
-
-    in_order : (s : ℕ) → (now s ≡ windows s) ⊎ (s ≡ sort) × HasGained limit v (windows s) (now s) → IsInOrder (now s)
-    in_order s (inl e) = subst IsInOrder (sym e) (h.in_order s)
-    in_order s (inr k) = subst IsInOrder (sym k.1.2) (in_order_take limit _ (in_order_insert (windows s) k.1.0 v (h.in_order s) k.1.1.before k.1.1.after))
-
-    at_most : (s : ℕ) → (now s ≡ windows s) ⊎ (s ≡ sort) × HasGained limit v (windows s) (now s) → length (now s) ≤ limit
-    at_most s (inl e) = subst (λ xs. length xs ≤ limit) (sym e) (h.at_most s)
-    at_most s (inr k) = subst (λ xs. length xs ≤ limit) (sym k.1.2) (let e = length-take limit (insert (windows s) k.1.0 v) in omega (arith, e))
 
 pub place_at_front_of : (v x : List ℕ) (xs : List (List ℕ)) → 1 ≤ length xs → x ≡ get_or xs 0 x → IsInOrder xs → (IsBefore x v → ⊥) → (IsOneOf v xs → ⊥) → IsPlaceOf v xs 0
 place_at_front_of v x [] within at order not_before new = absurd (omega arith)

@@ -1,6 +1,5 @@
 -- The list of windows.
-use Rattle.std.proofs.Common.{ℕ, zero, suc, ◌≡◌, ◌<◌, ◌≤◌, ◌-◌, ◌⊎◌, inl, inr, List, [], ◌∷◌, ◌++◌, length, map, take, drop, get_or, set, refl, ap, sym, subst, ◌∙◌, arith}
-use Rattle.std.proofs.lemmas.Bool.{cases_order}
+use Rattle.std.proofs.Common.{ℕ, zero, suc, ◌≡◌, ◌<◌, ◌≤◌, ◌-◌, inl, inr, List, [], ◌∷◌, ◌++◌, length, map, take, drop, get_or, set, refl, sym, subst, ◌∙◌, arith}
 use Rattle.std.proofs.lemmas.List.{take_all, get_or-set_same, get_or-set_other, get_or_default}
 use Rattle.spec_core.specs.declared.items.Sort.{Sort}
 use Rattle.spec_core.specs.Lists.{Each, IsOneOf}
@@ -37,18 +36,9 @@ continues_at windows (a ∷ args) d front v w longer values i within same here a
 
 -- one window of the list has gained a value
 pub gained_at : (limit sort : ℕ) (v : List ℕ) (all : List (List (List ℕ))) (windows : ℕ → List (List ℕ)) (window now : List (List ℕ)) → sort < length all → window ≡ get_or all sort window → ((s : ℕ) → windows_of all s ≡ windows s) → HasGained limit v window now → HaveGained limit sort v windows (windows_of (set all sort now))
-gained_at limit sort v all windows window now within at same h s = go (cases_order s sort)
-  where
-    other : (s ≡ sort → ⊥) → (windows_of (set all sort now) s ≡ windows s) ⊎ (s ≡ sort) × HasGained limit v (windows s) (windows_of (set all sort now) s)
-    other ne = inl (get_or-set_other all sort s now [] ne ∙ same s)
-
-    here : (s ≡ sort) → HasGained limit v (windows s) (windows_of (set all sort now) s)
-    here e =
-        let before : window ≡ windows s = at ∙ get_or_default all sort window [] within ∙ ap (windows_of all) (sym e) ∙ same s in
-        let after : now ≡ windows_of (set all sort now) s = sym (get_or-set_same all sort now [] within) ∙ ap (windows_of (set all sort now)) (sym e) in
-        subst (λ x. HasGained limit v x (windows_of (set all sort now) s)) before (subst (λ x. HasGained limit v window x) after h)
-
-    go : (s ≡ sort) ⊎ ((s < sort) ⊎ (sort < s)) → (windows_of (set all sort now) s ≡ windows s) ⊎ (s ≡ sort) × HasGained limit v (windows s) (windows_of (set all sort now) s)
-    go (inl e) = inr (e, here e)
-    go (inr (inl h)) = other (λ e. omega arith)
-    go (inr (inr h)) = other (λ e. omega arith)
+gained_at limit sort v all windows window now within at same h =
+    let before : window ≡ windows sort = at ∙ get_or_default all sort window [] within ∙ same sort in
+    let after : now ≡ windows_of (set all sort now) sort = sym (get_or-set_same all sort now [] within) in (
+      subst (λ x. HasGained limit v x (windows_of (set all sort now) sort)) before (subst (λ x. HasGained limit v window x) after h),
+      λ s ne. get_or-set_other all sort s now [] ne ∙ same s,
+    )

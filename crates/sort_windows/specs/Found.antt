@@ -48,9 +48,9 @@ pub record IsPlaceOf (v : List ℕ) (window : List (List ℕ)) (place : ℕ) : T
 abbrev pub HasGained : ℕ → List ℕ → List (List ℕ) → List (List ℕ) → Type 0
 HasGained limit v window now = (place : ℕ) × IsPlaceOf v window place × (now ≡ take limit (insert window place v))
 
--- the windows with one more value in that of one sort
+-- the windows, of which that of one sort has gained a value, and no other has changed
 abbrev pub HaveGained : ℕ → ℕ → List ℕ → (ℕ → List (List ℕ)) → (ℕ → List (List ℕ)) → Type 0
-HaveGained limit sort v windows now = (s : ℕ) → (now s ≡ windows s) ⊎ (s ≡ sort) × HasGained limit v (windows s) (now s)
+HaveGained limit sort v windows now = HasGained limit v (windows sort) (now sort) × ((s : ℕ) → (s ≡ sort → ⊥) → now s ≡ windows s)
 
 -- the windows as the program keeps them: that of each sort stands at its number, and beyond the list all are empty
 abbrev pub windows_of : List (List (List ℕ)) → ℕ → List (List ℕ)
