@@ -16,7 +16,9 @@ use spec_core::window::Window;
 use std::alloc::Global;
 
 /// The first `k` values of a sort, by number of symbols and then by their operations' numbers, and whether there are no more.
-/// It is slow: after each new value it goes over all constructors and all their arguments in the windows again, from the first.
+/// A window of 0 values is empty, and complete where the sort has none. The one error is want of memory; it is also given after
+/// 2^64 values were put into the windows, which no machine reaches. It is slow: after each new value it goes over all
+/// constructors and all their arguments in the windows again, from the first.
 pub fn window(alloc: Global, algebra: &DataSpec, sort: Sort, k: u32) -> Result<Window, Memory>
     requires few { vec_len algebra.now.signature.ops < 2 ^ 32 }
     ensures window { IfOk result (λ w. IsWindow (theory_of algebra.now) sort.0 k w.values.items w.complete) }
