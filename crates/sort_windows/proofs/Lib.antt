@@ -1,0 +1,5 @@
+pub mod Cut
+pub mod Gained
+pub mod Order
+pub mod Reached
+pub mod Rows

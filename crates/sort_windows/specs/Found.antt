@@ -1,0 +1,57 @@
+-- Windows under construction: what they hold, and when they hold all that they should.
+use Rattle.std.specs.Prelude.{ℕ, ◌≡◌, ◌⊎◌, ◌≤◌, List, [], ◌∷◌, ◌++◌, length, take, drop, Some}
+use Rattle.std.specs.List.{slice_get, slice_index_or, insert}
+use Rattle.spec_core.specs.Lists.{Each, IsOneOf}
+use Rattle.spec_core.specs.Theories.{Operation, Theory}
+use Rattle.spec_core.specs.Sorts.{OnSome}
+use Rattle.spec_core.specs.Constructors.{IsConstructor}
+use Rattle.spec_core.specs.Windows.{IsBefore, IsInOrder, IsMember}
+
+-- the value is one of the window; or the window is full, and all of it comes before the value
+abbrev pub IsFound : ℕ → List (List ℕ) → List ℕ → Type 0
+IsFound limit window v = IsOneOf v window ⊎ (length window ≡ limit) × Each (λ w. IsBefore w v) window
+
+-- each list that continues this one by a value of the window of each of these sorts is found in the window of the sort
+abbrev pub IsClosedFrom : ℕ → (ℕ → List (List ℕ)) → ℕ → List ℕ → List ℕ → Type 0
+IsClosedFrom limit windows sort [] front = IsFound limit (windows sort) front
+IsClosedFrom limit windows sort (a ∷ args) front = Each (λ v. IsClosedFrom limit windows sort args (front ++ v)) (windows a)
+
+-- each constructor over values of the windows is found in the window of its result's sort
+abbrev pub IsClosed : Theory → ℕ → (ℕ → List (List ℕ)) → Type 0
+IsClosed theory limit windows = (f : ℕ) → IsConstructor theory f → (d : Operation) → slice_get theory.operations f ≡ Some d → IsClosedFrom limit windows d.result d.args (f ∷ [])
+
+-- the list continues the first one by a value of the window of each of these sorts
+abbrev pub Continues : (ℕ → List (List ℕ)) → List ℕ → List ℕ → List ℕ → Type 0
+Continues windows [] front v = v ≡ front
+Continues windows (a ∷ args) front v = (w : List ℕ) × IsOneOf w (windows a) × Continues windows args (front ++ w) v
+
+-- a constructor over values of the windows, which the window of its result's sort does not have
+pub record IsMissing (theory : Theory) (windows : ℕ → List (List ℕ)) (sort : ℕ) (v : List ℕ) : Type 0 where
+  pub operation : ℕ
+  pub constructor : IsConstructor theory operation
+  pub declared : OnSome (slice_get theory.operations operation) (λ d. (d.result ≡ sort) × Continues windows d.args (operation ∷ []) v)
+  pub new : IsOneOf v (windows sort) → ⊥
+
+-- values of the sorts, in order and no more than the limit of each
+pub record AreWindows (theory : Theory) (limit : ℕ) (windows : ℕ → List (List ℕ)) : Type 0 where
+  pub members : (s : ℕ) → Each (IsMember theory s) (windows s)
+  pub in_order : (s : ℕ) → IsInOrder (windows s)
+  pub at_most : (s : ℕ) → length (windows s) ≤ limit
+
+-- what comes before the value stands in front of this place, and what comes after it from there on
+pub record IsPlaceOf (v : List ℕ) (window : List (List ℕ)) (place : ℕ) : Type 0 where
+  pub within : place ≤ length window
+  pub before : Each (λ w. IsBefore w v) (take place window)
+  pub after : Each (λ w. IsBefore v w) (drop place window)
+
+-- the window with one more value at its place, cut to the limit
+abbrev pub HasGained : ℕ → List ℕ → List (List ℕ) → List (List ℕ) → Type 0
+HasGained limit v window now = (place : ℕ) × IsPlaceOf v window place × (now ≡ take limit (insert window place v))
+
+-- the windows, of which that of one sort has gained a value, and no other has changed
+abbrev pub HaveGained : ℕ → ℕ → List ℕ → (ℕ → List (List ℕ)) → (ℕ → List (List ℕ)) → Type 0
+HaveGained limit sort v windows now = HasGained limit v (windows sort) (now sort) × ((s : ℕ) → (s ≡ sort → ⊥) → now s ≡ windows s)
+
+-- the windows as the program keeps them: that of each sort stands at its number, and beyond the list all are empty
+abbrev pub windows_of : List (List (List ℕ)) → ℕ → List (List ℕ)
+windows_of all s = slice_index_or all s []

@@ -1,0 +1,13 @@
+// The first values of a sort, found by building terms until nothing new comes.
+#![tactic(auto)]
+
+mod first_values;
+mod growth;
+mod missing;
+mod ordered;
+#[cfg(test)]
+mod samples;
+#[cfg(test)]
+mod tests;
+
+pub use first_values::window;

@@ -1,0 +1,80 @@
+// Windows that were worked out by hand.
+
+use crate::samples::{BOOL, CONS, EMPTY, FALSE, LIST, NAT, NIL, SUCC, TRUE, ZERO, data};
+use crate::window;
+use spec_core::items::Op;
+use spec_core::memory::Memory;
+use spec_core::value::Value;
+use spec_core::window::Window;
+use std::alloc::Global;
+use std::test::Fail;
+
+// Whether the window has these values, in this order, and is complete as told.
+fn is_window(alloc: Global, found: &Window, due: &[&[Op]], complete: bool) -> Result<bool, Memory> {
+    if found.values.len() != due.len() || found.complete != complete {
+        return Ok(false);
+    }
+    for (i, ops) in due.iter().enumerate() {
+        let value = Value::new(Vec::from_slice(alloc, ops)?);
+        if i < found.values.len() && !found.values[i].same(&value) {
+            return Ok(false);
+        }
+    }
+    Ok(true)
+}
+
+// Bool has true and false alone: not is no constructor.
+#[test]
+fn truth_values_are_two(rt: HostRuntime) -> Result<(), Fail> {
+    let alloc = rt.alloc();
+    let algebra = data(alloc)?;
+    assert!(rt; algebra.signature.ops.len() < 9);
+    let one = window(alloc, &algebra, BOOL, 1)?;
+    assert!(rt; is_window(alloc, &one, &[&[TRUE]], false)?);
+    let two = window(alloc, &algebra, BOOL, 2)?;
+    assert!(rt; is_window(alloc, &two, &[&[TRUE], &[FALSE]], true)?);
+    let ten = window(alloc, &algebra, BOOL, 10)?;
+    assert!(rt; is_window(alloc, &ten, &[&[TRUE], &[FALSE]], true)?);
+    let none = window(alloc, &algebra, EMPTY, 10)?;
+    assert!(rt; is_window(alloc, &none, &[], true)?);
+    Ok(())
+}
+
+// Nat has 0, Succ(0), Succ(Succ(0)) and more.
+#[test]
+fn numbers_do_not_end(rt: HostRuntime) -> Result<(), Fail> {
+    let alloc = rt.alloc();
+    let algebra = data(alloc)?;
+    assert!(rt; algebra.signature.ops.len() < 9);
+    let three = window(alloc, &algebra, NAT, 3)?;
+    let due: [&[Op]; 3] = [&[ZERO], &[SUCC, ZERO], &[SUCC, SUCC, ZERO]];
+    assert!(rt; is_window(alloc, &three, &due, false)?);
+    let ten = window(alloc, &algebra, NAT, 10)?;
+    assert_eq!(rt; ten.values.len(), 10);
+    assert_eq!(rt; ten.values[9].size(), 10);
+    assert!(rt; !ten.complete);
+    Ok(())
+}
+
+// Lists of Bool: one of one symbol, two of three, four of five; true before false, and Cons has a lesser number than Nil.
+#[test]
+fn lists_come_by_size_and_then_by_number(rt: HostRuntime) -> Result<(), Fail> {
+    let alloc = rt.alloc();
+    let algebra = data(alloc)?;
+    assert!(rt; algebra.signature.ops.len() < 9);
+    let ten = window(alloc, &algebra, LIST, 10)?;
+    let due: [&[Op]; 10] = [
+        &[NIL],
+        &[CONS, TRUE, NIL],
+        &[CONS, FALSE, NIL],
+        &[CONS, TRUE, CONS, TRUE, NIL],
+        &[CONS, TRUE, CONS, FALSE, NIL],
+        &[CONS, FALSE, CONS, TRUE, NIL],
+        &[CONS, FALSE, CONS, FALSE, NIL],
+        &[CONS, TRUE, CONS, TRUE, CONS, TRUE, NIL],
+        &[CONS, TRUE, CONS, TRUE, CONS, FALSE, NIL],
+        &[CONS, TRUE, CONS, FALSE, CONS, TRUE, NIL],
+    ];
+    assert!(rt; is_window(alloc, &ten, &due, false)?);
+    Ok(())
+}
