@@ -1,3 +1,4 @@
 pub mod Advances
 pub mod TokenLaws
 pub mod Existence
+pub mod Rows

@@ -1,7 +1,13 @@
+pub mod Begins
 pub mod Bytes
+pub mod Grammar
+pub mod MarkNumbers
 pub mod Marks
+pub mod Nesting
+pub mod Notation
 pub mod Pieces
 pub mod Places
+pub mod Reads
 pub mod Refusals
 pub mod TokenLaws
 pub mod TokenMarks
