@@ -4,11 +4,11 @@ use Rattle.lotos_ast.specs.declared.mark.Mark.{Mark}
 use Rattle.lotos_ast.specs.declared.place.Place.{Place}
 use Rattle.lotos_ast.specs.declared.token.Token.{Token}
 use Rattle.lotos_ast.specs.MarkNumbers.{is_same_mark}
-use Rattle.lotos_ast.specs.Notation.{Part, Wanted, fits, Syntax, quoted, kept, sequence, either, optional, repeated, placed, bracketed, enclosed, part}
+use Rattle.lotos_ast.specs.Notation.{Part, Wanted, Reduction, presence, last_mark, fits, Syntax, quoted, kept, sequence, either, optional, repeated, placed, reduced, bracketed, enclosed, part}
 use Rattle.lotos_ast.specs.Grammar.{rule}
 use Rattle.lotos_ast.specs.Begins.{mark_at, place_at, starts}
 use Rattle.lotos_ast.specs.Nesting.{Nesting, in_bracket, in_construct, is_within, Fault, too_deep, fault_at}
-use Rattle.lotos_ast.specs.Reads.{Tree, unkept, leaf, both, left, right, absent, present, no_more, more, node, Reads, Stops, reads_quoted, reads_kept, reads_sequence, reads_left, reads_right, reads_absent, reads_present, reads_no_more, reads_more, reads_placed, reads_bracketed, reads_enclosed, reads_part, stops_quoted, stops_kept, deep_quoted, deep_kept, stops_first, stops_second, stops_left, stops_right, stops_optional, stops_repeated, stops_later, stops_placed, stops_bracketed, stops_enclosed, stops_part}
+use Rattle.lotos_ast.specs.Reads.{Tree, reduce, unkept, leaf, both, left, right, absent, present, no_more, more, node, Reads, Stops, reads_quoted, reads_kept, reads_sequence, reads_left, reads_right, reads_absent, reads_present, reads_no_more, reads_more, reads_placed, reads_reduced, reads_bracketed, reads_enclosed, reads_part, stops_quoted, stops_kept, deep_quoted, deep_kept, stops_first, stops_second, stops_left, stops_right, stops_optional, stops_repeated, stops_later, stops_placed, stops_reduced, stops_bracketed, stops_enclosed, stops_part}
 
 pub reads_quoted_at : (d : Nesting) (k : Mark) (t : Token) (s r : List Token) → s ≡ t ∷ r → mark_at s ≡ k → is_within d ≡ true → Reads d (quoted k) s unkept r
 reads_quoted_at d k t s r h0 h1 h2 = reads_quoted h0 h1 h2
@@ -39,6 +39,9 @@ reads_more_at d a s r x y m h0 h1 h2 = reads_more m h0 h1 h2
 
 pub reads_placed_at : (d : Nesting) (p : Place) (a : Syntax) (s r : List Token) (x : Tree) → place_at s ≡ p → Reads d a s x r → Reads d (placed a) s (node p x) r
 reads_placed_at d p a s r x h0 h1 = reads_placed h0 h1
+
+pub reads_reduced_at : (d : Nesting) (u : Reduction) (a : Syntax) (s r : List Token) (x y : Tree) → reduce u x ≡ y → Reads d a s x r → Reads d (reduced u a) s y r
+reads_reduced_at d u a s r x y h0 h1 = reads_reduced h0 h1
 
 pub reads_bracketed_at : (d : Nesting) (a : Syntax) (s r : List Token) (x : Tree) → Reads (in_bracket d) a s x r → Reads d (bracketed a) s x r
 reads_bracketed_at d a s r x h0 = reads_bracketed h0
@@ -84,6 +87,9 @@ stops_later_at d f a s r x m h0 h1 h2 = stops_later m h0 h1 h2
 
 pub stops_placed_at : (d : Nesting) (f : Fault) (a : Syntax) (s r : List Token) → Stops d f a s r → Stops d f (placed a) s r
 stops_placed_at d f a s r h0 = stops_placed h0
+
+pub stops_reduced_at : (d : Nesting) (f : Fault) (u : Reduction) (a : Syntax) (s r : List Token) → Stops d f a s r → Stops d f (reduced u a) s r
+stops_reduced_at d f u a s r h0 = stops_reduced h0
 
 pub stops_bracketed_at : (d : Nesting) (f : Fault) (a : Syntax) (s r : List Token) → Stops (in_bracket d) f a s r → Stops d f (bracketed a) s r
 stops_bracketed_at d f a s r h0 = stops_bracketed h0

@@ -5,7 +5,7 @@ use Rattle.lotos_ast.specs.declared.place.Place.{Place}
 use Rattle.lotos_ast.specs.declared.token.Token.{Token}
 use Rattle.lotos_ast.specs.TokenMarks.{mark_of}
 use Rattle.lotos_ast.specs.MarkNumbers.{is_same_mark}
-use Rattle.lotos_ast.specs.Notation.{Part, Wanted, named, fits, Syntax, quoted, kept, sequence, either, optional, repeated, placed, bracketed, enclosed, part, specification, gate_list, functionality, type_definition, where_item, sort_part, operation_part, operation_names, infix_names, operation_name, equation_part, sort_equations, equations, equation, premiss, for_all, declarations, declaration, sort_pair, operation_pair, expression, infixes, simple, head, process, behaviour, enabling, disable, disabling, parallel, composing, operator, choice, choosing, unary, offer, atom, exit_value, binding, gate_choice}
+use Rattle.lotos_ast.specs.Notation.{Part, Wanted, named, fits, Syntax, quoted, kept, sequence, either, optional, repeated, placed, reduced, bracketed, enclosed, part, specification, gate_list, functionality, type_definition, where_item, sort_part, operation_part, operation_names, infix_names, operation_name, equation_part, sort_equations, equations, equation, premiss, for_all, declarations, declaration, sort_pair, operation_pair, expression, infixes, simple, head, process, behaviour, enabling, disable, disabling, parallel, composing, operator, choice, choosing, unary, offer, atom, exit_value, binding, gate_choice}
 
 -- the mark of the next token, and its place; a list without tokens has the mark of the end, and no place
 abbrev pub mark_at : List Token → Mark
@@ -91,6 +91,7 @@ is_empty (either a b) = is_empty a || is_empty b
 is_empty (optional a) = true
 is_empty (repeated a) = true
 is_empty (placed a) = is_empty a
+is_empty (reduced u a) = is_empty a
 is_empty (bracketed a) = is_empty a
 is_empty (enclosed a) = is_empty a
 is_empty (part p) = false
@@ -109,6 +110,7 @@ starts (either a b) m = starts a m || starts b m
 starts (optional a) m = starts a m
 starts (repeated a) m = starts a m
 starts (placed a) m = starts a m
+starts (reduced u a) m = starts a m
 starts (bracketed a) m = starts a m
 starts (enclosed a) m = starts a m
 starts (part p) m = begins p m

@@ -1,7 +1,7 @@
 -- The grammar, rule by rule (docs/LANGUAGE.md, "Grammar"). Alternatives are told apart by the next token; where a rule as
 -- it is usually written needs more than that, what its alternatives share stands before them.
 use Rattle.lotos_ast.specs.declared.mark.Mark.{Mark}
-use Rattle.lotos_ast.specs.Notation.{Part, Syntax, quoted, optional, repeated, placed, bracketed, enclosed, part, ◌▸◌, ◌∣◌, identifier, name, constructor_mark, list, loose_list, in_parentheses, specification, gate_list, functionality, type_definition, where_item, sort_part, operation_part, operation_names, infix_names, operation_name, equation_part, sort_equations, equations, equation, premiss, for_all, declarations, declaration, sort_pair, operation_pair, expression, infixes, simple, head, process, behaviour, enabling, disable, disabling, parallel, composing, operator, choice, choosing, unary, offer, atom, exit_value, binding, gate_choice}
+use Rattle.lotos_ast.specs.Notation.{Part, Syntax, quoted, optional, repeated, placed, bracketed, enclosed, part, ◌▸◌, ◌∣◌, identifier, name, constructor_mark, list, loose_list, mark_and, in_parentheses, specification, gate_list, functionality, type_definition, where_item, sort_part, operation_part, operation_names, infix_names, operation_name, equation_part, sort_equations, equations, equation, premiss, for_all, declarations, declaration, sort_pair, operation_pair, expression, infixes, simple, head, process, behaviour, enabling, disable, disabling, parallel, composing, operator, choice, choosing, unary, offer, atom, exit_value, binding, gate_choice}
 
 -- "where" and any number of types and processes
 abbrev pub where_part : Syntax
@@ -89,7 +89,7 @@ rule operation_name = infix_form ∣ prefix_form
 rule equation_part = quoted Mark.Eqns ▸ equation_body
 rule sort_equations = quoted Mark.OfSort ▸ identifier ▸ repeated (part for_all) ▸ optional (part equations)
 -- one equation or more; the last semicolon may be left out
-rule equations = part equation ▸ optional (quoted Mark.Semicolon ▸ optional (part equations))
+rule equations = part equation ▸ mark_and Mark.Semicolon (part equations)
 -- A left and a right side; or premisses, an arrow and both sides. Both begin with an expression.
 rule equation = placed (part expression ▸
         ( quoted Mark.Equals ▸ part expression ▸ optional conclusion

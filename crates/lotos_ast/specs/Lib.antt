@@ -1,6 +1,10 @@
 pub mod Begins
+pub mod BehaviourTrees
 pub mod Bytes
+pub mod DeclarationTrees
+pub mod ExpressionTrees
 pub mod Grammar
+pub mod ListTrees
 pub mod MarkNumbers
 pub mod Marks
 pub mod Nesting
@@ -9,6 +13,8 @@ pub mod Pieces
 pub mod Places
 pub mod Reads
 pub mod Refusals
+pub mod SpecTrees
 pub mod TokenLaws
 pub mod TokenMarks
 pub mod Tokenizes
+pub mod TypeTrees

@@ -57,6 +57,12 @@ abbrev pub fits : Wanted → Mark → Bool
 fits (marked k) m = is_same_mark k m
 fits named m = is_same_mark Identifier m || (is_same_mark Numeral m || is_same_mark Operation m)
 
+-- what isn't kept of a part that was read
+pub data Reduction : Type 0 where
+  presence : Reduction     -- whether it stands there
+  last_mark : Reduction    -- of a mark and what may follow it: the mark
+
+-- a part of the grammar
 pub data Syntax : Type 0 where
   quoted : Mark → Syntax                 -- a token that the syntax tree doesn't keep
   kept : Wanted → Syntax                 -- a token that it keeps
@@ -65,6 +71,7 @@ pub data Syntax : Type 0 where
   optional : Syntax → Syntax
   repeated : Syntax → Syntax             -- any number of times
   placed : Syntax → Syntax               -- the tree has the place of its first token, or of the next token where it has none
+  reduced : Reduction → Syntax → Syntax  -- the tree doesn't keep all of it
   bracketed : Syntax → Syntax            -- one open bracket more
   enclosed : Syntax → Syntax             -- one construct more stands round it
   part : Part → Syntax                   -- a rule
@@ -93,7 +100,11 @@ list x = x ▸ repeated (quoted Comma ▸ x)
 
 -- one x or more; a comma between two of them may be left out
 abbrev pub loose_list : Syntax → Syntax
-loose_list x = x ▸ repeated (optional (quoted Comma) ▸ x)
+loose_list x = x ▸ repeated (reduced presence (optional (quoted Comma)) ▸ x)
+
+-- a mark m, behind which x may stand; or nothing
+abbrev pub mark_and : Mark → Syntax → Syntax
+mark_and m x = reduced last_mark (optional (quoted m ▸ optional x))
 
 -- x in parentheses, which are an open bracket from the first one on
 abbrev pub in_parentheses : Syntax → Syntax

@@ -4,7 +4,7 @@ use Rattle.lotos_ast.specs.declared.mark.Mark.{Mark}
 use Rattle.lotos_ast.specs.declared.place.Place.{Place}
 use Rattle.lotos_ast.specs.declared.token.Token.{Token}
 use Rattle.lotos_ast.specs.MarkNumbers.{is_same_mark}
-use Rattle.lotos_ast.specs.Notation.{Part, Wanted, fits, Syntax, quoted, kept, sequence, either, optional, repeated, placed, bracketed, enclosed, part}
+use Rattle.lotos_ast.specs.Notation.{Part, Wanted, Reduction, presence, last_mark, fits, Syntax, quoted, kept, sequence, either, optional, repeated, placed, reduced, bracketed, enclosed, part}
 use Rattle.lotos_ast.specs.Grammar.{rule}
 use Rattle.lotos_ast.specs.Begins.{mark_at, place_at, starts}
 use Rattle.lotos_ast.specs.Nesting.{Nesting, in_bracket, in_construct, is_within, Fault, too_deep, fault_at}
@@ -21,6 +21,12 @@ pub data Tree : Type 0 where
   no_more : Tree
   more : Tree → Tree → Tree      -- one, and any number of further ones
   node : Place → Tree → Tree     -- with the place of its first token
+
+-- the tree that is kept
+abbrev pub reduce : Reduction → Tree → Tree
+reduce presence x = unkept
+reduce last_mark (present (both x y)) = y
+reduce last_mark x = absent
 
 -- The tokens from the first list to the second are read as the part, which the tree stands for. An alternative, an optional
 -- or a repeated part is taken where it can begin with the next token. No token is nested too deep.
@@ -45,6 +51,8 @@ pub data Reads : Nesting → Syntax → List Token → Tree → List Token → T
       starts a (mark_at s) ≡ true → Reads d a s x m → Reads d (repeated a) m y r → Reads d (repeated a) s (more x y) r
   reads_placed : {d : Nesting} {p : Place} {a : Syntax} {s r : List Token} {x : Tree} →
       place_at s ≡ p → Reads d a s x r → Reads d (placed a) s (node p x) r
+  reads_reduced : {d : Nesting} {u : Reduction} {a : Syntax} {s r : List Token} {x y : Tree} →
+      reduce u x ≡ y → Reads d a s x r → Reads d (reduced u a) s y r
   reads_bracketed : {d : Nesting} {a : Syntax} {s r : List Token} {x : Tree} →
       Reads (in_bracket d) a s x r → Reads d (bracketed a) s x r
   reads_enclosed : {d : Nesting} {a : Syntax} {s r : List Token} {x : Tree} →
@@ -78,6 +86,8 @@ pub data Stops : Nesting → Fault → Syntax → List Token → List Token → 
       starts a (mark_at s) ≡ true → Reads d a s x m → Stops d f (repeated a) m r → Stops d f (repeated a) s r
   stops_placed : {d : Nesting} {f : Fault} {a : Syntax} {s r : List Token} →
       Stops d f a s r → Stops d f (placed a) s r
+  stops_reduced : {d : Nesting} {f : Fault} {u : Reduction} {a : Syntax} {s r : List Token} →
+      Stops d f a s r → Stops d f (reduced u a) s r
   stops_bracketed : {d : Nesting} {f : Fault} {a : Syntax} {s r : List Token} →
       Stops (in_bracket d) f a s r → Stops d f (bracketed a) s r
   stops_enclosed : {d : Nesting} {f : Fault} {a : Syntax} {s r : List Token} →

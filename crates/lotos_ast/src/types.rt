@@ -16,7 +16,7 @@ pub enum TypeDef {
         names: Vec<Token>,
     },
     /// The definition of a type.
-    Type {
+    Definition {
         /// The place of its first token.
         place: Place,
         /// The type's name.
