@@ -172,3 +172,19 @@ unary_tree = fold-Unary Tree Tree Tree Tree Tree Tree Tree Tree Tree Tree atom_s
 -- the tree of the behaviour that is this atom
 abbrev pub atom_tree : Atom → Tree
 atom_tree = fold-Atom Tree Tree Tree Tree Tree Tree Tree Tree Tree Tree atom_step unary_step behaviour_step choice_step choosing_step composing_step disable_step disabling_step enabling_step parallel_step
+
+abbrev pub enabling_rest_tree : Option Enabling → Tree
+enabling_rest_tree None = absent
+enabling_rest_tree (Some rest) = present (enabling_tree rest)
+
+abbrev pub disabling_rest_tree : Option Disabling → Tree
+disabling_rest_tree None = absent
+disabling_rest_tree (Some rest) = present (disabling_tree rest)
+
+abbrev pub composing_rest_tree : Option Composing → Tree
+composing_rest_tree None = absent
+composing_rest_tree (Some rest) = present (composing_tree rest)
+
+abbrev pub choosing_rest_tree : Option Choosing → Tree
+choosing_rest_tree None = absent
+choosing_rest_tree (Some rest) = present (choosing_tree rest)

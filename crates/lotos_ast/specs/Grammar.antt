@@ -30,11 +30,11 @@ pairs = placed (optional (quoted Mark.SortNames ▸ loose_list (part sort_pair))
 -- the three forms of a type's body; each may begin with an identifier
 abbrev pub type_body : Syntax
 type_body = placed
-    ( identifier ▸
-        ( quoted Mark.RenamedBy ▸ pairs
-        ∣ quoted Mark.ActualizedBy ▸ list identifier ▸ quoted Mark.Using ▸ pairs
-        ∣ repeated (quoted Mark.Comma ▸ identifier) ▸ declared_items )
-    ∣ declared_items )
+    (identifier ▸
+    (quoted Mark.RenamedBy ▸ pairs
+    ∣ quoted Mark.ActualizedBy ▸ list identifier ▸ quoted Mark.Using ▸ pairs
+    ∣ repeated (quoted Mark.Comma ▸ identifier) ▸ declared_items)
+    ∣ declared_items)
 
 -- an operation's name as it is declared: applied before its arguments, or between them
 abbrev pub prefix_form : Syntax
@@ -46,7 +46,7 @@ infix_form = quoted Mark.Underscore ▸ name ▸ quoted Mark.Underscore
 -- what follows a list of operations with a name that stands between its arguments
 abbrev pub infix_end : Syntax
 infix_end =
-      quoted Mark.Comma ▸ part infix_names
+    quoted Mark.Comma ▸ part infix_names
     ∣ quoted Mark.Colon ▸ identifier ▸ quoted Mark.Comma ▸ identifier ▸ quoted Mark.Arrow ▸ identifier
 
 -- what follows the left side of an equation with premisses, behind its first premiss
@@ -74,15 +74,15 @@ rule gate_list = quoted Mark.LeftBracket ▸ list identifier ▸ quoted Mark.Rig
 rule functionality = quoted Mark.NoExit ∣ quoted Mark.Exit ▸ optional (in_parentheses (list identifier))
 rule where_item = part type_definition ∣ part process
 rule type_definition =
-      quoted Mark.Library ▸ list identifier ▸ quoted Mark.EndLib
+    quoted Mark.Library ▸ list identifier ▸ quoted Mark.EndLib
     ∣ quoted Mark.TypeKeyword ▸ identifier ▸ quoted Mark.Is ▸ type_body ▸ quoted Mark.EndType
 rule sort_part = quoted Mark.Sorts ▸ sort_list
 rule operation_part = quoted Mark.Opns ▸ repeated operation_declaration
 -- Operations with one list of sorts. Once a name that stands between its arguments is among them, there are exactly two.
 rule operation_names =
-      placed prefix_form ▸ optional constructor_mark ▸
-        ( quoted Mark.Comma ▸ part operation_names
-        ∣ quoted Mark.Colon ▸ optional (list identifier) ▸ quoted Mark.Arrow ▸ identifier )
+    placed prefix_form ▸ optional constructor_mark ▸
+    (quoted Mark.Comma ▸ part operation_names
+    ∣ quoted Mark.Colon ▸ optional (list identifier) ▸ quoted Mark.Arrow ▸ identifier)
     ∣ placed infix_form ▸ optional constructor_mark ▸ infix_end
 rule infix_names = part operation_name ▸ optional constructor_mark ▸ infix_end
 rule operation_name = infix_form ∣ prefix_form
@@ -92,8 +92,8 @@ rule sort_equations = quoted Mark.OfSort ▸ identifier ▸ repeated (part for_a
 rule equations = part equation ▸ mark_and Mark.Semicolon (part equations)
 -- A left and a right side; or premisses, an arrow and both sides. Both begin with an expression.
 rule equation = placed (part expression ▸
-        ( quoted Mark.Equals ▸ part expression ▸ optional conclusion
-        ∣ conclusion ))
+    (quoted Mark.Equals ▸ part expression ▸ optional conclusion
+    ∣ conclusion))
 rule premiss = part expression ▸ optional (quoted Mark.Equals ▸ part expression)
 rule for_all = quoted Mark.ForAll ▸ part declarations
 rule declarations = list (part declaration)
@@ -117,23 +117,23 @@ rule choice = part unary ▸ optional (part choosing)
 rule choosing = quoted Mark.Brackets ▸ enclosed (part choice)
 -- A guard; an action; a process. An identifier before `;`, `!` or `?` is a gate, any other a process.
 rule unary =
-      predicate ▸ quoted Mark.Arrow ▸ prefixed
+    predicate ▸ quoted Mark.Arrow ▸ prefixed
     ∣ placed (quoted Mark.I) ▸ quoted Mark.Semicolon ▸ prefixed
     ∣ placed (identifier ▸
-        ( quoted Mark.Semicolon ▸ prefixed
-        ∣ part offer ▸ repeated (part offer) ▸ optional predicate ▸ quoted Mark.Semicolon ▸ prefixed
-        ∣ arguments ))
+    (quoted Mark.Semicolon ▸ prefixed
+    ∣ part offer ▸ repeated (part offer) ▸ optional predicate ▸ quoted Mark.Semicolon ▸ prefixed
+    ∣ arguments))
     ∣ part atom
 rule offer =
-      quoted Mark.Exclamation ▸ part expression
+    quoted Mark.Exclamation ▸ part expression
     ∣ quoted Mark.Question ▸ list identifier ▸ quoted Mark.Colon ▸ identifier
 rule atom =
-      in_parentheses (part behaviour)
+    in_parentheses (part behaviour)
     ∣ bracketed (quoted Mark.Hide ▸ list identifier ▸ quoted Mark.In ▸ part behaviour)
     ∣ bracketed (quoted Mark.Let ▸ list (part binding) ▸ quoted Mark.In ▸ part behaviour)
     ∣ bracketed (quoted Mark.Choice ▸ placed (placed (identifier ▸
-        ( quoted Mark.In ▸ part gate_list ▸ repeated (quoted Mark.Comma ▸ part gate_choice) ▸ choice_brackets ▸ part behaviour
-        ∣ repeated (quoted Mark.Comma ▸ identifier) ▸ quoted Mark.Colon ▸ identifier ▸ repeated (quoted Mark.Comma ▸ part declaration) ▸ choice_brackets ▸ part behaviour ))))
+    (quoted Mark.In ▸ part gate_list ▸ repeated (quoted Mark.Comma ▸ part gate_choice) ▸ choice_brackets ▸ part behaviour
+    ∣ repeated (quoted Mark.Comma ▸ identifier) ▸ quoted Mark.Colon ▸ identifier ▸ repeated (quoted Mark.Comma ▸ part declaration) ▸ choice_brackets ▸ part behaviour))))
     ∣ bracketed (quoted Mark.Par ▸ identifier ▸ quoted Mark.In ▸ part gate_list ▸ part operator ▸ part behaviour)
     ∣ quoted Mark.Exit ▸ optional (in_parentheses (list (part exit_value)))
     ∣ quoted Mark.Stop

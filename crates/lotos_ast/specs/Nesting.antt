@@ -25,9 +25,9 @@ is_within (nested brackets constructs) = nat_le brackets 256 && nat_le construct
 
 -- why reading stops at a token
 pub data Fault : Type 0 where
-  unexpected : Fault     -- no text goes on with it
-  too_deep : Fault       -- it is nested too deep
-  external : Fault       -- no text goes on with it, and it marks an item as external
+  unexpected : Fault  -- no text goes on with it
+  too_deep : Fault  -- it is nested too deep
+  external : Fault  -- no text goes on with it, and it marks an item as external
 
 -- The fault at a token with which no text goes on. At an external mark the nesting counts first.
 abbrev pub fault_at : Bool → Mark → Fault

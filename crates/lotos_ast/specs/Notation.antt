@@ -59,22 +59,22 @@ fits named m = is_same_mark Identifier m || (is_same_mark Numeral m || is_same_m
 
 -- what isn't kept of a part that was read
 pub data Reduction : Type 0 where
-  presence : Reduction     -- whether it stands there
-  last_mark : Reduction    -- of a mark and what may follow it: the mark
+  presence : Reduction  -- whether it stands there
+  last_mark : Reduction  -- of a mark and what may follow it: the mark
 
 -- a part of the grammar
 pub data Syntax : Type 0 where
-  quoted : Mark → Syntax                 -- a token that the syntax tree doesn't keep
-  kept : Wanted → Syntax                 -- a token that it keeps
-  sequence : Syntax → Syntax → Syntax    -- the first, then the second
-  either : Syntax → Syntax → Syntax      -- the first or the second
+  quoted : Mark → Syntax  -- a token that the syntax tree doesn't keep
+  kept : Wanted → Syntax  -- a token that it keeps
+  sequence : Syntax → Syntax → Syntax  -- the first, then the second
+  either : Syntax → Syntax → Syntax  -- the first or the second
   optional : Syntax → Syntax
-  repeated : Syntax → Syntax             -- any number of times
-  placed : Syntax → Syntax               -- the tree has the place of its first token, or of the next token where it has none
+  repeated : Syntax → Syntax  -- any number of times
+  placed : Syntax → Syntax  -- the tree has the place of its first token, or of the next token where it has none
   reduced : Reduction → Syntax → Syntax  -- the tree doesn't keep all of it
-  bracketed : Syntax → Syntax            -- one open bracket more
-  enclosed : Syntax → Syntax             -- one construct more stands round it
-  part : Part → Syntax                   -- a rule
+  bracketed : Syntax → Syntax  -- one open bracket more
+  enclosed : Syntax → Syntax  -- one construct more stands round it
+  part : Part → Syntax  -- a rule
 
 infixr 30 ◌▸◌
 abbrev pub ◌▸◌ : Syntax → Syntax → Syntax

@@ -11,16 +11,16 @@ use Rattle.lotos_ast.specs.Nesting.{Nesting, in_bracket, in_construct, is_within
 
 -- a tree of the grammar: what was read for each part
 pub data Tree : Type 0 where
-  unkept : Tree                  -- a token that isn't kept
+  unkept : Tree  -- a token that isn't kept
   leaf : Token → Tree
   both : Tree → Tree → Tree
-  left : Tree → Tree             -- the first of two alternatives
+  left : Tree → Tree  -- the first of two alternatives
   right : Tree → Tree
   absent : Tree
   present : Tree → Tree
   no_more : Tree
-  more : Tree → Tree → Tree      -- one, and any number of further ones
-  node : Place → Tree → Tree     -- with the place of its first token
+  more : Tree → Tree → Tree  -- one, and any number of further ones
+  node : Place → Tree → Tree  -- with the place of its first token
 
 -- the tree that is kept
 abbrev pub reduce : Reduction → Tree → Tree

@@ -1,9 +1,18 @@
 // Behaviours. Each level of operators is a type; operators of one level group to the right (profile).
 
+ghost use Rattle.std.specs.Prelude.{◌≡◌, IfOk, map};
+ghost use Rattle.lotos_ast.specs.Reads.{unkept, leaf, both, left, right, node};
+ghost use Rattle.lotos_ast.specs.ListTrees.{list_tree, token_list_tree, behind, between};
+ghost use Rattle.lotos_ast.specs.ExpressionTrees.{values_tree};
+ghost use Rattle.lotos_ast.specs.DeclarationTrees.{gate_list_tree, optional_gates_tree};
+ghost use Rattle.lotos_ast.specs.BehaviourTrees.{behaviour_tree, enabling_tree, disable_tree, disabling_tree, parallel_tree, composing_tree, choice_tree, choosing_tree, unary_tree, atom_tree, enabling_rest_tree, disabling_rest_tree, composing_rest_tree, choosing_rest_tree, operator_tree, predicate_tree, action_tree, exit_values_tree, binding_tree, brackets_tree, choice_declarations_tree, choice_gates_tree, atomic_tree, accepts_tree};
+
 use crate::declaration::{Declarations, GateList};
 use crate::expression::{Expr, Premiss};
 use crate::place::Place;
 use crate::token::Token;
+use spec_core::memory::Memory;
+use std::alloc::Global;
 
 /// A behaviour, and what follows it when it ends.
 #[derive(Drop)]
@@ -324,4 +333,272 @@ pub struct GateChoice {
     pub gate: Token,
     /// The gates.
     pub gates: GateList,
+}
+
+impl Behaviour {
+    /// A behaviour, and what follows it. It takes no memory.
+    pub fn new(place: Place, first: Disable, rest: Option<Enabling>) -> Behaviour
+        ensures tree { behaviour_tree result ≡ node place (both (disable_tree first) (enabling_rest_tree rest)) }
+    {
+        Behaviour { place, first, rest }
+    }
+}
+
+impl Enabling {
+    /// The behaviour that follows when another one ends.
+    pub fn new(
+        alloc: Global,
+        place: Place,
+        accepts: Option<Declarations>,
+        right: Behaviour,
+    ) -> Result<Enabling, Memory>
+        ensures tree { IfOk result (λ enabling. enabling_tree enabling ≡ node place (behind (both (accepts_tree accepts) (behaviour_tree right)))) }
+    {
+        Ok(Enabling {
+            place,
+            accepts,
+            right: Box::new(alloc, right)?,
+        })
+    }
+}
+
+impl Disable {
+    /// A behaviour, and what may break into it. It takes no memory.
+    pub fn new(place: Place, first: Parallel, rest: Option<Disabling>) -> Disable
+        ensures tree { disable_tree result ≡ node place (both (parallel_tree first) (disabling_rest_tree rest)) }
+    {
+        Disable { place, first, rest }
+    }
+}
+
+impl Disabling {
+    /// The behaviour that may break in.
+    pub fn new(alloc: Global, place: Place, right: Disable) -> Result<Disabling, Memory>
+        ensures tree { IfOk result (λ disabling. disabling_tree disabling ≡ node place (behind (disable_tree right))) }
+    {
+        Ok(Disabling {
+            place,
+            right: Box::new(alloc, right)?,
+        })
+    }
+}
+
+impl Parallel {
+    /// A behaviour, and what stands beside it. It takes no memory.
+    pub fn new(place: Place, first: Choice, rest: Option<Composing>) -> Parallel
+        ensures tree { parallel_tree result ≡ node place (both (choice_tree first) (composing_rest_tree rest)) }
+    {
+        Parallel { place, first, rest }
+    }
+}
+
+impl Composing {
+    /// The operator and the behaviour behind it.
+    pub fn new(
+        alloc: Global,
+        place: Place,
+        operator: Operator,
+        right: Parallel,
+    ) -> Result<Composing, Memory>
+        ensures tree { IfOk result (λ composing. composing_tree composing ≡ node place (both (operator_tree operator) (parallel_tree right))) }
+    {
+        Ok(Composing {
+            place,
+            operator,
+            right: Box::new(alloc, right)?,
+        })
+    }
+}
+
+impl Choice {
+    /// A behaviour, and another one. It takes no memory.
+    pub fn new(place: Place, first: Unary, rest: Option<Choosing>) -> Choice
+        ensures tree { choice_tree result ≡ node place (both (unary_tree first) (choosing_rest_tree rest)) }
+    {
+        Choice { place, first, rest }
+    }
+}
+
+impl Choosing {
+    /// The behaviour that may be chosen.
+    pub fn new(alloc: Global, place: Place, right: Choice) -> Result<Choosing, Memory>
+        ensures tree { IfOk result (λ choosing. choosing_tree choosing ≡ node place (behind (choice_tree right))) }
+    {
+        Ok(Choosing {
+            place,
+            right: Box::new(alloc, right)?,
+        })
+    }
+}
+
+impl Unary {
+    /// A behaviour under a condition.
+    pub fn guarded(
+        alloc: Global,
+        place: Place,
+        guard: Premiss,
+        rest: Unary,
+    ) -> Result<Unary, Memory>
+        ensures tree { IfOk result (λ unary. unary_tree unary ≡ node place (left (both (predicate_tree guard) (behind (unary_tree rest))))) }
+    {
+        Ok(Unary::Guarded {
+            place,
+            guard,
+            rest: Box::new(alloc, rest)?,
+        })
+    }
+
+    /// An action and what follows it.
+    pub fn prefixed(
+        alloc: Global,
+        place: Place,
+        action: Action,
+        rest: Unary,
+    ) -> Result<Unary, Memory>
+        ensures tree { IfOk result (λ unary. unary_tree unary ≡ node place (action_tree action (unary_tree rest))) }
+    {
+        Ok(Unary::Prefixed {
+            place,
+            action,
+            rest: Box::new(alloc, rest)?,
+        })
+    }
+
+    /// A behaviour that begins with a word of its own. It takes no memory.
+    pub fn atomic(atom: Atom) -> Unary
+        ensures tree { unary_tree result ≡ atom_tree atom }
+    {
+        Unary::Atomic(atom)
+    }
+}
+
+impl Atom {
+    /// `stop`. It takes no memory.
+    pub fn stop(place: Place) -> Atom
+        ensures tree { atom_tree result ≡ atomic_tree place (right (right (right (right (right (right unkept)))))) }
+    {
+        Atom::Stop { place }
+    }
+
+    /// The end, with values. It takes no memory.
+    pub fn exit(place: Place, values: Option<Vec<ExitValue>>) -> Atom
+        ensures tree { atom_tree result ≡ atomic_tree place (right (right (right (right (right (left (behind (exit_values_tree values)))))))) }
+    {
+        Atom::Exit { place, values }
+    }
+
+    /// A process with actual gates and values. It takes no memory.
+    pub fn call(
+        place: Place,
+        name: Token,
+        gates: Option<GateList>,
+        values: Option<Vec<Expr>>,
+    ) -> Atom
+        ensures tree { atom_tree result ≡ node place (right (right (left (node place (both (leaf name) (right (right (both (optional_gates_tree gates) (values_tree values))))))))) }
+    {
+        Atom::Call {
+            place,
+            name,
+            gates,
+            values,
+        }
+    }
+
+    /// A behaviour in parentheses.
+    pub fn group(alloc: Global, place: Place, inner: Behaviour) -> Result<Atom, Memory>
+        ensures tree { IfOk result (λ atom. atom_tree atom ≡ atomic_tree place (left (between (behaviour_tree inner)))) }
+    {
+        Ok(Atom::Group {
+            place,
+            inner: Box::new(alloc, inner)?,
+        })
+    }
+
+    /// A behaviour whose actions at some gates can't be seen.
+    pub fn hide(
+        alloc: Global,
+        place: Place,
+        gates: Vec<Token>,
+        inner: Behaviour,
+    ) -> Result<Atom, Memory>
+        ensures tree { IfOk result (λ atom. atom_tree atom ≡ atomic_tree place (right (left (behind (both (token_list_tree gates.items) (behind (behaviour_tree inner))))))) }
+    {
+        Ok(Atom::Hide {
+            place,
+            gates,
+            inner: Box::new(alloc, inner)?,
+        })
+    }
+
+    /// A behaviour in which variables have values.
+    pub fn with_bindings(
+        alloc: Global,
+        place: Place,
+        bindings: Vec<Binding>,
+        inner: Behaviour,
+    ) -> Result<Atom, Memory>
+        ensures tree { IfOk result (λ atom. atom_tree atom ≡ atomic_tree place (right (right (left (behind (both (list_tree (map binding_tree bindings.items)) (behind (behaviour_tree inner)))))))) }
+    {
+        Ok(Atom::Let {
+            place,
+            bindings,
+            inner: Box::new(alloc, inner)?,
+        })
+    }
+
+    /// A behaviour for any values of variables.
+    pub fn choice_of_values(
+        alloc: Global,
+        place: Place,
+        declarations: Declarations,
+        brackets: Place,
+        inner: Behaviour,
+    ) -> Result<Atom, Memory>
+        ensures tree { IfOk result (λ atom. atom_tree atom ≡ atomic_tree place (right (right (right (left (behind (node declarations.place (choice_declarations_tree declarations.list.items (brackets_tree brackets (behaviour_tree inner)))))))))) }
+    {
+        Ok(Atom::ChoiceOfValues {
+            place,
+            declarations,
+            brackets,
+            inner: Box::new(alloc, inner)?,
+        })
+    }
+
+    /// A behaviour at any of some gates.
+    pub fn choice_of_gates(
+        alloc: Global,
+        place: Place,
+        choices: Vec<GateChoice>,
+        brackets: Place,
+        inner: Behaviour,
+    ) -> Result<Atom, Memory>
+        ensures tree { IfOk result (λ atom. atom_tree atom ≡ atomic_tree place (right (right (right (left (behind (choice_gates_tree choices.items (brackets_tree brackets (behaviour_tree inner))))))))) }
+    {
+        Ok(Atom::ChoiceOfGates {
+            place,
+            choices,
+            brackets,
+            inner: Box::new(alloc, inner)?,
+        })
+    }
+
+    /// Copies of a behaviour at several gates, beside one another.
+    pub fn par(
+        alloc: Global,
+        place: Place,
+        gate: Token,
+        gates: GateList,
+        operator: Operator,
+        inner: Behaviour,
+    ) -> Result<Atom, Memory>
+        ensures tree { IfOk result (λ atom. atom_tree atom ≡ atomic_tree place (right (right (right (right (left (behind (both (leaf gate) (behind (both (gate_list_tree gates) (both (operator_tree operator) (behaviour_tree inner)))))))))))) }
+    {
+        Ok(Atom::Par {
+            place,
+            gate,
+            gates,
+            operator,
+            inner: Box::new(alloc, inner)?,
+        })
+    }
 }

@@ -1,7 +1,14 @@
 // Expressions and premisses.
 
+ghost use Rattle.std.specs.Prelude.{◌≡◌, IfOk, map};
+ghost use Rattle.lotos_ast.specs.Reads.{leaf, both, left, right, node};
+ghost use Rattle.lotos_ast.specs.ListTrees.{repeated_tree, between};
+ghost use Rattle.lotos_ast.specs.ExpressionTrees.{expr_tree, infix_tree, simple_tree, head_tree, infixes_tree, of_sort, values_tree};
+
 use crate::place::Place;
 use crate::token::Token;
+use spec_core::memory::Memory;
+use std::alloc::Global;
 
 /// An expression: operands with operations between them, all of one level, grouped to the left (profile).
 #[derive(Drop)]
@@ -70,4 +77,54 @@ pub struct Premiss {
     pub left: Expr,
     /// The right one of two.
     pub right: Option<Expr>,
+}
+
+impl Expr {
+    /// The expression with these parts. It takes no memory.
+    pub fn new(place: Place, first: Simple, rest: Vec<Infix>) -> Expr
+        ensures tree { expr_tree result ≡ node place (both (simple_tree first) (infixes_tree (map infix_tree rest.items))) }
+    {
+        Expr { place, first, rest }
+    }
+}
+
+impl Infix {
+    /// The operation with its right operand. It takes no memory.
+    pub fn new(place: Place, name: Token, right: Simple) -> Infix
+        ensures tree { infix_tree result ≡ node place (both (leaf name) (simple_tree right)) }
+    {
+        Infix { place, name, right }
+    }
+}
+
+impl Simple {
+    /// The operand with these sorts. It takes no memory.
+    pub fn new(place: Place, head: Head, sorts: Vec<Token>) -> Simple
+        ensures tree { simple_tree result ≡ node place (both (head_tree head) (repeated_tree (map of_sort sorts.items))) }
+    {
+        Simple { place, head, sorts }
+    }
+}
+
+impl Head {
+    /// A name with its arguments. It takes no memory.
+    pub fn applied(place: Place, name: Token, arguments: Option<Vec<Expr>>) -> Head
+        ensures tree { head_tree result ≡ node place (right (both (leaf name) (values_tree arguments))) }
+    {
+        Head::Applied {
+            place,
+            name,
+            arguments,
+        }
+    }
+
+    /// An expression in parentheses.
+    pub fn grouped(alloc: Global, place: Place, inner: Expr) -> Result<Head, Memory>
+        ensures tree { IfOk result (λ head. head_tree head ≡ node place (left (between (expr_tree inner)))) }
+    {
+        Ok(Head::Grouped {
+            place,
+            inner: Box::new(alloc, inner)?,
+        })
+    }
 }
