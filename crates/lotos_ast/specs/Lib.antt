@@ -3,6 +3,7 @@ pub mod BehaviourTrees
 pub mod Bytes
 pub mod DeclarationTrees
 pub mod ExpressionTrees
+pub mod Fronts
 pub mod Grammar
 pub mod ListTrees
 pub mod MarkNumbers
