@@ -5,3 +5,6 @@ pub mod Rows
 pub mod OneReading
 pub mod Tails
 pub mod Limits
+pub mod RulesSound
+pub mod RulesFine
+pub mod RulesClean

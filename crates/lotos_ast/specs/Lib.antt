@@ -1,9 +1,11 @@
 pub mod Begins
 pub mod BehaviourTrees
 pub mod Bytes
+pub mod Conditions
 pub mod DeclarationTrees
 pub mod ExpressionTrees
 pub mod Fronts
+pub mod GoesOn
 pub mod Grammar
 pub mod ListTrees
 pub mod MarkNumbers
@@ -14,7 +16,9 @@ pub mod Pieces
 pub mod Places
 pub mod Reads
 pub mod Refusals
+pub mod Shortest
 pub mod SpecTrees
+pub mod Spelled
 pub mod TokenLaws
 pub mod TokenMarks
 pub mod Tokenizes
