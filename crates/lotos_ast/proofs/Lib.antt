@@ -8,3 +8,5 @@ pub mod Limits
 pub mod RulesSound
 pub mod RulesFine
 pub mod RulesClean
+pub mod Fronts
+pub mod Tables
