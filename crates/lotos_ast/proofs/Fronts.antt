@@ -58,11 +58,11 @@ part_front p u (inl h) = inl (stops_part h)
 part_front p u (inr h) = inr (node (place_at u) h.0, reads_part refl h.1)
 
 
-both_first : (a b : Bool) → a && b ≡ true → a ≡ true
+pub both_first : (a b : Bool) → a && b ≡ true → a ≡ true
 both_first true b h = refl
 both_first false b h = h
 
-both_second : (a b : Bool) → a && b ≡ true → b ≡ true
+pub both_second : (a b : Bool) → a && b ≡ true → b ≡ true
 both_second true b h = h
 both_second false b h = cc
 

@@ -10,3 +10,4 @@ pub mod RulesFine
 pub mod RulesClean
 pub mod Fronts
 pub mod Tables
+pub mod Grows
