@@ -11,3 +11,5 @@ pub mod RulesClean
 pub mod Fronts
 pub mod Tables
 pub mod Grows
+pub mod Spelled
+pub mod GrammarLaws

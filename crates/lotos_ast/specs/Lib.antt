@@ -7,6 +7,7 @@ pub mod ExpressionTrees
 pub mod Fronts
 pub mod GoesOn
 pub mod Grammar
+pub mod GrammarLaws
 pub mod ListTrees
 pub mod MarkNumbers
 pub mod Marks
