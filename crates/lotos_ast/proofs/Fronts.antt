@@ -37,23 +37,23 @@ end_optional a true e (inl h) = inl (stops_optional e h)
 end_optional a true e (inr h) = inr (present h.0, reads_present e h.1)
 end_optional a false e h = inr (absent, reads_absent e refl)
 
-placed_front : (a : Syntax) (u : List Token) → IsFront a u → IsFront (placed a) u
+pub placed_front : (a : Syntax) (u : List Token) → IsFront a u → IsFront (placed a) u
 placed_front a u (inl h) = inl (stops_placed h)
 placed_front a u (inr h) = inr (node (place_at u) h.0, reads_placed refl h.1)
 
-reduced_front : (w : Reduction) (a : Syntax) (u : List Token) → IsFront a u → IsFront (reduced w a) u
+pub reduced_front : (w : Reduction) (a : Syntax) (u : List Token) → IsFront a u → IsFront (reduced w a) u
 reduced_front w a u (inl h) = inl (stops_reduced h)
 reduced_front w a u (inr h) = inr (reduce w h.0, reads_reduced refl h.1)
 
-bracketed_front : (a : Syntax) (u : List Token) → IsFront a u → IsFront (bracketed a) u
+pub bracketed_front : (a : Syntax) (u : List Token) → IsFront a u → IsFront (bracketed a) u
 bracketed_front a u (inl h) = inl (stops_bracketed h)
 bracketed_front a u (inr h) = inr (h.0, reads_bracketed h.1)
 
-enclosed_front : (a : Syntax) (u : List Token) → IsFront a u → IsFront (enclosed a) u
+pub enclosed_front : (a : Syntax) (u : List Token) → IsFront a u → IsFront (enclosed a) u
 enclosed_front a u (inl h) = inl (stops_enclosed h)
 enclosed_front a u (inr h) = inr (h.0, reads_enclosed h.1)
 
-part_front : (p : Part) (u : List Token) → IsFront (rule p) u → IsFront (part p) u
+pub part_front : (p : Part) (u : List Token) → IsFront (rule p) u → IsFront (part p) u
 part_front p u (inl h) = inl (stops_part h)
 part_front p u (inr h) = inr (node (place_at u) h.0, reads_part refl h.1)
 
@@ -228,7 +228,7 @@ front_behind : (a b : Syntax) (u : List Token) (x : Tree) → Reads unlimited a 
 front_behind a b u x h (inl k) = inl (stops_second [] h k)
 front_behind a b u x h (inr k) = inr (both x k.0, reads_sequence [] h k.1)
 
-front_first : (a b : Syntax) (u : List Token) → Sound b → IsFront a u → IsFront (sequence a b) u
+pub front_first : (a b : Syntax) (u : List Token) → Sound b → IsFront a u → IsFront (sequence a b) u
 front_first a b u o (inl h) = inl (stops_first h)
 front_first a b u o (inr h) = front_behind a b u h.0 h.1 (at_end b o)
 
@@ -240,22 +240,22 @@ front_sequence a b u [] r m e again (inr h) (inr k) = inr (both h.0 k.0, subst (
 front_sequence a b u (t ∷ v) r m e again h (inl k) = let x = again (t ∷ v) (sym (ap mark_at e)) in inl (stops_second (t ∷ v) x.1 k)
 front_sequence a b u (t ∷ v) r m e again h (inr k) = let x = again (t ∷ v) (sym (ap mark_at e)) in inr (both x.0 k.0, reads_sequence (t ∷ v) x.1 k.1)
 
-front_left : (a b : Syntax) (s u r : List Token) → Sound (either a b) → s ≡ u ++ r → starts a (mark_at s) ≡ true → IsFront a u → IsFront (either a b) u
+pub front_left : (a b : Syntax) (s u r : List Token) → Sound (either a b) → s ≡ u ++ r → starts a (mark_at s) ≡ true → IsFront a u → IsFront (either a b) u
 front_left a b s [] r o e i h = at_end (either a b) o
 front_left a b s (t ∷ u) r o e i (inl h) = inl (stops_left (ap (λ z. starts a (mark_at z)) (sym e) ∙ i) h)
 front_left a b s (t ∷ u) r o e i (inr h) = inr (left h.0, reads_left (ap (λ z. starts a (mark_at z)) (sym e) ∙ i) h.1)
 
-front_right : (a b : Syntax) (s u r : List Token) → Sound (either a b) → s ≡ u ++ r → starts a (mark_at s) ≡ false → IsFront b u → IsFront (either a b) u
+pub front_right : (a b : Syntax) (s u r : List Token) → Sound (either a b) → s ≡ u ++ r → starts a (mark_at s) ≡ false → IsFront b u → IsFront (either a b) u
 front_right a b s [] r o e i h = at_end (either a b) o
 front_right a b s (t ∷ u) r o e i (inl h) = inl (stops_right (ap (λ z. starts a (mark_at z)) (sym e) ∙ i) h)
 front_right a b s (t ∷ u) r o e i (inr h) = inr (right h.0, reads_right (ap (λ z. starts a (mark_at z)) (sym e) ∙ i) h.1)
 
-front_optional : (a : Syntax) (s u r : List Token) → Sound a → s ≡ u ++ r → starts a (mark_at s) ≡ true → IsFront a u → IsFront (optional a) u
+pub front_optional : (a : Syntax) (s u r : List Token) → Sound a → s ≡ u ++ r → starts a (mark_at s) ≡ true → IsFront a u → IsFront (optional a) u
 front_optional a s [] r o e i h = at_end (optional a) o
 front_optional a s (t ∷ u) r o e i (inl h) = inl (stops_optional (ap (λ z. starts a (mark_at z)) (sym e) ∙ i) h)
 front_optional a s (t ∷ u) r o e i (inr h) = inr (present h.0, reads_present (ap (λ z. starts a (mark_at z)) (sym e) ∙ i) h.1)
 
-front_repeated : (a : Syntax) (s u r : List Token) → Sound (repeated a) → s ≡ u ++ r → starts a (mark_at s) ≡ true → IsFront a u → IsFront (repeated a) u
+pub front_repeated : (a : Syntax) (s u r : List Token) → Sound (repeated a) → s ≡ u ++ r → starts a (mark_at s) ≡ true → IsFront a u → IsFront (repeated a) u
 front_repeated a s [] r o e i h = at_end (repeated a) o
 front_repeated a s (t ∷ u) r o e i (inl h) = inl (stops_repeated (ap (λ z. starts a (mark_at z)) (sym e) ∙ i) h)
 front_repeated a s (t ∷ u) r o e i (inr h) = inr (more h.0 no_more, reads_more [] (ap (λ z. starts a (mark_at z)) (sym e) ∙ i) h.1 (reads_no_more o.1 refl))

@@ -74,14 +74,14 @@ empty_read (reads_bracketed h) i o = empty_read h i o
 empty_read (reads_enclosed h) i o = empty_read h i o
 empty_read (reads_part {q = p} e h) i o = absurd (rule_not_empty p (empty_read h i (rules_sound p)))
 
-same_mark : (s q : List Token) (t : Token) (u : List Token) → s ≡ t ∷ u → mark_at (s ++ q) ≡ mark_at s
+pub same_mark : (s q : List Token) (t : Token) (u : List Token) → s ≡ t ∷ u → mark_at (s ++ q) ≡ mark_at s
 same_mark s q t u e = ap (λ z. mark_at (z ++ q)) e ∙ sym (ap mark_at e)
 
 pub given : (a b : Bool) → a && b ≡ false → a ≡ true → b ≡ false
 given true b h e = h
 given false b h e = cc
 
-begun : (a : Syntax) (s q : List Token) → Sound a → starts a (mark_at s) ≡ true → starts a (mark_at (s ++ q)) ≡ true
+pub begun : (a : Syntax) (s q : List Token) → Sound a → starts a (mark_at s) ≡ true → starts a (mark_at (s ++ q)) ≡ true
 begun a [] q o h = absurd (never a o h)
 begun a (t ∷ s) q o h = h
 
@@ -90,7 +90,7 @@ not_begun a [] q h f = f refl
 not_begun a (t ∷ s) q h f = h
 
 -- the first of two, where the second reads q more
-grow_first : (a : Syntax) (s m q : List Token) (x : Tree) → Reads unlimited a s x m → (m ≡ [] → Accepts unlimited a (s ++ q) q) → Accepts unlimited a (s ++ q) (m ++ q)
+pub grow_first : (a : Syntax) (s m q : List Token) (x : Tree) → Reads unlimited a s x m → (m ≡ [] → Accepts unlimited a (s ++ q) q) → Accepts unlimited a (s ++ q) (m ++ q)
 grow_first a s [] q x h f = f refl
 grow_first a s (t ∷ m) q x h f =
     let c = reads_cut h in
@@ -166,7 +166,7 @@ short_reads (bracketed a) o f = let v = short_reads a o f in (v.0, reads_bracket
 short_reads (enclosed a) o f = let v = short_reads a o f in (v.0, reads_enclosed v.1)
 short_reads (part p) o f = part_short p
 
-cons_nil : (t : Token) (u : List Token) → t ∷ u ≡ [] → ⊥
+pub cons_nil : (t : Token) (u : List Token) → t ∷ u ≡ [] → ⊥
 cons_nil t u e = cc
 
 later_not_nil : {d : Nesting} {f : Fault} {a : Syntax} {s r : List Token} → Stops d f (repeated a) s r → s ≡ [] → Sound (repeated a) → ⊥

@@ -13,3 +13,4 @@ pub mod Tables
 pub mod Grows
 pub mod Spelled
 pub mod GrammarLaws
+pub mod Longest

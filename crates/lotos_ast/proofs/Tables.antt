@@ -1,8 +1,9 @@
 -- The tables of the rules are compared with the rules, by computing.
-use Rattle.std.proofs.Common.{ℕ, zero, suc, List, [], ◌∷◌, Bool, true, false, not, ◌||◌, ◌&&◌, ◌≡◌, refl, subst, Option, Some, None}
+use Rattle.std.proofs.Common.{ℕ, zero, suc, List, [], ◌∷◌, Bool, true, false, not, ◌||◌, ◌&&◌, ◌≡◌, refl, sym, ap, ◌∙◌, subst, Option, Some, None}
+use Rattle.std.proofs.lemmas.Bool.{eqb-true}
 use Rattle.lotos_ast.specs.declared.mark.Mark.{Mark}
 use Rattle.lotos_ast.specs.declared.mark.Mark.TheVariants.{Accept, ActualizedBy, Any, Behaviour, Choice, EndLib, EndProc, EndSpec, EndType, Eqns, Exit, For, ForAll, FormalEqns, FormalOpns, FormalSorts, Hide, I, In, Is, Let, Library, NoExit, Of, OfSort, OpnNames, Opns, Par, Process, RenamedBy, SortNames, Sorts, Specification, Stop, TypeKeyword, Using, Where, Brackets, Disable, LeftBracket, RightBars, RightBracket, Interleave, Synchronise, LeftBars, ColonEquals, Colon, Equals, DoubleArrow, Arrow, Enable, LeftParenthesis, RightParenthesis, Semicolon, Comma, Exclamation, Question, Underscore, Identifier, Numeral, Operation, ConstructorMark, ExternalMark, End, Unknown}
-use Rattle.lotos_ast.specs.MarkNumbers.{mark_number, marks, holds_of, AllMarks}
+use Rattle.lotos_ast.specs.MarkNumbers.{mark_number, is_same_mark, marks, holds_of, AllMarks}
 use Rattle.lotos_ast.specs.Notation.{Part, specification, gate_list, functionality, type_definition, where_item, sort_part, operation_part, operation_names, infix_names, operation_name, equation_part, sort_equations, equations, equation, premiss, for_all, declarations, declaration, sort_pair, operation_pair, expression, infixes, simple, head, process, behaviour, enabling, disable, disabling, parallel, composing, operator, choice, choosing, unary, offer, atom, exit_value, binding, gate_choice}
 use Rattle.lotos_ast.specs.Grammar.{rule}
 use Rattle.lotos_ast.specs.Begins.{begins, is_empty, starts}
@@ -100,6 +101,13 @@ mark_listed Unknown = refl
 
 pub every : (test : Mark → Bool) → AllMarks test → (m : Mark) → test m ≡ true
 every test h m = holds_in test marks (mark_number m) m h (mark_listed m)
+
+-- marks that are the same are equal
+pub same_equal : (k m : Mark) → is_same_mark k m ≡ true → k ≡ m
+same_equal k m h =
+    let e : mark_number k ≡ mark_number m = eqb-true (mark_number k) (mark_number m) h in
+    let i : Some k ≡ Some m = sym (mark_listed k) ∙ ap (mark_in marks) e ∙ mark_listed m in
+    cc
 
 pub modus : (a b : Bool) → implies a b ≡ true → a ≡ true → b ≡ true
 modus true b h e = h

@@ -1,9 +1,9 @@
 -- A token with each mark, and a shortest text of each part of the grammar.
-use Rattle.std.specs.Prelude.{ℕ, zero, suc, List, [], ◌∷◌, ◌++◌, codes, Bool, true, false, ◌&&◌}
+use Rattle.std.specs.Prelude.{ℕ, zero, suc, List, [], ◌∷◌, ◌++◌, codes, Bool, true, false, not, ◌&&◌, ◌||◌}
 use Rattle.lotos_ast.specs.declared.mark.Mark.{Mark}
 use Rattle.lotos_ast.specs.declared.token.Token.{Token}
 use Rattle.lotos_ast.specs.declared.token.TokenKind.{TokenKind}
-use Rattle.lotos_ast.specs.Begins.{no_place}
+use Rattle.lotos_ast.specs.Begins.{no_place, is_empty}
 use Rattle.lotos_ast.specs.Notation.{Part, Wanted, marked, named, Syntax, quoted, kept, sequence, either, optional, repeated, placed, reduced, bracketed, enclosed, part, specification, gate_list, functionality, type_definition, where_item, sort_part, operation_part, operation_names, infix_names, operation_name, equation_part, sort_equations, equations, equation, premiss, for_all, declarations, declaration, sort_pair, operation_pair, expression, infixes, simple, head, process, behaviour, enabling, disable, disabling, parallel, composing, operator, choice, choosing, unary, offer, atom, exit_value, binding, gate_choice}
 
 abbrev pub token : TokenKind → List ℕ → Token
@@ -138,7 +138,7 @@ short (bracketed a) = short a
 short (enclosed a) = short a
 short (part p) = short_part p
 
--- A number for each rule. The rules of which a shortest text of a rule is made have lower ones.
+-- A number for each rule. The rules of which its shortest text is made, and those that it may begin with, have lower ones.
 abbrev pub rank : Part → ℕ
 rank specification = 6
 rank gate_list = 0
@@ -199,3 +199,17 @@ is_short_by n (reduced u a) = is_short_by n a
 is_short_by n (bracketed a) = is_short_by n a
 is_short_by n (enclosed a) = is_short_by n a
 is_short_by n (part p) = is_above n (rank p)
+
+-- whether the rules that a part may begin with have a number below this one
+abbrev pub is_led_by : ℕ → Syntax → Bool
+is_led_by n (quoted k) = true
+is_led_by n (kept w) = true
+is_led_by n (sequence a b) = is_led_by n a && (not (is_empty a) || is_led_by n b)
+is_led_by n (either a b) = is_led_by n a && is_led_by n b
+is_led_by n (optional a) = is_led_by n a
+is_led_by n (repeated a) = is_led_by n a
+is_led_by n (placed a) = is_led_by n a
+is_led_by n (reduced u a) = is_led_by n a
+is_led_by n (bracketed a) = is_led_by n a
+is_led_by n (enclosed a) = is_led_by n a
+is_led_by n (part p) = is_above n (rank p)
