@@ -58,7 +58,7 @@ rule_not_empty : (p : Part) → is_empty (rule p) ≡ true → ⊥
 rule_not_empty p h = let i = not_empty p in cc
 
 -- what reads nothing may be empty
-empty_read : {d : Nesting} {g : Syntax} {s r : List Token} {x : Tree} → Reads d g s x r → s ≡ [] → Sound g → is_empty g ≡ true
+pub empty_read : {d : Nesting} {g : Syntax} {s r : List Token} {x : Tree} → Reads d g s x r → s ≡ [] → Sound g → is_empty g ≡ true
 empty_read (reads_quoted e m v) i o = cc
 empty_read (reads_kept e m v) i o = cc
 empty_read (reads_sequence {a = a} {b = b} m h k) i o = both_true (is_empty a) (is_empty b) (empty_read h i o.0) (empty_read k (rest_nil h i) o.1)

@@ -14,3 +14,4 @@ pub mod Grows
 pub mod Spelled
 pub mod GrammarLaws
 pub mod Longest
+pub mod LongestLaws

@@ -33,3 +33,8 @@ pub record UnexpectedAt (g : Syntax) (s rest : List Token) : Type 0 where
   pub all : s ≡ before ++ rest
   pub front : IsViable g before
   pub comes : ComesAt g before rest
+
+-- the tokens and the next one aren't a front
+abbrev pub IsLongest : Syntax → List Token → List Token → Type 0
+IsLongest g before [] = Unit {0}
+IsLongest g before (t ∷ u) = IsFront g (before ++ t ∷ []) → ⊥

@@ -4,7 +4,7 @@ use Rattle.lotos_ast.specs.declared.token.Token.{Token}
 use Rattle.lotos_ast.specs.Notation.{Part, Syntax, part}
 use Rattle.lotos_ast.specs.Nesting.{Nesting, unlimited, Fault, too_deep}
 use Rattle.lotos_ast.specs.Reads.{Tree, Reads, Stops}
-use Rattle.lotos_ast.specs.Fronts.{IsFront, IsWhole, IsViable, UnexpectedAt}
+use Rattle.lotos_ast.specs.Fronts.{Accepts, IsFront, IsLongest, IsWhole, IsViable, UnexpectedAt}
 use Rattle.lotos_ast.specs.Spelled.{Spelled, Spells}
 
 -- what is read has one tree and one rest
@@ -38,3 +38,13 @@ ReadWithoutLimits = (d : Nesting) (g : Syntax) (s r : List Token) (x : Tree) →
 -- where reading stops within limits for another reason than these, it stops there without them
 abbrev pub StopsWithoutLimits : Type 0
 StopsWithoutLimits = (d : Nesting) (f : Fault) (g : Syntax) (s r : List Token) → (f ≡ too_deep → ⊥) → Stops d f g s r → Stops unlimited f g s r
+
+-- A rule reads the tokens before a rest exactly where they are a whole text of it and, with the next token, no front: so it
+-- reads the longest front, where that is a whole text.
+abbrev pub LongestIsRead : Type 0
+LongestIsRead = (p : Part) (before rest : List Token) → (Spells (part p) before × IsLongest (part p) before rest) ↔ Accepts unlimited (part p) (before ++ rest) rest
+
+-- reading a rule stops behind the longest front, where that isn't a whole text
+abbrev pub StopsAtLongest : Type 0
+StopsAtLongest = (f : Fault) (p : Part) (before rest : List Token) → Stops unlimited f (part p) (before ++ rest) rest →
+    IsFront (part p) before × IsLongest (part p) before rest × (Spells (part p) before → ⊥)

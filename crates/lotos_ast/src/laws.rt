@@ -1,6 +1,6 @@
 // What holds of the definitions.
 
-ghost use Rattle.lotos_ast.specs.GrammarLaws.{OneTree, TreeOrFault, OneFault, StopsAtFirst, FrontsAreViable, SpelledIsRead, ReadWithoutLimits, StopsWithoutLimits};
+ghost use Rattle.lotos_ast.specs.GrammarLaws.{OneTree, TreeOrFault, OneFault, StopsAtFirst, FrontsAreViable, SpelledIsRead, ReadWithoutLimits, StopsWithoutLimits, LongestIsRead, StopsAtLongest};
 ghost use Rattle.lotos_ast.specs.TokenLaws.{TokensOrRefusal, NotBoth, OneTokenList, OneRefusal};
 
 /// Each text either isn't too long and has one list of tokens, or it has one refusal. The function does nothing.
@@ -40,4 +40,12 @@ pub fn one_token_ahead_is_enough()
 pub fn limits_change_nothing_below_them()
     ensures read { ReadWithoutLimits }
     ensures stops { StopsWithoutLimits }
+{}
+
+/// A rule reads the longest front of the tokens where that is a whole text, and stops behind it where it isn't. The function
+/// does nothing.
+#[tactic(auto, using(crate::proofs::LongestLaws::longest_is_read, crate::proofs::LongestLaws::stops_at_longest))]
+pub fn the_longest_front_is_read()
+    ensures read { LongestIsRead }
+    ensures stops { StopsAtLongest }
 {}
