@@ -1,23 +1,21 @@
 -- The tokens before the one at which reading stops are a front, and with it they are not.
 use Rattle.std.proofs.Common.{ℕ, zero, suc, List, [], ◌∷◌, ◌++◌, Bool, true, false, ◌≡◌, refl, sym, subst, ap, ◌∙◌, append_assoc, ◌⊎◌, inl, inr, ◌||◌, ◌&&◌}
 use Rattle.lotos_ast.specs.declared.mark.Mark.{Mark}
-use Rattle.lotos_ast.specs.declared.place.Place.{Place}
 use Rattle.lotos_ast.specs.declared.token.Token.{Token}
-use Rattle.lotos_ast.specs.MarkNumbers.{mark_number, is_same_mark}
-use Rattle.lotos_ast.specs.Notation.{Part, Wanted, Reduction, fits, Syntax, quoted, kept, sequence, either, optional, repeated, placed, reduced, bracketed, enclosed, part}
+use Rattle.lotos_ast.specs.Notation.{Part, Reduction, fits, Syntax, quoted, kept, sequence, either, optional, repeated, placed, reduced, bracketed, enclosed, part}
 use Rattle.lotos_ast.specs.Grammar.{rule}
 use Rattle.lotos_ast.specs.Begins.{mark_at, place_at, starts, begins, is_empty}
-use Rattle.lotos_ast.specs.Nesting.{Nesting, unlimited, nested, in_bracket, in_construct, is_within, Fault, unexpected, too_deep, external, fault_at}
+use Rattle.lotos_ast.specs.Nesting.{unlimited, Fault, unexpected}
 use Rattle.lotos_ast.specs.Reads.{Tree, reduce, unkept, leaf, both, left, right, absent, present, no_more, more, node, Reads, Stops, reads_quoted, reads_kept, reads_sequence, reads_left, reads_right, reads_absent, reads_present, reads_no_more, reads_more, reads_placed, reads_reduced, reads_bracketed, reads_enclosed, reads_part, stops_quoted, stops_kept, deep_quoted, deep_kept, stops_first, stops_second, stops_left, stops_right, stops_optional, stops_repeated, stops_later, stops_placed, stops_reduced, stops_bracketed, stops_enclosed, stops_part}
 use Rattle.std.proofs.lemmas.List.{append-nil, append_cancel_right}
 use Rattle.lotos_ast.specs.Notation.{specification, gate_list, functionality, type_definition, where_item, sort_part, operation_part, operation_names, infix_names, operation_name, equation_part, sort_equations, equations, equation, premiss, for_all, declarations, declaration, sort_pair, operation_pair, expression, infixes, simple, head, process, behaviour, enabling, disable, disabling, parallel, composing, operator, choice, choosing, unary, offer, atom, exit_value, binding, gate_choice}
 use Rattle.lotos_ast.specs.Begins.{or_behind}
 use Rattle.lotos_ast.specs.Shortest.{rank, is_above, is_short_by}
 use Rattle.lotos_ast.specs.Conditions.{Sound}
-use Rattle.lotos_ast.specs.Fronts.{Accepts, IsFront, IsViable, IsWhole}
+use Rattle.lotos_ast.specs.Fronts.{Accepts, IsFront, IsViable}
 use Rattle.lotos_ast.proofs.RulesSound.{rules_sound}
 use Rattle.lotos_ast.proofs.OneReading.{one_place, never_both}
-use Rattle.lotos_ast.proofs.Tails.{ReadsCut, StopsCut, reads_cut, stops_cut}
+use Rattle.lotos_ast.proofs.Tails.{reads_cut, stops_cut}
 
 -- the end of the tokens
 
@@ -56,7 +54,6 @@ enclosed_front a u (inr h) = inr (h.0, reads_enclosed h.1)
 pub part_front : (p : Part) (u : List Token) → IsFront (rule p) u → IsFront (part p) u
 part_front p u (inl h) = inl (stops_part h)
 part_front p u (inr h) = inr (node (place_at u) h.0, reads_part refl h.1)
-
 
 pub both_first : (a b : Bool) → a && b ≡ true → a ≡ true
 both_first true b h = refl
@@ -335,20 +332,24 @@ prefix (reads_quoted e m v) o (t ∷ s) u i = inr (s, cc, cc)
 prefix (reads_kept {w = w} e m v) o [] u i = inl (at_end (kept w) o)
 prefix (reads_kept e m v) o (t ∷ s) u i = inr (s, cc, cc)
 prefix (reads_sequence {a = a} {b = b} m h k) o s u i = elim (prefix h o.0 s u i) [
-  inl f ↦ inl (front_first a b s o.1 f)
+  | inl f ↦ inl (front_first a b s o.1 f)
   | inr p ↦ elim (prefix k o.1 p.0 u p.2) [
-    inl f ↦ inl (subst (λ z. IsFront (sequence a b) z) (sym p.1) (front_sequence a b (reads_cut h).taken p.0 u m p.2 (reads_cut h).again (reads_front h o.0) f))
-    | inr q ↦ inr (q.0, p.1 ∙ ap (λ z. (reads_cut h).taken ++ z) q.1 ∙ sym (append_assoc (reads_cut h).taken (reads_cut k).taken q.0), q.2) ] ]
+    | inl f ↦ inl (subst (λ z. IsFront (sequence a b) z) (sym p.1) (front_sequence a b (reads_cut h).taken p.0 u m p.2 (reads_cut h).again (reads_front h o.0) f))
+    | inr q ↦ inr (q.0, p.1 ∙ ap (λ z. (reads_cut h).taken ++ z) q.1 ∙ sym (append_assoc (reads_cut h).taken (reads_cut k).taken q.0), q.2)
+  ]
+]
 prefix (reads_left {a = a} {b = b} {s = w} j h) o s u i = elim (prefix h o.0 s u i) [ inl f ↦ inl (front_left a b w s u o i j f) | inr p ↦ inr p ]
 prefix (reads_right {a = a} {b = b} {s = w} j h) o s u i = elim (prefix h o.1 s u i) [ inl f ↦ inl (front_right a b w s u o i j f) | inr p ↦ inr p ]
 prefix (reads_absent j e) o s u i = inr (s, refl, sym e ∙ i)
 prefix (reads_present {a = a} {s = w} j h) o s u i = elim (prefix h o s u i) [ inl f ↦ inl (front_optional a w s u o i j f) | inr p ↦ inr p ]
 prefix (reads_no_more j e) o s u i = inr (s, refl, sym e ∙ i)
 prefix (reads_more {a = a} {s = w} m j h k) o s u i = elim (prefix h o.0 s u i) [
-  inl f ↦ inl (front_repeated a w s u o i j f)
+  | inl f ↦ inl (front_repeated a w s u o i j f)
   | inr p ↦ elim (prefix k o p.0 u p.2) [
-    inl f ↦ inl (subst (λ z. IsFront (repeated a) z) (sym p.1) (front_later a w (reads_cut h).taken p.0 u m o (i ∙ ap (λ z. z ++ u) p.1) j p.2 (reads_cut h).again (reads_front h o.0) f))
-    | inr q ↦ inr (q.0, p.1 ∙ ap (λ z. (reads_cut h).taken ++ z) q.1 ∙ sym (append_assoc (reads_cut h).taken (reads_cut k).taken q.0), q.2) ] ]
+    | inl f ↦ inl (subst (λ z. IsFront (repeated a) z) (sym p.1) (front_later a w (reads_cut h).taken p.0 u m o (i ∙ ap (λ z. z ++ u) p.1) j p.2 (reads_cut h).again (reads_front h o.0) f))
+    | inr q ↦ inr (q.0, p.1 ∙ ap (λ z. (reads_cut h).taken ++ z) q.1 ∙ sym (append_assoc (reads_cut h).taken (reads_cut k).taken q.0), q.2)
+  ]
+]
 prefix (reads_placed {a = a} e h) o s u i = elim (prefix h o s u i) [ inl f ↦ inl (placed_front a s f) | inr p ↦ inr p ]
 prefix (reads_reduced {u = w} {a = a} e h) o s u i = elim (prefix h o s u i) [ inl f ↦ inl (reduced_front w a s f) | inr p ↦ inr p ]
 prefix (reads_bracketed {a = a} h) o s u i = elim (prefix h o s u i) [ inl f ↦ inl (bracketed_front a s f) | inr p ↦ inr p ]

@@ -1,12 +1,12 @@
 -- The laws of the grammar.
-use Rattle.std.proofs.Common.{List, [], ◌∷◌, ◌++◌, ◌≡◌, ◌↔◌, subst, sym}
+use Rattle.std.proofs.Common.{List, [], ◌∷◌, ◌++◌, subst}
 use Rattle.std.proofs.lemmas.List.{append-nil}
 use Rattle.lotos_ast.specs.declared.token.Token.{Token}
-use Rattle.lotos_ast.specs.Notation.{Part, Syntax, part}
-use Rattle.lotos_ast.specs.Nesting.{Nesting, unlimited, Fault}
-use Rattle.lotos_ast.specs.Reads.{Tree, Reads, Stops}
+use Rattle.lotos_ast.specs.Notation.{Syntax, part}
+use Rattle.lotos_ast.specs.Nesting.{unlimited, Fault}
+use Rattle.lotos_ast.specs.Reads.{Stops}
 use Rattle.lotos_ast.specs.Conditions.{Sound, Fine}
-use Rattle.lotos_ast.specs.Fronts.{IsFront, IsWhole, IsViable, ComesAt, UnexpectedAt}
+use Rattle.lotos_ast.specs.Fronts.{ComesAt, UnexpectedAt}
 use Rattle.lotos_ast.specs.GrammarLaws.{OneTree, TreeOrFault, OneFault, StopsAtFirst, FrontsAreViable, SpelledIsRead, ReadWithoutLimits, StopsWithoutLimits}
 use Rattle.lotos_ast.proofs.OneReading.{one_reading, never_both, one_place}
 use Rattle.lotos_ast.proofs.Limits.{reads_unlimited, stops_unlimited}

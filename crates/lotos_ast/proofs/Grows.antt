@@ -1,23 +1,21 @@
 -- A front is completed to a text of the grammar.
 use Rattle.std.proofs.Common.{ℕ, zero, suc, List, [], ◌∷◌, ◌++◌, Bool, true, false, ◌≡◌, refl, sym, subst, ap, ◌∙◌, append_assoc, ◌⊎◌, inl, inr, ◌||◌, ◌&&◌}
 use Rattle.lotos_ast.specs.declared.mark.Mark.{Mark}
-use Rattle.lotos_ast.specs.declared.place.Place.{Place}
 use Rattle.lotos_ast.specs.declared.token.Token.{Token}
-use Rattle.lotos_ast.specs.MarkNumbers.{mark_number, is_same_mark}
-use Rattle.lotos_ast.specs.Notation.{Part, Wanted, Reduction, fits, Syntax, quoted, kept, sequence, either, optional, repeated, placed, reduced, bracketed, enclosed, part}
+use Rattle.lotos_ast.specs.Notation.{Part, fits, Syntax, quoted, kept, sequence, either, optional, repeated, placed, reduced, bracketed, enclosed, part}
 use Rattle.lotos_ast.specs.Grammar.{rule}
-use Rattle.lotos_ast.specs.Begins.{mark_at, place_at, starts, begins, is_empty}
-use Rattle.lotos_ast.specs.Nesting.{Nesting, unlimited, nested, in_bracket, in_construct, is_within, Fault, unexpected, too_deep, external, fault_at}
+use Rattle.lotos_ast.specs.Begins.{mark_at, place_at, starts, is_empty}
+use Rattle.lotos_ast.specs.Nesting.{Nesting, unlimited, Fault}
 use Rattle.lotos_ast.specs.Reads.{Tree, reduce, unkept, leaf, both, left, right, absent, present, no_more, more, node, Reads, Stops, reads_quoted, reads_kept, reads_sequence, reads_left, reads_right, reads_absent, reads_present, reads_no_more, reads_more, reads_placed, reads_reduced, reads_bracketed, reads_enclosed, reads_part, stops_quoted, stops_kept, deep_quoted, deep_kept, stops_first, stops_second, stops_left, stops_right, stops_optional, stops_repeated, stops_later, stops_placed, stops_reduced, stops_bracketed, stops_enclosed, stops_part}
 use Rattle.std.proofs.lemmas.List.{append-nil}
-use Rattle.lotos_ast.specs.Shortest.{rank, is_above, is_short_by, sample, sample_of, short, short_part}
+use Rattle.lotos_ast.specs.Shortest.{rank, is_above, is_short_by, sample_of, short, short_part}
 use Rattle.lotos_ast.specs.GoesOn.{goes_on, extends}
 use Rattle.lotos_ast.specs.Conditions.{Sound, Fine, implies}
 use Rattle.lotos_ast.specs.Fronts.{Accepts, IsFront, IsViable, IsWhole}
 use Rattle.lotos_ast.proofs.RulesSound.{rules_sound}
 use Rattle.lotos_ast.proofs.RulesFine.{rules_fine}
 use Rattle.lotos_ast.proofs.Tables.{every, contra, not_empty, goes_on_checked, short_checked}
-use Rattle.lotos_ast.proofs.Tails.{ReadsCut, reads_cut}
+use Rattle.lotos_ast.proofs.Tails.{reads_cut}
 use Rattle.lotos_ast.proofs.Fronts.{not_end, both_first, both_second, above_itself, lower, ranks_checked}
 
 pub nor_first : (a b : Bool) → a || b ≡ false → a ≡ false

@@ -1,14 +1,12 @@
 -- Limits change nothing below them.
-use Rattle.std.proofs.Common.{List, Bool, true, false, ◌≡◌, refl, sym, ◌⊎◌, inl, inr, if◌then◌else◌}
+use Rattle.std.proofs.Common.{List, Bool, true, false, ◌≡◌, refl, sym, if◌then◌else◌}
 use Rattle.lotos_ast.specs.declared.mark.Mark.{Mark}
-use Rattle.lotos_ast.specs.declared.place.Place.{Place}
 use Rattle.lotos_ast.specs.declared.token.Token.{Token}
-use Rattle.lotos_ast.specs.MarkNumbers.{mark_number, is_same_mark}
-use Rattle.lotos_ast.specs.Notation.{Part, Wanted, Reduction, fits, Syntax, quoted, kept, sequence, either, optional, repeated, placed, reduced, bracketed, enclosed, part}
-use Rattle.lotos_ast.specs.Grammar.{rule}
-use Rattle.lotos_ast.specs.Begins.{mark_at, place_at, starts, begins, is_empty}
-use Rattle.lotos_ast.specs.Nesting.{Nesting, unlimited, nested, in_bracket, in_construct, is_within, Fault, unexpected, too_deep, external, fault_at}
-use Rattle.lotos_ast.specs.Reads.{Tree, reduce, unkept, leaf, both, left, right, absent, present, no_more, more, node, Reads, Stops, reads_quoted, reads_kept, reads_sequence, reads_left, reads_right, reads_absent, reads_present, reads_no_more, reads_more, reads_placed, reads_reduced, reads_bracketed, reads_enclosed, reads_part, stops_quoted, stops_kept, deep_quoted, deep_kept, stops_first, stops_second, stops_left, stops_right, stops_optional, stops_repeated, stops_later, stops_placed, stops_reduced, stops_bracketed, stops_enclosed, stops_part}
+use Rattle.lotos_ast.specs.MarkNumbers.{is_same_mark}
+use Rattle.lotos_ast.specs.Notation.{Syntax}
+use Rattle.lotos_ast.specs.Begins.{mark_at}
+use Rattle.lotos_ast.specs.Nesting.{Nesting, unlimited, is_within, Fault, unexpected, too_deep, external}
+use Rattle.lotos_ast.specs.Reads.{Tree, Reads, Stops, reads_quoted, reads_kept, reads_sequence, reads_left, reads_right, reads_absent, reads_present, reads_no_more, reads_more, reads_placed, reads_reduced, reads_bracketed, reads_enclosed, reads_part, stops_quoted, stops_kept, deep_quoted, deep_kept, stops_first, stops_second, stops_left, stops_right, stops_optional, stops_repeated, stops_later, stops_placed, stops_reduced, stops_bracketed, stops_enclosed, stops_part}
 
 -- what is read within limits is read without them
 pub reads_unlimited : {d : Nesting} {g : Syntax} {s r : List Token} {x : Tree} → Reads d g s x r → Reads unlimited g s x r

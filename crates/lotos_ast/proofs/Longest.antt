@@ -1,14 +1,12 @@
 -- What is read is the longest front of its part.
 use Rattle.std.proofs.Common.{ℕ, zero, suc, List, [], ◌∷◌, ◌++◌, Bool, true, false, not, ◌≡◌, refl, sym, subst, ap, ◌∙◌, ◌⊎◌, inl, inr, ◌||◌, ◌&&◌}
 use Rattle.lotos_ast.specs.declared.mark.Mark.{Mark}
-use Rattle.lotos_ast.specs.declared.place.Place.{Place}
 use Rattle.lotos_ast.specs.declared.token.Token.{Token}
-use Rattle.lotos_ast.specs.MarkNumbers.{mark_number, is_same_mark}
-use Rattle.lotos_ast.specs.Notation.{Part, Wanted, Reduction, fits, Syntax, quoted, kept, sequence, either, optional, repeated, placed, reduced, bracketed, enclosed, part}
+use Rattle.lotos_ast.specs.Notation.{Part, fits, Syntax, quoted, kept, sequence, either, optional, repeated, placed, reduced, bracketed, enclosed, part}
 use Rattle.lotos_ast.specs.Grammar.{rule}
 use Rattle.lotos_ast.specs.Begins.{mark_at, place_at, starts, begins, is_empty}
-use Rattle.lotos_ast.specs.Nesting.{Nesting, unlimited, nested, in_bracket, in_construct, is_within, Fault, unexpected, too_deep, external, fault_at}
-use Rattle.lotos_ast.specs.Reads.{Tree, reduce, unkept, leaf, both, left, right, absent, present, no_more, more, node, Reads, Stops, reads_quoted, reads_kept, reads_sequence, reads_left, reads_right, reads_absent, reads_present, reads_no_more, reads_more, reads_placed, reads_reduced, reads_bracketed, reads_enclosed, reads_part, stops_quoted, stops_kept, deep_quoted, deep_kept, stops_first, stops_second, stops_left, stops_right, stops_optional, stops_repeated, stops_later, stops_placed, stops_reduced, stops_bracketed, stops_enclosed, stops_part}
+use Rattle.lotos_ast.specs.Nesting.{unlimited}
+use Rattle.lotos_ast.specs.Reads.{Tree, reduce, unkept, leaf, both, left, right, absent, present, no_more, more, node, Reads, reads_quoted, reads_kept, reads_sequence, reads_left, reads_right, reads_absent, reads_present, reads_no_more, reads_more, reads_placed, reads_reduced, reads_bracketed, reads_enclosed, reads_part, stops_second, stops_later}
 use Rattle.std.proofs.lemmas.List.{append-nil}
 use Rattle.lotos_ast.specs.TokenMarks.{mark_of}
 use Rattle.lotos_ast.specs.Notation.{specification, gate_list, functionality, type_definition, where_item, sort_part, operation_part, operation_names, infix_names, operation_name, equation_part, sort_equations, equations, equation, premiss, for_all, declarations, declaration, sort_pair, operation_pair, expression, infixes, simple, head, process, behaviour, enabling, disable, disabling, parallel, composing, operator, choice, choosing, unary, offer, atom, exit_value, binding, gate_choice}
@@ -119,12 +117,12 @@ begun_by n (quoted k) t o c l f h = inr (unkept, reads_quoted refl (sym (same_eq
 begun_by n (kept w) t o c l f h = inr (leaf t, reads_kept refl h refl)
 begun_by n (sequence a b) t o c l f h =
     sequence_begun a b t (is_empty a) (starts a (mark_of t)) o c.0 refl refl h
-      (λ e. begun_by n a t o.0 c.0 (and_first (is_led_by n a) (not (is_empty a) || is_led_by n b) l) f e)
-      (λ e i. begun_by n b t o.1 c.1 (subst (λ z. not z || is_led_by n b ≡ true) e (and_second (is_led_by n a) (not (is_empty a) || is_led_by n b) l)) f i)
+    (λ e. begun_by n a t o.0 c.0 (and_first (is_led_by n a) (not (is_empty a) || is_led_by n b) l) f e)
+    (λ e i. begun_by n b t o.1 c.1 (subst (λ z. not z || is_led_by n b ≡ true) e (and_second (is_led_by n a) (not (is_empty a) || is_led_by n b) l)) f i)
 begun_by n (either a b) t o c l f h =
     either_begun a b t (starts a (mark_of t)) o refl h
-      (λ e. begun_by n a t o.0 c.0 (and_first (is_led_by n a) (is_led_by n b) l) f e)
-      (λ e. begun_by n b t o.1 c.1 (and_second (is_led_by n a) (is_led_by n b) l) f e)
+    (λ e. begun_by n a t o.0 c.0 (and_first (is_led_by n a) (is_led_by n b) l) f e)
+    (λ e. begun_by n b t o.1 c.1 (and_second (is_led_by n a) (is_led_by n b) l) f e)
 begun_by n (optional a) t o c l f h = front_optional a (t ∷ []) (t ∷ []) [] o refl h (begun_by n a t o c.0 l f h)
 begun_by n (repeated a) t o c l f h = front_repeated a (t ∷ []) (t ∷ []) [] o refl h (begun_by n a t o.0 c.0 l f h)
 begun_by n (placed a) t o c l f h = placed_front a (t ∷ []) (begun_by n a t o c l f h)
@@ -165,11 +163,13 @@ second_front a b s m t o x (inr k) = inr (both x.0 k.0, reads_sequence (m ++ t �
 
 sequence_goes : (a b : Syntax) (s m : List Token) (x : Tree) (t : Token) (u : List Token) → Sound (sequence a b) → Reads unlimited a s x m → (m ≡ [] → (w : List Token) → GoesOn a s t w) → GoesOn b m t u → GoesOn (sequence a b) s t u
 sequence_goes a b s [] x t u o h f (inl y) = elim (f refl u) [
-  inl z ↦ inl (both z.0 y.0, reads_sequence (t ∷ u) z.1 y.1)
-  | inr k ↦ inr (front_first a b (s ++ t ∷ []) o.1 k) ]
+  | inl z ↦ inl (both z.0 y.0, reads_sequence (t ∷ u) z.1 y.1)
+  | inr k ↦ inr (front_first a b (s ++ t ∷ []) o.1 k)
+]
 sequence_goes a b s [] x t u o h f (inr k) = elim (f refl []) [
-  inl z ↦ inr (second_front a b s [] t o.1 z k)
-  | inr j ↦ inr (front_first a b (s ++ t ∷ []) o.1 j) ]
+  | inl z ↦ inr (second_front a b s [] t o.1 z k)
+  | inr j ↦ inr (front_first a b (s ++ t ∷ []) o.1 j)
+]
 sequence_goes a b s (r ∷ m) x t u o h f (inl y) =
     let z = grow_first a s (r ∷ m) (t ∷ u) x h (λ e. absurd (cons_nil r m e)) in
     inl (both z.0 y.0, reads_sequence ((r ∷ m) ++ t ∷ u) z.1 y.1)
@@ -209,11 +209,13 @@ later_front a s m t o j x (inr k) = inr (more x.0 k.0, reads_more (m ++ t ∷ []
 
 more_goes : (a : Syntax) (s m : List Token) (x : Tree) (t : Token) (u : List Token) → Sound (repeated a) → starts a (mark_at s) ≡ true → Reads unlimited a s x m → (m ≡ [] → (w : List Token) → GoesOn a s t w) → GoesOn (repeated a) m t u → GoesOn (repeated a) s t u
 more_goes a s [] x t u o j h f (inl y) = elim (f refl u) [
-  inl z ↦ inl (more z.0 y.0, reads_more (t ∷ u) (begun a s (t ∷ u) o.0 j) z.1 y.1)
-  | inr k ↦ inr (first_goes a s t o j k) ]
+  | inl z ↦ inl (more z.0 y.0, reads_more (t ∷ u) (begun a s (t ∷ u) o.0 j) z.1 y.1)
+  | inr k ↦ inr (first_goes a s t o j k)
+]
 more_goes a s [] x t u o j h f (inr k) = elim (f refl []) [
-  inl z ↦ inr (later_front a s [] t o j z k)
-  | inr i ↦ inr (first_goes a s t o j i) ]
+  | inl z ↦ inr (later_front a s [] t o j z k)
+  | inr i ↦ inr (first_goes a s t o j i)
+]
 more_goes a s (r ∷ m) x t u o j h f (inl y) =
     let z = grow_first a s (r ∷ m) (t ∷ u) x h (λ e. absurd (cons_nil r m e)) in
     inl (more z.0 y.0, reads_more ((r ∷ m) ++ t ∷ u) (begun a s (t ∷ u) o.0 j) z.1 y.1)

@@ -1,14 +1,10 @@
 -- A rule reads the longest front of the tokens, where it is a whole text.
-use Rattle.std.proofs.Common.{List, [], ◌∷◌, ◌++◌, Bool, true, false, ◌≡◌, refl, sym, subst, ap, ◌∙◌, append_assoc, ◌⊎◌, inl, inr, ◌↔◌}
-use Rattle.lotos_ast.specs.declared.mark.Mark.{Mark}
-use Rattle.lotos_ast.specs.declared.place.Place.{Place}
+use Rattle.std.proofs.Common.{List, [], ◌∷◌, ◌++◌, true, false, ◌≡◌, refl, sym, subst, ap, ◌∙◌, append_assoc, inl, inr}
 use Rattle.lotos_ast.specs.declared.token.Token.{Token}
-use Rattle.lotos_ast.specs.MarkNumbers.{mark_number, is_same_mark}
-use Rattle.lotos_ast.specs.Notation.{Part, Wanted, Reduction, fits, Syntax, quoted, kept, sequence, either, optional, repeated, placed, reduced, bracketed, enclosed, part}
-use Rattle.lotos_ast.specs.Grammar.{rule}
-use Rattle.lotos_ast.specs.Begins.{mark_at, place_at, starts, begins, is_empty}
-use Rattle.lotos_ast.specs.Nesting.{Nesting, unlimited, nested, in_bracket, in_construct, is_within, Fault, unexpected, too_deep, external, fault_at}
-use Rattle.lotos_ast.specs.Reads.{Tree, reduce, unkept, leaf, both, left, right, absent, present, no_more, more, node, Reads, Stops, reads_quoted, reads_kept, reads_sequence, reads_left, reads_right, reads_absent, reads_present, reads_no_more, reads_more, reads_placed, reads_reduced, reads_bracketed, reads_enclosed, reads_part, stops_quoted, stops_kept, deep_quoted, deep_kept, stops_first, stops_second, stops_left, stops_right, stops_optional, stops_repeated, stops_later, stops_placed, stops_reduced, stops_bracketed, stops_enclosed, stops_part}
+use Rattle.lotos_ast.specs.Notation.{fits, Syntax, sequence, either, optional, repeated, part}
+use Rattle.lotos_ast.specs.Begins.{mark_at, place_at, starts, is_empty}
+use Rattle.lotos_ast.specs.Nesting.{unlimited, Fault}
+use Rattle.lotos_ast.specs.Reads.{Tree, reduce, unkept, leaf, both, left, right, absent, present, no_more, more, node, Reads, Stops, reads_quoted, reads_kept, reads_sequence, reads_left, reads_right, reads_absent, reads_present, reads_no_more, reads_more, reads_placed, reads_reduced, reads_bracketed, reads_enclosed, reads_part}
 use Rattle.std.proofs.lemmas.List.{append-nil, append_cancel_right}
 use Rattle.lotos_ast.specs.Conditions.{Sound, Clean}
 use Rattle.lotos_ast.specs.Fronts.{Accepts, IsFront, IsWhole, IsLongest}
@@ -16,7 +12,7 @@ use Rattle.lotos_ast.specs.GrammarLaws.{LongestIsRead, StopsAtLongest}
 use Rattle.lotos_ast.proofs.RulesSound.{rules_sound}
 use Rattle.lotos_ast.proofs.RulesClean.{rules_clean}
 use Rattle.lotos_ast.proofs.OneReading.{one_reading, never_both}
-use Rattle.lotos_ast.proofs.Tails.{ReadsCut, reads_cut}
+use Rattle.lotos_ast.proofs.Tails.{reads_cut}
 use Rattle.lotos_ast.proofs.Fronts.{not_end, with_it_isnt, before_is_front}
 use Rattle.lotos_ast.proofs.Grows.{empty_read}
 use Rattle.lotos_ast.proofs.Longest.{goes_or_ends}
@@ -88,9 +84,10 @@ whole_read g before [] o c w l = (w.0, subst (λ z. Reads unlimited g z w.0 []) 
 whole_read g before (t ∷ u) o c w l = elim (goes_or_ends w.1 refl o c t u) [ inl y ↦ y | inr k ↦ absurd (l k) ]
 
 pub longest_is_read : LongestIsRead
-longest_is_read p before rest =
-    ( λ h. whole_read (part p) before rest tt tt (spells_whole p before h.0) h.1
-    , λ y. (reads_spelled (read_whole (part p) before rest y.0 tt tt y.1).1, longest (part p) before rest y.0 y.1) )
+longest_is_read p before rest = (
+  λ h. whole_read (part p) before rest tt tt (spells_whole p before h.0) h.1,
+  λ y. (reads_spelled (read_whole (part p) before rest y.0 tt tt y.1).1, longest (part p) before rest y.0 y.1),
+)
 
 stops_longest : (g : Syntax) (f : Fault) (before rest : List Token) → Stops unlimited f g (before ++ rest) rest → IsLongest g before rest
 stops_longest g f before [] h = tt
@@ -105,7 +102,8 @@ front_before g f before rest o h =
     subst (λ z. IsFront g z) (sym (append_cancel_right before u.0 rest u.1)) u.2
 
 pub stops_at_longest : StopsAtLongest
-stops_at_longest f p before rest h =
-    ( front_before (part p) f before rest tt h
-    , stops_longest (part p) f before rest h
-    , λ w. not_whole (part p) f before rest tt tt h (spells_whole p before w) )
+stops_at_longest f p before rest h = (
+  front_before (part p) f before rest tt h,
+  stops_longest (part p) f before rest h,
+  λ w. not_whole (part p) f before rest tt tt h (spells_whole p before w),
+)

@@ -1,14 +1,13 @@
 -- What the grammar as it is written spells is what is read with one token ahead.
-use Rattle.std.proofs.Common.{List, [], ◌∷◌, Bool, true, false, not, ◌≡◌, refl, sym, subst, ap, ◌∙◌, ◌⊎◌, inl, inr, ◌||◌, ◌&&◌}
+use Rattle.std.proofs.Common.{List, Bool, true, false, not, ◌≡◌, refl, ap, ◌∙◌, ◌⊎◌, inl, inr, ◌||◌, ◌&&◌}
 use Rattle.lotos_ast.specs.declared.mark.Mark.{Mark}
-use Rattle.lotos_ast.specs.declared.place.Place.{Place}
 use Rattle.lotos_ast.specs.declared.token.Token.{Token}
-use Rattle.lotos_ast.specs.MarkNumbers.{mark_number, is_same_mark}
-use Rattle.lotos_ast.specs.Notation.{Part, Wanted, Reduction, fits, Syntax, quoted, kept, sequence, either, optional, repeated, placed, reduced, bracketed, enclosed, part}
+use Rattle.lotos_ast.specs.MarkNumbers.{is_same_mark}
+use Rattle.lotos_ast.specs.Notation.{Part, Syntax, repeated, part}
 use Rattle.lotos_ast.specs.Grammar.{rule}
 use Rattle.lotos_ast.specs.Begins.{mark_at, place_at, starts, begins, is_empty}
-use Rattle.lotos_ast.specs.Nesting.{Nesting, unlimited, nested, in_bracket, in_construct, is_within, Fault, unexpected, too_deep, external, fault_at}
-use Rattle.lotos_ast.specs.Reads.{Tree, reduce, unkept, leaf, both, left, right, absent, present, no_more, more, node, Reads, Stops, reads_quoted, reads_kept, reads_sequence, reads_left, reads_right, reads_absent, reads_present, reads_no_more, reads_more, reads_placed, reads_reduced, reads_bracketed, reads_enclosed, reads_part, stops_quoted, stops_kept, deep_quoted, deep_kept, stops_first, stops_second, stops_left, stops_right, stops_optional, stops_repeated, stops_later, stops_placed, stops_reduced, stops_bracketed, stops_enclosed, stops_part}
+use Rattle.lotos_ast.specs.Nesting.{Nesting, unlimited}
+use Rattle.lotos_ast.specs.Reads.{Tree, reduce, unkept, leaf, both, left, right, absent, present, no_more, more, node, Reads, reads_quoted, reads_kept, reads_sequence, reads_left, reads_right, reads_absent, reads_present, reads_no_more, reads_more, reads_placed, reads_reduced, reads_bracketed, reads_enclosed, reads_part}
 use Rattle.lotos_ast.specs.Notation.{specification, gate_list, functionality, type_definition, where_item, sort_part, operation_part, operation_names, infix_names, operation_name, equation_part, sort_equations, equations, equation, premiss, for_all, declarations, declaration, sort_pair, operation_pair, expression, infixes, simple, head, process, behaviour, enabling, disable, disabling, parallel, composing, operator, choice, choosing, unary, offer, atom, exit_value, binding, gate_choice}
 use Rattle.lotos_ast.specs.Begins.{or_behind}
 use Rattle.lotos_ast.specs.Conditions.{Clean, Apart, implies}
@@ -42,25 +41,29 @@ start_or_nil : {g : Syntax} {s r : List Token} → Spelled g s r → (starts g (
 start_or_nil (spelled_quoted {k = k} e m) = inl (ap (is_same_mark k) m ∙ same_itself k)
 start_or_nil (spelled_kept e m) = inl m
 start_or_nil (spelled_sequence {a = a} {b = b} {s = s} m h k) = elim (start_or_nil h) [
-  inl f ↦ inl (to_first (is_empty a) (starts a (mark_at s)) (starts b (mark_at s)) f)
+  | inl f ↦ inl (to_first (is_empty a) (starts a (mark_at s)) (starts b (mark_at s)) f)
   | inr p ↦ elim (start_or_nil k) [
-    inl f ↦ inl (to_second (is_empty a) (starts a (mark_at s)) (starts b (mark_at s)) p.1 (ap (λ z. starts b (mark_at z)) p.0 ∙ f))
-    | inr q ↦ inr (p.0 ∙ q.0, both_true (is_empty a) (is_empty b) p.1 q.1) ] ]
+    | inl f ↦ inl (to_second (is_empty a) (starts a (mark_at s)) (starts b (mark_at s)) p.1 (ap (λ z. starts b (mark_at z)) p.0 ∙ f))
+    | inr q ↦ inr (p.0 ∙ q.0, both_true (is_empty a) (is_empty b) p.1 q.1)
+  ]
+]
 start_or_nil (spelled_left {a = a} {b = b} {s = s} h) = elim (start_or_nil h) [ inl f ↦ inl (true_or (starts a (mark_at s)) (starts b (mark_at s)) f) | inr p ↦ inr (p.0, true_or (is_empty a) (is_empty b) p.1) ]
 start_or_nil (spelled_right {a = a} {b = b} {s = s} h) = elim (start_or_nil h) [ inl f ↦ inl (or_true (starts a (mark_at s)) (starts b (mark_at s)) f) | inr p ↦ inr (p.0, or_true (is_empty a) (is_empty b) p.1) ]
 start_or_nil (spelled_absent f e) = inr (e, refl)
 start_or_nil (spelled_present h) = elim (start_or_nil h) [ inl f ↦ inl f | inr p ↦ inr (p.0, refl) ]
 start_or_nil (spelled_no_more e) = inr (e, refl)
 start_or_nil (spelled_more {a = a} {s = s} m h k) = elim (start_or_nil h) [
-  inl f ↦ inl f
-  | inr p ↦ elim (start_or_nil k) [ inl f ↦ inl (ap (λ z. starts a (mark_at z)) p.0 ∙ f) | inr q ↦ inr (p.0 ∙ q.0, refl) ] ]
+  | inl f ↦ inl f
+  | inr p ↦ elim (start_or_nil k) [ inl f ↦ inl (ap (λ z. starts a (mark_at z)) p.0 ∙ f) | inr q ↦ inr (p.0 ∙ q.0, refl) ]
+]
 start_or_nil (spelled_placed h) = start_or_nil h
 start_or_nil (spelled_reduced h) = start_or_nil h
 start_or_nil (spelled_bracketed h) = start_or_nil h
 start_or_nil (spelled_enclosed h) = start_or_nil h
 start_or_nil (spelled_part {p = p} {s = s} h) = elim (start_or_nil h) [
-  inl f ↦ inl (modus (starts (rule p) (mark_at s)) (begins p (mark_at s)) (every (λ m. implies (starts (rule p) m) (begins p m)) (begins_checked p) (mark_at s)) f)
-  | inr q ↦ absurd (not_full p q.1) ]
+  | inl f ↦ inl (modus (starts (rule p) (mark_at s)) (begins p (mark_at s)) (every (λ m. implies (starts (rule p) m) (begins p m)) (begins_checked p) (mark_at s)) f)
+  | inr q ↦ absurd (not_full p q.1)
+]
 
 -- where it isn't empty it begins with the next token
 starts_here : (a : Syntax) (s r : List Token) → Spelled a s r → is_empty a ≡ false → starts a (mark_at s) ≡ true
@@ -72,18 +75,21 @@ apart first second m c h = flip (second m) (modus (first m) (not (second m)) (ev
 -- a part doesn't go on by what the next one begins with
 stops_here : (a b : Syntax) (m r : List Token) → Apart (starts b) (reaches a) → Spelled b m r → reaches b (mark_at r) || is_empty b && reaches a (mark_at r) ≡ false → reaches a (mark_at m) ≡ false
 stops_here a b m r c k n = elim (start_or_nil k) [
-  inl f ↦ apart (starts b) (reaches a) (mark_at m) c f
-  | inr p ↦ ap (λ z. reaches a (mark_at z)) p.0 ∙ given (is_empty b) (reaches a (mark_at r)) (nor_second (reaches b (mark_at r)) _ n) p.1 ]
+  | inl f ↦ apart (starts b) (reaches a) (mark_at m) c f
+  | inr p ↦ ap (λ z. reaches a (mark_at z)) p.0 ∙ given (is_empty b) (reaches a (mark_at r)) (nor_second (reaches b (mark_at r)) _ n) p.1
+]
 
 stops_again : (a : Syntax) (m r : List Token) → Apart (starts a) (reaches a) → Spelled (repeated a) m r → reaches a (mark_at r) ≡ false → reaches a (mark_at m) ≡ false
 stops_again a m r c k n = elim (start_or_nil k) [
-  inl f ↦ apart (starts a) (reaches a) (mark_at m) c f
-  | inr p ↦ ap (λ z. reaches a (mark_at z)) p.0 ∙ n ]
+  | inl f ↦ apart (starts a) (reaches a) (mark_at m) c f
+  | inr p ↦ ap (λ z. reaches a (mark_at z)) p.0 ∙ n
+]
 
 not_left : (a b : Syntax) (s r : List Token) → Apart (starts b) (starts a) → Spelled b s r → is_empty b && starts a (mark_at r) ≡ false → starts a (mark_at s) ≡ false
 not_left a b s r c h n = elim (start_or_nil h) [
-  inl f ↦ apart (starts b) (starts a) (mark_at s) c f
-  | inr p ↦ ap (λ z. starts a (mark_at z)) p.0 ∙ given (is_empty b) (starts a (mark_at r)) n p.1 ]
+  | inl f ↦ apart (starts b) (starts a) (mark_at s) c f
+  | inr p ↦ ap (λ z. starts a (mark_at z)) p.0 ∙ given (is_empty b) (starts a (mark_at r)) n p.1
+]
 
 not_there : (f b : Bool) → (f ≡ true → b ≡ false) → unless f b ≡ false → b ≡ false
 not_there true b h n = h refl

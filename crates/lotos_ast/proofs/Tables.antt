@@ -1,5 +1,5 @@
 -- The tables of the rules are compared with the rules, by computing.
-use Rattle.std.proofs.Common.{ℕ, zero, suc, List, [], ◌∷◌, Bool, true, false, not, ◌||◌, ◌&&◌, ◌≡◌, refl, sym, ap, ◌∙◌, subst, Option, Some, None}
+use Rattle.std.proofs.Common.{ℕ, zero, suc, List, [], ◌∷◌, Bool, true, false, ◌&&◌, ◌≡◌, refl, sym, ap, ◌∙◌, subst, Option, Some, None}
 use Rattle.std.proofs.lemmas.Bool.{eqb-true}
 use Rattle.lotos_ast.specs.declared.mark.Mark.{Mark}
 use Rattle.lotos_ast.specs.declared.mark.Mark.TheVariants.{Accept, ActualizedBy, Any, Behaviour, Choice, EndLib, EndProc, EndSpec, EndType, Eqns, Exit, For, ForAll, FormalEqns, FormalOpns, FormalSorts, Hide, I, In, Is, Let, Library, NoExit, Of, OfSort, OpnNames, Opns, Par, Process, RenamedBy, SortNames, Sorts, Specification, Stop, TypeKeyword, Using, Where, Brackets, Disable, LeftBracket, RightBars, RightBracket, Interleave, Synchronise, LeftBars, ColonEquals, Colon, Equals, DoubleArrow, Arrow, Enable, LeftParenthesis, RightParenthesis, Semicolon, Comma, Exclamation, Question, Underscore, Identifier, Numeral, Operation, ConstructorMark, ExternalMark, End, Unknown}
@@ -374,4 +374,3 @@ short_checked atom = refl
 short_checked exit_value = refl
 short_checked binding = refl
 short_checked gate_choice = refl
-

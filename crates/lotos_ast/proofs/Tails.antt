@@ -1,13 +1,10 @@
 -- What is read depends on the tokens that are taken and on the mark of the next one alone, its places aside.
 use Rattle.std.proofs.Common.{List, [], ◌∷◌, ◌++◌, Bool, true, false, ◌≡◌, refl, sym, subst, ap, ◌∙◌, append_assoc}
-use Rattle.lotos_ast.specs.declared.mark.Mark.{Mark}
-use Rattle.lotos_ast.specs.declared.place.Place.{Place}
 use Rattle.lotos_ast.specs.declared.token.Token.{Token}
-use Rattle.lotos_ast.specs.MarkNumbers.{mark_number, is_same_mark}
-use Rattle.lotos_ast.specs.Notation.{Part, Wanted, Reduction, fits, Syntax, quoted, kept, sequence, either, optional, repeated, placed, reduced, bracketed, enclosed, part}
-use Rattle.lotos_ast.specs.Grammar.{rule}
-use Rattle.lotos_ast.specs.Begins.{mark_at, place_at, starts, begins, is_empty}
-use Rattle.lotos_ast.specs.Nesting.{Nesting, unlimited, nested, in_bracket, in_construct, is_within, Fault, unexpected, too_deep, external, fault_at}
+use Rattle.lotos_ast.specs.MarkNumbers.{is_same_mark}
+use Rattle.lotos_ast.specs.Notation.{fits, Syntax, sequence, repeated}
+use Rattle.lotos_ast.specs.Begins.{mark_at, place_at, starts}
+use Rattle.lotos_ast.specs.Nesting.{Nesting, is_within, Fault, fault_at}
 use Rattle.lotos_ast.specs.Reads.{Tree, reduce, unkept, leaf, both, left, right, absent, present, no_more, more, node, Reads, Stops, reads_quoted, reads_kept, reads_sequence, reads_left, reads_right, reads_absent, reads_present, reads_no_more, reads_more, reads_placed, reads_reduced, reads_bracketed, reads_enclosed, reads_part, stops_quoted, stops_kept, deep_quoted, deep_kept, stops_first, stops_second, stops_left, stops_right, stops_optional, stops_repeated, stops_later, stops_placed, stops_reduced, stops_bracketed, stops_enclosed, stops_part}
 use Rattle.lotos_ast.specs.Fronts.{Accepts}
 
@@ -39,9 +36,9 @@ reads_cut (reads_sequence {d = d} {a = a} {b = b} {r = r} m h k) =
       taken = u.taken ++ v.taken;
       all = u.all ∙ ap (λ z. u.taken ++ z) v.all ∙ sym (append_assoc u.taken v.taken r);
       again = λ q i.
-        let x = u.again (v.taken ++ q) (mark_behind v.taken q r i ∙ ap mark_at (sym v.all)) in
-        let y = v.again q i in
-        (both x.0 y.0, subst (λ z. Reads d (sequence a b) z (both x.0 y.0) q) (sym (append_assoc u.taken v.taken q)) (reads_sequence (v.taken ++ q) x.1 y.1));
+          let x = u.again (v.taken ++ q) (mark_behind v.taken q r i ∙ ap mark_at (sym v.all)) in
+          let y = v.again q i in
+          (both x.0 y.0, subst (λ z. Reads d (sequence a b) z (both x.0 y.0) q) (sym (append_assoc u.taken v.taken q)) (reads_sequence (v.taken ++ q) x.1 y.1));
     }
 reads_cut (reads_left {a = a} {s = s} {r = r} b h) = let u = reads_cut h in record { taken = u.taken; all = u.all; again = λ q i. let x = u.again q i in (left x.0, reads_left (test a s u.taken q r true u.all i b) x.1) }
 reads_cut (reads_right {a = a} {s = s} {r = r} b h) = let u = reads_cut h in record { taken = u.taken; all = u.all; again = λ q i. let x = u.again q i in (right x.0, reads_right (test a s u.taken q r false u.all i b) x.1) }
@@ -56,9 +53,9 @@ reads_cut (reads_more {d = d} {a = a} {s = s} {r = r} m b h k) =
       taken = u.taken ++ v.taken;
       all = all;
       again = λ q i.
-        let x = u.again (v.taken ++ q) (mark_behind v.taken q r i ∙ ap mark_at (sym v.all)) in
-        let y = v.again q i in
-        (more x.0 y.0, subst (λ z. Reads d (repeated a) z (more x.0 y.0) q) (sym (append_assoc u.taken v.taken q)) (reads_more (v.taken ++ q) (subst (λ z. starts a (mark_at z) ≡ true) (append_assoc u.taken v.taken q) (test a s (u.taken ++ v.taken) q r true all i b)) x.1 y.1));
+          let x = u.again (v.taken ++ q) (mark_behind v.taken q r i ∙ ap mark_at (sym v.all)) in
+          let y = v.again q i in
+          (more x.0 y.0, subst (λ z. Reads d (repeated a) z (more x.0 y.0) q) (sym (append_assoc u.taken v.taken q)) (reads_more (v.taken ++ q) (subst (λ z. starts a (mark_at z) ≡ true) (append_assoc u.taken v.taken q) (test a s (u.taken ++ v.taken) q r true all i b)) x.1 y.1));
     }
 reads_cut (reads_placed e h) = let u = reads_cut h in record { taken = u.taken; all = u.all; again = λ q i. let x = u.again q i in (node (place_at (u.taken ++ q)) x.0, reads_placed refl x.1) }
 reads_cut (reads_reduced {u = w} e h) = let u = reads_cut h in record { taken = u.taken; all = u.all; again = λ q i. let x = u.again q i in (reduce w x.0, reads_reduced refl x.1) }
@@ -79,8 +76,8 @@ stops_cut (stops_second {d = d} {f = f} {a = a} {b = b} {r = r} m h k) =
       taken = u.taken ++ v.taken;
       all = u.all ∙ ap (λ z. u.taken ++ z) v.all ∙ sym (append_assoc u.taken v.taken r);
       again = λ q i.
-        let x = u.again (v.taken ++ q) (mark_behind v.taken q r i ∙ ap mark_at (sym v.all)) in
-        subst (λ z. Stops d f (sequence a b) z q) (sym (append_assoc u.taken v.taken q)) (stops_second (v.taken ++ q) x.1 (v.again q i));
+          let x = u.again (v.taken ++ q) (mark_behind v.taken q r i ∙ ap mark_at (sym v.all)) in
+          subst (λ z. Stops d f (sequence a b) z q) (sym (append_assoc u.taken v.taken q)) (stops_second (v.taken ++ q) x.1 (v.again q i));
     }
 stops_cut (stops_left {a = a} {s = s} {r = r} b h) = let u = stops_cut h in record { taken = u.taken; all = u.all; again = λ q i. stops_left (test a s u.taken q r true u.all i b) (u.again q i) }
 stops_cut (stops_right {a = a} {s = s} {r = r} b h) = let u = stops_cut h in record { taken = u.taken; all = u.all; again = λ q i. stops_right (test a s u.taken q r false u.all i b) (u.again q i) }
@@ -94,8 +91,8 @@ stops_cut (stops_later {d = d} {f = f} {a = a} {s = s} {r = r} m b h k) =
       taken = u.taken ++ v.taken;
       all = all;
       again = λ q i.
-        let x = u.again (v.taken ++ q) (mark_behind v.taken q r i ∙ ap mark_at (sym v.all)) in
-        subst (λ z. Stops d f (repeated a) z q) (sym (append_assoc u.taken v.taken q)) (stops_later (v.taken ++ q) (subst (λ z. starts a (mark_at z) ≡ true) (append_assoc u.taken v.taken q) (test a s (u.taken ++ v.taken) q r true all i b)) x.1 (v.again q i));
+          let x = u.again (v.taken ++ q) (mark_behind v.taken q r i ∙ ap mark_at (sym v.all)) in
+          subst (λ z. Stops d f (repeated a) z q) (sym (append_assoc u.taken v.taken q)) (stops_later (v.taken ++ q) (subst (λ z. starts a (mark_at z) ≡ true) (append_assoc u.taken v.taken q) (test a s (u.taken ++ v.taken) q r true all i b)) x.1 (v.again q i));
     }
 stops_cut (stops_placed h) = let u = stops_cut h in record { taken = u.taken; all = u.all; again = λ q i. stops_placed (u.again q i) }
 stops_cut (stops_reduced h) = let u = stops_cut h in record { taken = u.taken; all = u.all; again = λ q i. stops_reduced (u.again q i) }

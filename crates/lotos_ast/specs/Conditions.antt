@@ -1,5 +1,5 @@
 -- What the laws ask of a grammar. Each rule is checked by computing.
-use Rattle.std.specs.Prelude.{List, [], ◌∷◌, Bool, true, false, not, ◌||◌, ◌≡◌}
+use Rattle.std.specs.Prelude.{Bool, true, false, not, ◌||◌, ◌≡◌}
 use Rattle.lotos_ast.specs.declared.mark.Mark.{Mark}
 use Rattle.lotos_ast.specs.TokenMarks.{mark_of}
 use Rattle.lotos_ast.specs.MarkNumbers.{is_same_mark, AllMarks}

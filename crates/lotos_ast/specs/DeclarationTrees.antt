@@ -1,5 +1,5 @@
 -- The trees of declarations of variables and of lists of gates.
-use Rattle.std.specs.Prelude.{List, map, Option, Some, None, Vec}
+use Rattle.std.specs.Prelude.{map, Option, Some, None, Vec}
 use Rattle.std.specs.declared.alloc.Global.{Global}
 use Rattle.lotos_ast.specs.declared.token.Token.{Token}
 use Rattle.lotos_ast.specs.declared.declaration.Declaration.{Declaration}

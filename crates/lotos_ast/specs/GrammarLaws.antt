@@ -1,11 +1,11 @@
 -- Laws about all lists of tokens, for every rule of the grammar.
-use Rattle.std.specs.Prelude.{List, [], ◌∷◌, ◌++◌, ◌≡◌, ◌↔◌}
+use Rattle.std.specs.Prelude.{List, ◌++◌, ◌≡◌, ◌↔◌}
 use Rattle.lotos_ast.specs.declared.token.Token.{Token}
 use Rattle.lotos_ast.specs.Notation.{Part, Syntax, part}
 use Rattle.lotos_ast.specs.Nesting.{Nesting, unlimited, Fault, too_deep}
 use Rattle.lotos_ast.specs.Reads.{Tree, Reads, Stops}
 use Rattle.lotos_ast.specs.Fronts.{Accepts, IsFront, IsLongest, IsWhole, IsViable, UnexpectedAt}
-use Rattle.lotos_ast.specs.Spelled.{Spelled, Spells}
+use Rattle.lotos_ast.specs.Spelled.{Spells}
 
 -- what is read has one tree and one rest
 abbrev pub OneTree : Type 0

@@ -1,5 +1,5 @@
 -- How deep a token is nested, and why a text is refused at a token.
-use Rattle.std.specs.Prelude.{ℕ, ◌+◌, Bool, true, false, nat_le, ◌&&◌, if◌then◌else◌}
+use Rattle.std.specs.Prelude.{ℕ, ◌+◌, Bool, true, nat_le, ◌&&◌, if◌then◌else◌}
 use Rattle.lotos_ast.specs.declared.mark.Mark.{Mark}
 use Rattle.lotos_ast.specs.MarkNumbers.{is_same_mark}
 

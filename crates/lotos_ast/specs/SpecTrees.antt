@@ -1,5 +1,5 @@
 -- The trees of specifications and processes.
-use Rattle.std.specs.Prelude.{List, map, Option, Some, None, Vec}
+use Rattle.std.specs.Prelude.{map, Option, Some, None, Vec}
 use Rattle.std.specs.declared.alloc.Global.{Global}
 use Rattle.lotos_ast.specs.declared.declaration.Declarations.{Declarations}
 use Rattle.lotos_ast.specs.declared.spec.Spec.{Spec}
