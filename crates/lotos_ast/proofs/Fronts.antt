@@ -5,7 +5,7 @@ use Rattle.lotos_ast.specs.declared.token.Token.{Token}
 use Rattle.lotos_ast.specs.Notation.{Part, Reduction, fits, Syntax, quoted, kept, sequence, either, optional, repeated, placed, reduced, bracketed, enclosed, part}
 use Rattle.lotos_ast.specs.Grammar.{rule}
 use Rattle.lotos_ast.specs.Begins.{mark_at, place_at, starts, begins, is_empty}
-use Rattle.lotos_ast.specs.Nesting.{unlimited, Fault, unexpected}
+use Rattle.lotos_ast.specs.Nesting.{Nesting, unlimited, Fault, unexpected}
 use Rattle.lotos_ast.specs.Reads.{Tree, reduce, unkept, leaf, both, left, right, absent, present, no_more, more, node, Reads, Stops, reads_quoted, reads_kept, reads_sequence, reads_left, reads_right, reads_absent, reads_present, reads_no_more, reads_more, reads_placed, reads_reduced, reads_bracketed, reads_enclosed, reads_part, stops_quoted, stops_kept, deep_quoted, deep_kept, stops_first, stops_second, stops_left, stops_right, stops_optional, stops_repeated, stops_later, stops_placed, stops_reduced, stops_bracketed, stops_enclosed, stops_part}
 use Rattle.std.proofs.lemmas.List.{append-nil, append_cancel_right}
 use Rattle.lotos_ast.specs.Notation.{specification, gate_list, functionality, type_definition, where_item, sort_part, operation_part, operation_names, infix_names, operation_name, equation_part, sort_equations, equations, equation, premiss, for_all, declarations, declaration, sort_pair, operation_pair, expression, infixes, simple, head, process, behaviour, enabling, disable, disabling, parallel, composing, operator, choice, choosing, unary, offer, atom, exit_value, binding, gate_choice}
@@ -13,6 +13,7 @@ use Rattle.lotos_ast.specs.Begins.{or_behind}
 use Rattle.lotos_ast.specs.Shortest.{rank, is_above, is_short_by}
 use Rattle.lotos_ast.specs.Conditions.{Sound}
 use Rattle.lotos_ast.specs.Fronts.{Accepts, IsFront, IsViable}
+use Rattle.lotos_ast.proofs.Limits.{reads_unlimited}
 use Rattle.lotos_ast.proofs.RulesSound.{rules_sound}
 use Rattle.lotos_ast.proofs.OneReading.{one_place, never_both}
 use Rattle.lotos_ast.proofs.Tails.{reads_cut, stops_cut}
@@ -266,18 +267,22 @@ front_later a s u [] r m o f i e again h k = subst (λ z. IsFront (repeated a) z
 front_later a s u (t ∷ v) r m o f i e again h (inl k) = let x = again (t ∷ v) (sym (ap mark_at e)) in inl (stops_later (t ∷ v) (ap (starts a) (head_same u t v r s f) ∙ i) x.1 k)
 front_later a s u (t ∷ v) r m o f i e again h (inr k) = let x = again (t ∷ v) (sym (ap mark_at e)) in inr (more x.0 k.0, reads_more (t ∷ v) (ap (starts a) (head_same u t v r s f) ∙ i) x.1 k.1)
 
+-- what is read within limits is read without them, whatever follows
+without_limits : (d : Nesting) (a : Syntax) (u m : List Token) → ((q : List Token) → mark_at q ≡ mark_at m → Accepts d a (u ++ q) q) → (q : List Token) → mark_at q ≡ mark_at m → Accepts unlimited a (u ++ q) q
+without_limits d a u m f q i = let x = f q i in (x.0, reads_unlimited x.1)
+
 -- the tokens that are read are a front
-pub reads_front : {g : Syntax} {s r : List Token} {x : Tree} (h : Reads unlimited g s x r) → Sound g → IsFront g (reads_cut h).taken
+pub reads_front : {d : Nesting} {g : Syntax} {s r : List Token} {x : Tree} (h : Reads d g s x r) → Sound g → IsFront g (reads_cut h).taken
 unfolding reads_cut
 reads_front (reads_quoted {k = k} e m v) o = inr (unkept, reads_quoted refl (ap mark_at (sym e) ∙ m) refl)
 reads_front (reads_kept {w = w} {t = t} e m v) o = inr (leaf t, reads_kept refl (ap (λ z. fits w (mark_at z)) (sym e) ∙ m) refl)
-reads_front (reads_sequence {a = a} {b = b} {r = r} m h k) o = front_sequence a b (reads_cut h).taken (reads_cut k).taken r m (reads_cut k).all (reads_cut h).again (reads_front h o.0) (reads_front k o.1)
+reads_front (reads_sequence {a = a} {b = b} {r = r} m h k) o = front_sequence a b (reads_cut h).taken (reads_cut k).taken r m (reads_cut k).all (without_limits _ a (reads_cut h).taken m (reads_cut h).again) (reads_front h o.0) (reads_front k o.1)
 reads_front (reads_left {a = a} {b = b} {s = s} {r = r} i h) o = front_left a b s (reads_cut h).taken r o (reads_cut h).all i (reads_front h o.0)
 reads_front (reads_right {a = a} {b = b} {s = s} {r = r} i h) o = front_right a b s (reads_cut h).taken r o (reads_cut h).all i (reads_front h o.1)
 reads_front (reads_absent {a = a} i e) o = at_end (optional a) o
 reads_front (reads_present {a = a} {s = s} {r = r} i h) o = front_optional a s (reads_cut h).taken r o (reads_cut h).all i (reads_front h o)
 reads_front (reads_no_more {a = a} i e) o = at_end (repeated a) o
-reads_front (reads_more {a = a} {s = s} {r = r} m i h k) o = front_later a s (reads_cut h).taken (reads_cut k).taken r m o ((reads_cut h).all ∙ ap (λ z. (reads_cut h).taken ++ z) (reads_cut k).all ∙ sym (append_assoc (reads_cut h).taken (reads_cut k).taken r)) i (reads_cut k).all (reads_cut h).again (reads_front h o.0) (reads_front k o)
+reads_front (reads_more {a = a} {s = s} {r = r} m i h k) o = front_later a s (reads_cut h).taken (reads_cut k).taken r m o ((reads_cut h).all ∙ ap (λ z. (reads_cut h).taken ++ z) (reads_cut k).all ∙ sym (append_assoc (reads_cut h).taken (reads_cut k).taken r)) i (reads_cut k).all (without_limits _ a (reads_cut h).taken m (reads_cut h).again) (reads_front h o.0) (reads_front k o)
 reads_front (reads_placed {a = a} e h) o = placed_front a (reads_cut h).taken (reads_front h o)
 reads_front (reads_reduced {u = w} {a = a} e h) o = reduced_front w a (reads_cut h).taken (reads_front h o)
 reads_front (reads_bracketed {a = a} h) o = bracketed_front a (reads_cut h).taken (reads_front h o)
@@ -285,19 +290,19 @@ reads_front (reads_enclosed {a = a} h) o = enclosed_front a (reads_cut h).taken 
 reads_front (reads_part {q = p} e h) o = part_front p (reads_cut h).taken (reads_front h (rules_sound p))
 
 -- the tokens before the place where reading stops are a front
-pub stops_front : {f : Fault} {g : Syntax} {s r : List Token} (h : Stops unlimited f g s r) → Sound g → IsFront g (stops_cut h).taken
+pub stops_front : {d : Nesting} {f : Fault} {g : Syntax} {s r : List Token} (h : Stops d f g s r) → Sound g → IsFront g (stops_cut h).taken
 unfolding stops_cut
 stops_front (stops_quoted {k = k} b f e) o = at_end (quoted k) o
 stops_front (stops_kept {w = w} b f e) o = at_end (kept w) o
 stops_front (deep_quoted {k = k} m v e) o = at_end (quoted k) o
 stops_front (deep_kept {w = w} m v e) o = at_end (kept w) o
 stops_front (stops_first {a = a} {b = b} h) o = front_first a b (stops_cut h).taken o.1 (stops_front h o.0)
-stops_front (stops_second {a = a} {b = b} {r = r} m h k) o = front_sequence a b (reads_cut h).taken (stops_cut k).taken r m (stops_cut k).all (reads_cut h).again (reads_front h o.0) (stops_front k o.1)
+stops_front (stops_second {a = a} {b = b} {r = r} m h k) o = front_sequence a b (reads_cut h).taken (stops_cut k).taken r m (stops_cut k).all (without_limits _ a (reads_cut h).taken m (reads_cut h).again) (reads_front h o.0) (stops_front k o.1)
 stops_front (stops_left {a = a} {b = b} {s = s} {r = r} i h) o = front_left a b s (stops_cut h).taken r o (stops_cut h).all i (stops_front h o.0)
 stops_front (stops_right {a = a} {b = b} {s = s} {r = r} i h) o = front_right a b s (stops_cut h).taken r o (stops_cut h).all i (stops_front h o.1)
 stops_front (stops_optional {a = a} {s = s} {r = r} i h) o = front_optional a s (stops_cut h).taken r o (stops_cut h).all i (stops_front h o)
 stops_front (stops_repeated {a = a} {s = s} {r = r} i h) o = front_repeated a s (stops_cut h).taken r o (stops_cut h).all i (stops_front h o.0)
-stops_front (stops_later {a = a} {s = s} {r = r} m i h k) o = front_later a s (reads_cut h).taken (stops_cut k).taken r m o ((reads_cut h).all ∙ ap (λ z. (reads_cut h).taken ++ z) (stops_cut k).all ∙ sym (append_assoc (reads_cut h).taken (stops_cut k).taken r)) i (stops_cut k).all (reads_cut h).again (reads_front h o.0) (stops_front k o)
+stops_front (stops_later {a = a} {s = s} {r = r} m i h k) o = front_later a s (reads_cut h).taken (stops_cut k).taken r m o ((reads_cut h).all ∙ ap (λ z. (reads_cut h).taken ++ z) (stops_cut k).all ∙ sym (append_assoc (reads_cut h).taken (stops_cut k).taken r)) i (stops_cut k).all (without_limits _ a (reads_cut h).taken m (reads_cut h).again) (reads_front h o.0) (stops_front k o)
 stops_front (stops_placed {a = a} h) o = placed_front a (stops_cut h).taken (stops_front h o)
 stops_front (stops_reduced {u = w} {a = a} h) o = reduced_front w a (stops_cut h).taken (stops_front h o)
 stops_front (stops_bracketed {a = a} h) o = bracketed_front a (stops_cut h).taken (stops_front h o)
@@ -305,8 +310,8 @@ stops_front (stops_enclosed {a = a} h) o = enclosed_front a (stops_cut h).taken 
 stops_front (stops_part {q = p} h) o = part_front p (stops_cut h).taken (stops_front h (rules_sound p))
 
 -- Where reading stops before a token, the tokens before it are a front.
-pub before_is_front : (g : Syntax) (f : Fault) (s r : List Token) → Sound g → Stops unlimited f g s r → (before : List Token) × (s ≡ before ++ r) × IsFront g before
-before_is_front g f s r o h = let u = stops_cut h in (u.taken, u.all, stops_front h o)
+pub before_is_front : (d : Nesting) (g : Syntax) (f : Fault) (s r : List Token) → Sound g → Stops d f g s r → (before : List Token) × (s ≡ before ++ r) × IsFront g before
+before_is_front d g f s r o h = let u = stops_cut h in (u.taken, u.all, stops_front h o)
 
 -- however the tokens go on behind the one at which reading stops, it stops there
 pub stops_again : (g : Syntax) (f : Fault) (before u : List Token) (t : Token) → Stops unlimited f g (before ++ t ∷ u) (t ∷ u) → (w : List Token) → Stops unlimited f g (before ++ t ∷ w) (t ∷ w)

@@ -98,7 +98,7 @@ not_whole g f before rest o c h w = never_both h (whole_read g before rest o c w
 
 front_before : (g : Syntax) (f : Fault) (before rest : List Token) → Sound g → Stops unlimited f g (before ++ rest) rest → IsFront g before
 front_before g f before rest o h =
-    let u = before_is_front g f (before ++ rest) rest o h in
+    let u = before_is_front unlimited g f (before ++ rest) rest o h in
     subst (λ z. IsFront g z) (sym (append_cancel_right before u.0 rest u.1)) u.2
 
 pub stops_at_longest : StopsAtLongest

@@ -1,5 +1,5 @@
 -- Laws about all lists of tokens, for every rule of the grammar.
-use Rattle.std.specs.Prelude.{List, ◌++◌, ◌≡◌, ◌↔◌}
+use Rattle.std.specs.Prelude.{List, ◌++◌, ◌≡◌, ◌↔◌, ◌⊎◌}
 use Rattle.lotos_ast.specs.declared.token.Token.{Token}
 use Rattle.lotos_ast.specs.Notation.{Part, Syntax, part}
 use Rattle.lotos_ast.specs.Nesting.{Nesting, unlimited, Fault, too_deep}
@@ -48,3 +48,17 @@ LongestIsRead = (p : Part) (before rest : List Token) → (Spells (part p) befor
 abbrev pub StopsAtLongest : Type 0
 StopsAtLongest = (f : Fault) (p : Part) (before rest : List Token) → Stops unlimited f (part p) (before ++ rest) rest →
     IsFront (part p) before × IsLongest (part p) before rest × (Spells (part p) before → ⊥)
+
+-- what is read without limits is read within them, or reading stops too deep
+abbrev pub ReadOrTooDeep : Type 0
+ReadOrTooDeep = (d : Nesting) (g : Syntax) (s r : List Token) (x : Tree) → Reads unlimited g s x r →
+    Reads d g s x r ⊎ ((q : List Token) × Stops d too_deep g s q)
+
+-- where reading stops without limits, it stops there within them, or it stops too deep
+abbrev pub StopsOrTooDeep : Type 0
+StopsOrTooDeep = (d : Nesting) (f : Fault) (g : Syntax) (s r : List Token) → Stops unlimited f g s r →
+    Stops d f g s r ⊎ ((q : List Token) × Stops d too_deep g s q)
+
+-- where reading stops, too deep or not, the tokens before are a front
+abbrev pub FrontBeforeFault : Type 0
+FrontBeforeFault = (d : Nesting) (f : Fault) (p : Part) (before rest : List Token) → Stops d f (part p) (before ++ rest) rest → IsFront (part p) before

@@ -1,6 +1,6 @@
 // What holds of the definitions.
 
-ghost use Rattle.lotos_ast.specs.GrammarLaws.{OneTree, TreeOrFault, OneFault, StopsAtFirst, FrontsAreViable, SpelledIsRead, ReadWithoutLimits, StopsWithoutLimits, LongestIsRead, StopsAtLongest};
+ghost use Rattle.lotos_ast.specs.GrammarLaws.{OneTree, TreeOrFault, OneFault, StopsAtFirst, FrontsAreViable, SpelledIsRead, ReadWithoutLimits, StopsWithoutLimits, FrontBeforeFault, ReadOrTooDeep, StopsOrTooDeep, LongestIsRead, StopsAtLongest};
 ghost use Rattle.lotos_ast.specs.TokenLaws.{TokensOrRefusal, NotBoth, OneTokenList, OneRefusal};
 
 /// Each text either isn't too long and has one list of tokens, or it has one refusal. The function does nothing.
@@ -36,10 +36,12 @@ pub fn one_token_ahead_is_enough()
 {}
 
 /// The limits of nesting change nothing below them. The function does nothing.
-#[tactic(auto, using(crate::proofs::GrammarLaws::read_without_limits, crate::proofs::GrammarLaws::stops_without_limits))]
 pub fn limits_change_nothing_below_them()
     ensures read { ReadWithoutLimits }
     ensures stops { StopsWithoutLimits }
+    ensures read_or_deep { ReadOrTooDeep }
+    ensures stops_or_deep { StopsOrTooDeep }
+    ensures front { FrontBeforeFault }
 {}
 
 /// A rule reads the longest front of the tokens where that is a whole text, and stops behind it where it isn't. The function
