@@ -1,3 +1,17 @@
 pub mod Advances
 pub mod TokenLaws
 pub mod Existence
+pub mod Rows
+pub mod OneReading
+pub mod Tails
+pub mod Limits
+pub mod RulesSound
+pub mod RulesFine
+pub mod RulesClean
+pub mod Fronts
+pub mod Tables
+pub mod Grows
+pub mod Spelled
+pub mod GrammarLaws
+pub mod Longest
+pub mod LongestLaws

@@ -1,5 +1,6 @@
 // What holds of the definitions.
 
+ghost use Rattle.lotos_ast.specs.GrammarLaws.{OneTree, TreeOrFault, OneFault, StopsAtFirst, FrontsAreViable, SpelledIsRead, ReadWithoutLimits, StopsWithoutLimits, FrontBeforeFault, ReadOrTooDeep, StopsOrTooDeep, LongestIsRead, StopsAtLongest};
 ghost use Rattle.lotos_ast.specs.TokenLaws.{TokensOrRefusal, NotBoth, OneTokenList, OneRefusal};
 
 /// Each text either isn't too long and has one list of tokens, or it has one refusal. The function does nothing.
@@ -9,4 +10,44 @@ pub fn tokens_are_determined()
     ensures not_both { NotBoth }
     ensures one_list { OneTokenList }
     ensures one_refusal { OneRefusal }
+{}
+
+/// Reading tokens by the grammar has one result: one tree and one rest, or one place and one reason at which it stops. The
+/// function does nothing.
+#[tactic(auto, using(crate::proofs::GrammarLaws::one_tree, crate::proofs::GrammarLaws::tree_or_fault, crate::proofs::GrammarLaws::one_fault))]
+pub fn reading_has_one_result()
+    ensures one_tree { OneTree }
+    ensures not_both { TreeOrFault }
+    ensures one_fault { OneFault }
+{}
+
+/// Reading stops exactly at the first token with which no text of the grammar goes on, whatever the rule. The function does
+/// nothing.
+#[tactic(auto, using(crate::proofs::GrammarLaws::stops_at_first, crate::proofs::GrammarLaws::fronts_are_viable))]
+pub fn reading_stops_at_the_first_token()
+    ensures first { StopsAtFirst }
+    ensures fronts { FrontsAreViable }
+{}
+
+/// The grammar as it is written spells what reading with one token ahead reads. The function does nothing.
+#[tactic(auto, using(crate::proofs::GrammarLaws::spelled_is_read))]
+pub fn one_token_ahead_is_enough()
+    ensures whole { SpelledIsRead }
+{}
+
+/// The limits of nesting change nothing below them. The function does nothing.
+pub fn limits_change_nothing_below_them()
+    ensures read { ReadWithoutLimits }
+    ensures stops { StopsWithoutLimits }
+    ensures read_or_deep { ReadOrTooDeep }
+    ensures stops_or_deep { StopsOrTooDeep }
+    ensures front { FrontBeforeFault }
+{}
+
+/// A rule reads the longest front of the tokens where that is a whole text, and stops behind it where it isn't. The function
+/// does nothing.
+#[tactic(auto, using(crate::proofs::LongestLaws::longest_is_read, crate::proofs::LongestLaws::stops_at_longest))]
+pub fn the_longest_front_is_read()
+    ensures read { LongestIsRead }
+    ensures stops { StopsAtLongest }
 {}

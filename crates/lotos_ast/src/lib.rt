@@ -1,10 +1,15 @@
-// What the parts of the front end speak of: places, tokens and refusals of a text.
+// What the parts of the front end speak of: places, tokens, refusals and syntax trees of a text.
 #![tactic(auto)]
 
+pub mod behaviour;
+pub mod declaration;
+pub mod expression;
 pub mod laws;
 pub mod mark;
 pub mod names;
 pub mod place;
 pub mod refusal;
+pub mod spec;
 pub mod text_kind;
 pub mod token;
+pub mod types;

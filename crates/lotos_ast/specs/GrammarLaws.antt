@@ -1,0 +1,64 @@
+-- Laws about all lists of tokens, for every rule of the grammar.
+use Rattle.std.specs.Prelude.{List, ◌++◌, ◌≡◌, ◌↔◌, ◌⊎◌}
+use Rattle.lotos_ast.specs.declared.token.Token.{Token}
+use Rattle.lotos_ast.specs.Notation.{Part, Syntax, part}
+use Rattle.lotos_ast.specs.Nesting.{Nesting, unlimited, Fault, too_deep}
+use Rattle.lotos_ast.specs.Reads.{Tree, Reads, Stops}
+use Rattle.lotos_ast.specs.Fronts.{Accepts, IsFront, IsLongest, IsWhole, IsViable, UnexpectedAt}
+use Rattle.lotos_ast.specs.Spelled.{Spells}
+
+-- what is read has one tree and one rest
+abbrev pub OneTree : Type 0
+OneTree = (d : Nesting) (g : Syntax) (s r q : List Token) (x y : Tree) → Reads d g s x r → Reads d g s y q → (x ≡ y) × (r ≡ q)
+
+-- where there is a tree, reading doesn't stop
+abbrev pub TreeOrFault : Type 0
+TreeOrFault = (d : Nesting) (f : Fault) (g : Syntax) (s r q : List Token) (x : Tree) → Reads d g s x r → Stops d f g s q → ⊥
+
+-- reading stops at one place, for one reason
+abbrev pub OneFault : Type 0
+OneFault = (d : Nesting) (f e : Fault) (g : Syntax) (s r q : List Token) → Stops d f g s r → Stops d e g s q → (f ≡ e) × (r ≡ q)
+
+-- where reading stops, no text goes on, and up to there one does
+abbrev pub StopsAtFirst : Type 0
+StopsAtFirst = (f : Fault) (p : Part) (s r : List Token) → Stops unlimited f (part p) s r → UnexpectedAt (part p) s r
+
+-- the fronts of a rule are the beginnings of its texts
+abbrev pub FrontsAreViable : Type 0
+FrontsAreViable = (p : Part) (s : List Token) → IsFront (part p) s ↔ IsViable (part p) s
+
+-- what the grammar as it is written spells is what is read with one token ahead
+abbrev pub SpelledIsRead : Type 0
+SpelledIsRead = (p : Part) (s : List Token) → Spells (part p) s ↔ IsWhole (part p) s
+
+-- what is read within limits is read without them
+abbrev pub ReadWithoutLimits : Type 0
+ReadWithoutLimits = (d : Nesting) (g : Syntax) (s r : List Token) (x : Tree) → Reads d g s x r → Reads unlimited g s x r
+
+-- where reading stops within limits for another reason than these, it stops there without them
+abbrev pub StopsWithoutLimits : Type 0
+StopsWithoutLimits = (d : Nesting) (f : Fault) (g : Syntax) (s r : List Token) → (f ≡ too_deep → ⊥) → Stops d f g s r → Stops unlimited f g s r
+
+-- A rule reads the tokens before a rest exactly where they are a whole text of it and, with the next token, no front: so it
+-- reads the longest front, where that is a whole text.
+abbrev pub LongestIsRead : Type 0
+LongestIsRead = (p : Part) (before rest : List Token) → (Spells (part p) before × IsLongest (part p) before rest) ↔ Accepts unlimited (part p) (before ++ rest) rest
+
+-- reading a rule stops behind the longest front, where that isn't a whole text
+abbrev pub StopsAtLongest : Type 0
+StopsAtLongest = (f : Fault) (p : Part) (before rest : List Token) → Stops unlimited f (part p) (before ++ rest) rest →
+    IsFront (part p) before × IsLongest (part p) before rest × (Spells (part p) before → ⊥)
+
+-- what is read without limits is read within them, or reading stops too deep
+abbrev pub ReadOrTooDeep : Type 0
+ReadOrTooDeep = (d : Nesting) (g : Syntax) (s r : List Token) (x : Tree) → Reads unlimited g s x r →
+    Reads d g s x r ⊎ ((q : List Token) × Stops d too_deep g s q)
+
+-- where reading stops without limits, it stops there within them, or it stops too deep
+abbrev pub StopsOrTooDeep : Type 0
+StopsOrTooDeep = (d : Nesting) (f : Fault) (g : Syntax) (s r : List Token) → Stops unlimited f g s r →
+    Stops d f g s r ⊎ ((q : List Token) × Stops d too_deep g s q)
+
+-- where reading stops, too deep or not, the tokens before are a front
+abbrev pub FrontBeforeFault : Type 0
+FrontBeforeFault = (d : Nesting) (f : Fault) (p : Part) (before rest : List Token) → Stops d f (part p) (before ++ rest) rest → IsFront (part p) before
