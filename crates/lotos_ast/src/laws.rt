@@ -12,17 +12,17 @@ pub fn tokens_are_determined()
     ensures one_refusal { OneRefusal }
 {}
 
-/// Reading tokens by the grammar has one result: one tree and one rest, or one place and one reason at which it stops. The
+/// Reading tokens by the grammar has at most one result: a tree and a rest, or a place and a reason at which it stops. The
 /// function does nothing.
 #[tactic(auto, using(crate::proofs::GrammarLaws::one_tree, crate::proofs::GrammarLaws::tree_or_fault, crate::proofs::GrammarLaws::one_fault))]
-pub fn reading_has_one_result()
+pub fn reading_has_at_most_one_result()
     ensures one_tree { OneTree }
     ensures not_both { TreeOrFault }
     ensures one_fault { OneFault }
 {}
 
-/// Reading stops exactly at the first token with which no text of the grammar goes on, whatever the rule. The function does
-/// nothing.
+/// Where reading stops, limits of nesting aside, it is at the first token with which no text of the grammar goes on, whatever
+/// the rule. The function does nothing.
 #[tactic(auto, using(crate::proofs::GrammarLaws::stops_at_first, crate::proofs::GrammarLaws::fronts_are_viable))]
 pub fn reading_stops_at_the_first_token()
     ensures first { StopsAtFirst }
