@@ -11,10 +11,10 @@ use Rattle.std.proofs.lemmas.List.{append-nil, append_cancel_right}
 use Rattle.lotos_ast.specs.Notation.{specification, gate_list, functionality, type_definition, where_item, sort_part, operation_part, operation_names, infix_names, operation_name, equation_part, sort_equations, equations, equation, premiss, for_all, declarations, declaration, sort_pair, operation_pair, expression, infixes, simple, head, process, behaviour, enabling, disable, disabling, parallel, composing, operator, choice, choosing, unary, offer, atom, exit_value, binding, gate_choice}
 use Rattle.lotos_ast.specs.Begins.{or_behind}
 use Rattle.lotos_ast.specs.Shortest.{rank, is_above, is_short_by}
-use Rattle.lotos_ast.specs.Conditions.{Sound}
+use Rattle.lotos_ast.specs.Conditions.{NeverTakesEnd}
 use Rattle.lotos_ast.specs.Fronts.{Accepts, IsFront, IsViable}
 use Rattle.lotos_ast.proofs.Limits.{reads_unlimited}
-use Rattle.lotos_ast.proofs.RulesSound.{rules_sound}
+use Rattle.lotos_ast.proofs.RulesNeverTakeTheEnd.{rules_never_take_the_end}
 use Rattle.lotos_ast.proofs.OneReading.{one_place, never_both}
 use Rattle.lotos_ast.proofs.Tails.{reads_cut, stops_cut}
 
@@ -115,7 +115,7 @@ part_not_end exit_value = refl
 part_not_end binding = refl
 part_not_end gate_choice = refl
 
-pub not_end : (g : Syntax) → Sound g → starts g Mark.End ≡ false
+pub not_end : (g : Syntax) → NeverTakesEnd g → starts g Mark.End ≡ false
 not_end (quoted k) o = o
 not_end (kept w) o = o
 not_end (sequence a b) o = neither_behind (is_empty a) (starts a Mark.End) (starts b Mark.End) (not_end a o.0) (not_end b o.1)
@@ -186,7 +186,7 @@ end_right : (a b : Syntax) → starts a Mark.End ≡ false → IsFront b [] → 
 end_right a b e (inl k) = inl (stops_right e k)
 end_right a b e (inr k) = inr (right k.0, reads_right e k.1)
 
-end_by : (n : ℕ) (g : Syntax) → Sound g → is_short_by n g ≡ true → ((p : Part) → is_above n (rank p) ≡ true → IsFront (part p) []) → IsFront g []
+end_by : (n : ℕ) (g : Syntax) → NeverTakesEnd g → is_short_by n g ≡ true → ((p : Part) → is_above n (rank p) ≡ true → IsFront (part p) []) → IsFront g []
 end_by n (quoted k) o c f = inl (stops_quoted o refl refl)
 end_by n (kept w) o c f = inl (stops_kept o refl refl)
 end_by n (sequence a b) o c f = end_sequence a b (end_by n a o.0 (both_first (is_short_by n a) (is_short_by n b) c) f) (end_by n b o.1 (both_second (is_short_by n a) (is_short_by n b) c) f)
@@ -201,13 +201,13 @@ end_by n (part p) o c f = f p c
 
 end_below : (n : ℕ) (p : Part) → is_above n (rank p) ≡ true → IsFront (part p) []
 end_below zero p h = cc
-end_below (suc n) p h = part_front p [] (end_by (rank p) (rule p) (rules_sound p) (ranks_checked p) (λ q k. end_below n q (lower n (rank p) (rank q) h k)))
+end_below (suc n) p h = part_front p [] (end_by (rank p) (rule p) (rules_never_take_the_end p) (ranks_checked p) (λ q k. end_below n q (lower n (rank p) (rank q) h k)))
 
 part_end : (p : Part) → IsFront (part p) []
 part_end p = end_below (suc (rank p)) p (above_itself (rank p))
 
 -- the empty list is a front of every part
-pub at_end : (g : Syntax) → Sound g → IsFront g []
+pub at_end : (g : Syntax) → NeverTakesEnd g → IsFront g []
 at_end (quoted k) o = inl (stops_quoted o refl refl)
 at_end (kept w) o = inl (stops_kept o refl refl)
 at_end (sequence a b) o = end_sequence a b (at_end a o.0) (at_end b o.1)
@@ -226,7 +226,7 @@ front_behind : (a b : Syntax) (u : List Token) (x : Tree) → Reads unlimited a 
 front_behind a b u x h (inl k) = inl (stops_second [] h k)
 front_behind a b u x h (inr k) = inr (both x k.0, reads_sequence [] h k.1)
 
-pub front_first : (a b : Syntax) (u : List Token) → Sound b → IsFront a u → IsFront (sequence a b) u
+pub front_first : (a b : Syntax) (u : List Token) → NeverTakesEnd b → IsFront a u → IsFront (sequence a b) u
 front_first a b u o (inl h) = inl (stops_first h)
 front_first a b u o (inr h) = front_behind a b u h.0 h.1 (at_end b o)
 
@@ -238,22 +238,22 @@ front_sequence a b u [] r m e again (inr h) (inr k) = inr (both h.0 k.0, subst (
 front_sequence a b u (t ∷ v) r m e again h (inl k) = let x = again (t ∷ v) (sym (ap mark_at e)) in inl (stops_second (t ∷ v) x.1 k)
 front_sequence a b u (t ∷ v) r m e again h (inr k) = let x = again (t ∷ v) (sym (ap mark_at e)) in inr (both x.0 k.0, reads_sequence (t ∷ v) x.1 k.1)
 
-pub front_left : (a b : Syntax) (s u r : List Token) → Sound (either a b) → s ≡ u ++ r → starts a (mark_at s) ≡ true → IsFront a u → IsFront (either a b) u
+pub front_left : (a b : Syntax) (s u r : List Token) → NeverTakesEnd (either a b) → s ≡ u ++ r → starts a (mark_at s) ≡ true → IsFront a u → IsFront (either a b) u
 front_left a b s [] r o e i h = at_end (either a b) o
 front_left a b s (t ∷ u) r o e i (inl h) = inl (stops_left (ap (λ z. starts a (mark_at z)) (sym e) ∙ i) h)
 front_left a b s (t ∷ u) r o e i (inr h) = inr (left h.0, reads_left (ap (λ z. starts a (mark_at z)) (sym e) ∙ i) h.1)
 
-pub front_right : (a b : Syntax) (s u r : List Token) → Sound (either a b) → s ≡ u ++ r → starts a (mark_at s) ≡ false → IsFront b u → IsFront (either a b) u
+pub front_right : (a b : Syntax) (s u r : List Token) → NeverTakesEnd (either a b) → s ≡ u ++ r → starts a (mark_at s) ≡ false → IsFront b u → IsFront (either a b) u
 front_right a b s [] r o e i h = at_end (either a b) o
 front_right a b s (t ∷ u) r o e i (inl h) = inl (stops_right (ap (λ z. starts a (mark_at z)) (sym e) ∙ i) h)
 front_right a b s (t ∷ u) r o e i (inr h) = inr (right h.0, reads_right (ap (λ z. starts a (mark_at z)) (sym e) ∙ i) h.1)
 
-pub front_optional : (a : Syntax) (s u r : List Token) → Sound a → s ≡ u ++ r → starts a (mark_at s) ≡ true → IsFront a u → IsFront (optional a) u
+pub front_optional : (a : Syntax) (s u r : List Token) → NeverTakesEnd a → s ≡ u ++ r → starts a (mark_at s) ≡ true → IsFront a u → IsFront (optional a) u
 front_optional a s [] r o e i h = at_end (optional a) o
 front_optional a s (t ∷ u) r o e i (inl h) = inl (stops_optional (ap (λ z. starts a (mark_at z)) (sym e) ∙ i) h)
 front_optional a s (t ∷ u) r o e i (inr h) = inr (present h.0, reads_present (ap (λ z. starts a (mark_at z)) (sym e) ∙ i) h.1)
 
-pub front_repeated : (a : Syntax) (s u r : List Token) → Sound (repeated a) → s ≡ u ++ r → starts a (mark_at s) ≡ true → IsFront a u → IsFront (repeated a) u
+pub front_repeated : (a : Syntax) (s u r : List Token) → NeverTakesEnd (repeated a) → s ≡ u ++ r → starts a (mark_at s) ≡ true → IsFront a u → IsFront (repeated a) u
 front_repeated a s [] r o e i h = at_end (repeated a) o
 front_repeated a s (t ∷ u) r o e i (inl h) = inl (stops_repeated (ap (λ z. starts a (mark_at z)) (sym e) ∙ i) h)
 front_repeated a s (t ∷ u) r o e i (inr h) = inr (more h.0 no_more, reads_more [] (ap (λ z. starts a (mark_at z)) (sym e) ∙ i) h.1 (reads_no_more o.1 refl))
@@ -262,7 +262,7 @@ head_same : (u : List Token) (t : Token) (v r s : List Token) → s ≡ (u ++ t 
 head_same [] t v r s e = sym (ap mark_at e)
 head_same (w ∷ u) t v r s e = sym (ap mark_at e)
 
-front_later : (a : Syntax) (s u v r m : List Token) → Sound (repeated a) → s ≡ (u ++ v) ++ r → starts a (mark_at s) ≡ true → m ≡ v ++ r → ((q : List Token) → mark_at q ≡ mark_at m → Accepts unlimited a (u ++ q) q) → IsFront a u → IsFront (repeated a) v → IsFront (repeated a) (u ++ v)
+front_later : (a : Syntax) (s u v r m : List Token) → NeverTakesEnd (repeated a) → s ≡ (u ++ v) ++ r → starts a (mark_at s) ≡ true → m ≡ v ++ r → ((q : List Token) → mark_at q ≡ mark_at m → Accepts unlimited a (u ++ q) q) → IsFront a u → IsFront (repeated a) v → IsFront (repeated a) (u ++ v)
 front_later a s u [] r m o f i e again h k = subst (λ z. IsFront (repeated a) z) (sym (append-nil u)) (front_repeated a s u r o (f ∙ ap (λ z. z ++ r) (append-nil u)) i h)
 front_later a s u (t ∷ v) r m o f i e again h (inl k) = let x = again (t ∷ v) (sym (ap mark_at e)) in inl (stops_later (t ∷ v) (ap (starts a) (head_same u t v r s f) ∙ i) x.1 k)
 front_later a s u (t ∷ v) r m o f i e again h (inr k) = let x = again (t ∷ v) (sym (ap mark_at e)) in inr (more x.0 k.0, reads_more (t ∷ v) (ap (starts a) (head_same u t v r s f) ∙ i) x.1 k.1)
@@ -272,7 +272,7 @@ without_limits : (d : Nesting) (a : Syntax) (u m : List Token) → ((q : List To
 without_limits d a u m f q i = let x = f q i in (x.0, reads_unlimited x.1)
 
 -- the tokens that are read are a front
-pub reads_front : {d : Nesting} {g : Syntax} {s r : List Token} {x : Tree} (h : Reads d g s x r) → Sound g → IsFront g (reads_cut h).taken
+pub reads_front : {d : Nesting} {g : Syntax} {s r : List Token} {x : Tree} (h : Reads d g s x r) → NeverTakesEnd g → IsFront g (reads_cut h).taken
 unfolding reads_cut
 reads_front (reads_quoted {k = k} e m v) o = inr (unkept, reads_quoted refl (ap mark_at (sym e) ∙ m) refl)
 reads_front (reads_kept {w = w} {t = t} e m v) o = inr (leaf t, reads_kept refl (ap (λ z. fits w (mark_at z)) (sym e) ∙ m) refl)
@@ -287,10 +287,10 @@ reads_front (reads_placed {a = a} e h) o = placed_front a (reads_cut h).taken (r
 reads_front (reads_reduced {u = w} {a = a} e h) o = reduced_front w a (reads_cut h).taken (reads_front h o)
 reads_front (reads_bracketed {a = a} h) o = bracketed_front a (reads_cut h).taken (reads_front h o)
 reads_front (reads_enclosed {a = a} h) o = enclosed_front a (reads_cut h).taken (reads_front h o)
-reads_front (reads_part {q = p} e h) o = part_front p (reads_cut h).taken (reads_front h (rules_sound p))
+reads_front (reads_part {q = p} e h) o = part_front p (reads_cut h).taken (reads_front h (rules_never_take_the_end p))
 
 -- the tokens before the place where reading stops are a front
-pub stops_front : {d : Nesting} {f : Fault} {g : Syntax} {s r : List Token} (h : Stops d f g s r) → Sound g → IsFront g (stops_cut h).taken
+pub stops_front : {d : Nesting} {f : Fault} {g : Syntax} {s r : List Token} (h : Stops d f g s r) → NeverTakesEnd g → IsFront g (stops_cut h).taken
 unfolding stops_cut
 stops_front (stops_quoted {k = k} b f e) o = at_end (quoted k) o
 stops_front (stops_kept {w = w} b f e) o = at_end (kept w) o
@@ -307,10 +307,10 @@ stops_front (stops_placed {a = a} h) o = placed_front a (stops_cut h).taken (sto
 stops_front (stops_reduced {u = w} {a = a} h) o = reduced_front w a (stops_cut h).taken (stops_front h o)
 stops_front (stops_bracketed {a = a} h) o = bracketed_front a (stops_cut h).taken (stops_front h o)
 stops_front (stops_enclosed {a = a} h) o = enclosed_front a (stops_cut h).taken (stops_front h o)
-stops_front (stops_part {q = p} h) o = part_front p (stops_cut h).taken (stops_front h (rules_sound p))
+stops_front (stops_part {q = p} h) o = part_front p (stops_cut h).taken (stops_front h (rules_never_take_the_end p))
 
 -- Where reading stops before a token, the tokens before it are a front.
-pub before_is_front : (d : Nesting) (g : Syntax) (f : Fault) (s r : List Token) → Sound g → Stops d f g s r → (before : List Token) × (s ≡ before ++ r) × IsFront g before
+pub before_is_front : (d : Nesting) (g : Syntax) (f : Fault) (s r : List Token) → NeverTakesEnd g → Stops d f g s r → (before : List Token) × (s ≡ before ++ r) × IsFront g before
 before_is_front d g f s r o h = let u = stops_cut h in (u.taken, u.all, stops_front h o)
 
 -- however the tokens go on behind the one at which reading stops, it stops there
@@ -330,7 +330,7 @@ pub none_goes_on : (g : Syntax) (f : Fault) (before u : List Token) (t : Token) 
 none_goes_on g f before u t h k = never_both (stops_again g f before u t h k.0) (subst (λ z. Reads unlimited g z k.1.0 []) (append_assoc before (t ∷ []) k.0) k.1.1)
 
 -- the first tokens of what is read: a front, or all of it and some of the rest
-pub prefix : {g : Syntax} {w r : List Token} {x : Tree} (h : Reads unlimited g w x r) → Sound g → (s u : List Token) → w ≡ s ++ u → IsFront g s ⊎ ((v : List Token) × (s ≡ (reads_cut h).taken ++ v) × (r ≡ v ++ u))
+pub prefix : {g : Syntax} {w r : List Token} {x : Tree} (h : Reads unlimited g w x r) → NeverTakesEnd g → (s u : List Token) → w ≡ s ++ u → IsFront g s ⊎ ((v : List Token) × (s ≡ (reads_cut h).taken ++ v) × (r ≡ v ++ u))
 unfolding reads_cut
 prefix (reads_quoted {k = k} e m v) o [] u i = inl (at_end (quoted k) o)
 prefix (reads_quoted e m v) o (t ∷ s) u i = inr (s, cc, cc)
@@ -359,12 +359,12 @@ prefix (reads_placed {a = a} e h) o s u i = elim (prefix h o s u i) [ inl f ↦ 
 prefix (reads_reduced {u = w} {a = a} e h) o s u i = elim (prefix h o s u i) [ inl f ↦ inl (reduced_front w a s f) | inr p ↦ inr p ]
 prefix (reads_bracketed {a = a} h) o s u i = elim (prefix h o s u i) [ inl f ↦ inl (bracketed_front a s f) | inr p ↦ inr p ]
 prefix (reads_enclosed {a = a} h) o s u i = elim (prefix h o s u i) [ inl f ↦ inl (enclosed_front a s f) | inr p ↦ inr p ]
-prefix (reads_part {q = p} e h) o s u i = elim (prefix h (rules_sound p) s u i) [ inl f ↦ inl (part_front p s f) | inr q ↦ inr q ]
+prefix (reads_part {q = p} e h) o s u i = elim (prefix h (rules_never_take_the_end p) s u i) [ inl f ↦ inl (part_front p s f) | inr q ↦ inr q ]
 
 end_nil : (a b : List Token) → [] ≡ a ++ b → b ≡ []
 end_nil [] b e = sym e
 end_nil (t ∷ a) b e = cc
 
 -- what a text of the grammar begins with is a front
-pub viable_front : (g : Syntax) (s : List Token) → Sound g → IsViable g s → IsFront g s
+pub viable_front : (g : Syntax) (s : List Token) → NeverTakesEnd g → IsViable g s → IsFront g s
 viable_front g s o v = elim (prefix v.1.1 o s v.0 refl) [ inl f ↦ f | inr p ↦ inr (v.1.0, subst (λ z. Reads unlimited g z v.1.0 []) (ap (λ z. s ++ z) (end_nil p.0 v.0 p.2) ∙ append-nil s) v.1.1) ]

@@ -10,10 +10,10 @@ use Rattle.lotos_ast.specs.Reads.{Tree, reduce, unkept, leaf, both, left, right,
 use Rattle.std.proofs.lemmas.List.{append-nil}
 use Rattle.lotos_ast.specs.Shortest.{rank, is_above, is_short_by, sample_of, short, short_part}
 use Rattle.lotos_ast.specs.GoesOn.{goes_on, extends}
-use Rattle.lotos_ast.specs.Conditions.{Sound, Fine, implies}
+use Rattle.lotos_ast.specs.Conditions.{NeverTakesEnd, HasShortestTexts, implies}
 use Rattle.lotos_ast.specs.Fronts.{Accepts, IsFront, IsViable, IsWhole}
-use Rattle.lotos_ast.proofs.RulesSound.{rules_sound}
-use Rattle.lotos_ast.proofs.RulesFine.{rules_fine}
+use Rattle.lotos_ast.proofs.RulesNeverTakeTheEnd.{rules_never_take_the_end}
+use Rattle.lotos_ast.proofs.RulesHaveShortestTexts.{rules_have_shortest_texts}
 use Rattle.lotos_ast.proofs.Tables.{every, contra, not_empty, goes_on_checked, short_checked}
 use Rattle.lotos_ast.proofs.Tails.{reads_cut}
 use Rattle.lotos_ast.proofs.Fronts.{not_end, both_first, both_second, above_itself, lower, ranks_checked}
@@ -30,7 +30,7 @@ rule_ends : (p : Part) (m : Mark) → goes_on p m ≡ false → extends (rule p)
 rule_ends p m h = contra (extends (rule p) m) (goes_on p m) (every (λ m. implies (extends (rule p) m) (goes_on p m)) (goes_on_checked p) m) h
 
 -- what begins here isn't at the end
-never : (a : Syntax) → Sound a → starts a Mark.End ≡ true → ⊥
+never : (a : Syntax) → NeverTakesEnd a → starts a Mark.End ≡ true → ⊥
 never a o h = let i = not_end a o in cc
 
 pub or_true : (a b : Bool) → b ≡ true → a || b ≡ true
@@ -56,7 +56,7 @@ rule_not_empty : (p : Part) → is_empty (rule p) ≡ true → ⊥
 rule_not_empty p h = let i = not_empty p in cc
 
 -- what reads nothing may be empty
-pub empty_read : {d : Nesting} {g : Syntax} {s r : List Token} {x : Tree} → Reads d g s x r → s ≡ [] → Sound g → is_empty g ≡ true
+pub empty_read : {d : Nesting} {g : Syntax} {s r : List Token} {x : Tree} → Reads d g s x r → s ≡ [] → NeverTakesEnd g → is_empty g ≡ true
 empty_read (reads_quoted e m v) i o = cc
 empty_read (reads_kept e m v) i o = cc
 empty_read (reads_sequence {a = a} {b = b} m h k) i o = both_true (is_empty a) (is_empty b) (empty_read h i o.0) (empty_read k (rest_nil h i) o.1)
@@ -70,7 +70,7 @@ empty_read (reads_placed e h) i o = empty_read h i o
 empty_read (reads_reduced e h) i o = empty_read h i o
 empty_read (reads_bracketed h) i o = empty_read h i o
 empty_read (reads_enclosed h) i o = empty_read h i o
-empty_read (reads_part {q = p} e h) i o = absurd (rule_not_empty p (empty_read h i (rules_sound p)))
+empty_read (reads_part {q = p} e h) i o = absurd (rule_not_empty p (empty_read h i (rules_never_take_the_end p)))
 
 pub same_mark : (s q : List Token) (t : Token) (u : List Token) → s ≡ t ∷ u → mark_at (s ++ q) ≡ mark_at s
 same_mark s q t u e = ap (λ z. mark_at (z ++ q)) e ∙ sym (ap mark_at e)
@@ -79,7 +79,7 @@ pub given : (a b : Bool) → a && b ≡ false → a ≡ true → b ≡ false
 given true b h e = h
 given false b h e = cc
 
-pub begun : (a : Syntax) (s q : List Token) → Sound a → starts a (mark_at s) ≡ true → starts a (mark_at (s ++ q)) ≡ true
+pub begun : (a : Syntax) (s q : List Token) → NeverTakesEnd a → starts a (mark_at s) ≡ true → starts a (mark_at (s ++ q)) ≡ true
 begun a [] q o h = absurd (never a o h)
 begun a (t ∷ s) q o h = h
 
@@ -96,7 +96,7 @@ grow_first a s (t ∷ m) q x h f =
     (y.0, subst (λ z. Reads unlimited a z y.0 ((t ∷ m) ++ q)) (sym (append_assoc c.taken (t ∷ m) q) ∙ ap (λ z. z ++ q) (sym c.all)) y.1)
 
 -- What was read to the end is read before tokens that it doesn't go on by.
-grow : {g : Syntax} {s r : List Token} {x : Tree} → Reads unlimited g s x r → r ≡ [] → Sound g → (q : List Token) → extends g (mark_at q) ≡ false → Accepts unlimited g (s ++ q) q
+grow : {g : Syntax} {s r : List Token} {x : Tree} → Reads unlimited g s x r → r ≡ [] → NeverTakesEnd g → (q : List Token) → extends g (mark_at q) ≡ false → Accepts unlimited g (s ++ q) q
 grow (reads_quoted {k = k} {t = t} {s = s} {r = r} e m v) i o q n = (unkept, reads_quoted (ap (λ z. z ++ q) e ∙ ap (λ z. t ∷ z ++ q) i) (same_mark s q t r e ∙ m) refl)
 grow (reads_kept {w = w} {t = t} {s = s} {r = r} e m v) i o q n = (leaf t, reads_kept (ap (λ z. z ++ q) e ∙ ap (λ z. t ∷ z ++ q) i) (ap (fits w) (same_mark s q t r e) ∙ m) refl)
 grow (reads_sequence {a = a} {b = b} {s = s} {x = x} m h k) i o q n =
@@ -118,10 +118,10 @@ grow (reads_placed {s = s} e h) i o q n = let y = grow h i o q n in (node (place
 grow (reads_reduced {u = w} e h) i o q n = let y = grow h i o q n in (reduce w y.0, reads_reduced refl y.1)
 grow (reads_bracketed h) i o q n = let y = grow h i o q n in (y.0, reads_bracketed y.1)
 grow (reads_enclosed h) i o q n = let y = grow h i o q n in (y.0, reads_enclosed y.1)
-grow (reads_part {q = p} {s = s} e h) i o q n = let y = grow h i (rules_sound p) q (rule_ends p (mark_at q) n) in (node (place_at (s ++ q)) y.0, reads_part refl y.1)
+grow (reads_part {q = p} {s = s} e h) i o q n = let y = grow h i (rules_never_take_the_end p) q (rule_ends p (mark_at q) n) in (node (place_at (s ++ q)) y.0, reads_part refl y.1)
 
 -- a shortest text is read, where those of the rules below a number are
-short_by : (n : ℕ) (g : Syntax) → Sound g → Fine g → is_short_by n g ≡ true → ((p : Part) → is_above n (rank p) ≡ true → IsWhole (part p) (short_part p)) → IsWhole g (short g)
+short_by : (n : ℕ) (g : Syntax) → NeverTakesEnd g → HasShortestTexts g → is_short_by n g ≡ true → ((p : Part) → is_above n (rank p) ≡ true → IsWhole (part p) (short_part p)) → IsWhole g (short g)
 short_by n (quoted k) o f c w = (unkept, reads_quoted refl f refl)
 short_by n (kept k) o f c w = (leaf (sample_of k), reads_kept refl f refl)
 short_by n (sequence a b) o f c w =
@@ -141,13 +141,13 @@ short_by n (part p) o f c w = w p c
 short_below : (n : ℕ) (p : Part) → is_above n (rank p) ≡ true → IsWhole (part p) (short_part p)
 short_below zero p h = cc
 short_below (suc n) p h =
-    let v = short_by (rank p) (rule p) (rules_sound p) (rules_fine p) (ranks_checked p) (λ q k. short_below n q (lower n (rank p) (rank q) h k)) in
+    let v = short_by (rank p) (rule p) (rules_never_take_the_end p) (rules_have_shortest_texts p) (ranks_checked p) (λ q k. short_below n q (lower n (rank p) (rank q) h k)) in
     (node (place_at (short (rule p))) v.0, subst (λ z. Reads unlimited (part p) z (node (place_at (short (rule p))) v.0) []) (sym (short_checked p)) (reads_part refl v.1))
 
 pub part_short : (p : Part) → IsWhole (part p) (short_part p)
 part_short p = short_below (suc (rank p)) p (above_itself (rank p))
 
-pub short_reads : (g : Syntax) → Sound g → Fine g → IsWhole g (short g)
+pub short_reads : (g : Syntax) → NeverTakesEnd g → HasShortestTexts g → IsWhole g (short g)
 short_reads (quoted k) o f = (unkept, reads_quoted refl f refl)
 short_reads (kept k) o f = (leaf (sample_of k), reads_kept refl f refl)
 short_reads (sequence a b) o f =
@@ -167,23 +167,23 @@ short_reads (part p) o f = part_short p
 pub cons_nil : (t : Token) (u : List Token) → t ∷ u ≡ [] → ⊥
 cons_nil t u e = cc
 
-later_not_nil : {d : Nesting} {f : Fault} {a : Syntax} {s r : List Token} → Stops d f (repeated a) s r → s ≡ [] → Sound (repeated a) → ⊥
+later_not_nil : {d : Nesting} {f : Fault} {a : Syntax} {s r : List Token} → Stops d f (repeated a) s r → s ≡ [] → NeverTakesEnd (repeated a) → ⊥
 later_not_nil (stops_repeated {a = a} j h) e o = never a o.0 (ap (λ z. starts a (mark_at z)) (sym e) ∙ j)
 later_not_nil (stops_later {a = a} m j h k) e o = never a o.0 (ap (λ z. starts a (mark_at z)) (sym e) ∙ j)
 
 -- by the shortest text, where nothing stands yet
-from_nothing : (g : Syntax) (s : List Token) → Sound g → Fine g → s ≡ [] → IsViable g s
+from_nothing : (g : Syntax) (s : List Token) → NeverTakesEnd g → HasShortestTexts g → s ≡ [] → IsViable g s
 from_nothing g s o f e = let v = short_reads g o f in (short g, (v.0, subst (λ z. Reads unlimited g (z ++ short g) v.0 []) (sym e) v.1))
 
 nil_or : (s : List Token) → (s ≡ []) ⊎ ((t : Token) × (u : List Token) × (s ≡ t ∷ u))
 nil_or [] = inl refl
 nil_or (t ∷ u) = inr (t, u, refl)
 
-via_right : (a b : Syntax) (s : List Token) → Sound (either a b) → Fine (either a b) → starts a (mark_at s) ≡ false → IsViable b s → (s ≡ []) ⊎ ((t : Token) × (u : List Token) × (s ≡ t ∷ u)) → IsViable (either a b) s
+via_right : (a b : Syntax) (s : List Token) → NeverTakesEnd (either a b) → HasShortestTexts (either a b) → starts a (mark_at s) ≡ false → IsViable b s → (s ≡ []) ⊎ ((t : Token) × (u : List Token) × (s ≡ t ∷ u)) → IsViable (either a b) s
 via_right a b s o f j v (inl e) = from_nothing (either a b) s o f e
 via_right a b s o f j v (inr e) = (v.0, (right v.1.0, reads_right (ap (starts a) (same_mark s v.0 e.0 e.1 e.2) ∙ j) v.1.1))
 
-via_second : (a b : Syntax) (s m : List Token) (x : Tree) → Sound (sequence a b) → Fine (sequence a b) → Reads unlimited a s x m → IsViable b m → (m ≡ []) ⊎ ((t : Token) × (u : List Token) × (m ≡ t ∷ u)) → IsViable (sequence a b) s
+via_second : (a b : Syntax) (s m : List Token) (x : Tree) → NeverTakesEnd (sequence a b) → HasShortestTexts (sequence a b) → Reads unlimited a s x m → IsViable b m → (m ≡ []) ⊎ ((t : Token) × (u : List Token) × (m ≡ t ∷ u)) → IsViable (sequence a b) s
 via_second a b s m x o f h v (inl e) =
     let w = short_reads b o.1 f.1 in
     let y = grow h e o.0 (short b) f.2 in
@@ -193,7 +193,7 @@ via_second a b s m x o f h v (inr e) =
     (v.0, (both y.0 v.1.0, reads_sequence (m ++ v.0) y.1 v.1.1))
 
 -- A front is completed to a text of the grammar.
-pub viable : {f : Fault} {g : Syntax} {s r : List Token} → Stops unlimited f g s r → r ≡ [] → Sound g → Fine g → IsViable g s
+pub viable : {f : Fault} {g : Syntax} {s r : List Token} → Stops unlimited f g s r → r ≡ [] → NeverTakesEnd g → HasShortestTexts g → IsViable g s
 viable (stops_quoted {k = k} {s = s} j w e) i o f = from_nothing (quoted k) s o f (e ∙ i)
 viable (stops_kept {w = k} {s = s} j w e) i o f = from_nothing (kept k) s o f (e ∙ i)
 viable (deep_quoted {k = k} {s = s} m v e) i o f = from_nothing (quoted k) s o f (e ∙ i)
@@ -216,9 +216,9 @@ viable (stops_placed {s = s} h) i o f = let u = viable h i o f in (u.0, (node (p
 viable (stops_reduced {u = w} h) i o f = let u = viable h i o f in (u.0, (reduce w u.1.0, reads_reduced refl u.1.1))
 viable (stops_bracketed h) i o f = let u = viable h i o f in (u.0, (u.1.0, reads_bracketed u.1.1))
 viable (stops_enclosed h) i o f = let u = viable h i o f in (u.0, (u.1.0, reads_enclosed u.1.1))
-viable (stops_part {q = p} {s = s} h) i o f = let u = viable h i (rules_sound p) (rules_fine p) in (u.0, (node (place_at (s ++ u.0)) u.1.0, reads_part refl u.1.1))
+viable (stops_part {q = p} {s = s} h) i o f = let u = viable h i (rules_never_take_the_end p) (rules_have_shortest_texts p) in (u.0, (node (place_at (s ++ u.0)) u.1.0, reads_part refl u.1.1))
 
 -- a front goes on to a whole
-pub front_viable : (g : Syntax) (s : List Token) → Sound g → Fine g → IsFront g s → IsViable g s
+pub front_viable : (g : Syntax) (s : List Token) → NeverTakesEnd g → HasShortestTexts g → IsFront g s → IsViable g s
 front_viable g s o f (inl h) = viable h refl o f
 front_viable g s o f (inr h) = ([], (h.0, subst (λ z. Reads unlimited g z h.0 []) (sym (append-nil s)) h.1))

@@ -5,9 +5,9 @@ pub mod Rows
 pub mod OneReading
 pub mod Tails
 pub mod Limits
-pub mod RulesSound
-pub mod RulesFine
-pub mod RulesClean
+pub mod RulesNeverTakeTheEnd
+pub mod RulesHaveShortestTexts
+pub mod RulesArePredictive
 pub mod Fronts
 pub mod Tables
 pub mod Grows
@@ -15,3 +15,4 @@ pub mod Spelled
 pub mod GrammarLaws
 pub mod Longest
 pub mod LongestLaws
+pub mod Parsing

@@ -12,10 +12,10 @@ use Rattle.lotos_ast.specs.TokenMarks.{mark_of}
 use Rattle.lotos_ast.specs.Notation.{specification, gate_list, functionality, type_definition, where_item, sort_part, operation_part, operation_names, infix_names, operation_name, equation_part, sort_equations, equations, equation, premiss, for_all, declarations, declaration, sort_pair, operation_pair, expression, infixes, simple, head, process, behaviour, enabling, disable, disabling, parallel, composing, operator, choice, choosing, unary, offer, atom, exit_value, binding, gate_choice}
 use Rattle.lotos_ast.specs.Begins.{or_behind}
 use Rattle.lotos_ast.specs.Shortest.{rank, is_above, is_led_by}
-use Rattle.lotos_ast.specs.Conditions.{Sound, Clean, implies}
+use Rattle.lotos_ast.specs.Conditions.{NeverTakesEnd, IsPredictive, implies}
 use Rattle.lotos_ast.specs.Fronts.{Accepts, IsFront}
-use Rattle.lotos_ast.proofs.RulesSound.{rules_sound}
-use Rattle.lotos_ast.proofs.RulesClean.{rules_clean}
+use Rattle.lotos_ast.proofs.RulesNeverTakeTheEnd.{rules_never_take_the_end}
+use Rattle.lotos_ast.proofs.RulesArePredictive.{rules_are_predictive}
 use Rattle.lotos_ast.proofs.Tables.{every, modus, same_equal, begins_exactly}
 use Rattle.lotos_ast.proofs.Fronts.{above_itself, lower, placed_front, reduced_front, bracketed_front, enclosed_front, part_front, front_first, front_left, front_right, front_optional, front_repeated}
 use Rattle.lotos_ast.proofs.Grows.{nor_first, nor_second, begun, same_mark, grow_first, cons_nil}
@@ -75,7 +75,7 @@ leads_checked binding = refl
 leads_checked gate_choice = refl
 
 -- what may be empty reads nothing before a token with which it doesn't begin
-reads_nothing : (g : Syntax) (s : List Token) → Clean g → is_empty g ≡ true → starts g (mark_at s) ≡ false → Accepts unlimited g s s
+reads_nothing : (g : Syntax) (s : List Token) → IsPredictive g → is_empty g ≡ true → starts g (mark_at s) ≡ false → Accepts unlimited g s s
 reads_nothing (quoted k) s c e n = cc
 reads_nothing (kept w) s c e n = cc
 reads_nothing (sequence a b) s c e n =
@@ -102,17 +102,17 @@ front_second a b s x (inl k) = inl (stops_second s x.1 k)
 front_second a b s x (inr k) = inr (both x.0 k.0, reads_sequence s x.1 k.1)
 
 -- by cases on whether the first may be empty and whether it begins with the token
-sequence_begun : (a b : Syntax) (t : Token) (e v : Bool) → Sound (sequence a b) → Clean a → is_empty a ≡ e → starts a (mark_of t) ≡ v → or_behind e v (starts b (mark_of t)) ≡ true → (v ≡ true → IsFront a (t ∷ [])) → (e ≡ true → starts b (mark_of t) ≡ true → IsFront b (t ∷ [])) → IsFront (sequence a b) (t ∷ [])
+sequence_begun : (a b : Syntax) (t : Token) (e v : Bool) → NeverTakesEnd (sequence a b) → IsPredictive a → is_empty a ≡ e → starts a (mark_of t) ≡ v → or_behind e v (starts b (mark_of t)) ≡ true → (v ≡ true → IsFront a (t ∷ [])) → (e ≡ true → starts b (mark_of t) ≡ true → IsFront b (t ∷ [])) → IsFront (sequence a b) (t ∷ [])
 sequence_begun a b t e true o c i j h f g = front_first a b (t ∷ []) o.1 (f refl)
 sequence_begun a b t true false o c i j h f g = front_second a b (t ∷ []) (reads_nothing a (t ∷ []) c i j) (g refl h)
 sequence_begun a b t false false o c i j h f g = cc
 
-either_begun : (a b : Syntax) (t : Token) (v : Bool) → Sound (either a b) → starts a (mark_of t) ≡ v → v || starts b (mark_of t) ≡ true → (v ≡ true → IsFront a (t ∷ [])) → (starts b (mark_of t) ≡ true → IsFront b (t ∷ [])) → IsFront (either a b) (t ∷ [])
+either_begun : (a b : Syntax) (t : Token) (v : Bool) → NeverTakesEnd (either a b) → starts a (mark_of t) ≡ v → v || starts b (mark_of t) ≡ true → (v ≡ true → IsFront a (t ∷ [])) → (starts b (mark_of t) ≡ true → IsFront b (t ∷ [])) → IsFront (either a b) (t ∷ [])
 either_begun a b t true o j h f g = front_left a b (t ∷ []) (t ∷ []) [] o refl j (f refl)
 either_begun a b t false o j h f g = front_right a b (t ∷ []) (t ∷ []) [] o refl j (g h)
 
 -- a token with which a part begins is a front of it, where that holds of the rules with lower numbers
-begun_by : (n : ℕ) (g : Syntax) (t : Token) → Sound g → Clean g → is_led_by n g ≡ true → ((p : Part) → is_above n (rank p) ≡ true → begins p (mark_of t) ≡ true → IsFront (part p) (t ∷ [])) → starts g (mark_of t) ≡ true → IsFront g (t ∷ [])
+begun_by : (n : ℕ) (g : Syntax) (t : Token) → NeverTakesEnd g → IsPredictive g → is_led_by n g ≡ true → ((p : Part) → is_above n (rank p) ≡ true → begins p (mark_of t) ≡ true → IsFront (part p) (t ∷ [])) → starts g (mark_of t) ≡ true → IsFront g (t ∷ [])
 begun_by n (quoted k) t o c l f h = inr (unkept, reads_quoted refl (sym (same_equal k (mark_of t) h)) refl)
 begun_by n (kept w) t o c l f h = inr (leaf t, reads_kept refl h refl)
 begun_by n (sequence a b) t o c l f h =
@@ -133,13 +133,13 @@ begun_by n (part p) t o c l f h = f p l h
 
 begun_below : (n : ℕ) (p : Part) (t : Token) → is_above n (rank p) ≡ true → begins p (mark_of t) ≡ true → IsFront (part p) (t ∷ [])
 begun_below zero p t h b = cc
-begun_below (suc n) p t h b = part_front p (t ∷ []) (begun_by (rank p) (rule p) t (rules_sound p) (rules_clean p) (leads_checked p) (λ q k. begun_below n q t (lower n (rank p) (rank q) h k)) (begins_rule p (mark_of t) b))
+begun_below (suc n) p t h b = part_front p (t ∷ []) (begun_by (rank p) (rule p) t (rules_never_take_the_end p) (rules_are_predictive p) (leads_checked p) (λ q k. begun_below n q t (lower n (rank p) (rank q) h k)) (begins_rule p (mark_of t) b))
 
 part_begun : (p : Part) (t : Token) → begins p (mark_of t) ≡ true → IsFront (part p) (t ∷ [])
 part_begun p t = begun_below (suc (rank p)) p t (above_itself (rank p))
 
 -- a token with which a part begins is a front of it
-begun_front : (g : Syntax) (t : Token) → Sound g → Clean g → starts g (mark_of t) ≡ true → IsFront g (t ∷ [])
+begun_front : (g : Syntax) (t : Token) → NeverTakesEnd g → IsPredictive g → starts g (mark_of t) ≡ true → IsFront g (t ∷ [])
 begun_front (quoted k) t o c h = inr (unkept, reads_quoted refl (sym (same_equal k (mark_of t) h)) refl)
 begun_front (kept w) t o c h = inr (leaf t, reads_kept refl h refl)
 begun_front (sequence a b) t o c h = sequence_begun a b t (is_empty a) (starts a (mark_of t)) o c.0 refl refl h (λ e. begun_front a t o.0 c.0 e) (λ e i. begun_front b t o.1 c.1 i)
@@ -157,11 +157,11 @@ abbrev pub GoesOn : Syntax → List Token → Token → List Token → Type 0
 GoesOn g s t u = Accepts unlimited g (s ++ t ∷ u) (t ∷ u) ⊎ IsFront g (s ++ t ∷ [])
 
 -- the second of two with what the first reads before it
-second_front : (a b : Syntax) (s m : List Token) (t : Token) → Sound b → Accepts unlimited a (s ++ t ∷ []) (m ++ t ∷ []) → IsFront b (m ++ t ∷ []) → IsFront (sequence a b) (s ++ t ∷ [])
+second_front : (a b : Syntax) (s m : List Token) (t : Token) → NeverTakesEnd b → Accepts unlimited a (s ++ t ∷ []) (m ++ t ∷ []) → IsFront b (m ++ t ∷ []) → IsFront (sequence a b) (s ++ t ∷ [])
 second_front a b s m t o x (inl k) = inl (stops_second (m ++ t ∷ []) x.1 k)
 second_front a b s m t o x (inr k) = inr (both x.0 k.0, reads_sequence (m ++ t ∷ []) x.1 k.1)
 
-sequence_goes : (a b : Syntax) (s m : List Token) (x : Tree) (t : Token) (u : List Token) → Sound (sequence a b) → Reads unlimited a s x m → (m ≡ [] → (w : List Token) → GoesOn a s t w) → GoesOn b m t u → GoesOn (sequence a b) s t u
+sequence_goes : (a b : Syntax) (s m : List Token) (x : Tree) (t : Token) (u : List Token) → NeverTakesEnd (sequence a b) → Reads unlimited a s x m → (m ≡ [] → (w : List Token) → GoesOn a s t w) → GoesOn b m t u → GoesOn (sequence a b) s t u
 sequence_goes a b s [] x t u o h f (inl y) = elim (f refl u) [
   | inl z ↦ inl (both z.0 y.0, reads_sequence (t ∷ u) z.1 y.1)
   | inr k ↦ inr (front_first a b (s ++ t ∷ []) o.1 k)
@@ -177,37 +177,37 @@ sequence_goes a b s (r ∷ m) x t u o h f (inr k) =
     let z = grow_first a s (r ∷ m) (t ∷ []) x h (λ e. absurd (cons_nil r m e)) in
     inr (second_front a b s (r ∷ m) t o.1 z k)
 
-right_goes : (a b : Syntax) (s : List Token) (t : Token) (u : List Token) (v : Bool) → Sound (either a b) → Clean (either a b) → starts a (mark_at s) ≡ false → starts a (mark_of t) ≡ v → GoesOn b s t u → GoesOn (either a b) s t u
+right_goes : (a b : Syntax) (s : List Token) (t : Token) (u : List Token) (v : Bool) → NeverTakesEnd (either a b) → IsPredictive (either a b) → starts a (mark_at s) ≡ false → starts a (mark_of t) ≡ v → GoesOn b s t u → GoesOn (either a b) s t u
 right_goes a b [] t u true o c j e y = inr (front_left a b (t ∷ []) (t ∷ []) [] o refl e (begun_front a t o.0 c.0 e))
 right_goes a b [] t u false o c j e (inl y) = inl (right y.0, reads_right e y.1)
 right_goes a b [] t u false o c j e (inr k) = inr (front_right a b (t ∷ []) (t ∷ []) [] o refl e k)
 right_goes a b (r ∷ s) t u v o c j e (inl y) = inl (right y.0, reads_right j y.1)
 right_goes a b (r ∷ s) t u v o c j e (inr k) = inr (front_right a b (r ∷ s ++ t ∷ []) (r ∷ s ++ t ∷ []) [] o (sym (append-nil (r ∷ s ++ t ∷ []))) j k)
 
-left_goes : (a b : Syntax) (s : List Token) (t : Token) (u : List Token) → Sound (either a b) → starts a (mark_at s) ≡ true → GoesOn a s t u → GoesOn (either a b) s t u
+left_goes : (a b : Syntax) (s : List Token) (t : Token) (u : List Token) → NeverTakesEnd (either a b) → starts a (mark_at s) ≡ true → GoesOn a s t u → GoesOn (either a b) s t u
 left_goes a b s t u o j (inl y) = inl (left y.0, reads_left (begun a s (t ∷ u) o.0 j) y.1)
 left_goes a b s t u o j (inr k) = inr (front_left a b (s ++ t ∷ []) (s ++ t ∷ []) [] o (sym (append-nil (s ++ t ∷ []))) (begun a s (t ∷ []) o.0 j) k)
 
-absent_goes : (a : Syntax) (t : Token) (u : List Token) (v : Bool) → Sound a → Clean a → starts a (mark_of t) ≡ v → GoesOn (optional a) [] t u
+absent_goes : (a : Syntax) (t : Token) (u : List Token) (v : Bool) → NeverTakesEnd a → IsPredictive a → starts a (mark_of t) ≡ v → GoesOn (optional a) [] t u
 absent_goes a t u true o c e = inr (front_optional a (t ∷ []) (t ∷ []) [] o refl e (begun_front a t o c e))
 absent_goes a t u false o c e = inl (absent, reads_absent e refl)
 
-present_goes : (a : Syntax) (s : List Token) (t : Token) (u : List Token) → Sound a → starts a (mark_at s) ≡ true → GoesOn a s t u → GoesOn (optional a) s t u
+present_goes : (a : Syntax) (s : List Token) (t : Token) (u : List Token) → NeverTakesEnd a → starts a (mark_at s) ≡ true → GoesOn a s t u → GoesOn (optional a) s t u
 present_goes a s t u o j (inl y) = inl (present y.0, reads_present (begun a s (t ∷ u) o j) y.1)
 present_goes a s t u o j (inr k) = inr (front_optional a (s ++ t ∷ []) (s ++ t ∷ []) [] o (sym (append-nil (s ++ t ∷ []))) (begun a s (t ∷ []) o j) k)
 
-no_more_goes : (a : Syntax) (t : Token) (u : List Token) (v : Bool) → Sound (repeated a) → Clean a → starts a (mark_of t) ≡ v → GoesOn (repeated a) [] t u
+no_more_goes : (a : Syntax) (t : Token) (u : List Token) (v : Bool) → NeverTakesEnd (repeated a) → IsPredictive a → starts a (mark_of t) ≡ v → GoesOn (repeated a) [] t u
 no_more_goes a t u true o c e = inr (front_repeated a (t ∷ []) (t ∷ []) [] o refl e (begun_front a t o.0 c e))
 no_more_goes a t u false o c e = inl (no_more, reads_no_more e refl)
 
-first_goes : (a : Syntax) (s : List Token) (t : Token) → Sound (repeated a) → starts a (mark_at s) ≡ true → IsFront a (s ++ t ∷ []) → IsFront (repeated a) (s ++ t ∷ [])
+first_goes : (a : Syntax) (s : List Token) (t : Token) → NeverTakesEnd (repeated a) → starts a (mark_at s) ≡ true → IsFront a (s ++ t ∷ []) → IsFront (repeated a) (s ++ t ∷ [])
 first_goes a s t o j k = front_repeated a (s ++ t ∷ []) (s ++ t ∷ []) [] o (sym (append-nil (s ++ t ∷ []))) (begun a s (t ∷ []) o.0 j) k
 
-later_front : (a : Syntax) (s m : List Token) (t : Token) → Sound (repeated a) → starts a (mark_at s) ≡ true → Accepts unlimited a (s ++ t ∷ []) (m ++ t ∷ []) → IsFront (repeated a) (m ++ t ∷ []) → IsFront (repeated a) (s ++ t ∷ [])
+later_front : (a : Syntax) (s m : List Token) (t : Token) → NeverTakesEnd (repeated a) → starts a (mark_at s) ≡ true → Accepts unlimited a (s ++ t ∷ []) (m ++ t ∷ []) → IsFront (repeated a) (m ++ t ∷ []) → IsFront (repeated a) (s ++ t ∷ [])
 later_front a s m t o j x (inl k) = inl (stops_later (m ++ t ∷ []) (begun a s (t ∷ []) o.0 j) x.1 k)
 later_front a s m t o j x (inr k) = inr (more x.0 k.0, reads_more (m ++ t ∷ []) (begun a s (t ∷ []) o.0 j) x.1 k.1)
 
-more_goes : (a : Syntax) (s m : List Token) (x : Tree) (t : Token) (u : List Token) → Sound (repeated a) → starts a (mark_at s) ≡ true → Reads unlimited a s x m → (m ≡ [] → (w : List Token) → GoesOn a s t w) → GoesOn (repeated a) m t u → GoesOn (repeated a) s t u
+more_goes : (a : Syntax) (s m : List Token) (x : Tree) (t : Token) (u : List Token) → NeverTakesEnd (repeated a) → starts a (mark_at s) ≡ true → Reads unlimited a s x m → (m ≡ [] → (w : List Token) → GoesOn a s t w) → GoesOn (repeated a) m t u → GoesOn (repeated a) s t u
 more_goes a s [] x t u o j h f (inl y) = elim (f refl u) [
   | inl z ↦ inl (more z.0 y.0, reads_more (t ∷ u) (begun a s (t ∷ u) o.0 j) z.1 y.1)
   | inr k ↦ inr (first_goes a s t o j k)
@@ -224,7 +224,7 @@ more_goes a s (r ∷ m) x t u o j h f (inr k) =
     inr (later_front a s (r ∷ m) t o j z k)
 
 -- What is read to the end is read before further tokens too, or goes on with the first of them.
-pub goes_or_ends : {g : Syntax} {s r : List Token} {x : Tree} → Reads unlimited g s x r → r ≡ [] → Sound g → Clean g → (t : Token) (u : List Token) → GoesOn g s t u
+pub goes_or_ends : {g : Syntax} {s r : List Token} {x : Tree} → Reads unlimited g s x r → r ≡ [] → NeverTakesEnd g → IsPredictive g → (t : Token) (u : List Token) → GoesOn g s t u
 goes_or_ends (reads_quoted {k = k} {t = w} {s = s} {r = r} e m v) i o c t u = inl (unkept, reads_quoted (ap (λ z. z ++ t ∷ u) e ∙ ap (λ z. w ∷ z ++ t ∷ u) i) (same_mark s (t ∷ u) w r e ∙ m) refl)
 goes_or_ends (reads_kept {w = k} {t = w} {s = s} {r = r} e m v) i o c t u = inl (leaf w, reads_kept (ap (λ z. z ++ t ∷ u) e ∙ ap (λ z. w ∷ z ++ t ∷ u) i) (ap (fits k) (same_mark s (t ∷ u) w r e) ∙ m) refl)
 goes_or_ends (reads_sequence {a = a} {b = b} {s = s} {x = x} m h k) i o c t u = sequence_goes a b s m x t u o h (λ z w. goes_or_ends h z o.0 c.0 t w) (goes_or_ends k i o.1 c.1 t u)
@@ -238,4 +238,4 @@ goes_or_ends (reads_placed {a = a} {s = s} e h) i o c t u = elim (goes_or_ends h
 goes_or_ends (reads_reduced {u = w} {a = a} {s = s} e h) i o c t u = elim (goes_or_ends h i o c t u) [ inl y ↦ inl (reduce w y.0, reads_reduced refl y.1) | inr k ↦ inr (reduced_front w a (s ++ t ∷ []) k) ]
 goes_or_ends (reads_bracketed {a = a} {s = s} h) i o c t u = elim (goes_or_ends h i o c t u) [ inl y ↦ inl (y.0, reads_bracketed y.1) | inr k ↦ inr (bracketed_front a (s ++ t ∷ []) k) ]
 goes_or_ends (reads_enclosed {a = a} {s = s} h) i o c t u = elim (goes_or_ends h i o c t u) [ inl y ↦ inl (y.0, reads_enclosed y.1) | inr k ↦ inr (enclosed_front a (s ++ t ∷ []) k) ]
-goes_or_ends (reads_part {q = p} {s = s} e h) i o c t u = elim (goes_or_ends h i (rules_sound p) (rules_clean p) t u) [ inl y ↦ inl (node (place_at (s ++ t ∷ u)) y.0, reads_part refl y.1) | inr k ↦ inr (part_front p (s ++ t ∷ []) k) ]
+goes_or_ends (reads_part {q = p} {s = s} e h) i o c t u = elim (goes_or_ends h i (rules_never_take_the_end p) (rules_are_predictive p) t u) [ inl y ↦ inl (node (place_at (s ++ t ∷ u)) y.0, reads_part refl y.1) | inr k ↦ inr (part_front p (s ++ t ∷ []) k) ]

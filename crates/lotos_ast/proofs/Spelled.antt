@@ -10,10 +10,10 @@ use Rattle.lotos_ast.specs.Nesting.{Nesting, unlimited}
 use Rattle.lotos_ast.specs.Reads.{Tree, reduce, unkept, leaf, both, left, right, absent, present, no_more, more, node, Reads, reads_quoted, reads_kept, reads_sequence, reads_left, reads_right, reads_absent, reads_present, reads_no_more, reads_more, reads_placed, reads_reduced, reads_bracketed, reads_enclosed, reads_part}
 use Rattle.lotos_ast.specs.Notation.{specification, gate_list, functionality, type_definition, where_item, sort_part, operation_part, operation_names, infix_names, operation_name, equation_part, sort_equations, equations, equation, premiss, for_all, declarations, declaration, sort_pair, operation_pair, expression, infixes, simple, head, process, behaviour, enabling, disable, disabling, parallel, composing, operator, choice, choosing, unary, offer, atom, exit_value, binding, gate_choice}
 use Rattle.lotos_ast.specs.Begins.{or_behind}
-use Rattle.lotos_ast.specs.Conditions.{Clean, Apart, implies}
+use Rattle.lotos_ast.specs.Conditions.{IsPredictive, Apart, implies}
 use Rattle.lotos_ast.specs.Spelled.{is_far, Spelled, Spells, onward, unless, reaches, spelled_quoted, spelled_kept, spelled_sequence, spelled_left, spelled_right, spelled_absent, spelled_present, spelled_no_more, spelled_more, spelled_placed, spelled_reduced, spelled_bracketed, spelled_enclosed, spelled_part}
 use Rattle.lotos_ast.specs.Fronts.{Accepts, IsWhole}
-use Rattle.lotos_ast.proofs.RulesClean.{rules_clean}
+use Rattle.lotos_ast.proofs.RulesArePredictive.{rules_are_predictive}
 use Rattle.lotos_ast.proofs.Tables.{every, contra, modus, not_empty, begins_checked, onward_checked}
 use Rattle.lotos_ast.proofs.OneReading.{same_itself}
 use Rattle.lotos_ast.proofs.Grows.{nor_first, nor_second, or_true, true_or, both_true, given}
@@ -96,7 +96,7 @@ not_there true b h n = h refl
 not_there false b h n = n
 
 -- What the grammar spells is read, where no token follows by which it would go on.
-pub spelled_reads : {g : Syntax} {s r : List Token} → Spelled g s r → Clean g → reaches g (mark_at r) ≡ false → Accepts unlimited g s r
+pub spelled_reads : {g : Syntax} {s r : List Token} → Spelled g s r → IsPredictive g → reaches g (mark_at r) ≡ false → Accepts unlimited g s r
 spelled_reads (spelled_quoted e m) c n = (unkept, reads_quoted e m refl)
 spelled_reads (spelled_kept {t = t} e m) c n = (leaf t, reads_kept e m refl)
 spelled_reads (spelled_sequence {a = a} {b = b} {r = r} m h k) c n =
@@ -119,7 +119,7 @@ spelled_reads (spelled_placed {s = s} h) c n = let u = spelled_reads h c n in (n
 spelled_reads (spelled_reduced {u = w} h) c n = let u = spelled_reads h c n in (reduce w u.0, reads_reduced refl u.1)
 spelled_reads (spelled_bracketed h) c n = let u = spelled_reads h c n in (u.0, reads_bracketed u.1)
 spelled_reads (spelled_enclosed h) c n = let u = spelled_reads h c n in (u.0, reads_enclosed u.1)
-spelled_reads (spelled_part {p = p} {s = s} {r = r} h) c n = let u = spelled_reads h (rules_clean p) (onward_ends p (mark_at r) n) in (node (place_at s) u.0, reads_part refl u.1)
+spelled_reads (spelled_part {p = p} {s = s} {r = r} h) c n = let u = spelled_reads h (rules_are_predictive p) (onward_ends p (mark_at r) n) in (node (place_at s) u.0, reads_part refl u.1)
 
 -- What is read is spelled.
 pub reads_spelled : {d : Nesting} {g : Syntax} {s r : List Token} {x : Tree} → Reads d g s x r → Spelled g s r
@@ -139,7 +139,7 @@ reads_spelled (reads_enclosed h) = spelled_enclosed (reads_spelled h)
 reads_spelled (reads_part e h) = spelled_part (reads_spelled h)
 
 -- no rule goes on by the end
-onward_not_end : (p : Part) → onward p Mark.End ≡ false
+pub onward_not_end : (p : Part) → onward p Mark.End ≡ false
 onward_not_end specification = refl
 onward_not_end gate_list = refl
 onward_not_end functionality = refl
@@ -181,5 +181,5 @@ onward_not_end exit_value = refl
 onward_not_end binding = refl
 onward_not_end gate_choice = refl
 
-pub spells_whole : (p : Part) (s : List Token) → Spells (part p) s → IsWhole (part p) s
-spells_whole p s h = spelled_reads h tt (onward_not_end p)
+pub spells_whole : (g : Syntax) (s : List Token) → IsPredictive g → reaches g Mark.End ≡ false → Spells g s → IsWhole g s
+spells_whole g s c n h = spelled_reads h c n

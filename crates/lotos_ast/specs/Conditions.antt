@@ -10,32 +10,32 @@ use Rattle.lotos_ast.specs.Shortest.{sample, sample_of, short}
 use Rattle.lotos_ast.specs.Spelled.{reaches}
 
 -- no token is the end, and no repeated part begins with it
-abbrev pub Sound : Syntax → Type 0
-Sound (quoted k) = is_same_mark k Mark.End ≡ false
-Sound (kept w) = fits w Mark.End ≡ false
-Sound (sequence a b) = Sound a × Sound b
-Sound (either a b) = Sound a × Sound b
-Sound (optional a) = Sound a
-Sound (repeated a) = Sound a × (starts a Mark.End ≡ false)
-Sound (placed a) = Sound a
-Sound (reduced u a) = Sound a
-Sound (bracketed a) = Sound a
-Sound (enclosed a) = Sound a
-Sound (part p) = Unit {0}
+abbrev pub NeverTakesEnd : Syntax → Type 0
+NeverTakesEnd (quoted k) = is_same_mark k Mark.End ≡ false
+NeverTakesEnd (kept w) = fits w Mark.End ≡ false
+NeverTakesEnd (sequence a b) = NeverTakesEnd a × NeverTakesEnd b
+NeverTakesEnd (either a b) = NeverTakesEnd a × NeverTakesEnd b
+NeverTakesEnd (optional a) = NeverTakesEnd a
+NeverTakesEnd (repeated a) = NeverTakesEnd a × (starts a Mark.End ≡ false)
+NeverTakesEnd (placed a) = NeverTakesEnd a
+NeverTakesEnd (reduced u a) = NeverTakesEnd a
+NeverTakesEnd (bracketed a) = NeverTakesEnd a
+NeverTakesEnd (enclosed a) = NeverTakesEnd a
+NeverTakesEnd (part p) = Unit {0}
 
 -- the shortest texts are what they are said to be: each token has its mark, and none goes on the part before it
-abbrev pub Fine : Syntax → Type 0
-Fine (quoted k) = mark_of (sample k) ≡ k
-Fine (kept w) = fits w (mark_of (sample_of w)) ≡ true
-Fine (sequence a b) = Fine a × Fine b × (extends a (mark_at (short b)) ≡ false)
-Fine (either a b) = Fine a × Fine b × (starts a (mark_at (short b)) ≡ false)
-Fine (optional a) = Fine a
-Fine (repeated a) = Fine a
-Fine (placed a) = Fine a
-Fine (reduced u a) = Fine a
-Fine (bracketed a) = Fine a
-Fine (enclosed a) = Fine a
-Fine (part p) = Unit {0}
+abbrev pub HasShortestTexts : Syntax → Type 0
+HasShortestTexts (quoted k) = mark_of (sample k) ≡ k
+HasShortestTexts (kept w) = fits w (mark_of (sample_of w)) ≡ true
+HasShortestTexts (sequence a b) = HasShortestTexts a × HasShortestTexts b × (extends a (mark_at (short b)) ≡ false)
+HasShortestTexts (either a b) = HasShortestTexts a × HasShortestTexts b × (starts a (mark_at (short b)) ≡ false)
+HasShortestTexts (optional a) = HasShortestTexts a
+HasShortestTexts (repeated a) = HasShortestTexts a
+HasShortestTexts (placed a) = HasShortestTexts a
+HasShortestTexts (reduced u a) = HasShortestTexts a
+HasShortestTexts (bracketed a) = HasShortestTexts a
+HasShortestTexts (enclosed a) = HasShortestTexts a
+HasShortestTexts (part p) = Unit {0}
 
 abbrev pub implies : Bool → Bool → Bool
 implies a b = not a || b
@@ -46,15 +46,19 @@ Apart first second = AllMarks (λ m. implies (first m) (not (second m)))
 
 -- One token ahead decides: what a part begins with isn't what the part before it may go on by, nor what another alternative
 -- begins with. What may be left out or repeated has at least one token.
-abbrev pub Clean : Syntax → Type 0
-Clean (quoted k) = Unit {0}
-Clean (kept w) = Unit {0}
-Clean (sequence a b) = Clean a × Clean b × Apart (starts b) (reaches a)
-Clean (either a b) = Clean a × Clean b × Apart (starts b) (starts a) × (is_empty a ≡ false)
-Clean (optional a) = Clean a × (is_empty a ≡ false)
-Clean (repeated a) = Clean a × (is_empty a ≡ false) × Apart (starts a) (reaches a)
-Clean (placed a) = Clean a
-Clean (reduced u a) = Clean a
-Clean (bracketed a) = Clean a
-Clean (enclosed a) = Clean a
-Clean (part p) = Unit {0}
+abbrev pub IsPredictive : Syntax → Type 0
+IsPredictive (quoted k) = Unit {0}
+IsPredictive (kept w) = Unit {0}
+IsPredictive (sequence a b) = IsPredictive a × IsPredictive b × Apart (starts b) (reaches a)
+IsPredictive (either a b) = IsPredictive a × IsPredictive b × Apart (starts b) (starts a) × (is_empty a ≡ false)
+IsPredictive (optional a) = IsPredictive a × (is_empty a ≡ false)
+IsPredictive (repeated a) = IsPredictive a × (is_empty a ≡ false) × Apart (starts a) (reaches a)
+IsPredictive (placed a) = IsPredictive a
+IsPredictive (reduced u a) = IsPredictive a
+IsPredictive (bracketed a) = IsPredictive a
+IsPredictive (enclosed a) = IsPredictive a
+IsPredictive (part p) = Unit {0}
+
+-- all of them hold, and the part doesn't go on by the end
+abbrev pub IsWellFormed : Syntax → Type 0
+IsWellFormed g = NeverTakesEnd g × HasShortestTexts g × IsPredictive g × (reaches g Mark.End ≡ false)

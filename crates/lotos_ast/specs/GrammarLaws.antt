@@ -1,11 +1,12 @@
--- Laws about all lists of tokens, for every rule of the grammar.
+-- Laws about all lists of tokens, for each part of the grammar of which the conditions hold: they hold of every rule.
 use Rattle.std.specs.Prelude.{List, ◌++◌, ◌≡◌, ◌↔◌, ◌⊎◌}
 use Rattle.lotos_ast.specs.declared.token.Token.{Token}
-use Rattle.lotos_ast.specs.Notation.{Part, Syntax, part}
+use Rattle.lotos_ast.specs.Notation.{Part, Syntax, repeated, part, type_definition}
 use Rattle.lotos_ast.specs.Nesting.{Nesting, unlimited, Fault, too_deep}
 use Rattle.lotos_ast.specs.Reads.{Tree, Reads, Stops}
 use Rattle.lotos_ast.specs.Fronts.{Accepts, IsFront, IsLongest, IsWhole, IsViable, UnexpectedAt}
 use Rattle.lotos_ast.specs.Spelled.{Spells}
+use Rattle.lotos_ast.specs.Conditions.{IsWellFormed}
 
 -- what is read has one tree and one rest
 abbrev pub OneTree : Type 0
@@ -19,17 +20,24 @@ TreeOrFault = (d : Nesting) (f : Fault) (g : Syntax) (s r q : List Token) (x : T
 abbrev pub OneFault : Type 0
 OneFault = (d : Nesting) (f e : Fault) (g : Syntax) (s r q : List Token) → Stops d f g s r → Stops d e g s q → (f ≡ e) × (r ≡ q)
 
+-- the conditions hold of every rule, and of types one after another
+abbrev pub RulesAreWellFormed : Type 0
+RulesAreWellFormed = (p : Part) → IsWellFormed (part p)
+
+abbrev pub TypesAreWellFormed : Type 0
+TypesAreWellFormed = IsWellFormed (repeated (part type_definition))
+
 -- where reading stops, no text goes on, and up to there one does
 abbrev pub StopsAtFirst : Type 0
-StopsAtFirst = (f : Fault) (p : Part) (s r : List Token) → Stops unlimited f (part p) s r → UnexpectedAt (part p) s r
+StopsAtFirst = (f : Fault) (g : Syntax) (s r : List Token) → IsWellFormed g → Stops unlimited f g s r → UnexpectedAt g s r
 
--- the fronts of a rule are the beginnings of its texts
+-- the fronts of a part are the beginnings of its texts
 abbrev pub FrontsAreViable : Type 0
-FrontsAreViable = (p : Part) (s : List Token) → IsFront (part p) s ↔ IsViable (part p) s
+FrontsAreViable = (g : Syntax) (s : List Token) → IsWellFormed g → IsFront g s ↔ IsViable g s
 
 -- what the grammar as it is written spells is what is read with one token ahead
 abbrev pub SpelledIsRead : Type 0
-SpelledIsRead = (p : Part) (s : List Token) → Spells (part p) s ↔ IsWhole (part p) s
+SpelledIsRead = (g : Syntax) (s : List Token) → IsWellFormed g → Spells g s ↔ IsWhole g s
 
 -- what is read within limits is read without them
 abbrev pub ReadWithoutLimits : Type 0
@@ -39,15 +47,15 @@ ReadWithoutLimits = (d : Nesting) (g : Syntax) (s r : List Token) (x : Tree) →
 abbrev pub StopsWithoutLimits : Type 0
 StopsWithoutLimits = (d : Nesting) (f : Fault) (g : Syntax) (s r : List Token) → (f ≡ too_deep → ⊥) → Stops d f g s r → Stops unlimited f g s r
 
--- A rule reads the tokens before a rest exactly where they are a whole text of it and, with the next token, no front: so it
--- reads the longest front, where that is a whole text.
+-- The tokens before a rest are read exactly where they are a whole text and, with the next token, no front: so the longest
+-- front is read, where that is a whole text.
 abbrev pub LongestIsRead : Type 0
-LongestIsRead = (p : Part) (before rest : List Token) → (Spells (part p) before × IsLongest (part p) before rest) ↔ Accepts unlimited (part p) (before ++ rest) rest
+LongestIsRead = (g : Syntax) (before rest : List Token) → IsWellFormed g → (Spells g before × IsLongest g before rest) ↔ Accepts unlimited g (before ++ rest) rest
 
--- reading a rule stops behind the longest front, where that isn't a whole text
+-- reading stops behind the longest front, where that isn't a whole text
 abbrev pub StopsAtLongest : Type 0
-StopsAtLongest = (f : Fault) (p : Part) (before rest : List Token) → Stops unlimited f (part p) (before ++ rest) rest →
-    IsFront (part p) before × IsLongest (part p) before rest × (Spells (part p) before → ⊥)
+StopsAtLongest = (f : Fault) (g : Syntax) (before rest : List Token) → IsWellFormed g → Stops unlimited f g (before ++ rest) rest →
+    IsFront g before × IsLongest g before rest × (Spells g before → ⊥)
 
 -- what is read without limits is read within them, or reading stops too deep
 abbrev pub ReadOrTooDeep : Type 0
@@ -61,4 +69,4 @@ StopsOrTooDeep = (d : Nesting) (f : Fault) (g : Syntax) (s r : List Token) → S
 
 -- where reading stops, too deep or not, the tokens before are a front
 abbrev pub FrontBeforeFault : Type 0
-FrontBeforeFault = (d : Nesting) (f : Fault) (p : Part) (before rest : List Token) → Stops d f (part p) (before ++ rest) rest → IsFront (part p) before
+FrontBeforeFault = (d : Nesting) (f : Fault) (g : Syntax) (before rest : List Token) → IsWellFormed g → Stops d f g (before ++ rest) rest → IsFront g before

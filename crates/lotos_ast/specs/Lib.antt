@@ -13,6 +13,7 @@ pub mod MarkNumbers
 pub mod Marks
 pub mod Nesting
 pub mod Notation
+pub mod Parsing
 pub mod Pieces
 pub mod Places
 pub mod Reads

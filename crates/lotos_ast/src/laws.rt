@@ -1,6 +1,6 @@
 // What holds of the definitions.
 
-ghost use Rattle.lotos_ast.specs.GrammarLaws.{OneTree, TreeOrFault, OneFault, StopsAtFirst, FrontsAreViable, SpelledIsRead, ReadWithoutLimits, StopsWithoutLimits, FrontBeforeFault, ReadOrTooDeep, StopsOrTooDeep, LongestIsRead, StopsAtLongest};
+ghost use Rattle.lotos_ast.specs.GrammarLaws.{OneTree, TreeOrFault, OneFault, RulesAreWellFormed, TypesAreWellFormed, StopsAtFirst, FrontsAreViable, SpelledIsRead, ReadWithoutLimits, StopsWithoutLimits, FrontBeforeFault, ReadOrTooDeep, StopsOrTooDeep, LongestIsRead, StopsAtLongest};
 ghost use Rattle.lotos_ast.specs.TokenLaws.{TokensOrRefusal, NotBoth, OneTokenList, OneRefusal};
 
 /// Each text either isn't too long and has one list of tokens, or it has one refusal. The function does nothing.
@@ -21,8 +21,15 @@ pub fn reading_has_at_most_one_result()
     ensures one_fault { OneFault }
 {}
 
+/// The conditions of the laws below hold of every rule of the grammar, and of types one after another. The function does nothing.
+#[tactic(auto, using(crate::proofs::GrammarLaws::rules_are_well_formed, crate::proofs::GrammarLaws::types_are_well_formed))]
+pub fn the_grammar_is_well_formed()
+    ensures rules { RulesAreWellFormed }
+    ensures types { TypesAreWellFormed }
+{}
+
 /// Where reading stops, limits of nesting aside, it is at the first token with which no text of the grammar goes on, whatever
-/// the rule. The function does nothing.
+/// the part. The function does nothing.
 #[tactic(auto, using(crate::proofs::GrammarLaws::stops_at_first, crate::proofs::GrammarLaws::fronts_are_viable))]
 pub fn reading_stops_at_the_first_token()
     ensures first { StopsAtFirst }
@@ -44,7 +51,7 @@ pub fn limits_change_nothing_below_them()
     ensures front { FrontBeforeFault }
 {}
 
-/// A rule reads the longest front of the tokens where that is a whole text, and stops behind it where it isn't. The function
+/// The longest front of the tokens is read where that is a whole text, and reading stops behind it where it isn't. The function
 /// does nothing.
 #[tactic(auto, using(crate::proofs::LongestLaws::longest_is_read, crate::proofs::LongestLaws::stops_at_longest))]
 pub fn the_longest_front_is_read()

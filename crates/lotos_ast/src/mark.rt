@@ -1,6 +1,7 @@
 // What a token is to the grammar.
 
 ghost use Rattle.std.specs.Prelude.{◌≡◌, map};
+ghost use Rattle.lotos_ast.specs.MarkNumbers.{is_same_mark};
 ghost use Rattle.lotos_ast.specs.Marks.{keyword_of, symbol_of, is_same_word, find_mark, entry_of};
 
 /// What a token is to the grammar: one keyword, one symbol, or a class of tokens whose texts differ.
@@ -100,6 +101,15 @@ pub enum Mark {
     End,
     /// A keyword or symbol of no known spelling.
     Unknown,
+}
+
+impl Mark {
+    /// Whether two marks are the same. It takes no memory.
+    pub fn is_same(self, other: Mark) -> bool
+        ensures { result ≡ is_same_mark self other }
+    {
+        self == other
+    }
 }
 
 // The reserved words, each with its keyword. Letters of either case serve.
