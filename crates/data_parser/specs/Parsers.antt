@@ -1,0 +1,23 @@
+-- What a parser's function of one part of the grammar answers.
+use Rattle.std.specs.Prelude.{List, Option, Some, None, ◌≡◌}
+use Rattle.lotos_ast.specs.declared.token.Token.{Token}
+use Rattle.lotos_ast.specs.Notation.{Syntax}
+use Rattle.lotos_ast.specs.Nesting.{Nesting, nested, Fault, unexpected, too_deep, external}
+use Rattle.lotos_ast.specs.Reads.{Stops}
+use Rattle.data_parser.specs.declared.nest.Nest.{Nest}
+use Rattle.data_parser.specs.declared.parse_fault.ParseFault.{ParseFault}
+use Rattle.data_parser.specs.declared.parse_fault.ParseFault.TheVariants.{Unexpected, TooDeep, External, Memory}
+
+abbrev pub nesting_of : Nest → Nesting
+nesting_of n = nested n.brackets n.constructs
+
+-- the reason that a parser's fault tells; want of memory tells none
+abbrev pub reason_of : ParseFault → Option Fault
+reason_of Unexpected = Some unexpected
+reason_of TooDeep = Some too_deep
+reason_of External = Some external
+reason_of Memory = None
+
+-- reading the part from the tokens of the first list stops before those of the second, for the reason that the fault tells
+pub record Halts (e : ParseFault) (d : Nesting) (g : Syntax) (s r : List Token) : Type 0 where
+  pub stops : (f : Fault) → reason_of e ≡ Some f → Stops d f g s r

@@ -1,0 +1,50 @@
+// Why a parser has no tree.
+
+use spec_core::memory::Memory;
+use std::alloc::{AllocError, AllocFailed};
+
+/// Why there is no tree.
+#[derive(Clone, Copy, Debug, PartialEq, Eq)]
+pub enum ParseFault {
+    /// No text goes on with the next token, or the tokens end too early.
+    Unexpected,
+    /// The next token is nested too deep.
+    TooDeep,
+    /// No text goes on with the next token, which marks an item as external.
+    External,
+    /// Want of memory, which says nothing of the tokens.
+    Memory,
+}
+
+impl From<Memory> for ParseFault {
+    ghost use Rattle.std.specs.Prelude.{◌≡◌};
+    ghost use Rattle.data_parser.specs.declared.parse_fault.ParseFault.TheVariants.{Memory};
+
+    ghost from_gives = { λ _ fault. fault ≡ Memory };
+
+    fn from(_: Memory) -> ParseFault {
+        ParseFault::Memory
+    }
+}
+
+impl From<AllocError> for ParseFault {
+    ghost use Rattle.std.specs.Prelude.{◌≡◌};
+    ghost use Rattle.data_parser.specs.declared.parse_fault.ParseFault.TheVariants.{Memory};
+
+    ghost from_gives = { λ _ fault. fault ≡ Memory };
+
+    fn from(_: AllocError) -> ParseFault {
+        ParseFault::Memory
+    }
+}
+
+impl<T: Drop> From<AllocFailed<T>> for ParseFault {
+    ghost use Rattle.std.specs.Prelude.{◌≡◌};
+    ghost use Rattle.data_parser.specs.declared.parse_fault.ParseFault.TheVariants.{Memory};
+
+    ghost from_gives = { λ _ fault. fault ≡ Memory };
+
+    fn from(_: AllocFailed<T>) -> ParseFault {
+        ParseFault::Memory
+    }
+}
