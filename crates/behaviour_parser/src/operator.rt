@@ -1,0 +1,43 @@
+// Parallel operators.
+
+ghost use Rattle.std.specs.Prelude.{◌≡◌, ◌<◌, ◌||◌, IfOk, OnOk, IfErr, length};
+ghost use Rattle.lotos_ast.specs.Notation.{part, operator};
+ghost use Rattle.lotos_ast.specs.Reads.{Reads};
+ghost use Rattle.lotos_ast.specs.Begins.{mark_at, begins_operator};
+ghost use Rattle.lotos_ast.specs.BehaviourTrees.{operator_tree};
+ghost use Rattle.data_parser.specs.Parsers.{nesting_of, Halts};
+
+use data_parser::cursor::Cursor;
+use data_parser::identifier::Identifier;
+use data_parser::nest::Nest;
+use data_parser::parse_fault::ParseFault;
+use lotos_ast::behaviour::Operator;
+use lotos_ast::mark::Mark;
+
+// Whether a parallel operator begins with the next token.
+pub fn at_operator(cursor: &Cursor<'_>) -> bool
+    ensures { result ≡ begins_operator (mark_at cursor.now) }
+{
+    cursor.at(Mark::Interleave) || cursor.at(Mark::Synchronise) || cursor.at(Mark::LeftBars)
+}
+
+// A parallel operator.
+pub fn operator(cursor: &mut Cursor<'_>, nest: Nest) -> Result<Operator, ParseFault>
+    ensures read { IfOk result (λ o. Reads (nesting_of nest) (part operator) cursor.old (operator_tree o) cursor.new) }
+    ensures halts { IfErr result (λ e. Halts e (nesting_of nest) (part operator) cursor.old cursor.new) }
+    ensures fewer { OnOk result (length cursor.new < length cursor.old) }
+{
+    let place = cursor.place();
+    if cursor.at(Mark::Interleave) {
+        cursor.pass(nest, Mark::Interleave)?;
+        Ok(Operator::Interleave { place })
+    } else if cursor.at(Mark::Synchronise) {
+        cursor.pass(nest, Mark::Synchronise)?;
+        Ok(Operator::Synchronise { place })
+    } else {
+        cursor.pass(nest, Mark::LeftBars)?;
+        let gates = cursor.list::<Identifier>(nest)?;
+        cursor.pass(nest, Mark::RightBars)?;
+        Ok(Operator::Shared { place, gates })
+    }
+}
