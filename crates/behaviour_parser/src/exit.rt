@@ -44,7 +44,10 @@ impl Item for OneExitValue {
 }
 
 // The values with which a behaviour ends, in parentheses, where they stand.
-pub fn exit_values(cursor: &mut Cursor<'_>, nest: Nest) -> Result<Option<Vec<ExitValue>>, ParseFault>
+pub fn exit_values(
+    cursor: &mut Cursor<'_>,
+    nest: Nest,
+) -> Result<Option<Vec<ExitValue>>, ParseFault>
     ensures read { IfOk result (λ values. Reads (nesting_of nest) (optional (in_parentheses (list (part exit_value)))) cursor.old (exit_values_tree values) cursor.new) }
     ensures halts { IfErr result (λ e. Halts e (nesting_of nest) (optional (in_parentheses (list (part exit_value)))) cursor.old cursor.new) }
     ensures no_more { OnOk result (length cursor.new ≤ length cursor.old) }

@@ -5,5 +5,8 @@ mod binding;
 mod exit;
 mod functionality;
 mod gates;
+mod heading;
 mod offer;
+mod opening;
 mod operator;
+mod prefix;

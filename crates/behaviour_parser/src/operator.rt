@@ -1,6 +1,6 @@
 // Parallel operators.
 
-ghost use Rattle.std.specs.Prelude.{◌≡◌, ◌<◌, ◌||◌, IfOk, OnOk, IfErr, length};
+ghost use Rattle.std.specs.Prelude.{◌≡◌, ◌<◌, IfOk, OnOk, IfErr, length};
 ghost use Rattle.lotos_ast.specs.Notation.{part, operator};
 ghost use Rattle.lotos_ast.specs.Reads.{Reads};
 ghost use Rattle.lotos_ast.specs.Begins.{mark_at, begins_operator};

@@ -1,0 +1,173 @@
+// What stands before the first behaviour inside another one.
+
+ghost use Rattle.std.specs.Prelude.{◌≡◌, ◌<◌, true, false, IfOk, OnOk, IfErr, length};
+ghost use Rattle.lotos_ast.specs.declared.mark.Mark.{Mark};
+ghost use Rattle.lotos_ast.specs.MarkNumbers.{is_same_mark};
+ghost use Rattle.lotos_ast.specs.Notation.{part, unary};
+ghost use Rattle.lotos_ast.specs.Reads.{Reads};
+ghost use Rattle.lotos_ast.specs.Begins.{mark_at, is_among};
+ghost use Rattle.lotos_ast.specs.BehaviourTrees.{behaviour_tree, unary_tree, atom_tree};
+ghost use Rattle.data_parser.specs.Parsers.{nesting_of, Halts};
+ghost use Rattle.behaviour_parser.specs.Openings.{prefix_tree, heading_tree, IsOpening, before_last};
+
+use crate::exit::exit_values;
+use crate::heading::{choice, hide, par, with_bindings};
+use crate::prefix::{guarded, internal, named};
+use data_parser::cursor::Cursor;
+use data_parser::nest::Nest;
+use data_parser::parse_fault::ParseFault;
+use lotos_ast::behaviour::{Action, Atom, Behaviour, Binding, GateChoice, Operator, Unary};
+use lotos_ast::declaration::{Declarations, GateList};
+use lotos_ast::expression::Premiss;
+use lotos_ast::mark::Mark;
+use lotos_ast::place::Place;
+use lotos_ast::token::Token;
+use spec_core::memory::Memory;
+use std::alloc::Global;
+
+// An action or a guard, before the behaviour that follows.
+#[derive(Drop)]
+pub enum Prefix {
+    Guard { place: Place, guard: Premiss },
+    Action { place: Place, action: Action },
+}
+
+// What begins a behaviour that reaches as far as it can.
+#[derive(Drop)]
+pub enum Heading {
+    Hide {
+        place: Place,
+        gates: Vec<Token>,
+    },
+    Let {
+        place: Place,
+        bindings: Vec<Binding>,
+    },
+    Values {
+        place: Place,
+        declarations: Declarations,
+        brackets: Place,
+    },
+    Gates {
+        place: Place,
+        choices: Vec<GateChoice>,
+        brackets: Place,
+    },
+    Par {
+        place: Place,
+        gate: Token,
+        gates: GateList,
+        operator: Operator,
+    },
+}
+
+// What stands before the first behaviour inside a behaviour; or a whole behaviour, where there is none inside.
+#[derive(Drop)]
+pub enum Opening {
+    Before(Prefix),
+    Around(Heading),
+    Parenthesis { place: Place },
+    Whole(Atom),
+}
+
+impl Prefix {
+    // The behaviour that begins with this, and goes on with the rest.
+    pub fn before(self, alloc: Global, rest: Unary) -> Result<Unary, Memory>
+        ensures tree { IfOk result (λ unary. unary_tree unary ≡ prefix_tree self (unary_tree rest)) }
+    {
+        match self {
+            Prefix::Guard { place, guard } => Ok(Unary::guarded(alloc, place, guard, rest)?),
+            Prefix::Action { place, action } => Ok(Unary::prefixed(alloc, place, action, rest)?),
+        }
+    }
+}
+
+impl Heading {
+    // The behaviour that begins with this, with the one inside.
+    pub fn around(self, alloc: Global, inner: Behaviour) -> Result<Atom, Memory>
+        ensures tree { IfOk result (λ atom. atom_tree atom ≡ heading_tree self (behaviour_tree inner)) }
+    {
+        match self {
+            Heading::Hide { place, gates } => Ok(Atom::hide(alloc, place, gates, inner)?),
+            Heading::Let { place, bindings } => {
+                Ok(Atom::with_bindings(alloc, place, bindings, inner)?)
+            }
+            Heading::Values {
+                place,
+                declarations,
+                brackets,
+            } => Ok(Atom::choice_of_values(alloc, place, declarations, brackets, inner)?),
+            Heading::Gates {
+                place,
+                choices,
+                brackets,
+            } => Ok(Atom::choice_of_gates(alloc, place, choices, brackets, inner)?),
+            Heading::Par {
+                place,
+                gate,
+                gates,
+                operator,
+            } => Ok(Atom::par(alloc, place, gate, gates, operator, inner)?),
+        }
+    }
+}
+
+// What stands before the first behaviour inside a behaviour.
+pub fn read_opening(cursor: &mut Cursor<'_>, nest: Nest) -> Result<Opening, ParseFault>
+    ensures read { IfOk result (λ opening. IsOpening (nesting_of nest) cursor.old opening cursor.new) }
+    ensures halts { IfErr result (λ e. Halts e (nesting_of nest) (part unary) cursor.old cursor.new) }
+    ensures fewer { OnOk result (length cursor.new < length cursor.old) }
+{
+    if cursor.at(Mark::LeftBracket) {
+        Ok(Opening::Before(guarded(cursor, nest)?))
+    } else if cursor.at(Mark::I) {
+        Ok(Opening::Before(internal(cursor, nest)?))
+    } else if cursor.at(Mark::Identifier) {
+        named(cursor, nest)
+    } else if cursor.at(Mark::LeftParenthesis) {
+        parenthesis(cursor, nest)
+    } else if cursor.at(Mark::Hide) {
+        Ok(Opening::Around(hide(cursor, nest)?))
+    } else if cursor.at(Mark::Let) {
+        Ok(Opening::Around(with_bindings(cursor, nest)?))
+    } else if cursor.at(Mark::Choice) {
+        Ok(Opening::Around(choice(cursor, nest)?))
+    } else if cursor.at(Mark::Par) {
+        Ok(Opening::Around(par(cursor, nest)?))
+    } else {
+        whole(cursor, nest)
+    }
+}
+
+// A left parenthesis.
+#[tactic(auto, using(crate::proofs::Openings::parenthesis_leads, crate::proofs::Chosen::parenthesis_halts, data_parser::proofs::Rows::halts_first, data_parser::proofs::Rows::halts_memory))]
+fn parenthesis(cursor: &mut Cursor<'_>, nest: Nest) -> Result<Opening, ParseFault>
+    requires here { is_same_mark Mark.LeftParenthesis (mark_at cursor.old) ≡ true }
+    ensures read { IfOk result (λ opening. IsOpening (nesting_of nest) cursor.old opening cursor.new) }
+    ensures halts { IfErr result (λ e. Halts e (nesting_of nest) (part unary) cursor.old cursor.new) }
+    ensures fewer { OnOk result (length cursor.new < length cursor.old) }
+{
+    let place = cursor.place();
+    let inner = nest.bracket()?;
+    cursor.pass(inner, Mark::LeftParenthesis)?;
+    Ok(Opening::Parenthesis { place })
+}
+
+// `exit` with its values, or `stop`.
+#[tactic(auto, using(crate::proofs::Openings::exit_reads, crate::proofs::Openings::stop_reads, crate::proofs::Chosen::last_halts, data_parser::proofs::Rows::halts_first, data_parser::proofs::Rows::halts_second, data_parser::proofs::Rows::halts_left, data_parser::proofs::Rows::halts_right, data_parser::proofs::Rows::halts_memory))]
+fn whole(cursor: &mut Cursor<'_>, nest: Nest) -> Result<Opening, ParseFault>
+    requires last { is_among before_last (mark_at cursor.old) ≡ false }
+    ensures read { IfOk result (λ opening. IsOpening (nesting_of nest) cursor.old opening cursor.new) }
+    ensures halts { IfErr result (λ e. Halts e (nesting_of nest) (part unary) cursor.old cursor.new) }
+    ensures fewer { OnOk result (length cursor.new < length cursor.old) }
+{
+    let place = cursor.place();
+    if cursor.at(Mark::Exit) {
+        cursor.pass(nest, Mark::Exit)?;
+        let values = exit_values(cursor, nest)?;
+        Ok(Opening::Whole(Atom::exit(place, values)))
+    } else {
+        cursor.pass(nest, Mark::Stop)?;
+        Ok(Opening::Whole(Atom::stop(place)))
+    }
+}
