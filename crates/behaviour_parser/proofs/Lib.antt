@@ -1,3 +1,4 @@
 pub mod Leads
 pub mod Chosen
 pub mod Openings
+pub mod Levels

@@ -30,11 +30,19 @@ use Rattle.data_parser.specs.Parsers.{Halts}
 use Rattle.data_parser.proofs.Rows.{halts_second}
 use Rattle.behaviour_parser.specs.Leads.{Leads}
 use Rattle.behaviour_parser.specs.declared.prefix.Offers.{Offers}
+use Rattle.behaviour_parser.specs.declared.opening.Prefix.{Prefix}
+use Rattle.behaviour_parser.specs.declared.opening.Heading.{Heading}
 use Rattle.behaviour_parser.specs.declared.opening.Prefix.TheVariants.{Guard, Action}
 use Rattle.behaviour_parser.specs.declared.opening.Heading.TheVariants.{Hide, Let, Values, Gates, Par}
 use Rattle.behaviour_parser.specs.Openings.{IsPrefix, IsHeading, heading_tree, parenthesis_tree, offering_tree, offering, choice_part, gates_part, values_part, last_part, before_last}
 use Rattle.behaviour_parser.proofs.Leads.{leads_none, leads_left, leads_right, leads_on, leads_within}
 use Rattle.behaviour_parser.proofs.Chosen.{guard_chosen, internal_chosen, named_chosen, parenthesis_chosen, hide_chosen, let_chosen, choice_chosen, par_chosen, last_chosen, leads_placed}
+
+pub same_prefix : (d : Nesting) (s m : List Token) (a b : Prefix) → a ≡ b → IsPrefix d s b m → IsPrefix d s a m
+same_prefix d s m a b e h = subst (λ z. IsPrefix d s z m) (sym e) h
+
+pub same_heading : (d : Nesting) (s m : List Token) (a b : Heading) → a ≡ b → IsHeading d s b m → IsHeading d s a m
+same_heading d s m a b e h = subst (λ z. IsHeading d s z m) (sym e) h
 
 pub guard_leads : (d : Nesting) (s m r : List Token) (p : Place) (g : Premiss) → is_same_mark Mark.LeftBracket (mark_at s) ≡ true → p ≡ place_at s →
     Reads d predicate s (predicate_tree g) m → Reads d (quoted Mark.Arrow) m unkept r → IsPrefix d s (Guard p g) r

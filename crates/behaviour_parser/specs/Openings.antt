@@ -1,5 +1,5 @@
 -- What stands before the first behaviour inside another one.
-use Rattle.std.specs.Prelude.{List, [], ◌∷◌, map}
+use Rattle.std.specs.Prelude.{List, [], ◌∷◌, map, box_value}
 use Rattle.lotos_ast.specs.declared.mark.Mark.{Mark}
 use Rattle.lotos_ast.specs.declared.place.Place.{Place}
 use Rattle.lotos_ast.specs.declared.token.Token.{Token}
@@ -9,7 +9,7 @@ use Rattle.lotos_ast.specs.Nesting.{Nesting, in_bracket}
 use Rattle.lotos_ast.specs.Reads.{Tree, leaf, both, left, right, node, Reads}
 use Rattle.lotos_ast.specs.ListTrees.{list_tree, token_list_tree, behind}
 use Rattle.lotos_ast.specs.DeclarationTrees.{gate_list_tree}
-use Rattle.lotos_ast.specs.BehaviourTrees.{atom_tree, offers_tree, optional_predicate_tree, action_tree, predicate_tree, binding_tree, atomic_tree, choice_declarations_tree, choice_gates_tree, brackets_tree, operator_tree}
+use Rattle.lotos_ast.specs.BehaviourTrees.{unary_tree, offers_tree, optional_predicate_tree, action_tree, predicate_tree, binding_tree, atomic_tree, choice_declarations_tree, choice_gates_tree, brackets_tree, operator_tree}
 use Rattle.behaviour_parser.specs.declared.opening.Prefix.{Prefix}
 use Rattle.behaviour_parser.specs.declared.opening.Prefix.TheVariants.{Guard, Action}
 use Rattle.behaviour_parser.specs.declared.opening.Heading.{Heading}
@@ -44,10 +44,10 @@ abbrev pub IsHeading : Nesting → List Token → Heading → List Token → Typ
 IsHeading d s heading m = Leads d (part unary) s (heading_tree heading) (in_bracket d) (part behaviour) m
 
 abbrev pub IsOpening : Nesting → List Token → Opening → List Token → Type 0
-IsOpening d s (Before prefix) m = IsPrefix d s prefix m
-IsOpening d s (Around heading) m = IsHeading d s heading m
+IsOpening d s (Before prefix) m = IsPrefix d s (box_value prefix) m
+IsOpening d s (Around heading) m = IsHeading d s (box_value heading) m
 IsOpening d s (Parenthesis place) m = Leads d (part unary) s (parenthesis_tree place) (in_bracket d) (part behaviour ▸ quoted Mark.RightParenthesis) m
-IsOpening d s (Whole atom) m = Reads d (part unary) s (atom_tree atom) m
+IsOpening d s (Whole whole) m = Reads d (part unary) s (unary_tree (box_value whole)) m
 
 -- what follows the gate of an action with values
 abbrev pub offering : Syntax

@@ -1,6 +1,6 @@
 // What stands before the first behaviour inside another one.
 
-ghost use Rattle.std.specs.Prelude.{◌≡◌, ◌<◌, true, false, IfOk, OnOk, IfErr, length};
+ghost use Rattle.std.specs.Prelude.{◌≡◌, ◌<◌, true, false, box_value, IfOk, OnOk, IfErr, length};
 ghost use Rattle.lotos_ast.specs.declared.mark.Mark.{Mark};
 ghost use Rattle.lotos_ast.specs.MarkNumbers.{is_same_mark};
 ghost use Rattle.lotos_ast.specs.Notation.{part, unary};
@@ -64,27 +64,44 @@ pub enum Heading {
 // What stands before the first behaviour inside a behaviour; or a whole behaviour, where there is none inside.
 #[derive(Drop)]
 pub enum Opening {
-    Before(Prefix),
-    Around(Heading),
+    Before(Box<Prefix>),
+    Around(Box<Heading>),
     Parenthesis { place: Place },
-    Whole(Atom),
+    Whole(Box<Unary>),
 }
 
 impl Prefix {
-    // The behaviour that begins with this, and goes on with the rest.
-    pub fn before(self, alloc: Global, rest: Unary) -> Result<Unary, Memory>
-        ensures tree { IfOk result (λ unary. unary_tree unary ≡ prefix_tree self (unary_tree rest)) }
+    // The behaviour that begins with the prefix, and goes on with the rest.
+    #[inline(never)]
+    pub fn before(prefix: Box<Prefix>, alloc: Global, rest: Box<Unary>) -> Result<Box<Unary>, Memory>
+        ensures tree { IfOk result (λ unary. unary_tree (box_value unary) ≡ prefix_tree (box_value prefix) (unary_tree (box_value rest))) }
     {
-        match self {
-            Prefix::Guard { place, guard } => Ok(Unary::guarded(alloc, place, guard, rest)?),
-            Prefix::Action { place, action } => Ok(Unary::prefixed(alloc, place, action, rest)?),
+        let rest = Box::into_inner(rest);
+        match Box::into_inner(prefix) {
+            Prefix::Guard { place, guard } => {
+                let unary = Unary::guarded(alloc, place, guard, rest)?;
+                Ok(Box::new(alloc, unary)?)
+            }
+            Prefix::Action { place, action } => {
+                let unary = Unary::prefixed(alloc, place, action, rest)?;
+                Ok(Box::new(alloc, unary)?)
+            }
         }
     }
 }
 
 impl Heading {
-    // The behaviour that begins with this, with the one inside.
-    pub fn around(self, alloc: Global, inner: Behaviour) -> Result<Atom, Memory>
+    // The behaviour that begins with the heading, with the one inside.
+    #[inline(never)]
+    pub fn around(heading: Box<Heading>, alloc: Global, inner: Box<Behaviour>) -> Result<Box<Unary>, Memory>
+        ensures tree { IfOk result (λ unary. unary_tree (box_value unary) ≡ heading_tree (box_value heading) (behaviour_tree (box_value inner))) }
+    {
+        let atom = Box::into_inner(heading).atom(alloc, Box::into_inner(inner))?;
+        Ok(Box::new(alloc, Unary::atomic(atom))?)
+    }
+
+    // The same as an atom.
+    fn atom(self, alloc: Global, inner: Behaviour) -> Result<Atom, Memory>
         ensures tree { IfOk result (λ atom. atom_tree atom ≡ heading_tree self (behaviour_tree inner)) }
     {
         match self {
@@ -112,28 +129,43 @@ impl Heading {
     }
 }
 
+// A behaviour that begins with a word of its own.
+pub fn atomic(alloc: Global, atom: Atom) -> Result<Box<Unary>, Memory>
+    ensures tree { IfOk result (λ unary. unary_tree (box_value unary) ≡ atom_tree atom) }
+{
+    Ok(Box::new(alloc, Unary::atomic(atom))?)
+}
+
 // What stands before the first behaviour inside a behaviour.
+#[inline(never)]
+#[tactic(auto, using(crate::proofs::Openings::same_prefix, crate::proofs::Openings::same_heading, data_parser::proofs::Rows::halts_memory))]
 pub fn read_opening(cursor: &mut Cursor<'_>, nest: Nest) -> Result<Opening, ParseFault>
     ensures read { IfOk result (λ opening. IsOpening (nesting_of nest) cursor.old opening cursor.new) }
     ensures halts { IfErr result (λ e. Halts e (nesting_of nest) (part unary) cursor.old cursor.new) }
     ensures fewer { OnOk result (length cursor.new < length cursor.old) }
 {
     if cursor.at(Mark::LeftBracket) {
-        Ok(Opening::Before(guarded(cursor, nest)?))
+        let prefix = guarded(cursor, nest)?;
+        Ok(Opening::Before(Box::new(cursor.alloc(), prefix)?))
     } else if cursor.at(Mark::I) {
-        Ok(Opening::Before(internal(cursor, nest)?))
+        let prefix = internal(cursor, nest)?;
+        Ok(Opening::Before(Box::new(cursor.alloc(), prefix)?))
     } else if cursor.at(Mark::Identifier) {
         named(cursor, nest)
     } else if cursor.at(Mark::LeftParenthesis) {
         parenthesis(cursor, nest)
     } else if cursor.at(Mark::Hide) {
-        Ok(Opening::Around(hide(cursor, nest)?))
+        let heading = hide(cursor, nest)?;
+        Ok(Opening::Around(Box::new(cursor.alloc(), heading)?))
     } else if cursor.at(Mark::Let) {
-        Ok(Opening::Around(with_bindings(cursor, nest)?))
+        let heading = with_bindings(cursor, nest)?;
+        Ok(Opening::Around(Box::new(cursor.alloc(), heading)?))
     } else if cursor.at(Mark::Choice) {
-        Ok(Opening::Around(choice(cursor, nest)?))
+        let heading = choice(cursor, nest)?;
+        Ok(Opening::Around(Box::new(cursor.alloc(), heading)?))
     } else if cursor.at(Mark::Par) {
-        Ok(Opening::Around(par(cursor, nest)?))
+        let heading = par(cursor, nest)?;
+        Ok(Opening::Around(Box::new(cursor.alloc(), heading)?))
     } else {
         whole(cursor, nest)
     }
@@ -165,9 +197,11 @@ fn whole(cursor: &mut Cursor<'_>, nest: Nest) -> Result<Opening, ParseFault>
     if cursor.at(Mark::Exit) {
         cursor.pass(nest, Mark::Exit)?;
         let values = exit_values(cursor, nest)?;
-        Ok(Opening::Whole(Atom::exit(place, values)))
+        let atom = Atom::exit(place, values);
+        Ok(Opening::Whole(atomic(cursor.alloc(), atom)?))
     } else {
         cursor.pass(nest, Mark::Stop)?;
-        Ok(Opening::Whole(Atom::stop(place)))
+        let atom = Atom::stop(place);
+        Ok(Opening::Whole(atomic(cursor.alloc(), atom)?))
     }
 }

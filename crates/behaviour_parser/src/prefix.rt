@@ -14,7 +14,7 @@ ghost use Rattle.behaviour_parser.specs.Leads.{Leads};
 
 use crate::gates::optional_gates;
 use crate::offer::OneOffer;
-use crate::opening::{Opening, Prefix};
+use crate::opening::{Opening, Prefix, atomic};
 use data_parser::cursor::Cursor;
 use data_parser::item::Item;
 use data_parser::nest::Nest;
@@ -100,7 +100,7 @@ fn offering(cursor: &mut Cursor<'_>, nest: Nest) -> Result<Offers, ParseFault>
 }
 
 // An action at a gate, up to its semicolon; or a process with its gates and values.
-#[tactic(auto, using(crate::proofs::Openings::plain_leads, crate::proofs::Openings::offered_leads, crate::proofs::Openings::call_reads, crate::proofs::Chosen::named_halts, lotos_ast::proofs::Rows::reads_sequence_at, data_parser::proofs::Rows::halts_first, data_parser::proofs::Rows::halts_second, data_parser::proofs::Rows::halts_left, data_parser::proofs::Rows::halts_right, data_parser::proofs::Rows::halts_memory))]
+#[tactic(auto, using(crate::proofs::Openings::same_prefix, crate::proofs::Openings::plain_leads, crate::proofs::Openings::offered_leads, crate::proofs::Openings::call_reads, crate::proofs::Chosen::named_halts, lotos_ast::proofs::Rows::reads_sequence_at, data_parser::proofs::Rows::halts_first, data_parser::proofs::Rows::halts_second, data_parser::proofs::Rows::halts_left, data_parser::proofs::Rows::halts_right, data_parser::proofs::Rows::halts_memory))]
 pub fn named(cursor: &mut Cursor<'_>, nest: Nest) -> Result<Opening, ParseFault>
     requires here { is_same_mark Mark.Identifier (mark_at cursor.old) ≡ true }
     ensures read { IfOk result (λ opening. IsOpening (nesting_of nest) cursor.old opening cursor.new) }
@@ -112,7 +112,8 @@ pub fn named(cursor: &mut Cursor<'_>, nest: Nest) -> Result<Opening, ParseFault>
     if cursor.at(Mark::Semicolon) {
         cursor.pass(nest, Mark::Semicolon)?;
         let action = Action::Plain { place, gate: name };
-        Ok(Opening::Before(Prefix::Action { place, action }))
+        let prefix = Prefix::Action { place, action };
+        Ok(Opening::Before(Box::new(cursor.alloc(), prefix)?))
     } else if OneOffer::begins(cursor) {
         let Offers { offers, predicate } = offering(cursor, nest)?;
         let action = Action::Offering {
@@ -121,10 +122,12 @@ pub fn named(cursor: &mut Cursor<'_>, nest: Nest) -> Result<Opening, ParseFault>
             offers,
             predicate,
         };
-        Ok(Opening::Before(Prefix::Action { place, action }))
+        let prefix = Prefix::Action { place, action };
+        Ok(Opening::Before(Box::new(cursor.alloc(), prefix)?))
     } else {
         let gates = optional_gates(cursor, nest)?;
         let values = cursor.arguments(nest)?;
-        Ok(Opening::Whole(Atom::call(place, name, gates, values)))
+        let atom = Atom::call(place, name, gates, values);
+        Ok(Opening::Whole(atomic(cursor.alloc(), atom)?))
     }
 }
