@@ -1,3 +1,4 @@
 pub mod Chains
 pub mod Loops
+pub mod OperationNames
 pub mod Parsers
