@@ -1,5 +1,5 @@
 -- What is read, or halts, is what a call is to answer.
-use Rattle.std.proofs.Common.{ℕ, ◌≤◌, ◌+◌, ◌-◌, List, ◌++◌, length, take, drop, Option, Some, None, ◌≡◌, refl, sym, subst, ap, ◌∙◌, append_assoc, arith}
+use Rattle.std.proofs.Common.{ℕ, ◌≤◌, ◌+◌, ◌-◌, List, ◌++◌, length, take, drop, ◌≡◌, sym, subst, ap, ◌∙◌, append_assoc, arith}
 use Rattle.std.proofs.Math.Seq.{drop-append_seam}
 use Rattle.std.proofs.lemmas.List.{take-append-drop, length-append, length-drop}
 use Rattle.lotos_ast.specs.declared.token.Token.{Token}
@@ -8,7 +8,7 @@ use Rattle.lotos_ast.specs.declared.refusal.FrontFault.TheVariants.{Refused, Mem
 use Rattle.lotos_ast.specs.Notation.{Syntax}
 use Rattle.lotos_ast.specs.Reads.{Tree, Reads, Stops}
 use Rattle.lotos_ast.specs.Conditions.{IsWellFormed}
-use Rattle.lotos_ast.specs.Parsing.{outermost, IsParsed, IsParsedBetween, IsRefusedFrom, refused, refusal_at}
+use Rattle.lotos_ast.specs.Parsing.{outermost, IsParsed, IsParsedBetween, IsRefusedFrom, refused}
 use Rattle.lotos_ast.specs.Refusals.{OnRefusal}
 use Rattle.lotos_ast.proofs.Parsing.{parsed, refused as is_refused}
 use Rattle.data_parser.specs.declared.parse_fault.ParseFault.{ParseFault}

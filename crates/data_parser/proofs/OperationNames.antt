@@ -1,5 +1,5 @@
 -- Operations with one list of sorts: the first one, the next one, and the sorts.
-use Rattle.std.proofs.Common.{List, [], ◌∷◌, ◌++◌, Bool, true, false, ◌||◌, Option, Some, Vec, ◌≡◌, refl, sym, subst, ap, ◌∙◌, append_assoc}
+use Rattle.std.proofs.Common.{List, [], ◌∷◌, ◌++◌, Bool, true, false, ◌||◌, Option, Some, Vec, ◌≡◌, sym, subst, append_assoc}
 use Rattle.std.proofs.lemmas.List.{append-nil}
 use Rattle.std.specs.declared.alloc.Global.{Global}
 use Rattle.lotos_ast.specs.declared.mark.Mark.{Mark}
@@ -10,11 +10,11 @@ use Rattle.lotos_ast.specs.declared.types.OperationName.{OperationName}
 use Rattle.lotos_ast.specs.declared.types.OperationName.TheVariants.{Prefix, Infix}
 use Rattle.lotos_ast.specs.declared.types.OperationDecl.{OperationDecl}
 use Rattle.lotos_ast.specs.MarkNumbers.{is_same_mark}
-use Rattle.lotos_ast.specs.Notation.{Syntax, quoted, optional, part, operation_name, operation_names, infix_names, identifier, constructor_mark, ◌▸◌}
+use Rattle.lotos_ast.specs.Notation.{quoted, optional, part, operation_name, operation_names, constructor_mark, ◌▸◌}
 use Rattle.lotos_ast.specs.Grammar.{infix_end, operation_declaration}
 use Rattle.lotos_ast.specs.Begins.{mark_at, place_at}
 use Rattle.lotos_ast.specs.Nesting.{Nesting, Fault}
-use Rattle.lotos_ast.specs.Reads.{Tree, unkept, both, left, right, leaf, Reads, Stops, reads_sequence, reads_left, reads_right, reads_placed, reads_part, stops_first, stops_second, stops_left, stops_right, stops_placed, stops_part}
+use Rattle.lotos_ast.specs.Reads.{unkept, both, right, leaf, Reads, Stops, reads_sequence, reads_left, reads_right, reads_placed, reads_part, stops_first, stops_second, stops_left, stops_right, stops_placed, stops_part}
 use Rattle.lotos_ast.specs.ListTrees.{optional_token_tree, behind}
 use Rattle.lotos_ast.specs.TypeTrees.{names_tree, operation_name_tree, two_sorts_tree, both_sorts_tree, operation_decl_tree}
 use Rattle.data_parser.specs.declared.parse_fault.ParseFault.{ParseFault}

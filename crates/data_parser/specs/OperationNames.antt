@@ -1,5 +1,5 @@
 -- Operations that are declared with one list of sorts, as far as they are read.
-use Rattle.std.specs.Prelude.{List, [], ◌∷◌, ◌++◌, Bool, true, false, Option, Vec, ◌≡◌}
+use Rattle.std.specs.Prelude.{List, ◌++◌, Bool, true, false, Option, Vec}
 use Rattle.std.specs.declared.alloc.Global.{Global}
 use Rattle.lotos_ast.specs.declared.mark.Mark.{Mark}
 use Rattle.lotos_ast.specs.declared.token.Token.{Token}

@@ -4,6 +4,7 @@
 pub mod calls;
 pub mod cursor;
 pub mod declaration;
+pub mod equation;
 pub mod expression;
 pub mod identifier;
 pub mod item;
@@ -12,3 +13,4 @@ pub mod operation;
 pub mod parse_fault;
 pub mod refusals;
 pub mod sort;
+pub mod type_definition;

@@ -178,7 +178,11 @@ impl<'a> Cursor<'a> {
     }
 
     // The sorts behind operations of which one stands between its arguments or none does.
-    fn arguments_and_result(&mut self, nest: Nest, between: bool) -> Result<ArgumentsAndResult, ParseFault>
+    fn arguments_and_result(
+        &mut self,
+        nest: Nest,
+        between: bool,
+    ) -> Result<ArgumentsAndResult, ParseFault>
         requires { is_same_mark Mark.Comma (mark_at self.old) ≡ false }
         ensures read { IfOk result (λ s. Reads (nesting_of nest) (after_names between) self.old (after_names_tree between [] s.arguments s.result) self.new) }
         ensures halts { IfErr result (λ e. Halts e (nesting_of nest) (after_names between) self.old self.new) }
@@ -210,7 +214,10 @@ impl<'a> Cursor<'a> {
     }
 
     /// The operations that a type declares, where it does.
-    pub fn optional_operation_part(&mut self, nest: Nest) -> Result<Option<OperationPart>, ParseFault>
+    pub fn optional_operation_part(
+        &mut self,
+        nest: Nest,
+    ) -> Result<Option<OperationPart>, ParseFault>
         ensures read { IfOk result (λ o. Reads (nesting_of nest) (optional (part operation_part)) self.old (optional_operation_part_tree o) self.new) }
         ensures halts { IfErr result (λ e. Halts e (nesting_of nest) (optional (part operation_part)) self.old self.new) }
         ensures no_more { OnOk result (length self.new ≤ length self.old) }

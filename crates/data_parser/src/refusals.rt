@@ -108,5 +108,7 @@ fn place_behind(token: &Token) -> Place
 fn has_room(place: Place, count: usize) -> bool
     ensures { result ≡ has_room place count }
 {
-    place.column > 0 && u64::from(place.line) + u64::from(place.column) < (1 << 32) && (count as u64) < (1 << 32) - u64::from(place.line) - u64::from(place.column)
+    place.column > 0
+        && u64::from(place.line) + u64::from(place.column) < (1 << 32)
+        && (count as u64) < (1 << 32) - u64::from(place.line) - u64::from(place.column)
 }

@@ -11,6 +11,6 @@ names-init c = record {
 pub names-preserved : goal.names-preserved
 names-preserved c = record {
   on = names_next _ _ _ _ _ _ _ c.in_ok-next.next _ _ c.names.invariant.on (search rules) c.in_ok-pass.ensures.read c.in_ok-next.ensures.read
-    c.in_ok-next.ensures.place (search rules) c.is_now_between-between-in-names.ensures;
+      c.in_ok-next.ensures.place (search rules) c.is_now_between-between-in-names.ensures;
   fewer = omega (arith, c.in_ok-pass.ensures.fewer, c.in_ok-next.ensures.fewer, c.names.invariant.fewer);
 }
