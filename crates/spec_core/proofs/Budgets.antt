@@ -1,17 +1,13 @@
 -- What a part that goes beyond its budget says of the whole, step by step.
-use Rattle.std.proofs.Common.{ℕ, ◌≡◌, ◌<◌, ◌≤◌, ◌+◌, ◌-◌, List, [], ◌∷◌, ◌++◌, sym, subst, ◌∙◌, arith, Bool, true, false, inl, inr}
+use Rattle.std.proofs.Common.{ℕ, ◌≡◌, ◌≤◌, ◌-◌, List, [], ◌∷◌, ◌++◌, sym, subst, ◌∙◌, arith, Bool, true, false, inl, inr}
 use Rattle.spec_core.specs.Budgets.{IsBeyond, AreBeyond, BothAreBeyond, TriesAreBeyond, AsksAreBeyond}
-use Rattle.spec_core.specs.Constructors.{IsConstructor}
-use Rattle.spec_core.specs.Evaluation.{Evaluates, EvaluatesAll, Tries, Asks, HaveValues, called, none, more, final, unlike, like, used, holds, fails}
+use Rattle.spec_core.specs.Evaluation.{Evaluates, EvaluatesAll, Tries, Asks, HaveValues, called, none, more, unlike, like, used, holds, fails}
 use Rattle.spec_core.specs.Lists.{Each}
 use Rattle.spec_core.specs.Orthogonality.{HasNoLooseVariables}
-use Rattle.spec_core.specs.Terms.{TermTree, TermTrees, variable, apply, terms, instance, Occurs}
+use Rattle.spec_core.specs.Terms.{TermTree, TermTrees, apply, terms, instance, Occurs}
 use Rattle.spec_core.specs.Theories.{Premise, premise, ConditionalEquation, Theory, OccursInPremises}
 use Rattle.spec_core.proofs.Lists.{untrue}
 use Rattle.spec_core.proofs.OneValue.{agree, same_instance, one_value, one_values}
-
-pub variable_beyond : (theory : Theory) (x budget : ℕ) → IsBeyond theory (variable x) budget
-variable_beyond theory x budget v n h = elim h [ ]
 
 -- a call whose arguments are beyond the budget
 pub arguments_beyond : (theory : Theory) (t : TermTree) (f : ℕ) (ts us : TermTrees) (budget : ℕ) → t ≡ apply f us → ts ≡ us → AreBeyond theory ts budget → IsBeyond theory t budget
@@ -21,10 +17,6 @@ arguments_beyond theory t f ts us budget is same h = subst (λ u. IsBeyond theor
     call v k (called vs n m a b e) =
         let x = h vs n (subst (λ xs. EvaluatesAll theory xs vs n) (sym same) a) in
         omega arith
-
--- an operation without a constructor, with no equation left
-pub none_left_beyond : (theory : Theory) (f : ℕ) (vs : TermTrees) (budget : ℕ) → (IsConstructor theory f → ⊥) → TriesAreBeyond theory [] f vs budget
-none_left_beyond theory f vs budget h v k (final c e z) = absurd (h c)
 
 pub unlike_beyond : (theory : Theory) (e : ConditionalEquation) (es : List ConditionalEquation) (f : ℕ) (vs : TermTrees) (budget : ℕ) → ((s : ℕ → TermTree) → instance s e.left ≡ apply f vs → ⊥) → TriesAreBeyond theory es f vs budget → TriesAreBeyond theory (e ∷ es) f vs budget
 unlike_beyond theory e es f vs budget differs h v k (unlike i a) = h v k a
@@ -53,26 +45,6 @@ like_beyond theory e es f vs budget z tight fit h v k (like s i a) =
     (asks_again theory s z e.right es f vs
     (λ x o. agree s z e.left g x (tight.right x o)) e.premises
     (λ x o. agree s z e.left g x (tight.premises x o)) v k a)
-
--- a premise whose sides are beyond the budget
-pub premise_beyond : (theory : Theory) (a b : TermTree) (ps : List Premise) (r : TermTree) (s : ℕ → TermTree) (es : List ConditionalEquation) (f : ℕ) (vs : TermTrees) (budget : ℕ) → BothAreBeyond theory (instance s a) (instance s b) budget → AsksAreBeyond theory (premise a b ∷ ps) r s es f vs budget
-premise_beyond theory a b ps r s es f vs budget h v k (holds w n m l c d g e) =
-    let x = h w w n m c d in
-    omega arith
-premise_beyond theory a b ps r s es f vs budget h v k (fails w u n m l c d ne g e) =
-    let x = h w u n m c d in
-    omega arith
-
-pub used_beyond : (theory : Theory) (r : TermTree) (s : ℕ → TermTree) (es : List ConditionalEquation) (f : ℕ) (vs : TermTrees) (budget : ℕ) → ((v : TermTree) (n : ℕ) → Evaluates theory (instance s r) v n → budget < n + 1) → AsksAreBeyond theory [] r s es f vs budget
-used_beyond theory r s es f vs budget h v k (used n a e) =
-    let x = h v n a in
-    omega arith
-
--- sides of which the left one is beyond the budget
-pub left_beyond : (theory : Theory) (a b : TermTree) (budget : ℕ) → IsBeyond theory a budget → BothAreBeyond theory a b budget
-left_beyond theory a b budget h v w n m c d =
-    let x = h v n c in
-    omega arith
 
 -- parts evaluated before have one value at one cost: what is left of the budget is the same for every evaluation
 module _ (theory : Theory) (tight : Each HasNoLooseVariables theory.equations) where
