@@ -1,0 +1,2 @@
+mod SameMarks
+mod Steps
