@@ -1,2 +1,3 @@
+mod OneAnswer
 mod SameMarks
 mod Steps

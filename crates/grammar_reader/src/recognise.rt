@@ -5,6 +5,7 @@ ghost use Rattle.lotos_ast.specs.Notation.{quoted, kept, sequence, either, optio
 ghost use Rattle.lotos_ast.specs.Begins.{mark_at};
 ghost use Rattle.lotos_ast.specs.Nesting.{nested, fault_at};
 ghost use Rattle.grammar_reader.specs.declared.recognise.Progress.TheVariants.{Finished, Further};
+ghost use Rattle.grammar_reader.specs.declared.recognised.Recognised.{Recognised};
 ghost use Rattle.grammar_reader.specs.declared.recognised.Recognised.TheVariants.{Whole, Stopped};
 ghost use Rattle.grammar_reader.specs.Parts.{part_of};
 ghost use Rattle.grammar_reader.specs.Syntaxes.{syntax_of, wanted_of};
@@ -23,9 +24,11 @@ use std::alloc::Global;
 
 /// Reads a rule from the first of the tokens on, and says how far it goes. A rule is made anew wherever it is used.
 pub fn recognise(alloc: Global, rule: Part, tokens: &[Token]) -> Result<Recognised, Memory>
-    // What the grammar reads, or why and where reading stops. Reading has no other result.
+    // Up to which place the definition reads the rule, or at which place reading stops and why.
     ensures reading { IfOk result (IsReading (nested 0 0) (part (part_of rule)) tokens.now 0) }
     ensures within { IfOk result (λ r. place_of r ≤ length tokens.now) }
+    // There is no other answer.
+    ensures only { IfOk result (λ r. (other : Recognised) → IsReading (nested 0 0) (part (part_of rule)) tokens.now 0 other → place_of other ≤ length tokens.now → other ≡ r) }
 {
     let task = Task {
         nesting: Nesting {
