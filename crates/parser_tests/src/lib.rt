@@ -1,4 +1,5 @@
-// Texts for the parsers, each with what reading it comes to. The recogniser of the grammar is run on all of them.
+// Texts for the parsers, each with what reading it comes to. The recogniser of the grammar is run on all of them, and each parser on
+// those of its part.
 #![tactic(auto)]
 
 #[cfg(test)]
@@ -9,6 +10,8 @@ mod expression_texts;
 mod long_texts;
 #[cfg(test)]
 mod nested_texts;
+#[cfg(test)]
+mod parsed;
 #[cfg(test)]
 mod recognised;
 #[cfg(test)]

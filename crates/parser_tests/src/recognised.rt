@@ -156,7 +156,8 @@ fn repeat(text: &mut String, part: &str, times: u32) -> Result<(), Memory> {
     Ok(())
 }
 
-fn spell(alloc: Global, nested: &NestedText) -> Result<String, Memory> {
+/// The text that is nested so deep.
+pub fn spell(alloc: Global, nested: &NestedText) -> Result<String, Memory> {
     let mut text = String::new(alloc);
     repeat(&mut text, nested.beginning, nested.times)?;
     text.push_str(nested.middle)?;

@@ -226,3 +226,25 @@ pub const PAIRS: [(&str, &str); 15] = [
     ("type T is A actualizedby B endtype", "3 1:28 endtype"),
     ("type T is renamedby endtype", "3 1:11 renamedby"),
 ];
+
+/// Types one after another, from a token on.
+pub const SEQUENCES: [(&str, usize, &str); 10] = [
+    ("", 0, "whole, 0 left"),
+    ("x", 0, "whole, 1 left"),
+    ("library A endlib library B endlib", 0, "whole, 0 left"),
+    (
+        "library A endlib type T is A endtype endspec",
+        0,
+        "whole, 1 left",
+    ),
+    ("type T is endtype endtype", 0, "whole, 1 left"),
+    ("type T is endtype type", 0, "3 1:23 end of text"),
+    (
+        "type T is endtype type U is (*! external *) endtype",
+        0,
+        "27 1:29 (*! external *)",
+    ),
+    ("x library A endlib y", 1, "whole, 1 left"),
+    ("x library A endlib y", 2, "whole, 3 left"),
+    ("library A endlib", 3, "whole, 0 left"),
+];
