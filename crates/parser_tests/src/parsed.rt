@@ -1,9 +1,9 @@
 // The parsers run on the same texts.
 
 use crate::expression_texts::{CHAINS, MARKED, OPERANDS, SORTED};
-use crate::long_texts::{BOOLEAN, NATURAL_NUMBER};
-use crate::recognised::spell;
+use crate::long_texts::{BOOLEAN, LISTS, NATURAL_NUMBER};
 use crate::nested_texts::NESTED_TEXTS;
+use crate::recognised::spell;
 use crate::type_texts::{BODIES, EQUATIONS, LIBRARIES, OPERATIONS, PAIRS, SEQUENCES};
 use data_parser::calls::{expression, types};
 use data_parser::cursor::Cursor;
@@ -139,6 +139,16 @@ fn types_one_after_another(rt: HostRuntime) -> Result<(), Fail> {
         let found = parse_types(rt.alloc(), text, *from)?;
         compare(&rt, text, found.as_str(), outcome);
     }
+    Ok(())
+}
+
+#[test]
+fn the_types_of_specifications(rt: HostRuntime) -> Result<(), Fail> {
+    // behind `specification`, a name, `:` and a functionality
+    let left = parse_types(rt.alloc(), LISTS, 4)?;
+    assert_eq!(rt; left.as_str(), "whole, 3 left");
+    let left = parse_types(rt.alloc(), LISTS, 3)?;
+    assert_eq!(rt; left.as_str(), "whole, 165 left");
     Ok(())
 }
 
