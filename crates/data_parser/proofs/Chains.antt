@@ -1,7 +1,6 @@
 -- A chain of operations: nothing yet, one more, and its end.
 use Rattle.std.proofs.Common.{List, [], ◌∷◌, ◌++◌, true, false, ◌≡◌, refl, sym, subst, ap, ◌∙◌, map, append_assoc}
 use Rattle.std.proofs.lemmas.List.{append-nil, map-append}
-use Rattle.lotos_ast.specs.declared.place.Place.{Place}
 use Rattle.lotos_ast.specs.declared.token.Token.{Token}
 use Rattle.lotos_ast.specs.declared.expression.Infix.{Infix}
 use Rattle.lotos_ast.specs.Notation.{fits, named, name, kept, optional, enclosed, ◌▸◌, part, infixes, simple}

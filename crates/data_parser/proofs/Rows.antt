@@ -1,13 +1,14 @@
 -- The rows of Reads for one token, and those of Stops for the reason that a parser's fault tells.
-use Rattle.std.proofs.Common.{List, ◌∷◌, Bool, true, false, Option, Some, None, ◌≡◌, refl, sym, subst, ◌∙◌}
+use Rattle.std.proofs.Common.{List, ◌∷◌, true, false, Some, ◌≡◌, refl, sym, subst, ◌∙◌}
 use Rattle.lotos_ast.specs.declared.mark.Mark.{Mark}
 use Rattle.lotos_ast.specs.declared.token.Token.{Token}
 use Rattle.lotos_ast.specs.MarkNumbers.{is_same_mark}
 use Rattle.lotos_ast.specs.Notation.{Part, Wanted, Reduction, presence, fits, Syntax, quoted, kept, sequence, either, optional, repeated, placed, reduced, bracketed, enclosed, part}
 use Rattle.lotos_ast.specs.Grammar.{rule}
-use Rattle.lotos_ast.specs.Begins.{mark_at, starts}
+use Rattle.lotos_ast.specs.Begins.{mark_at, place_at, starts}
 use Rattle.lotos_ast.specs.Nesting.{Nesting, in_bracket, in_construct, is_within, Fault, too_deep, fault_at}
-use Rattle.lotos_ast.specs.Reads.{Tree, Reads, Stops, unkept, reads_quoted, reads_absent, reads_present, reads_reduced, stops_quoted, stops_kept, deep_quoted, deep_kept, stops_first, stops_second, stops_left, stops_right, stops_optional, stops_repeated, stops_later, stops_placed, stops_reduced, stops_bracketed, stops_enclosed, stops_part}
+use Rattle.lotos_ast.specs.Reads.{Tree, Reads, Stops, unkept, reads_quoted, reads_absent, reads_present, reads_reduced, reads_part, stops_quoted, stops_kept, deep_quoted, deep_kept, stops_first, stops_second, stops_left, stops_right, stops_optional, stops_repeated, stops_later, stops_placed, stops_reduced, stops_bracketed, stops_enclosed, stops_part}
+use Rattle.lotos_ast.specs.ListTrees.{tree_place}
 use Rattle.lotos_ast.proofs.Tables.{same_equal}
 use Rattle.data_parser.specs.declared.parse_fault.ParseFault.{ParseFault}
 use Rattle.data_parser.specs.declared.parse_fault.ParseFault.TheVariants.{TooDeep, Memory}
@@ -45,6 +46,10 @@ reads_unless d a s r h e = reads_reduced refl (reads_absent h e)
 
 pub reads_if : (d : Nesting) (a : Syntax) (s r : List Token) (x : Tree) → starts a (mark_at s) ≡ true → Reads d a s x r → Reads d (reduced presence (optional a)) s unkept r
 reads_if d a s r x b h = reads_reduced refl (reads_present b h)
+
+-- the tree of a rule has the place of its first token
+pub part_place : (d : Nesting) (q : Part) (s : List Token) (x : Tree) (r : List Token) → Reads d (part q) s x r → place_at s ≡ tree_place x
+part_place d q s x r (reads_part e h) = e
 
 pub halts_first : (e : ParseFault) (d : Nesting) (a b : Syntax) (s r : List Token) → Halts e d a s r → Halts e d (sequence a b) s r
 halts_first e d a b s r h = record { stops = λ f i. stops_first (h.stops f i) }

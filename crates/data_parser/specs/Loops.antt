@@ -1,5 +1,5 @@
 -- A repeated part, as far as it is read.
-use Rattle.std.specs.Prelude.{List, ◌++◌, ◌≡◌}
+use Rattle.std.specs.Prelude.{List, ◌++◌}
 use Rattle.lotos_ast.specs.declared.token.Token.{Token}
 use Rattle.lotos_ast.specs.Notation.{Syntax, repeated}
 use Rattle.lotos_ast.specs.Nesting.{Nesting}

@@ -4,6 +4,9 @@ use Rattle.lotos_ast.specs.declared.token.Token.{Token}
 use Rattle.lotos_ast.specs.Notation.{Syntax}
 use Rattle.lotos_ast.specs.Nesting.{Nesting, nested, Fault, unexpected, too_deep, external}
 use Rattle.lotos_ast.specs.Reads.{Stops}
+use Rattle.lotos_ast.specs.Parsing.{refusal_at}
+use Rattle.lotos_ast.specs.declared.refusal.FrontFault.{FrontFault}
+use Rattle.lotos_ast.specs.Refusals.{OnRefusal}
 use Rattle.data_parser.specs.declared.nest.Nest.{Nest}
 use Rattle.data_parser.specs.declared.parse_fault.ParseFault.{ParseFault}
 use Rattle.data_parser.specs.declared.parse_fault.ParseFault.TheVariants.{Unexpected, TooDeep, External, Memory}
@@ -21,3 +24,7 @@ reason_of Memory = None
 -- reading the part from the tokens of the first list stops before those of the second, for the reason that the fault tells
 pub record Halts (e : ParseFault) (d : Nesting) (g : Syntax) (s r : List Token) : Type 0 where
   pub stops : (f : Fault) → reason_of e ≡ Some f → Stops d f g s r
+
+-- the refusal is that of the tokens where reading stops before the rest of them, for the reason that the fault tells
+abbrev pub Tells : FrontFault → ParseFault → List Token → List Token → Type 0
+Tells x e tokens rest = OnRefusal x (λ refusal. (f : Fault) × (reason_of e ≡ Some f) × (refusal ≡ refusal_at f tokens rest))

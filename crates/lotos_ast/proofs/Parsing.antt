@@ -1,8 +1,8 @@
 -- What is read, or stops, is what a parser is to answer.
-use Rattle.std.proofs.Common.{List, ◌++◌, ◌≡◌, subst}
+use Rattle.std.proofs.Common.{List, subst}
 use Rattle.lotos_ast.specs.declared.token.Token.{Token}
 use Rattle.lotos_ast.specs.Notation.{Syntax}
-use Rattle.lotos_ast.specs.Nesting.{unlimited, Fault, too_deep}
+use Rattle.lotos_ast.specs.Nesting.{unlimited, Fault}
 use Rattle.lotos_ast.specs.Reads.{Tree, Reads, Stops}
 use Rattle.lotos_ast.specs.Conditions.{IsWellFormed}
 use Rattle.lotos_ast.specs.Parsing.{outermost, IsParsed, IsRefused}

@@ -3,7 +3,7 @@ use Rattle.std.proofs.Common.{List, Bool, true, false, not, ◌≡◌, refl, ap,
 use Rattle.lotos_ast.specs.declared.mark.Mark.{Mark}
 use Rattle.lotos_ast.specs.declared.token.Token.{Token}
 use Rattle.lotos_ast.specs.MarkNumbers.{is_same_mark}
-use Rattle.lotos_ast.specs.Notation.{Part, Syntax, repeated, part}
+use Rattle.lotos_ast.specs.Notation.{Part, Syntax, repeated}
 use Rattle.lotos_ast.specs.Grammar.{rule}
 use Rattle.lotos_ast.specs.Begins.{mark_at, place_at, starts, begins, is_empty}
 use Rattle.lotos_ast.specs.Nesting.{Nesting, unlimited}

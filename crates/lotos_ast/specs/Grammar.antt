@@ -85,7 +85,7 @@ rule operation_names =
     ∣ quoted Mark.Colon ▸ optional (list identifier) ▸ quoted Mark.Arrow ▸ identifier)
     ∣ placed infix_form ▸ optional constructor_mark ▸ infix_end
 rule infix_names = part operation_name ▸ optional constructor_mark ▸ infix_end
-rule operation_name = infix_form ∣ prefix_form
+rule operation_name = prefix_form ∣ infix_form
 rule equation_part = quoted Mark.Eqns ▸ equation_body
 rule sort_equations = quoted Mark.OfSort ▸ identifier ▸ repeated (part for_all) ▸ optional (part equations)
 -- one equation or more; the last semicolon may be left out

@@ -1,5 +1,5 @@
 -- What a parser answers of tokens: the tree of a part of the grammar, or the refusal at the token where reading stops.
-use Rattle.std.specs.Prelude.{ℕ, ◌+◌, ◌≤◌, ◌^◌, nat_lt, Bool, ◌&&◌, if◌then◌else◌, List, [], ◌∷◌, ◌++◌, length, drop, codes, ◌≡◌}
+use Rattle.std.specs.Prelude.{ℕ, ◌+◌, ◌-◌, ◌≤◌, Option, Some, None, slice_get, ◌^◌, nat_lt, Bool, ◌&&◌, if◌then◌else◌, List, [], ◌∷◌, ◌++◌, length, drop, codes, ◌≡◌}
 use Rattle.lotos_ast.specs.declared.place.Place.{Place}
 use Rattle.lotos_ast.specs.declared.token.Token.{Token}
 use Rattle.lotos_ast.specs.declared.refusal.Refusal.{Refusal}
@@ -47,11 +47,14 @@ has_room p n = nat_lt 0 p.column && nat_lt (p.line + p.column + n) (2 ^ 32)
 abbrev pub place_behind : Token → Place
 place_behind t = if has_room t.place (length t.text) then place_after t.place t.text else t.place
 
--- the place behind the last of the tokens
+-- the place behind the last token, or where a text begins
+abbrev pub place_behind_last : Option Token → Place
+place_behind_last None = start_place
+place_behind_last (Some t) = place_behind t
+
+-- the place behind these tokens
 abbrev pub end_place : List Token → Place
-end_place [] = start_place
-end_place (t ∷ []) = place_behind t
-end_place (t ∷ u ∷ ts) = end_place (u ∷ ts)
+end_place tokens = place_behind_last (slice_get tokens (length tokens - 1))
 
 -- the refusal of the tokens, where reading stops before the rest of them for this reason (docs/LANGUAGE.md, "Refusals")
 abbrev pub refusal_at : Fault → List Token → List Token → Refusal

@@ -35,8 +35,12 @@ number_of WrongFunctionality = 25
 number_of Unguarded = 26
 number_of External = 27
 
+-- what holds of the refusal, where the fault is one
+abbrev pub OnRefusal : FrontFault → (Refusal → Type 0) → Type 0
+OnRefusal (Refused refusal) P = P refusal
+OnRefusal Memory P = Unit {0}
+
 -- what holds of the refusal, where the answer is one
 abbrev pub IfRefused : {T : Type 0} → Result T FrontFault → (Refusal → Type 0) → Type 0
 IfRefused (Ok value) P = Unit {0}
-IfRefused (Err (Refused refusal)) P = P refusal
-IfRefused (Err Memory) P = Unit {0}
+IfRefused (Err fault) P = OnRefusal fault P

@@ -40,8 +40,8 @@ sort_list_tree l = node l.place (loose_list_tree (map leaf l.names.items))
 -- names of operations
 
 abbrev pub operation_name_tree : OperationName → Tree
-operation_name_tree (Prefix place name) = node place (right (leaf name))
-operation_name_tree (Infix place name) = node place (left (both unkept (both (leaf name) unkept)))
+operation_name_tree (Prefix place name) = node place (left (leaf name))
+operation_name_tree (Infix place name) = node place (right (both unkept (both (leaf name) unkept)))
 
 -- the end of a declaration with two argument sorts
 abbrev pub two_sorts_tree : List Token → Token → Tree

@@ -1,4 +1,5 @@
 pub mod Booleans
+pub mod Budgets
 pub mod Code
 pub mod Constructors
 pub mod Cover

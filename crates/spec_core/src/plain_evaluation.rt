@@ -1,10 +1,13 @@
 // Evaluation as it is defined, step by step and slowly: what faster bodies are tried against.
 
-ghost use Rattle.std.specs.Prelude.{ℕ, ◌≡◌, ◌≤◌, ◌+◌, IfOk, map};
+ghost use Rattle.std.specs.Prelude.{ℕ, ◌≡◌, ◌<◌, ◌≤◌, ◌+◌, IfOk, IfErr, map};
+ghost use Rattle.spec_core.specs.Budgets.{IsBeyond, AreBeyond, BothAreBeyond, TriesAreBeyond, AsksAreBeyond};
 ghost use Rattle.spec_core.specs.Constructors.{IsConstructor};
 ghost use Rattle.spec_core.specs.Evaluation.{Evaluates, EvaluatesAll, Tries, Asks, HaveValues};
+ghost use Rattle.spec_core.specs.Lists.{Each};
+ghost use Rattle.spec_core.specs.Orthogonality.{HasNoLooseVariables};
 ghost use Rattle.spec_core.specs.Substitutions.{substitution_of};
-ghost use Rattle.spec_core.specs.Terms.{apply, instance, terms, term_of};
+ghost use Rattle.spec_core.specs.Terms.{TermTree, apply, instance, terms, term_of};
 ghost use Rattle.spec_core.specs.Theories.{equation_of, premise_of, theory_of};
 
 use crate::constructors::is_constructor;
@@ -27,7 +30,7 @@ pub struct Evaluated {
 /// Why an evaluation gave no value.
 #[derive(Clone, Copy, Debug, PartialEq, Eq)]
 pub enum EvaluationFault {
-    /// The evaluation was given up without a value. That no value is within the budget is not promised.
+    /// The term has no value within the budget, or an equation has a loose variable.
     Spent,
     /// Want of memory.
     Memory,
@@ -88,8 +91,8 @@ struct EvaluatedAll {
     uses: u64,
 }
 
-/// The value of a ground term, with at most `budget` uses of equations. It recurs as deep as the evaluation, so it is for small
-/// terms of executable data.
+/// The value of a ground term, with at most `budget` uses of equations; where no equation has a loose variable, `Spent` means that
+/// the term has no value within them. It recurs as deep as the evaluation, so it is for small terms of executable data.
 pub fn plain_value(
     alloc: Global,
     algebra: &DataSpec,
@@ -98,6 +101,7 @@ pub fn plain_value(
 ) -> Result<Evaluated, EvaluationFault>
     ensures value { IfOk result (λ r. Evaluates (theory_of algebra.now) (term_of term.now) (term_of r.value) r.uses) }
     ensures within { IfOk result (λ r. r.uses ≤ budget) }
+    ensures spent { IfErr result (λ e. e ≡ EvaluationFault.Spent → Each HasNoLooseVariables (theory_of algebra.now).equations → IsBeyond (theory_of algebra.now) (term_of term.now) budget) }
 {
     evaluate(alloc, algebra, term, budget, u64::MAX)
 }
@@ -113,6 +117,7 @@ fn evaluate(
 ) -> Result<Evaluated, EvaluationFault>
     ensures value { IfOk result (λ r. Evaluates (theory_of algebra.now) (term_of term.now) (term_of r.value) r.uses) }
     ensures within { IfOk result (λ r. r.uses ≤ budget) }
+    ensures spent { IfErr result (λ e. e ≡ EvaluationFault.Spent → Each HasNoLooseVariables (theory_of algebra.now).equations → IsBeyond (theory_of algebra.now) (term_of term.now) budget) }
 {
     if depth == 0 {
         return Err(EvaluationFault::Memory);
@@ -149,6 +154,7 @@ fn evaluate_all(
 ) -> Result<EvaluatedAll, EvaluationFault>
     ensures values { IfOk result (λ r. EvaluatesAll (theory_of algebra.now) (terms (map term_of args.now)) (terms (map term_of r.values.items)) r.uses) }
     ensures within { IfOk result (λ r. r.uses ≤ budget) }
+    ensures spent { IfErr result (λ e. e ≡ EvaluationFault.Spent → Each HasNoLooseVariables (theory_of algebra.now).equations → AreBeyond (theory_of algebra.now) (terms (map term_of args.now)) budget) }
 {
     if depth == 0 {
         return Err(EvaluationFault::Memory);
@@ -176,6 +182,7 @@ fn try_equations(
 ) -> Result<Evaluated, EvaluationFault>
     ensures value { IfOk result (λ r. Tries (theory_of algebra.now) (map equation_of left.now) op.0 (terms (map term_of values.now)) (term_of r.value) r.uses) }
     ensures within { IfOk result (λ r. r.uses ≤ budget) }
+    ensures spent { IfErr result (λ e. e ≡ EvaluationFault.Spent → Each HasNoLooseVariables (theory_of algebra.now).equations → Each HasNoLooseVariables (map equation_of left.now) → TriesAreBeyond (theory_of algebra.now) (map equation_of left.now) op.0 (terms (map term_of values.now)) budget) }
 {
     if depth == 0 {
         return Err(EvaluationFault::Memory);
@@ -219,6 +226,7 @@ fn ask_premises(
 ) -> Result<Evaluated, EvaluationFault>
     ensures value { IfOk result (λ r. Asks (theory_of algebra.now) (map premise_of premises.now) (term_of right.now) (substitution_of (map term_of bound.now)) (map equation_of others.now) op.0 (terms (map term_of values.now)) (term_of r.value) r.uses) }
     ensures within { IfOk result (λ r. r.uses ≤ budget) }
+    ensures spent { IfErr result (λ e. e ≡ EvaluationFault.Spent → Each HasNoLooseVariables (theory_of algebra.now).equations → Each HasNoLooseVariables (map equation_of others.now) → AsksAreBeyond (theory_of algebra.now) (map premise_of premises.now) (term_of right.now) (substitution_of (map term_of bound.now)) (map equation_of others.now) op.0 (terms (map term_of values.now)) budget) }
 {
     if depth == 0 {
         return Err(EvaluationFault::Memory);
@@ -271,6 +279,7 @@ fn ask_sides(
 ) -> Result<Asked, EvaluationFault>
     ensures sides { IfOk result (λ r. HaveValues (theory_of algebra.now) (instance (substitution_of (map term_of bound.now)) (term_of premise.now.0)) (instance (substitution_of (map term_of bound.now)) (term_of premise.now.1)) r.equal r.uses) }
     ensures within { IfOk result (λ r. r.uses ≤ budget) }
+    ensures spent { IfErr result (λ e. e ≡ EvaluationFault.Spent → Each HasNoLooseVariables (theory_of algebra.now).equations → BothAreBeyond (theory_of algebra.now) (instance (substitution_of (map term_of bound.now)) (term_of premise.now.0)) (instance (substitution_of (map term_of bound.now)) (term_of premise.now.1)) budget) }
 {
     if depth == 0 {
         return Err(EvaluationFault::Memory);
@@ -297,6 +306,7 @@ fn use_equation(
 ) -> Result<Evaluated, EvaluationFault>
     ensures value { IfOk result (λ r. (n : ℕ) × Evaluates (theory_of algebra.now) (instance (substitution_of (map term_of bound.now)) (term_of right.now)) (term_of r.value) n × (r.uses ≡ n + 1)) }
     ensures within { IfOk result (λ r. r.uses ≤ budget) }
+    ensures spent { IfErr result (λ e. e ≡ EvaluationFault.Spent → Each HasNoLooseVariables (theory_of algebra.now).equations → (v : TermTree) (n : ℕ) → Evaluates (theory_of algebra.now) (instance (substitution_of (map term_of bound.now)) (term_of right.now)) v n → budget < n + 1) }
 {
     if depth == 0 {
         return Err(EvaluationFault::Memory);
@@ -322,6 +332,7 @@ fn constructed(
     ensures constructor { IfOk result (λ r. IsConstructor (theory_of algebra.now) op.0) }
     ensures value { IfOk result (λ r. term_of r.value ≡ apply op.0 (terms (map term_of values.now))) }
     ensures free { IfOk result (λ r. r.uses ≡ 0) }
+    ensures spent { IfErr result (λ e. e ≡ EvaluationFault.Spent → IsConstructor (theory_of algebra.now) op.0 → ⊥) }
 {
     if is_constructor(algebra, op) {
         Ok(Evaluated {

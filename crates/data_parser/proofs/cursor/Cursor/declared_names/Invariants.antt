@@ -1,0 +1,13 @@
+use Rattle.std.proofs.Common.{length, ◌<◌}
+use Rattle.data_parser.specs.Parsers.{nesting_of}
+use Rattle.data_parser.specs.OperationNames.{NamesOn}
+use Rattle.data_parser.proofs.cursor.Cursor.declared_names.Given as goal
+
+abbrev pub invariant-names : goal.invariant-names
+invariant-names l = record {
+  on : NamesOn (nesting_of l.nest) l.fn.self l.names.items l.between l.self;
+  fewer : length l.self < length l.fn.self;
+}
+
+abbrev pub decreases-names : goal.decreases-names
+decreases-names l = length l.self

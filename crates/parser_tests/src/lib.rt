@@ -1,0 +1,20 @@
+// Texts for the parsers, each with what reading it comes to. The recogniser of the grammar is run on all of them, and each parser on
+// those of its part.
+#![tactic(auto)]
+
+#[cfg(test)]
+mod behaviour_texts;
+#[cfg(test)]
+mod expression_texts;
+#[cfg(test)]
+mod long_texts;
+#[cfg(test)]
+mod nested_texts;
+#[cfg(test)]
+mod parsed;
+#[cfg(test)]
+mod recognised;
+#[cfg(test)]
+mod specification_texts;
+#[cfg(test)]
+mod type_texts;
