@@ -13,3 +13,7 @@ mod offer;
 mod opening;
 mod operator;
 mod prefix;
+mod process;
+mod spec;
+
+pub use spec::specification;
