@@ -13,6 +13,8 @@ mod nested_texts;
 #[cfg(test)]
 mod parsed;
 #[cfg(test)]
+mod parsed_behaviours;
+#[cfg(test)]
 mod recognised;
 #[cfg(test)]
 mod specification_texts;

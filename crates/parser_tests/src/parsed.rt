@@ -20,7 +20,7 @@ use std::process::Abort;
 use std::test::Fail;
 
 // How many tokens are left, or the refusal's number, place and name.
-fn describe(alloc: Global, parsed: Result<usize, FrontFault>) -> Result<String, Memory> {
+pub fn describe(alloc: Global, parsed: Result<usize, FrontFault>) -> Result<String, Memory> {
     match parsed {
         Ok(left) => Ok(format!(in alloc; "whole, {left} left")?),
         Err(FrontFault::Refused(refusal)) => {
@@ -80,7 +80,7 @@ fn parse_types(alloc: Global, text: &str, from: usize) -> Result<String, Memory>
 }
 
 // In the tables the token stands behind refusals 4 and 27, too, which have no names.
-fn compare(rt: &impl Abort, text: &str, found: &str, outcome: &str) {
+pub fn compare(rt: &impl Abort, text: &str, found: &str, outcome: &str) {
     if outcome.starts_with("4 ") || outcome.starts_with("27 ") {
         assert!(rt; outcome.starts_with(found), "at {text}");
     } else {

@@ -148,8 +148,8 @@ fn a_cut_text_stops_at_its_end(rt: HostRuntime) -> Result<(), Fail> {
     Ok(())
 }
 
-// A part of a text many times.
-fn repeat(text: &mut String, part: &str, times: u32) -> Result<(), Memory> {
+/// A part of a text many times.
+pub fn repeat(text: &mut String, part: &str, times: u32) -> Result<(), Memory> {
     for _ in 0..times {
         text.push_str(part)?;
     }

@@ -138,3 +138,23 @@ pub const WHERES: [(&str, &str); 16] = [
         "whole, 1 left",
     ),
 ];
+
+/// Tokens behind a whole specification, each with what parsing it comes to.
+pub const BEHIND_THE_END: [(&str, &str); 4] = [
+    (
+        "specification S : noexit behaviour stop endspec stop",
+        "3 1:49 stop",
+    ),
+    (
+        "specification S : noexit behaviour stop endspec endspec",
+        "3 1:49 endspec",
+    ),
+    (
+        "specification S : noexit behaviour stop endspec (*! constructor *)",
+        "3 1:49 (*! constructor *)",
+    ),
+    (
+        "specification S : noexit behaviour stop endspec (*! external *) stop",
+        "27 1:49 (*! external *)",
+    ),
+];
