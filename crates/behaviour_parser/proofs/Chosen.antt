@@ -1,5 +1,5 @@
 -- The alternatives of a behaviour without an operator, by the mark of its first token.
-use Rattle.std.proofs.Common.{List, ◌∷◌, Bool, true, false, ◌≡◌, refl, sym, subst}
+use Rattle.std.proofs.Common.{List, Bool, true, false, ◌≡◌, refl, subst}
 use Rattle.lotos_ast.specs.declared.mark.Mark.{Mark}
 use Rattle.lotos_ast.specs.declared.token.Token.{Token}
 use Rattle.lotos_ast.specs.MarkNumbers.{is_same_mark}
@@ -7,7 +7,7 @@ use Rattle.lotos_ast.specs.Notation.{Part, Syntax, quoted, part, placed, ◌▸�
 use Rattle.lotos_ast.specs.Grammar.{rule, predicate, prefixed}
 use Rattle.lotos_ast.specs.Begins.{mark_at, place_at, is_among, starts}
 use Rattle.lotos_ast.specs.Nesting.{Nesting, in_bracket}
-use Rattle.lotos_ast.specs.Reads.{Tree, left, right, node, Reads, reads_part, reads_placed}
+use Rattle.lotos_ast.specs.Reads.{Tree, left, right, node, reads_part, reads_placed}
 use Rattle.lotos_ast.specs.BehaviourTrees.{atomic_tree}
 use Rattle.lotos_ast.proofs.Tables.{same_equal}
 use Rattle.data_parser.specs.declared.parse_fault.ParseFault.{ParseFault}

@@ -1,5 +1,5 @@
 -- The levels of operators, and behaviours without an operator, from the parts that were read.
-use Rattle.std.proofs.Common.{List, true, false, ◌≡◌, refl, sym, subst, Option}
+use Rattle.std.proofs.Common.{List, true, false, ◌≡◌, refl, sym, subst}
 use Rattle.lotos_ast.specs.declared.mark.Mark.{Mark}
 use Rattle.lotos_ast.specs.declared.place.Place.{Place}
 use Rattle.lotos_ast.specs.declared.token.Token.{Token}
@@ -9,8 +9,6 @@ use Rattle.lotos_ast.specs.Grammar.{rule, prefixed}
 use Rattle.lotos_ast.specs.Begins.{mark_at, place_at, starts}
 use Rattle.lotos_ast.specs.Nesting.{Nesting, in_bracket, in_construct}
 use Rattle.lotos_ast.specs.Reads.{Tree, unkept, both, absent, present, node, Reads, reads_sequence, reads_absent, reads_present, reads_enclosed, reads_part}
-use Rattle.lotos_ast.specs.BehaviourTrees.{atomic_tree}
-use Rattle.lotos_ast.specs.ListTrees.{behind}
 use Rattle.data_parser.specs.declared.parse_fault.ParseFault.{ParseFault}
 use Rattle.data_parser.specs.Parsers.{Halts}
 use Rattle.data_parser.proofs.Rows.{halts_first, halts_second, halts_optional, halts_enclosed, halts_part}

@@ -1,5 +1,5 @@
 -- What stands before the first behaviour inside another one, from the parts that were read.
-use Rattle.std.proofs.Common.{List, [], ◌∷◌, true, false, ◌≡◌, refl, sym, subst, Option, Vec, map}
+use Rattle.std.proofs.Common.{List, ◌∷◌, true, false, ◌≡◌, refl, sym, subst, Option, Vec, map}
 use Rattle.std.specs.List.{insert}
 use Rattle.std.specs.declared.alloc.Global.{Global}
 use Rattle.lotos_ast.specs.declared.mark.Mark.{Mark}
@@ -17,7 +17,7 @@ use Rattle.lotos_ast.specs.declared.behaviour.Operator.{Operator}
 use Rattle.lotos_ast.specs.declared.behaviour.Action.TheVariants.{Internal, Plain, Offering}
 use Rattle.lotos_ast.specs.MarkNumbers.{is_same_mark}
 use Rattle.lotos_ast.specs.Notation.{Syntax, sequence, quoted, repeated, part, optional, placed, ◌▸◌, ◌∣◌, identifier, list, in_parentheses, unary, behaviour, offer, binding, gate_list, gate_choice, declaration, operator, expression, exit_value}
-use Rattle.lotos_ast.specs.Grammar.{predicate, prefixed, arguments, choice_brackets}
+use Rattle.lotos_ast.specs.Grammar.{predicate, prefixed}
 use Rattle.lotos_ast.specs.Begins.{mark_at, place_at, is_among, starts}
 use Rattle.lotos_ast.specs.Nesting.{Nesting, in_bracket}
 use Rattle.lotos_ast.specs.Reads.{Tree, unkept, leaf, both, left, right, node, Reads, reads_sequence, reads_placed, reads_left, reads_right}

@@ -9,7 +9,10 @@ ghost use Rattle.lotos_ast.specs.BehaviourTrees.{behaviour_tree, disable_tree, p
 ghost use Rattle.data_parser.specs.Parsers.{nesting_of, Halts};
 
 use crate::accepts::accepts;
-use crate::joined::{behaviour_alone, choice_alone, chosen, composed, disable_alone, disabled, enabled, grouped, parallel_alone};
+use crate::joined::{
+    behaviour_alone, choice_alone, chosen, composed, disable_alone, disabled, enabled, grouped,
+    parallel_alone,
+};
 use crate::opening::{Heading, Opening, Prefix, read_opening};
 use crate::operator::{at_operator, operator};
 use data_parser::cursor::Cursor;

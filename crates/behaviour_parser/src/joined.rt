@@ -5,7 +5,10 @@ ghost use Rattle.lotos_ast.specs.Reads.{unkept, both, absent, present, left, nod
 ghost use Rattle.lotos_ast.specs.ListTrees.{behind, between};
 ghost use Rattle.lotos_ast.specs.BehaviourTrees.{behaviour_tree, disable_tree, parallel_tree, choice_tree, unary_tree, operator_tree, accepts_tree, atomic_tree};
 
-use lotos_ast::behaviour::{Atom, Behaviour, Choice, Choosing, Composing, Disable, Disabling, Enabling, Operator, Parallel, Unary};
+use lotos_ast::behaviour::{
+    Atom, Behaviour, Choice, Choosing, Composing, Disable, Disabling, Enabling, Operator, Parallel,
+    Unary,
+};
 use lotos_ast::declaration::Declarations;
 use lotos_ast::place::Place;
 use spec_core::memory::Memory;
@@ -102,11 +105,7 @@ pub fn composed(
 
 // A behaviour without `[]`.
 #[inline(never)]
-pub fn choice_alone(
-    alloc: Global,
-    place: Place,
-    first: Box<Unary>,
-) -> Result<Box<Choice>, Memory>
+pub fn choice_alone(alloc: Global, place: Place, first: Box<Unary>) -> Result<Box<Choice>, Memory>
     ensures tree { IfOk result (λ all. choice_tree (box_value all) ≡ node place (both (unary_tree (box_value first)) absent)) }
 {
     let all = Choice::new(place, Box::into_inner(first), None);
@@ -131,11 +130,7 @@ pub fn chosen(
 
 // A behaviour in parentheses.
 #[inline(never)]
-pub fn grouped(
-    alloc: Global,
-    place: Place,
-    inner: Box<Behaviour>,
-) -> Result<Box<Unary>, Memory>
+pub fn grouped(alloc: Global, place: Place, inner: Box<Behaviour>) -> Result<Box<Unary>, Memory>
     ensures tree { IfOk result (λ all. unary_tree (box_value all) ≡ atomic_tree place (left (between (behaviour_tree (box_value inner))))) }
 {
     let atom = Atom::group(alloc, place, Box::into_inner(inner))?;

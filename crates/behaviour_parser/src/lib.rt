@@ -17,3 +17,6 @@ mod process;
 mod spec;
 
 pub use spec::specification;
+
+#[cfg(test)]
+mod tests;

@@ -73,7 +73,11 @@ pub enum Opening {
 impl Prefix {
     // The behaviour that begins with the prefix, and goes on with the rest.
     #[inline(never)]
-    pub fn before(prefix: Box<Prefix>, alloc: Global, rest: Box<Unary>) -> Result<Box<Unary>, Memory>
+    pub fn before(
+        prefix: Box<Prefix>,
+        alloc: Global,
+        rest: Box<Unary>,
+    ) -> Result<Box<Unary>, Memory>
         ensures tree { IfOk result (λ unary. unary_tree (box_value unary) ≡ prefix_tree (box_value prefix) (unary_tree (box_value rest))) }
     {
         let rest = Box::into_inner(rest);
@@ -93,7 +97,11 @@ impl Prefix {
 impl Heading {
     // The behaviour that begins with the heading, with the one inside.
     #[inline(never)]
-    pub fn around(heading: Box<Heading>, alloc: Global, inner: Box<Behaviour>) -> Result<Box<Unary>, Memory>
+    pub fn around(
+        heading: Box<Heading>,
+        alloc: Global,
+        inner: Box<Behaviour>,
+    ) -> Result<Box<Unary>, Memory>
         ensures tree { IfOk result (λ unary. unary_tree (box_value unary) ≡ heading_tree (box_value heading) (behaviour_tree (box_value inner))) }
     {
         let atom = Box::into_inner(heading).atom(alloc, Box::into_inner(inner))?;

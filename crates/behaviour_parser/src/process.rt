@@ -112,5 +112,13 @@ fn process(cursor: &mut Cursor<'_>, nest: Nest) -> Result<Process, ParseFault>
     let items = items(cursor, inner)?;
     cursor.pass(inner, Mark::EndProc)?;
     let behaviour = Box::into_inner(behaviour);
-    Ok(Process::new(place, name, gates, parameters, functionality, behaviour, items))
+    Ok(Process::new(
+        place,
+        name,
+        gates,
+        parameters,
+        functionality,
+        behaviour,
+        items,
+    ))
 }

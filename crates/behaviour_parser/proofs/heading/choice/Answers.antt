@@ -1,4 +1,4 @@
-use Rattle.std.proofs.Common.{rules, sym}
+use Rattle.std.proofs.Common.{rules}
 use Rattle.behaviour_parser.proofs.Openings.{gates_lead, values_lead}
 use Rattle.behaviour_parser.proofs.heading.choice.Goals as goal
 
