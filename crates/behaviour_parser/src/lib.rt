@@ -17,6 +17,3 @@ mod process;
 mod spec;
 
 pub use spec::specification;
-
-#[cfg(test)]
-mod tests;

@@ -7,6 +7,8 @@ mod behaviour_texts;
 #[cfg(test)]
 mod expression_texts;
 #[cfg(test)]
+mod grouping;
+#[cfg(test)]
 mod long_texts;
 #[cfg(test)]
 mod nested_texts;
