@@ -132,3 +132,28 @@ fn processes_are_nested(rt: HostRuntime) -> Result<(), Fail> {
     assert_eq!(rt; found.as_str(), "4 2:7425");
     Ok(())
 }
+
+// A specification whose behaviour stands in so many parentheses.
+fn in_parentheses(alloc: Global, count: u32) -> Result<String, Memory> {
+    let mut text = String::from_str(
+        alloc,
+        "specification S : noexit\nlibrary Boolean, NaturalNumber endlib\nbehaviour ",
+    )?;
+    repeat(&mut text, "(", count)?;
+    text.push_str("stop")?;
+    repeat(&mut text, ")", count)?;
+    text.push_str("\nendspec\n")?;
+    Ok(text)
+}
+
+#[test]
+fn parentheses_are_nested(rt: HostRuntime) -> Result<(), Fail> {
+    let deepest = in_parentheses(rt.alloc(), 256)?;
+    let found = parse_specification(rt.alloc(), deepest.as_str())?;
+    assert_eq!(rt; found.as_str(), "whole, 0 left");
+    // behind `behaviour`, a blank and 256 parentheses
+    let deeper = in_parentheses(rt.alloc(), 257)?;
+    let found = parse_specification(rt.alloc(), deeper.as_str())?;
+    assert_eq!(rt; found.as_str(), "4 3:267");
+    Ok(())
+}
