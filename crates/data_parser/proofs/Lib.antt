@@ -1,7 +1,7 @@
 pub mod Answered
 pub mod Chains
 pub mod Equations
+pub mod Imports
 pub mod Loops
 pub mod OperationNames
 pub mod Rows
-pub mod Types

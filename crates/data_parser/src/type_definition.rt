@@ -127,7 +127,7 @@ fn without_imports(place: Place, items: DeclaredItems) -> TypeBody
 }
 
 // The body of a type that imports others.
-#[tactic(auto, using(crate::proofs::Types::imports_put_together))]
+#[tactic(auto, using(crate::proofs::Imports::imports_put_together))]
 fn with_imports(
     place: Place,
     first: Token,

@@ -5,7 +5,7 @@ use crate::long_texts::{BOOLEAN, LISTS, NATURAL_NUMBER};
 use crate::nested_texts::NESTED_TEXTS;
 use crate::recognised::spell;
 use crate::type_texts::{BODIES, EQUATIONS, LIBRARIES, OPERATIONS, PAIRS, SEQUENCES};
-use data_parser::calls::{expression, types};
+use data_parser::{expression, types};
 use data_parser::cursor::Cursor;
 use data_parser::item::Item;
 use data_parser::nest::Nest;
