@@ -66,33 +66,3 @@ fn append_file<R: Files>(rt: &R, path: &str, most: u64, into: &mut Vec<u8>) -> i
     fs::open(rt, path)?.take(most).read_to_end(into)?;
     Ok(())
 }
-
-#[cfg(test)]
-mod tests {
-    use super::*;
-    use std::test::Fail;
-
-    #[test]
-    fn a_file_gives_its_first_bytes(rt: HostRuntime) -> Result<(), Fail> {
-        fs::write(&rt, "spec.lotos", "behaviour stop")?;
-        let mut shelf = FileShelf::new(&rt);
-        let mut into = Vec::from_slice(rt.alloc(), b"> ")?;
-        shelf.fetch("spec.lotos", 9, &mut into)?;
-        shelf.fetch("spec.lotos", 100, &mut into)?;
-        assert_eq!(rt; into.as_slice(), b"> behaviourbehaviour stop".as_slice());
-        Ok(())
-    }
-
-    #[test]
-    fn a_missing_file_and_a_folder_fail(rt: HostRuntime) -> Result<(), Fail> {
-        let mut shelf = FileShelf::new(&rt);
-        let mut into = Vec::from_slice(rt.alloc(), b"> ")?;
-        assert_eq!(rt;
-            shelf.fetch("absent", 9, &mut into),
-            Err(ShelfFault::Failed)
-        );
-        assert_eq!(rt; shelf.fetch(".", 9, &mut into), Err(ShelfFault::Failed));
-        assert_eq!(rt; into.as_slice(), b"> ".as_slice());
-        Ok(())
-    }
-}

@@ -69,32 +69,3 @@ impl Sink for MemorySink {
         Ok(piece.len())
     }
 }
-
-#[cfg(test)]
-mod tests {
-    use super::*;
-    use std::test::Fail;
-
-    #[test]
-    fn each_call_can_be_told_to_fail(rt: HostRuntime) -> Result<(), Fail> {
-        for failing in [1, 2, 3] {
-            let fails = Vec::from_slice(rt.alloc(), &[failing])?;
-            let mut sink = MemorySink::new(Vec::new(rt.alloc()), fails);
-            for call in [1, 2, 3] {
-                let result = sink.write(b"ab");
-                let due = if call == failing {
-                    Err(SinkFault::Failed)
-                } else {
-                    Ok(2)
-                };
-                assert_eq!(rt;
-                    result,
-                    due,
-                    "call {call} of a sink that fails at {failing}"
-                );
-            }
-            assert_eq!(rt; sink.bytes(), b"abab".as_slice());
-        }
-        Ok(())
-    }
-}

@@ -49,32 +49,3 @@ impl<W: Write> Sink for StreamSink<W> {
         }
     }
 }
-
-#[cfg(test)]
-mod tests {
-    use super::*;
-    use crate::sink::write_all;
-    use std::fs;
-    use std::test::Fail;
-
-    #[test]
-    fn a_file_takes_what_is_written(rt: HostRuntime) -> Result<(), Fail> {
-        let mut sink = StreamSink::new(fs::create(&rt, "output")?);
-        write_all(&mut sink, b"lotos-")?;
-        write_all(&mut sink, b"trace 1\n")?;
-        assert_eq!(rt;
-            fs::read(&rt, "output")?.as_slice(),
-            b"lotos-trace 1\n".as_slice()
-        );
-        Ok(())
-    }
-
-    #[test]
-    fn a_file_that_is_only_read_fails(rt: HostRuntime) -> Result<(), Fail> {
-        fs::write(&rt, "input", "abc")?;
-        let mut sink = StreamSink::new(fs::open(&rt, "input")?);
-        assert_eq!(rt; write_all(&mut sink, b"d"), Err(SinkFault::Failed));
-        assert_eq!(rt; fs::read(&rt, "input")?.as_slice(), b"abc".as_slice());
-        Ok(())
-    }
-}

@@ -49,30 +49,3 @@ impl<R: Read> Source for StreamSource<R> {
         }
     }
 }
-
-#[cfg(test)]
-mod tests {
-    use super::*;
-    use std::fs;
-    use std::test::Fail;
-
-    #[test]
-    fn a_file_is_read_to_its_end(rt: HostRuntime) -> Result<(), Fail> {
-        fs::write(&rt, "input", "abc")?;
-        let mut source = StreamSource::new(fs::open(&rt, "input")?);
-        let mut piece = [0; 2];
-        for count in [2, 1, 0] {
-            assert_eq!(rt; source.read(&mut piece), Ok(count));
-        }
-        assert_eq!(rt; piece, *b"cb");
-        Ok(())
-    }
-
-    #[test]
-    fn a_file_that_is_only_written_to_fails(rt: HostRuntime) -> Result<(), Fail> {
-        let mut source = StreamSource::new(fs::create(&rt, "output")?);
-        let mut piece = [0; 2];
-        assert_eq!(rt; source.read(&mut piece), Err(SourceFault::Failed));
-        Ok(())
-    }
-}

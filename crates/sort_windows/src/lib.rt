@@ -5,9 +5,5 @@ mod first_values;
 mod growth;
 mod missing;
 mod ordered;
-#[cfg(test)]
-mod samples;
-#[cfg(test)]
-mod tests;
 
 pub use first_values::window;

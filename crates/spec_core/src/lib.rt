@@ -11,8 +11,6 @@ pub mod memory;
 pub mod name;
 pub mod names;
 pub mod plain_evaluation;
-#[cfg(test)]
-mod samples;
 pub mod settings;
 pub mod signature;
 pub mod term;

@@ -127,34 +127,3 @@ pub fn same_sorts(left: &[Sort], right: &[Sort]) -> bool
         },
     }
 }
-
-#[cfg(test)]
-mod tests {
-    use super::*;
-    use crate::samples::{names, operation};
-    use std::test::Fail;
-
-    const NAT: Sort = Sort(0);
-
-    const BOOL: Sort = Sort(1);
-
-    // Names are found without case, overloads by their sorts, and what isn't declared isn't found.
-    #[test]
-    fn items_are_found_by_name_and_sorts(rt: HostRuntime) -> Result<(), Fail> {
-        let alloc = rt.alloc();
-        let signature = Signature {
-            sorts: names(alloc, &["Nat", "Bool"])?,
-            ops: vec![in alloc;
-                operation(alloc, "_eq_", &[NAT, NAT], BOOL)?,
-                operation(alloc, "_eq_", &[BOOL, BOOL], BOOL)?,
-            ]?,
-        };
-        assert!(rt; signature.ops.len() < 9 && signature.sorts.len() < 9);
-        assert_eq!(rt; signature.sort("bool"), Some(BOOL));
-        assert_eq!(rt; signature.sort("Real"), None);
-        assert_eq!(rt; signature.op("_EQ_", &[BOOL, BOOL], BOOL), Some(Op(1)));
-        assert_eq!(rt; signature.op("_eq_", &[NAT, BOOL], BOOL), None);
-        assert_eq!(rt; signature.op("_eq_", &[NAT, NAT], NAT), None);
-        Ok(())
-    }
-}

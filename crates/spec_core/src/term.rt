@@ -75,23 +75,3 @@ fn all_same(left: &[Term], right: &[Term]) -> bool
     }
     true
 }
-
-#[cfg(test)]
-mod tests {
-    use super::*;
-    use std::test::Fail;
-
-    // f(x0, c) with f = 0 and c = 1 is equal to its copy, and not to f(x1, c) or f(x0).
-    #[test]
-    fn terms_are_compared_as_trees(rt: HostRuntime) -> Result<(), Fail> {
-        let alloc = rt.alloc();
-        let constant = Term::App(Op(1), Vec::new(alloc));
-        let term = Term::App(Op(0), vec![in alloc; Term::Var(0), constant.copy(alloc)?]?);
-        let other = Term::App(Op(0), vec![in alloc; Term::Var(1), constant]?);
-        let shorter = Term::App(Op(0), vec![in alloc; Term::Var(0)]?);
-        assert!(rt; term.copy(alloc)?.same(&term));
-        assert!(rt; !term.same(&other));
-        assert!(rt; !term.same(&shorter));
-        Ok(())
-    }
-}

@@ -1,13 +1,80 @@
-// Windows that were worked out by hand.
+// Windows that were worked out by hand, of truth values, natural numbers, lists of truth values, and a sort without values.
 
-use crate::samples::{BOOL, CONS, EMPTY, FALSE, LIST, NAT, NIL, SUCC, TRUE, ZERO, data};
-use crate::window;
-use spec_core::items::Op;
+use crate::samples::{constant, equation, names, operation, unary};
+use sort_windows::window;
+use spec_core::equation::{DataSpec, Equation};
+use spec_core::items::{Op, Sort};
 use spec_core::memory::Memory;
+use spec_core::signature::{OpDecl, Signature};
 use spec_core::value::Value;
 use spec_core::window::Window;
 use std::alloc::Global;
 use std::test::Fail;
+
+const BOOL: Sort = Sort(0);
+
+const NAT: Sort = Sort(1);
+
+const LIST: Sort = Sort(2);
+
+const EMPTY: Sort = Sort(3);
+
+const TRUE: Op = Op(0);
+
+const FALSE: Op = Op(1);
+
+const NOT: Op = Op(2);
+
+const ZERO: Op = Op(3);
+
+const SUCC: Op = Op(4);
+
+const CONS: Op = Op(5);
+
+const NIL: Op = Op(6);
+
+const SORTS: [&str; 4] = ["Bool", "Nat", "List", "Empty"];
+
+// The operations by their numbers: their names, the sorts of their arguments and of their results.
+const OPERATIONS: [(&str, &[Sort], Sort); 8] = [
+    ("true", &[], BOOL),
+    ("false", &[], BOOL),
+    ("not", &[BOOL], BOOL),
+    ("0", &[], NAT),
+    ("Succ", &[NAT], NAT),
+    ("Cons", &[BOOL, LIST], LIST),
+    ("Nil", &[], LIST),
+    ("Loop", &[EMPTY], EMPTY),
+];
+
+// These sorts and operations, with not(true) = false and not(false) = true.
+fn data(alloc: Global) -> Result<DataSpec, Memory> {
+    let signature = Signature {
+        sorts: names(alloc, &SORTS)?,
+        ops: operations(alloc)?,
+    };
+    Ok(DataSpec {
+        signature,
+        equations: vec![in alloc;
+            negation(alloc, TRUE, FALSE)?,
+            negation(alloc, FALSE, TRUE)?,
+        ]?,
+    })
+}
+
+fn operations(alloc: Global) -> Result<Vec<OpDecl>, Memory> {
+    let mut all = Vec::new(alloc);
+    for (text, args, sort) in &OPERATIONS {
+        all.push(operation(alloc, text, args, *sort)?)?;
+    }
+    Ok(all)
+}
+
+// not(given) = negated
+fn negation(alloc: Global, given: Op, negated: Op) -> Result<Equation, Memory> {
+    let left = unary(alloc, NOT, constant(alloc, given))?;
+    equation(alloc, &[], left, constant(alloc, negated))
+}
 
 // Whether the window has these values, in this order, and is complete as told.
 fn is_window(alloc: Global, found: &Window, due: &[&[Op]], complete: bool) -> Result<bool, Memory> {

@@ -1,0 +1,36 @@
+// What evaluation gives, and what it costs.
+
+use crate::naturals::{ACK, DUP, SUCC, naturals, number};
+use crate::samples::{binary, unary};
+use spec_core::plain_evaluation::{EvaluationFault, plain_value};
+use spec_core::term::Term;
+use std::test::Fail;
+
+// ack(2, 3) is 9 after 44 uses, and no value within 43; dup(dup(1)) is 4 after 2 + 3 uses.
+#[test]
+fn values_cost_what_the_definition_says(rt: HostRuntime) -> Result<(), Fail> {
+    let alloc = rt.alloc();
+    let algebra = naturals(alloc)?;
+    let call = binary(alloc, ACK, number(alloc, 2)?, number(alloc, 3)?)?;
+    let nine = plain_value(alloc, &algebra, &call, 44)?;
+    assert!(rt; nine.value.same(&number(alloc, 9)?));
+    assert_eq!(rt; nine.uses, 44);
+    let short = plain_value(alloc, &algebra, &call, 43);
+    assert!(rt; matches!(short, Err(EvaluationFault::Spent)));
+    let doubled = unary(alloc, DUP, unary(alloc, DUP, number(alloc, 1)?)?)?;
+    let four = plain_value(alloc, &algebra, &doubled, 5)?;
+    assert!(rt; four.value.same(&number(alloc, 4)?));
+    assert_eq!(rt; four.uses, 5);
+    Ok(())
+}
+
+// A variable has no value, and neither has a call over one.
+#[test]
+fn loose_terms_have_no_value(rt: HostRuntime) -> Result<(), Fail> {
+    let alloc = rt.alloc();
+    let algebra = naturals(alloc)?;
+    let call = unary(alloc, SUCC, Term::Var(0))?;
+    let value = plain_value(alloc, &algebra, &call, 100);
+    assert!(rt; matches!(value, Err(EvaluationFault::Spent)));
+    Ok(())
+}

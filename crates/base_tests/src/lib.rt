@@ -1,0 +1,27 @@
+// Tests of the base: names and data, evaluation, windows, and what lies outside the program.
+#![tactic(auto)]
+
+#[cfg(test)]
+mod copies;
+#[cfg(test)]
+mod evaluation;
+#[cfg(test)]
+mod naturals;
+#[cfg(test)]
+mod samples;
+#[cfg(test)]
+mod shelves;
+#[cfg(test)]
+mod signatures;
+#[cfg(test)]
+mod sinks;
+#[cfg(test)]
+mod sources;
+#[cfg(test)]
+mod term_texts;
+#[cfg(test)]
+mod terms;
+#[cfg(test)]
+mod values;
+#[cfg(test)]
+mod windows;
