@@ -65,6 +65,3 @@ pub fn lotos_main<R: AllocGlobal, F: Shelf, I: Source, O: Sink>(
         Err(_) => Status::Memory,
     }
 }
-
-#[cfg(test)]
-mod tests;

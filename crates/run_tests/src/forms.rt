@@ -1,7 +1,7 @@
 // Texts in and out of the first forms.
 
-use super::run;
-use crate::status::Status;
+use crate::call::run;
+use lotos_run::status::Status;
 use std::test::Fail;
 
 // A specification, a script, and the status.

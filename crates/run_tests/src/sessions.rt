@@ -1,7 +1,7 @@
 // Sessions whose traces were worked out by hand from the inference rules and the order of answers.
 
-use super::run;
-use crate::status::Status;
+use crate::call::run;
+use lotos_run::status::Status;
 use std::test::Fail;
 
 // A specification, a script, and the trace.
