@@ -51,7 +51,7 @@ fn an_internal_step_is_not_built(rt: HostRuntime) -> Result<(), Fail> {
 
 #[test]
 fn what_is_no_call_is_refused(rt: HostRuntime) -> Result<(), Fail> {
-    for words in NO_CALLS {
+    for words in &NO_CALLS {
         let ended = call(&rt, words, STOP, b"", &[])?;
         assert_eq!(rt; ended.status, Status::Usage, "{words:?}");
         assert_eq!(rt; ended.written.as_slice(), USAGE_TEXT, "{words:?}");

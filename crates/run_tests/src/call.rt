@@ -3,6 +3,7 @@
 use lotos_outside::memory_shelf::MemoryShelf;
 use lotos_outside::memory_sink::MemorySink;
 use lotos_outside::memory_source::MemorySource;
+use lotos_outside::sink::Sink;
 use lotos_run::lotos_main;
 use lotos_run::status::Status;
 use std::test::Fail;
@@ -47,6 +48,20 @@ pub fn no_input(rt: &HostRuntime) -> MemorySource {
     MemorySource::new(Vec::new(rt.alloc()), Vec::new(rt.alloc()))
 }
 
+/// Calls with these words over a shelf that fails at these calls, and writes to this sink.
+pub fn call_into<O: Sink>(
+    rt: &HostRuntime,
+    words: &[&str],
+    spec: &[u8],
+    script: &[u8],
+    shelf_fails: &[u64],
+    out: &mut O,
+) -> Result<Status, Fail> {
+    let words = words_of(rt, words)?;
+    let mut shelf = shelf_of(rt, spec, script, shelf_fails)?;
+    Ok(lotos_main(rt, &words, &mut shelf, &mut no_input(rt), out))
+}
+
 /// Calls with these words over a shelf that fails at these calls.
 pub fn call(
     rt: &HostRuntime,
@@ -55,19 +70,20 @@ pub fn call(
     script: &[u8],
     shelf_fails: &[u64],
 ) -> Result<Ended, Fail> {
-    let words = words_of(rt, words)?;
-    let mut shelf = shelf_of(rt, spec, script, shelf_fails)?;
     let mut out = MemorySink::new(Vec::new(rt.alloc()), Vec::new(rt.alloc()));
-    let status = lotos_main(rt, &words, &mut shelf, &mut no_input(rt), &mut out);
+    let status = call_into(rt, words, spec, script, shelf_fails, &mut out)?;
     Ok(Ended {
         status,
         written: Vec::from_slice(rt.alloc(), out.bytes())?,
     })
 }
 
+/// The words that run the script on the specification.
+pub const RUN: [&str; 3] = ["run", "spec", "script"];
+
 /// Runs the script on the specification.
 pub fn run(rt: &HostRuntime, spec: &[u8], script: &[u8]) -> Result<Ended, Fail> {
-    call(rt, &["run", "spec", "script"], spec, script, &[])
+    call(rt, &RUN, spec, script, &[])
 }
 
 /// A specification that can do nothing.

@@ -1,9 +1,8 @@
 // Files that can't be read, and an output that can't be written.
 
-use crate::call::{STOP, STOP_TRACE, call, no_input, shelf_of, words_of};
+use crate::call::{RUN, STOP, STOP_TRACE, call, call_into};
 use lotos_outside::memory_sink::MemorySink;
 use lotos_outside::sink::{Sink, SinkFault};
-use lotos_run::lotos_main;
 use lotos_run::status::Status;
 use std::test::Fail;
 
@@ -27,8 +26,8 @@ const WRITES: [(u64, Status, usize); 4] = [
 
 #[test]
 fn a_fetch_that_fails_is_a_read_fault(rt: HostRuntime) -> Result<(), Fail> {
-    for (number, due) in FETCHES {
-        let ended = call(&rt, &["run", "spec", "script"], STOP, b"", &[number])?;
+    for &(number, due) in &FETCHES {
+        let ended = call(&rt, &RUN, STOP, b"", &[number])?;
         let text = if number < 3 {
             READ_FAULT_TEXT
         } else {
@@ -72,16 +71,14 @@ impl Sink for OneByte {
 
 #[test]
 fn a_prefix_is_written_where_the_output_fails(rt: HostRuntime) -> Result<(), Fail> {
-    let words = words_of(&rt, &["run", "spec", "script"])?;
-    for (fails, status, count) in WRITES {
-        let mut shelf = shelf_of(&rt, STOP, b"", &[])?;
+    for &(fails, status, count) in &WRITES {
         let mut out = OneByte {
             bytes: Vec::new(rt.alloc()),
             fails,
             calls: 0,
             faults: 0,
         };
-        let ended = lotos_main(&rt, &words, &mut shelf, &mut no_input(&rt), &mut out);
+        let ended = call_into(&rt, &RUN, STOP, b"", &[], &mut out)?;
         assert_eq!(rt; ended, status, "call {fails}");
         assert_eq!(rt;
             out.bytes.as_slice(),
@@ -93,11 +90,9 @@ fn a_prefix_is_written_where_the_output_fails(rt: HostRuntime) -> Result<(), Fai
 
 #[test]
 fn nothing_is_written_where_the_first_write_fails(rt: HostRuntime) -> Result<(), Fail> {
-    let words = words_of(&rt, &["run", "spec", "script"])?;
-    let mut shelf = shelf_of(&rt, STOP, b"", &[])?;
     let fails = Vec::from_slice(rt.alloc(), &[1])?;
     let mut out = MemorySink::new(Vec::new(rt.alloc()), fails);
-    let status = lotos_main(&rt, &words, &mut shelf, &mut no_input(&rt), &mut out);
+    let status = call_into(&rt, &RUN, STOP, b"", &[], &mut out)?;
     assert_eq!(rt; status, Status::WriteFault);
     assert_eq!(rt; out.bytes(), b"".as_slice());
     assert_eq!(rt; status.number(), 4);

@@ -190,7 +190,7 @@ const FORMS: [(&str, &str, Status); 30] = [
 
 #[test]
 fn texts_are_in_the_forms_or_out_of_them(rt: HostRuntime) -> Result<(), Fail> {
-    for (spec, script, status) in FORMS {
+    for &(spec, script, status) in &FORMS {
         let ended = run(&rt, spec.as_bytes(), script.as_bytes())?;
         assert_eq!(rt; ended.status, status, "{spec}{script}");
     }

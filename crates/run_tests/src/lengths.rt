@@ -11,9 +11,7 @@ const OFFER: &[u8] = b"1: a";
 // The bytes, and so many blanks behind them.
 fn padded(rt: &HostRuntime, bytes: &[u8], blanks: usize) -> Result<Vec<u8>, Fail> {
     let mut all = Vec::from_slice(rt.alloc(), bytes)?;
-    for _ in 0..blanks {
-        all.push(b' ')?;
-    }
+    all.extend_from_slice(&b" ".repeat(rt.alloc(), blanks)?)?;
     Ok(all)
 }
 

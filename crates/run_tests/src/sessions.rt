@@ -190,7 +190,7 @@ const SESSIONS: [(&str, &str, &str); 30] = [
 
 #[test]
 fn sessions_have_the_traces_of_the_rules(rt: HostRuntime) -> Result<(), Fail> {
-    for (spec, script, trace) in SESSIONS {
+    for (spec, script, trace) in &SESSIONS {
         let ended = run(&rt, spec.as_bytes(), script.as_bytes())?;
         assert_eq!(rt; ended.status, Status::Done, "{spec}{script}");
         assert_eq!(rt;
