@@ -5,18 +5,17 @@ use Rattle.lotos_ast.specs.declared.refusal.FrontFault.{FrontFault}
 use Rattle.lotos_ast.specs.declared.refusal.FrontFault.TheVariants.{Refused, Memory}
 use Rattle.lotos_ast.specs.TokenMarks.{mark_of}
 use Rattle.lotos_ast.specs.Notation.{part, specification}
-use Rattle.lotos_ast.specs.Nesting.{Fault, fault_at}
+use Rattle.lotos_ast.specs.declared.fault.Fault.{Fault}
+use Rattle.lotos_ast.specs.Nesting.{fault_at, outermost}
 use Rattle.lotos_ast.specs.Reads.{Tree, Reads, Stops}
-use Rattle.lotos_ast.specs.Parsing.{outermost, IsParsed, refusal_at}
+use Rattle.lotos_ast.specs.Parsing.{IsParsed, refusal_at}
 use Rattle.lotos_ast.specs.Refusals.{OnRefusal}
 use Rattle.lotos_ast.proofs.Parsing.{parsed, refused}
 use Rattle.lotos_ast.proofs.GrammarLaws.{rules_are_well_formed}
 use Rattle.data_parser.specs.declared.parse_fault.ParseFault.{ParseFault}
 use Rattle.data_parser.specs.Parsers.{reason_of, Halts, Tells}
+use Rattle.data_parser.proofs.Rows.{some_equal}
 use Rattle.behaviour_parser.specs.Specifications.{IsNoSpecification, stopped, followed, IsFollowed, Fails}
-
-some_equal : {f g : Fault} → Some f ≡ Some g → f ≡ g
-some_equal h = cc
 
 pub fails_halting : (e : ParseFault) (s r : List Token) → Halts e outermost (part specification) s r → Fails e s r
 fails_halting e s r h = record { stops = λ f i. inl (h.stops f i) }

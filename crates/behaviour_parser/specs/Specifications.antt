@@ -4,9 +4,10 @@ use Rattle.lotos_ast.specs.declared.token.Token.{Token}
 use Rattle.lotos_ast.specs.declared.refusal.Refusal.{Refusal}
 use Rattle.lotos_ast.specs.TokenMarks.{mark_of}
 use Rattle.lotos_ast.specs.Notation.{part, specification}
-use Rattle.lotos_ast.specs.Nesting.{Fault, fault_at}
+use Rattle.lotos_ast.specs.declared.fault.Fault.{Fault}
+use Rattle.lotos_ast.specs.Nesting.{fault_at, outermost}
 use Rattle.lotos_ast.specs.Reads.{Tree, Reads, Stops}
-use Rattle.lotos_ast.specs.Parsing.{outermost, IsParsed, IsRefused, refusal_at}
+use Rattle.lotos_ast.specs.Parsing.{IsParsed, IsRefused, refusal_at}
 use Rattle.data_parser.specs.declared.parse_fault.ParseFault.{ParseFault}
 use Rattle.data_parser.specs.Parsers.{reason_of}
 

@@ -5,13 +5,14 @@ ghost use Rattle.lotos_ast.specs.declared.mark.Mark.{Mark};
 ghost use Rattle.lotos_ast.specs.Notation.{optional, quoted, part, declarations, ◌▸◌};
 ghost use Rattle.lotos_ast.specs.Reads.{Reads};
 ghost use Rattle.lotos_ast.specs.BehaviourTrees.{accepts_tree};
-ghost use Rattle.data_parser.specs.Parsers.{nesting_of, Halts};
+ghost use Rattle.lotos_ast.specs.Nesting.{nesting_of};
+ghost use Rattle.data_parser.specs.Parsers.{Halts};
 
 use data_parser::cursor::Cursor;
-use data_parser::nest::Nest;
 use data_parser::parse_fault::ParseFault;
 use lotos_ast::declaration::Declarations;
 use lotos_ast::mark::Mark;
+use lotos_ast::nest::Nest;
 
 // `accept` with its variables and `in`, where they stand.
 pub fn accepts(cursor: &mut Cursor<'_>, nest: Nest) -> Result<Option<Declarations>, ParseFault>

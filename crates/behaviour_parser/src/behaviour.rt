@@ -6,7 +6,8 @@ ghost use Rattle.std.specs.Prelude.{◌≡◌, ◌<◌, box_value, IfOk, OnOk, I
 ghost use Rattle.lotos_ast.specs.Notation.{part, behaviour, disable, parallel, choice, unary};
 ghost use Rattle.lotos_ast.specs.Reads.{Reads};
 ghost use Rattle.lotos_ast.specs.BehaviourTrees.{behaviour_tree, disable_tree, parallel_tree, choice_tree, unary_tree};
-ghost use Rattle.data_parser.specs.Parsers.{nesting_of, Halts};
+ghost use Rattle.lotos_ast.specs.Nesting.{nesting_of};
+ghost use Rattle.data_parser.specs.Parsers.{Halts};
 
 use crate::accepts::accepts;
 use crate::joined::{
@@ -16,10 +17,10 @@ use crate::joined::{
 use crate::opening::{Heading, Opening, Prefix, read_opening};
 use crate::operator::{at_operator, operator};
 use data_parser::cursor::Cursor;
-use data_parser::nest::Nest;
 use data_parser::parse_fault::ParseFault;
 use lotos_ast::behaviour::{Behaviour, Choice, Disable, Parallel, Unary};
 use lotos_ast::mark::Mark;
+use lotos_ast::nest::Nest;
 
 // A behaviour.
 #[tactic(auto, using(crate::proofs::Levels::behaviour_alone, crate::proofs::Levels::behaviour_joined, crate::proofs::Levels::behaviour_halts_first, crate::proofs::Levels::behaviour_halts_sign, crate::proofs::Levels::behaviour_halts_accepts, crate::proofs::Levels::behaviour_halts_right, data_parser::proofs::Rows::halts_memory))]

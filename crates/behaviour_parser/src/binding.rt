@@ -2,10 +2,10 @@
 
 use data_parser::cursor::Cursor;
 use data_parser::item::Item;
-use data_parser::nest::Nest;
 use data_parser::parse_fault::ParseFault;
 use lotos_ast::behaviour::Binding;
 use lotos_ast::mark::Mark;
+use lotos_ast::nest::Nest;
 
 /// A variable with its value.
 pub struct OneBinding;

@@ -4,14 +4,15 @@ ghost use Rattle.std.specs.Prelude.{◌≡◌, ◌≤◌, IfOk, OnOk, IfErr, len
 ghost use Rattle.lotos_ast.specs.Notation.{optional, part, exit_value, list, in_parentheses};
 ghost use Rattle.lotos_ast.specs.Reads.{Reads};
 ghost use Rattle.lotos_ast.specs.BehaviourTrees.{exit_values_tree};
-ghost use Rattle.data_parser.specs.Parsers.{nesting_of, Halts};
+ghost use Rattle.lotos_ast.specs.Nesting.{nesting_of};
+ghost use Rattle.data_parser.specs.Parsers.{Halts};
 
 use data_parser::cursor::Cursor;
 use data_parser::item::Item;
-use data_parser::nest::Nest;
 use data_parser::parse_fault::ParseFault;
 use lotos_ast::behaviour::ExitValue;
 use lotos_ast::mark::Mark;
+use lotos_ast::nest::Nest;
 
 /// A value with which a behaviour ends.
 pub struct OneExitValue;

@@ -4,14 +4,15 @@ ghost use Rattle.std.specs.Prelude.{◌≡◌, ◌≤◌, ◌<◌, IfOk, OnOk, I
 ghost use Rattle.lotos_ast.specs.Notation.{optional, part, functionality, identifier, list, in_parentheses};
 ghost use Rattle.lotos_ast.specs.Reads.{Reads};
 ghost use Rattle.lotos_ast.specs.DeclarationTrees.{functionality_tree, sorts_tree};
-ghost use Rattle.data_parser.specs.Parsers.{nesting_of, Halts};
+ghost use Rattle.lotos_ast.specs.Nesting.{nesting_of};
+ghost use Rattle.data_parser.specs.Parsers.{Halts};
 
 use data_parser::cursor::Cursor;
 use data_parser::identifier::Identifier;
-use data_parser::nest::Nest;
 use data_parser::parse_fault::ParseFault;
 use lotos_ast::declaration::Functionality;
 use lotos_ast::mark::Mark;
+use lotos_ast::nest::Nest;
 use lotos_ast::token::Token;
 
 // What a behaviour gives when it ends.

@@ -4,16 +4,17 @@ ghost use Rattle.std.specs.Prelude.{◌≡◌, ◌≤◌, ◌<◌, IfOk, OnOk, I
 ghost use Rattle.lotos_ast.specs.Notation.{optional, part, gate_list};
 ghost use Rattle.lotos_ast.specs.Reads.{Reads};
 ghost use Rattle.lotos_ast.specs.DeclarationTrees.{gate_list_tree, optional_gates_tree};
-ghost use Rattle.data_parser.specs.Parsers.{nesting_of, Halts};
+ghost use Rattle.lotos_ast.specs.Nesting.{nesting_of};
+ghost use Rattle.data_parser.specs.Parsers.{Halts};
 
 use data_parser::cursor::Cursor;
 use data_parser::identifier::Identifier;
 use data_parser::item::Item;
-use data_parser::nest::Nest;
 use data_parser::parse_fault::ParseFault;
 use lotos_ast::behaviour::GateChoice;
 use lotos_ast::declaration::GateList;
 use lotos_ast::mark::Mark;
+use lotos_ast::nest::Nest;
 
 // Gates in brackets.
 pub fn gate_list(cursor: &mut Cursor<'_>, nest: Nest) -> Result<GateList, ParseFault>

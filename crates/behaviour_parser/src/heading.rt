@@ -5,7 +5,8 @@ ghost use Rattle.lotos_ast.specs.declared.mark.Mark.{Mark};
 ghost use Rattle.lotos_ast.specs.MarkNumbers.{is_same_mark};
 ghost use Rattle.lotos_ast.specs.Notation.{part, unary};
 ghost use Rattle.lotos_ast.specs.Begins.{mark_at};
-ghost use Rattle.data_parser.specs.Parsers.{nesting_of, Halts};
+ghost use Rattle.lotos_ast.specs.Nesting.{nesting_of};
+ghost use Rattle.data_parser.specs.Parsers.{Halts};
 ghost use Rattle.behaviour_parser.specs.Openings.{IsHeading};
 
 use crate::binding::OneBinding;
@@ -15,11 +16,11 @@ use crate::operator::operator;
 use data_parser::cursor::Cursor;
 use data_parser::declaration::OneDeclaration;
 use data_parser::identifier::Identifier;
-use data_parser::nest::Nest;
 use data_parser::parse_fault::ParseFault;
 use lotos_ast::behaviour::GateChoice;
 use lotos_ast::declaration::{Declaration, Declarations};
 use lotos_ast::mark::Mark;
+use lotos_ast::nest::Nest;
 
 // `hide` and its gates, up to `in`.
 #[tactic(auto, using(crate::proofs::Openings::hide_leads, crate::proofs::Chosen::hide_halts, data_parser::proofs::Rows::halts_first, data_parser::proofs::Rows::halts_second, data_parser::proofs::Rows::halts_memory))]

@@ -3,10 +3,10 @@
 use data_parser::cursor::Cursor;
 use data_parser::identifier::Identifier;
 use data_parser::item::Item;
-use data_parser::nest::Nest;
 use data_parser::parse_fault::ParseFault;
 use lotos_ast::behaviour::Offer;
 use lotos_ast::mark::Mark;
+use lotos_ast::nest::Nest;
 
 /// Values that an action offers.
 pub struct OneOffer;

@@ -5,14 +5,15 @@ ghost use Rattle.lotos_ast.specs.Notation.{part, operator};
 ghost use Rattle.lotos_ast.specs.Reads.{Reads};
 ghost use Rattle.lotos_ast.specs.Begins.{mark_at, begins_operator};
 ghost use Rattle.lotos_ast.specs.BehaviourTrees.{operator_tree};
-ghost use Rattle.data_parser.specs.Parsers.{nesting_of, Halts};
+ghost use Rattle.lotos_ast.specs.Nesting.{nesting_of};
+ghost use Rattle.data_parser.specs.Parsers.{Halts};
 
 use data_parser::cursor::Cursor;
 use data_parser::identifier::Identifier;
-use data_parser::nest::Nest;
 use data_parser::parse_fault::ParseFault;
 use lotos_ast::behaviour::Operator;
 use lotos_ast::mark::Mark;
+use lotos_ast::nest::Nest;
 
 // Whether a parallel operator begins with the next token.
 pub fn at_operator(cursor: &Cursor<'_>) -> bool

@@ -8,7 +8,8 @@ ghost use Rattle.lotos_ast.specs.Grammar.{predicate, prefixed};
 ghost use Rattle.lotos_ast.specs.Reads.{Reads};
 ghost use Rattle.lotos_ast.specs.Begins.{mark_at};
 ghost use Rattle.lotos_ast.specs.BehaviourTrees.{predicate_tree, optional_predicate_tree};
-ghost use Rattle.data_parser.specs.Parsers.{nesting_of, Halts};
+ghost use Rattle.lotos_ast.specs.Nesting.{nesting_of};
+ghost use Rattle.data_parser.specs.Parsers.{Halts};
 ghost use Rattle.behaviour_parser.specs.Openings.{offering, offering_tree, IsPrefix, IsOpening};
 ghost use Rattle.behaviour_parser.specs.Leads.{Leads};
 
@@ -17,11 +18,11 @@ use crate::offer::OneOffer;
 use crate::opening::{Opening, Prefix, atomic};
 use data_parser::cursor::Cursor;
 use data_parser::item::Item;
-use data_parser::nest::Nest;
 use data_parser::parse_fault::ParseFault;
 use lotos_ast::behaviour::{Action, Atom, Offer};
 use lotos_ast::expression::Premiss;
 use lotos_ast::mark::Mark;
+use lotos_ast::nest::Nest;
 
 // The values of an action, with what has to hold of them.
 #[derive(Drop)]

@@ -7,18 +7,19 @@ ghost use Rattle.lotos_ast.specs.Reads.{Reads};
 ghost use Rattle.lotos_ast.specs.Begins.{mark_at, begins};
 ghost use Rattle.lotos_ast.specs.ListTrees.{repeated_tree};
 ghost use Rattle.lotos_ast.specs.SpecTrees.{parameters_tree, items_tree, process_tree, where_item_tree};
-ghost use Rattle.data_parser.specs.Parsers.{nesting_of, Halts};
+ghost use Rattle.lotos_ast.specs.Nesting.{nesting_of};
+ghost use Rattle.data_parser.specs.Parsers.{Halts};
 
 use crate::behaviour::behaviour;
 use crate::functionality::functionality;
 use crate::gates::optional_gates;
 use data_parser::cursor::Cursor;
 use data_parser::item::Item;
-use data_parser::nest::Nest;
 use data_parser::parse_fault::ParseFault;
 use data_parser::type_definition::OneTypeDefinition;
 use lotos_ast::declaration::Declarations;
 use lotos_ast::mark::Mark;
+use lotos_ast::nest::Nest;
 use lotos_ast::spec::{Process, WhereItem};
 
 // Variables in parentheses, where they stand.

@@ -1,14 +1,13 @@
 // Whole specifications.
 
-ghost use Rattle.std.specs.Prelude.{◌≡◌, ◌<◌, [], Some, true, IfOk, OnOk, IfErr, length};
-ghost use Rattle.lotos_ast.specs.TokenMarks.{mark_of};
-ghost use Rattle.lotos_ast.specs.Nesting.{fault_at};
+ghost use Rattle.std.specs.Prelude.{◌<◌, [], IfOk, OnOk, IfErr, length};
+ghost use Rattle.lotos_ast.specs.Nesting.{nesting_of, outermost};
 ghost use Rattle.lotos_ast.specs.Notation.{part, specification};
 ghost use Rattle.lotos_ast.specs.Reads.{Reads};
-ghost use Rattle.lotos_ast.specs.Parsing.{IsParsed, outermost};
+ghost use Rattle.lotos_ast.specs.Parsing.{IsParsed};
 ghost use Rattle.lotos_ast.specs.Refusals.{IfRefused};
 ghost use Rattle.lotos_ast.specs.SpecTrees.{spec_tree};
-ghost use Rattle.data_parser.specs.Parsers.{nesting_of, reason_of, Halts};
+ghost use Rattle.data_parser.specs.Parsers.{Halts};
 ghost use Rattle.behaviour_parser.specs.Specifications.{IsNoSpecification, Fails};
 
 use crate::behaviour::behaviour;
@@ -16,10 +15,11 @@ use crate::functionality::functionality;
 use crate::gates::optional_gates;
 use crate::process::items;
 use data_parser::cursor::Cursor;
-use data_parser::nest::Nest;
 use data_parser::parse_fault::ParseFault;
 use data_parser::refusals::refusal;
+use lotos_ast::fault::Fault;
 use lotos_ast::mark::Mark;
+use lotos_ast::nest::Nest;
 use lotos_ast::refusal::FrontFault;
 use lotos_ast::spec::Spec;
 use lotos_ast::token::Token;
@@ -51,18 +51,7 @@ fn to_the_end(cursor: &mut Cursor<'_>) -> Result<Spec, ParseFault>
     let spec = one_specification(cursor, Nest::outermost())?;
     match cursor.rest() {
         [] => Ok(spec),
-        [next, ..] => Err(behind(next)),
-    }
-}
-
-// The fault at a token behind a whole specification.
-fn behind(next: &Token) -> ParseFault
-    ensures { reason_of result ≡ Some (fault_at true (mark_of next.now)) }
-{
-    if Mark::ExternalMark.is_same(next.mark()) {
-        ParseFault::External
-    } else {
-        ParseFault::Unexpected
+        [next, ..] => Err(ParseFault::Stopped(Fault::at(true, next.mark()))),
     }
 }
 

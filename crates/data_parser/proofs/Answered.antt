@@ -8,7 +8,8 @@ use Rattle.lotos_ast.specs.declared.refusal.FrontFault.TheVariants.{Refused, Mem
 use Rattle.lotos_ast.specs.Notation.{Syntax}
 use Rattle.lotos_ast.specs.Reads.{Tree, Reads, Stops}
 use Rattle.lotos_ast.specs.Conditions.{IsWellFormed}
-use Rattle.lotos_ast.specs.Parsing.{outermost, IsParsed, IsParsedBetween, IsRefusedFrom, refused}
+use Rattle.lotos_ast.specs.Nesting.{outermost}
+use Rattle.lotos_ast.specs.Parsing.{IsParsed, IsParsedBetween, IsRefusedFrom, refused}
 use Rattle.lotos_ast.specs.Refusals.{OnRefusal}
 use Rattle.lotos_ast.proofs.Parsing.{parsed, refused as is_refused}
 use Rattle.data_parser.specs.declared.parse_fault.ParseFault.{ParseFault}

@@ -13,7 +13,8 @@ use Rattle.lotos_ast.specs.MarkNumbers.{is_same_mark}
 use Rattle.lotos_ast.specs.Notation.{quoted, optional, part, operation_name, operation_names, constructor_mark, ◌▸◌}
 use Rattle.lotos_ast.specs.Grammar.{infix_end, operation_declaration}
 use Rattle.lotos_ast.specs.Begins.{mark_at, place_at}
-use Rattle.lotos_ast.specs.Nesting.{Nesting, Fault}
+use Rattle.lotos_ast.specs.declared.fault.Fault.{Fault}
+use Rattle.lotos_ast.specs.Nesting.{Nesting}
 use Rattle.lotos_ast.specs.Reads.{unkept, both, right, leaf, Reads, Stops, reads_sequence, reads_left, reads_right, reads_placed, reads_part, stops_first, stops_second, stops_left, stops_right, stops_placed, stops_part}
 use Rattle.lotos_ast.specs.ListTrees.{optional_token_tree, behind}
 use Rattle.lotos_ast.specs.TypeTrees.{names_tree, operation_name_tree, two_sorts_tree, both_sorts_tree, operation_decl_tree}

@@ -6,19 +6,20 @@ use Rattle.lotos_ast.specs.MarkNumbers.{is_same_mark}
 use Rattle.lotos_ast.specs.Notation.{Part, Wanted, Reduction, presence, fits, Syntax, quoted, kept, sequence, either, optional, repeated, placed, reduced, bracketed, enclosed, part}
 use Rattle.lotos_ast.specs.Grammar.{rule}
 use Rattle.lotos_ast.specs.Begins.{mark_at, place_at, starts}
-use Rattle.lotos_ast.specs.Nesting.{Nesting, in_bracket, in_construct, is_within, Fault, too_deep, fault_at}
+use Rattle.lotos_ast.specs.declared.fault.Fault.{Fault}
+use Rattle.lotos_ast.specs.Nesting.{Nesting, in_bracket, in_construct, is_within, fault_at}
 use Rattle.lotos_ast.specs.Reads.{Tree, Reads, Stops, unkept, reads_quoted, reads_absent, reads_present, reads_reduced, reads_part, stops_quoted, stops_kept, deep_quoted, deep_kept, stops_first, stops_second, stops_left, stops_right, stops_optional, stops_repeated, stops_later, stops_placed, stops_reduced, stops_bracketed, stops_enclosed, stops_part}
 use Rattle.lotos_ast.specs.ListTrees.{tree_place}
 use Rattle.lotos_ast.proofs.Tables.{same_equal}
 use Rattle.data_parser.specs.declared.parse_fault.ParseFault.{ParseFault}
-use Rattle.data_parser.specs.declared.parse_fault.ParseFault.TheVariants.{TooDeep, Memory}
+use Rattle.data_parser.specs.declared.parse_fault.ParseFault.TheVariants.{Stopped, Memory}
 use Rattle.data_parser.specs.Parsers.{reason_of, Halts}
 
 -- want of memory tells nothing
 pub halts_memory : (d : Nesting) (g : Syntax) (s r : List Token) → Halts Memory d g s r
 halts_memory d g s r = record { stops = λ f i. cc }
 
-some_equal : {f g : Fault} → Some f ≡ Some g → f ≡ g
+pub some_equal : {f g : Fault} → Some f ≡ Some g → f ≡ g
 some_equal h = cc
 
 pub halts_unexpected : (e : ParseFault) (d : Nesting) (k : Mark) (s : List Token) → is_same_mark k (mark_at s) ≡ false → reason_of e ≡ Some (fault_at (is_within d) (mark_at s)) → Halts e d (quoted k) s s
@@ -27,15 +28,11 @@ halts_unexpected e d k s h i = record { stops = λ f j. stops_quoted h (some_equ
 pub halts_unkept : (e : ParseFault) (d : Nesting) (w : Wanted) (s : List Token) → fits w (mark_at s) ≡ false → reason_of e ≡ Some (fault_at (is_within d) (mark_at s)) → Halts e d (kept w) s s
 halts_unkept e d w s h i = record { stops = λ f j. stops_kept h (some_equal (sym i ∙ j)) refl }
 
--- a fault that tells of too deep a token tells nothing else
-deep_alone : (f : Fault) → reason_of TooDeep ≡ Some f → too_deep ≡ f
-deep_alone f h = some_equal h
+pub halts_too_deep : (d : Nesting) (k : Mark) (s : List Token) → is_same_mark k (mark_at s) ≡ true → is_within d ≡ false → Halts (Stopped Fault.TooDeep) d (quoted k) s s
+halts_too_deep d k s h i = record { stops = λ f j. subst (λ z. Stops d z (quoted k) s s) (some_equal j) (deep_quoted (sym (same_equal k (mark_at s) h)) i refl) }
 
-pub halts_too_deep : (d : Nesting) (k : Mark) (s : List Token) → is_same_mark k (mark_at s) ≡ true → is_within d ≡ false → Halts TooDeep d (quoted k) s s
-halts_too_deep d k s h i = record { stops = λ f j. subst (λ z. Stops d z (quoted k) s s) (deep_alone f j) (deep_quoted (sym (same_equal k (mark_at s) h)) i refl) }
-
-pub halts_kept_too_deep : (d : Nesting) (w : Wanted) (s : List Token) → fits w (mark_at s) ≡ true → is_within d ≡ false → Halts TooDeep d (kept w) s s
-halts_kept_too_deep d w s h i = record { stops = λ f j. subst (λ z. Stops d z (kept w) s s) (deep_alone f j) (deep_kept h i refl) }
+pub halts_kept_too_deep : (d : Nesting) (w : Wanted) (s : List Token) → fits w (mark_at s) ≡ true → is_within d ≡ false → Halts (Stopped Fault.TooDeep) d (kept w) s s
+halts_kept_too_deep d w s h i = record { stops = λ f j. subst (λ z. Stops d z (kept w) s s) (some_equal j) (deep_kept h i refl) }
 
 pub reads_passed : (d : Nesting) (k : Mark) (t : Token) (s r : List Token) → s ≡ t ∷ r → is_same_mark k (mark_at s) ≡ true → is_within d ≡ true → Reads d (quoted k) s unkept r
 reads_passed d k t s r e h i = reads_quoted e (sym (same_equal k (mark_at s) h)) i

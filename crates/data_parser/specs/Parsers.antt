@@ -2,23 +2,18 @@
 use Rattle.std.specs.Prelude.{List, Option, Some, None, ◌≡◌}
 use Rattle.lotos_ast.specs.declared.token.Token.{Token}
 use Rattle.lotos_ast.specs.Notation.{Syntax}
-use Rattle.lotos_ast.specs.Nesting.{Nesting, nested, Fault, unexpected, too_deep, external}
+use Rattle.lotos_ast.specs.declared.fault.Fault.{Fault}
+use Rattle.lotos_ast.specs.Nesting.{Nesting}
 use Rattle.lotos_ast.specs.Reads.{Stops}
 use Rattle.lotos_ast.specs.Parsing.{refusal_at}
 use Rattle.lotos_ast.specs.declared.refusal.FrontFault.{FrontFault}
 use Rattle.lotos_ast.specs.Refusals.{OnRefusal}
-use Rattle.data_parser.specs.declared.nest.Nest.{Nest}
 use Rattle.data_parser.specs.declared.parse_fault.ParseFault.{ParseFault}
-use Rattle.data_parser.specs.declared.parse_fault.ParseFault.TheVariants.{Unexpected, TooDeep, External, Memory}
-
-abbrev pub nesting_of : Nest → Nesting
-nesting_of n = nested n.brackets n.constructs
+use Rattle.data_parser.specs.declared.parse_fault.ParseFault.TheVariants.{Stopped, Memory}
 
 -- the reason that a parser's fault tells; want of memory tells none
 abbrev pub reason_of : ParseFault → Option Fault
-reason_of Unexpected = Some unexpected
-reason_of TooDeep = Some too_deep
-reason_of External = Some external
+reason_of (Stopped fault) = Some fault
 reason_of Memory = None
 
 -- reading the part from the tokens of the first list stops before those of the second, for the reason that the fault tells

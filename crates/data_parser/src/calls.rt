@@ -9,9 +9,9 @@ ghost use Rattle.lotos_ast.specs.Parsing.{IsParsedBetween, IsRefusedFrom};
 ghost use Rattle.lotos_ast.specs.Refusals.{IfRefused};
 
 use crate::cursor::Cursor;
-use crate::nest::Nest;
 use crate::refusals::refusal;
 use lotos_ast::expression::Expr;
+use lotos_ast::nest::Nest;
 use lotos_ast::refusal::FrontFault;
 use lotos_ast::token::Token;
 use lotos_ast::types::TypeDef;

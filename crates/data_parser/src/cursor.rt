@@ -3,14 +3,15 @@
 ghost use Rattle.std.specs.Prelude.{◌≡◌, ◌∷◌, [], MatchOption, IfOk, OnOk, IfErr, Some, length, ◌<◌};
 ghost use Rattle.lotos_ast.specs.MarkNumbers.{is_same_mark};
 ghost use Rattle.lotos_ast.specs.Notation.{quoted, kept, marked, named, fits};
-ghost use Rattle.lotos_ast.specs.Nesting.{is_within, fault_at};
+ghost use Rattle.lotos_ast.specs.Nesting.{nesting_of, is_within, fault_at};
 ghost use Rattle.lotos_ast.specs.Reads.{Reads, unkept, leaf};
 ghost use Rattle.lotos_ast.specs.Begins.{mark_at, place_at, begins_expression};
-ghost use Rattle.data_parser.specs.Parsers.{nesting_of, reason_of, Halts};
+ghost use Rattle.data_parser.specs.Parsers.{reason_of, Halts};
 
-use crate::nest::Nest;
 use crate::parse_fault::ParseFault;
+use lotos_ast::fault::Fault;
 use lotos_ast::mark::Mark;
+use lotos_ast::nest::Nest;
 use lotos_ast::place::Place;
 use lotos_ast::token::Token;
 use std::alloc::Global;
@@ -96,17 +97,11 @@ impl<'a> Cursor<'a> {
         self.at(Mark::LeftParenthesis) || self.at_name()
     }
 
-    // The fault at the next token, where no text goes on with it.
+    // Why no text goes on with the next token.
     fn unexpected(&self, nest: Nest) -> ParseFault
         ensures { reason_of result ≡ Some (fault_at (is_within (nesting_of nest)) (mark_at self.now)) }
     {
-        if !self.at(Mark::ExternalMark) {
-            ParseFault::Unexpected
-        } else if nest.is_within() {
-            ParseFault::External
-        } else {
-            ParseFault::TooDeep
-        }
+        ParseFault::Stopped(Fault::at(nest.is_within(), self.peek()))
     }
 
     // Takes the next token.
@@ -133,7 +128,7 @@ impl<'a> Cursor<'a> {
             return Err(self.unexpected(nest));
         }
         if !nest.is_within() {
-            return Err(ParseFault::TooDeep);
+            return Err(ParseFault::Stopped(Fault::TooDeep));
         }
         match self.take() {
             Some(_) => Ok(()),
@@ -152,7 +147,7 @@ impl<'a> Cursor<'a> {
             return Err(self.unexpected(nest));
         }
         if !nest.is_within() {
-            return Err(ParseFault::TooDeep);
+            return Err(ParseFault::Stopped(Fault::TooDeep));
         }
         match self.take() {
             Some(token) => Ok(token.copy(self.alloc)?),
@@ -171,7 +166,7 @@ impl<'a> Cursor<'a> {
             return Err(self.unexpected(nest));
         }
         if !nest.is_within() {
-            return Err(ParseFault::TooDeep);
+            return Err(ParseFault::Stopped(Fault::TooDeep));
         }
         match self.take() {
             Some(token) => Ok(token.copy(self.alloc)?),

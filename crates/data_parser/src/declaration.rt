@@ -4,15 +4,16 @@ ghost use Rattle.std.specs.Prelude.{◌≡◌, ◌<◌, IfOk, OnOk, IfErr, lengt
 ghost use Rattle.lotos_ast.specs.Notation.{part, declaration, declarations};
 ghost use Rattle.lotos_ast.specs.Reads.{Reads};
 ghost use Rattle.lotos_ast.specs.DeclarationTrees.{declaration_tree, declarations_tree};
-ghost use Rattle.data_parser.specs.Parsers.{nesting_of, Halts};
+ghost use Rattle.lotos_ast.specs.Nesting.{nesting_of};
+ghost use Rattle.data_parser.specs.Parsers.{Halts};
 
 use crate::cursor::Cursor;
 use crate::identifier::Identifier;
 use crate::item::Item;
-use crate::nest::Nest;
 use crate::parse_fault::ParseFault;
 use lotos_ast::declaration::{Declaration, Declarations};
 use lotos_ast::mark::Mark;
+use lotos_ast::nest::Nest;
 
 /// Variables of one sort.
 pub struct OneDeclaration;
@@ -42,6 +43,7 @@ impl Item for OneDeclaration {
 
 impl<'a> Cursor<'a> {
     /// Variables with their sorts.
+    #[tactic(auto, using(lotos_ast::proofs::Rows::reads_part_at, crate::proofs::Rows::halts_part, crate::proofs::Rows::halts_memory))]
     pub fn declarations(&mut self, nest: Nest) -> Result<Declarations, ParseFault>
         ensures read { IfOk result (λ d. Reads (nesting_of nest) (part declarations) self.old (declarations_tree d) self.new) }
         ensures halts { IfErr result (λ e. Halts e (nesting_of nest) (part declarations) self.old self.new) }

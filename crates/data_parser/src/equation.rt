@@ -7,14 +7,15 @@ ghost use Rattle.lotos_ast.specs.Begins.{mark_at, starts};
 ghost use Rattle.lotos_ast.specs.Reads.{Reads, both, node};
 ghost use Rattle.lotos_ast.specs.ExpressionTrees.{expr_tree, premiss_tree};
 ghost use Rattle.lotos_ast.specs.TypeTrees.{conclusion_tree, first_premiss_tree, equation_tree, equations_tree, equation_body_tree, optional_equation_part_tree};
-ghost use Rattle.data_parser.specs.Parsers.{nesting_of, Halts};
+ghost use Rattle.lotos_ast.specs.Nesting.{nesting_of};
+ghost use Rattle.data_parser.specs.Parsers.{Halts};
 
 use crate::cursor::Cursor;
 use crate::item::Item;
-use crate::nest::Nest;
 use crate::parse_fault::ParseFault;
 use lotos_ast::expression::{Expr, Premiss};
 use lotos_ast::mark::Mark;
+use lotos_ast::nest::Nest;
 use lotos_ast::place::Place;
 use lotos_ast::types::{Equation, EquationBody, EquationPart, ForAll, SortEquations};
 

@@ -6,14 +6,15 @@ ghost use Rattle.lotos_ast.specs.Notation.{Syntax, quoted, optional, repeated, p
 ghost use Rattle.lotos_ast.specs.Reads.{Reads, leaf};
 ghost use Rattle.lotos_ast.specs.ListTrees.{repeated_tree, list_tree, behind, between};
 ghost use Rattle.lotos_ast.specs.ExpressionTrees.{expr_tree, infix_tree, simple_tree, head_tree, infixes_tree, values_tree, optional_right_tree, premiss_tree};
-ghost use Rattle.data_parser.specs.Parsers.{nesting_of, Halts};
+ghost use Rattle.lotos_ast.specs.Nesting.{nesting_of};
+ghost use Rattle.data_parser.specs.Parsers.{Halts};
 
 use crate::cursor::Cursor;
 use crate::item::Item;
-use crate::nest::Nest;
 use crate::parse_fault::ParseFault;
 use lotos_ast::expression::{Expr, Head, Infix, Premiss, Simple};
 use lotos_ast::mark::Mark;
+use lotos_ast::nest::Nest;
 use lotos_ast::token::Token;
 
 /// An `of` and a sort.

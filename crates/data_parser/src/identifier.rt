@@ -4,13 +4,14 @@ ghost use Rattle.std.specs.Prelude.{◌≡◌, ◌≤◌, IfOk, OnOk, IfErr, len
 ghost use Rattle.lotos_ast.specs.Notation.{optional, identifier, list};
 ghost use Rattle.lotos_ast.specs.Reads.{Reads};
 ghost use Rattle.lotos_ast.specs.ListTrees.{optional_list_tree};
-ghost use Rattle.data_parser.specs.Parsers.{nesting_of, Halts};
+ghost use Rattle.lotos_ast.specs.Nesting.{nesting_of};
+ghost use Rattle.data_parser.specs.Parsers.{Halts};
 
 use crate::cursor::Cursor;
 use crate::item::Item;
-use crate::nest::Nest;
 use crate::parse_fault::ParseFault;
 use lotos_ast::mark::Mark;
+use lotos_ast::nest::Nest;
 use lotos_ast::token::Token;
 
 /// An identifier.

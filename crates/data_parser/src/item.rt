@@ -6,12 +6,13 @@ ghost use Rattle.lotos_ast.specs.Notation.{Syntax, presence, quoted, optional, r
 ghost use Rattle.lotos_ast.specs.Reads.{Tree, Reads, unkept};
 ghost use Rattle.lotos_ast.specs.Begins.{mark_at, starts};
 ghost use Rattle.lotos_ast.specs.ListTrees.{repeated_tree, list_tree, behind};
-ghost use Rattle.data_parser.specs.Parsers.{nesting_of, Halts};
+ghost use Rattle.lotos_ast.specs.Nesting.{nesting_of};
+ghost use Rattle.data_parser.specs.Parsers.{Halts};
 
 use crate::cursor::Cursor;
-use crate::nest::Nest;
 use crate::parse_fault::ParseFault;
 use lotos_ast::mark::Mark;
+use lotos_ast::nest::Nest;
 use std::marker::PhantomData;
 
 /// A part of the grammar that isn't empty.

@@ -8,7 +8,6 @@ pub mod equation;
 pub mod expressions;
 pub mod identifier;
 pub mod item;
-pub mod nest;
 pub mod operation;
 pub mod parse_fault;
 pub mod refusals;

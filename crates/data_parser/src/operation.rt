@@ -9,14 +9,15 @@ ghost use Rattle.lotos_ast.specs.Grammar.{operation_declaration, infix_end};
 ghost use Rattle.lotos_ast.specs.Reads.{Reads, both, right, leaf};
 ghost use Rattle.lotos_ast.specs.ListTrees.{behind, optional_token_tree, optional_list_tree};
 ghost use Rattle.lotos_ast.specs.TypeTrees.{operation_name_tree, both_sorts_tree, operation_decl_tree, optional_operation_part_tree};
-ghost use Rattle.data_parser.specs.Parsers.{nesting_of, Halts};
+ghost use Rattle.lotos_ast.specs.Nesting.{nesting_of};
+ghost use Rattle.data_parser.specs.Parsers.{Halts};
 ghost use Rattle.data_parser.specs.OperationNames.{is_infix, after_names, after_names_tree, NamesOn};
 
 use crate::cursor::Cursor;
 use crate::item::Item;
-use crate::nest::Nest;
 use crate::parse_fault::ParseFault;
 use lotos_ast::mark::Mark;
+use lotos_ast::nest::Nest;
 use lotos_ast::token::Token;
 use lotos_ast::types::{DeclaredName, OperationDecl, OperationName, OperationPart};
 

@@ -1,17 +1,14 @@
 // Why a parser has no tree.
 
+use lotos_ast::fault::Fault;
 use spec_core::memory::Memory;
 use std::alloc::{AllocError, AllocFailed};
 
 /// Why there is no tree.
 #[derive(Clone, Copy, Debug, PartialEq, Eq)]
 pub enum ParseFault {
-    /// No text goes on with the next token, or the tokens end too early.
-    Unexpected,
-    /// The next token is nested too deep.
-    TooDeep,
-    /// No text goes on with the next token, which marks an item as external.
-    External,
+    /// Reading stops at the next token, or behind the last one, for this reason.
+    Stopped(Fault),
     /// Want of memory, which says nothing of the tokens.
     Memory,
 }

@@ -1,11 +1,12 @@
 // Refusals of tokens.
 
 ghost use Rattle.std.specs.Prelude.{◌≡◌, IfOk};
-ghost use Rattle.lotos_ast.specs.Nesting.{unexpected, too_deep, external};
+ghost use Rattle.lotos_ast.specs.declared.fault.Fault.{Fault};
 ghost use Rattle.lotos_ast.specs.Parsing.{place_behind, has_room, end_place, refusal_at};
 ghost use Rattle.data_parser.specs.Parsers.{Tells};
 
 use crate::parse_fault::ParseFault;
+use lotos_ast::fault::Fault;
 use lotos_ast::names::Names;
 use lotos_ast::place::Place;
 use lotos_ast::refusal::{FrontFault, Refusal, RefusalKind};
@@ -19,9 +20,9 @@ pub fn refusal(alloc: Global, fault: ParseFault, tokens: &[Token], rest: &[Token
     ensures { Tells result fault tokens.now rest.now }
 {
     let made = match fault {
-        ParseFault::Unexpected => unexpected(alloc, tokens, rest),
-        ParseFault::TooDeep => Ok(too_deep(alloc, tokens, rest)),
-        ParseFault::External => Ok(external(alloc, tokens, rest)),
+        ParseFault::Stopped(Fault::Unexpected) => unexpected(alloc, tokens, rest),
+        ParseFault::Stopped(Fault::TooDeep) => Ok(too_deep(alloc, tokens, rest)),
+        ParseFault::Stopped(Fault::External) => Ok(external(alloc, tokens, rest)),
         ParseFault::Memory => Err(Memory),
     };
     match made {
@@ -32,7 +33,7 @@ pub fn refusal(alloc: Global, fault: ParseFault, tokens: &[Token], rest: &[Token
 
 // No text goes on with the next token, or there is none.
 fn unexpected(alloc: Global, tokens: &[Token], rest: &[Token]) -> Result<Refusal, Memory>
-    ensures { IfOk result (λ refusal. refusal ≡ refusal_at unexpected tokens.now rest.now) }
+    ensures { IfOk result (λ refusal. refusal ≡ refusal_at Fault.Unexpected tokens.now rest.now) }
 {
     let (place, name) = match rest {
         [] => (
@@ -52,7 +53,7 @@ fn unexpected(alloc: Global, tokens: &[Token], rest: &[Token]) -> Result<Refusal
 
 // The next token is nested too deep.
 fn too_deep(alloc: Global, tokens: &[Token], rest: &[Token]) -> Refusal
-    ensures { result ≡ refusal_at too_deep tokens.now rest.now }
+    ensures { result ≡ refusal_at Fault.TooDeep tokens.now rest.now }
 {
     Refusal {
         kind: RefusalKind::TooDeep,
@@ -63,7 +64,7 @@ fn too_deep(alloc: Global, tokens: &[Token], rest: &[Token]) -> Refusal
 
 // The next token marks an item as external.
 fn external(alloc: Global, tokens: &[Token], rest: &[Token]) -> Refusal
-    ensures { result ≡ refusal_at external tokens.now rest.now }
+    ensures { result ≡ refusal_at Fault.External tokens.now rest.now }
 {
     Refusal {
         kind: RefusalKind::External,
@@ -74,7 +75,7 @@ fn external(alloc: Global, tokens: &[Token], rest: &[Token]) -> Refusal
 
 // The place of the next token, or the place behind the last one.
 fn next_place(tokens: &[Token], rest: &[Token]) -> Place
-    ensures { result ≡ (refusal_at too_deep tokens.now rest.now).place }
+    ensures { result ≡ (refusal_at Fault.TooDeep tokens.now rest.now).place }
 {
     match rest {
         [] => end_place(tokens),

@@ -5,13 +5,14 @@ ghost use Rattle.lotos_ast.specs.Notation.{optional, part, sort_part};
 ghost use Rattle.lotos_ast.specs.Grammar.{sort_list};
 ghost use Rattle.lotos_ast.specs.Reads.{Reads};
 ghost use Rattle.lotos_ast.specs.TypeTrees.{sort_list_tree, optional_sort_part_tree};
-ghost use Rattle.data_parser.specs.Parsers.{nesting_of, Halts};
+ghost use Rattle.lotos_ast.specs.Nesting.{nesting_of};
+ghost use Rattle.data_parser.specs.Parsers.{Halts};
 
 use crate::cursor::Cursor;
 use crate::identifier::Identifier;
-use crate::nest::Nest;
 use crate::parse_fault::ParseFault;
 use lotos_ast::mark::Mark;
+use lotos_ast::nest::Nest;
 use lotos_ast::types::{SortList, SortPart};
 
 impl<'a> Cursor<'a> {

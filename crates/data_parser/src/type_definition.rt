@@ -9,15 +9,16 @@ ghost use Rattle.lotos_ast.specs.Grammar.{formals, declared_items, pairs, type_b
 ghost use Rattle.lotos_ast.specs.Reads.{Reads, both, left, right, leaf, node};
 ghost use Rattle.lotos_ast.specs.ListTrees.{repeated_tree, behind};
 ghost use Rattle.lotos_ast.specs.TypeTrees.{formal_sorts_tree, formal_operations_tree, formal_equations_tree, formals_tree, declared_items_tree, sort_pairs_tree, operation_pairs_tree, pairs_tree, type_body_tree, type_def_tree};
-ghost use Rattle.data_parser.specs.Parsers.{nesting_of, Halts};
+ghost use Rattle.lotos_ast.specs.Nesting.{nesting_of};
+ghost use Rattle.data_parser.specs.Parsers.{Halts};
 
 use crate::cursor::Cursor;
 use crate::identifier::Identifier;
 use crate::item::Item;
-use crate::nest::Nest;
 use crate::operation::OneOperationDeclaration;
 use crate::parse_fault::ParseFault;
 use lotos_ast::mark::Mark;
+use lotos_ast::nest::Nest;
 use lotos_ast::place::Place;
 use lotos_ast::token::Token;
 use lotos_ast::types::{

@@ -7,18 +7,19 @@ use Rattle.lotos_ast.specs.MarkNumbers.{is_same_mark}
 use Rattle.lotos_ast.specs.Notation.{Part, Wanted, Reduction, fits, Syntax, quoted, kept, sequence, either, optional, repeated, placed, reduced, bracketed, enclosed, part}
 use Rattle.lotos_ast.specs.Grammar.{rule}
 use Rattle.lotos_ast.specs.Begins.{mark_at, starts}
-use Rattle.lotos_ast.specs.Nesting.{Nesting, in_bracket, in_construct, is_within, too_deep}
+use Rattle.lotos_ast.specs.declared.fault.Fault.{Fault}
+use Rattle.lotos_ast.specs.Nesting.{Nesting, in_bracket, in_construct, is_within, nesting_of}
 use Rattle.lotos_ast.specs.Reads.{Stops, reads_quoted, reads_kept, reads_sequence, reads_left, reads_right, reads_absent, reads_present, reads_no_more, reads_more, reads_placed, reads_reduced, reads_bracketed, reads_enclosed, reads_part, deep_quoted, stops_second, stops_left, stops_right, stops_optional, stops_later, stops_placed, stops_reduced, stops_bracketed, stops_enclosed, stops_part}
 use Rattle.lotos_ast.specs.Fronts.{Accepts}
 use Rattle.lotos_ast.proofs.Tables.{same_equal}
 use Rattle.grammar_reader.specs.declared.recognised.Recognised.{Recognised}
 use Rattle.grammar_reader.specs.declared.recognised.Recognised.TheVariants.{Whole, Stopped}
-use Rattle.grammar_reader.specs.declared.nesting.Nesting.{Nesting as Counts}
+use Rattle.lotos_ast.specs.declared.nest.Nest.{Nest}
 use Rattle.grammar_reader.specs.declared.recognise.Progress.{Progress}
 use Rattle.grammar_reader.specs.declared.recognise.Progress.TheVariants.{Further}
 use Rattle.grammar_reader.specs.declared.syntax.Syntax.{Syntax as PlainSyntax}
 use Rattle.grammar_reader.specs.Syntaxes.{syntax_of}
-use Rattle.grammar_reader.specs.Readings.{nesting_of, fault_of, IsBehind, IsReading, Continues, Advances}
+use Rattle.grammar_reader.specs.Readings.{IsBehind, IsReading, Continues, Advances}
 
 pub take_quoted : (d : Nesting) (k : Mark) (s r : List Token) → is_same_mark k (mark_at s) ≡ true → is_within d ≡ true → IsBehind s r → Accepts d (quoted k) s r
 take_quoted d k s r h w b = (_, reads_quoted b.1 (sym (same_equal k (mark_at s) h)) w)
@@ -26,7 +27,7 @@ take_quoted d k s r h w b = (_, reads_quoted b.1 (sym (same_equal k (mark_at s) 
 pub take_kept : (d : Nesting) (k : Wanted) (s r : List Token) → fits k (mark_at s) ≡ true → is_within d ≡ true → IsBehind s r → Accepts d (kept k) s r
 take_kept d k s r h w b = (_, reads_kept b.1 h w)
 
-pub too_deep_quoted : (d : Nesting) (k : Mark) (s : List Token) → is_same_mark k (mark_at s) ≡ true → is_within d ≡ false → Stops d too_deep (quoted k) s s
+pub too_deep_quoted : (d : Nesting) (k : Mark) (s : List Token) → is_same_mark k (mark_at s) ≡ true → is_within d ≡ false → Stops d Fault.TooDeep (quoted k) s s
 too_deep_quoted d k s h w = deep_quoted (sym (same_equal k (mark_at s) h)) w refl
 
 pub take_none : (d : Nesting) (a : Syntax) (s : List Token) → starts a (mark_at s) ≡ false → Accepts d (optional a) s s
@@ -74,14 +75,14 @@ go_on d g s e h m e' h' m' a b = record { accepts = λ r k. a.accepts r (b.accep
 -- the answer to what is left is the answer to the whole
 pub answer : (d : Nesting) (g : Syntax) (tokens : List Token) (from : ℕ) (e : Nesting) (h : Syntax) (at : ℕ) (r : Recognised) → Continues d g (drop from tokens) e h (drop at tokens) → IsReading e h tokens at r → IsReading d g tokens from r
 answer d g tokens from e h at (Whole rest) c k = c.accepts (drop rest tokens) k
-answer d g tokens from e h at (Stopped fault place) c k = c.stops (fault_of fault) (drop place tokens) k
+answer d g tokens from e h at (Stopped fault place) c k = c.stops fault (drop place tokens) k
 
 pub next_token : (s : List Token) (n : ℕ) → n < length s → IsBehind (drop n s) (drop (n + 1) s)
 next_token [] n h = absurd (omega (arith, h))
 next_token (t ∷ ts) n h = (get_or (t ∷ ts) n t, drop_more (t ∷ ts) n t h)
 
 -- what is left is a part of the part
-pub onward : (d : Nesting) (g : Syntax) (tokens : List Token) (from : ℕ) (n : Counts) (x : PlainSyntax) (p : Progress) (a : Syntax) (e : Nesting) (h : Syntax) → p ≡ Further (record { nesting = n; syntax = x; from = from }) → g ≡ a → nesting_of n ≡ e → syntax_of x ≡ h → Continues d a (drop from tokens) e h (drop from tokens) → Advances d g tokens from p
+pub onward : (d : Nesting) (g : Syntax) (tokens : List Token) (from : ℕ) (n : Nest) (x : PlainSyntax) (p : Progress) (a : Syntax) (e : Nesting) (h : Syntax) → p ≡ Further (record { nest = n; syntax = x; from = from }) → g ≡ a → nesting_of n ≡ e → syntax_of x ≡ h → Continues d a (drop from tokens) e h (drop from tokens) → Advances d g tokens from p
 onward d g tokens from n x p a e h is whole within inner c =
     let s = drop from tokens in
     let c1 : Continues d g s e h s = subst (λ z. Continues d z s e h s) (sym whole) c in

@@ -2,25 +2,15 @@
 use Rattle.std.specs.Prelude.{ℕ, List, ◌∷◌, drop, ◌≡◌}
 use Rattle.lotos_ast.specs.declared.token.Token.{Token}
 use Rattle.lotos_ast.specs.Notation.{Syntax}
-use Rattle.lotos_ast.specs.Nesting.{Nesting, nested, Fault, unexpected, too_deep, external}
+use Rattle.lotos_ast.specs.declared.fault.Fault.{Fault}
+use Rattle.lotos_ast.specs.Nesting.{Nesting, nesting_of}
 use Rattle.lotos_ast.specs.Reads.{Stops}
 use Rattle.lotos_ast.specs.Fronts.{Accepts}
-use Rattle.grammar_reader.specs.declared.nesting.Nesting.{Nesting as Counts}
-use Rattle.grammar_reader.specs.declared.recognised.Fault.{Fault as PlainFault}
-use Rattle.grammar_reader.specs.declared.recognised.Fault.TheVariants.{Unexpected, TooDeep, External}
 use Rattle.grammar_reader.specs.declared.recognised.Recognised.{Recognised}
 use Rattle.grammar_reader.specs.declared.recognised.Recognised.TheVariants.{Whole, Stopped}
 use Rattle.grammar_reader.specs.declared.recognise.Progress.{Progress}
 use Rattle.grammar_reader.specs.declared.recognise.Progress.TheVariants.{Finished, Further}
 use Rattle.grammar_reader.specs.Syntaxes.{syntax_of}
-
-abbrev pub nesting_of : Counts → Nesting
-nesting_of n = nested n.brackets n.constructs
-
-abbrev pub fault_of : PlainFault → Fault
-fault_of Unexpected = unexpected
-fault_of TooDeep = too_deep
-fault_of External = external
 
 -- the first list begins with one token more
 abbrev pub IsBehind : List Token → List Token → Type 0
@@ -29,7 +19,7 @@ IsBehind s r = (t : Token) × s ≡ t ∷ r
 -- the answer to reading a part from a place
 abbrev pub IsReading : Nesting → Syntax → List Token → ℕ → Recognised → Type 0
 IsReading d g tokens from (Whole rest) = Accepts d g (drop from tokens) (drop rest tokens)
-IsReading d g tokens from (Stopped fault at) = Stops d (fault_of fault) g (drop from tokens) (drop at tokens)
+IsReading d g tokens from (Stopped fault at) = Stops d fault g (drop from tokens) (drop at tokens)
 
 -- the place of an answer
 abbrev pub place_of : Recognised → ℕ
@@ -44,7 +34,7 @@ pub record Continues (d : Nesting) (g : Syntax) (s : List Token) (e : Nesting) (
 -- a step is an answer, or leaves something to be read
 abbrev pub Advances : Nesting → Syntax → List Token → ℕ → Progress → Type 0
 Advances d g tokens from (Finished r) = IsReading d g tokens from r
-Advances d g tokens from (Further task) = Continues d g (drop from tokens) (nesting_of task.nesting) (syntax_of task.syntax) (drop task.from tokens)
+Advances d g tokens from (Further task) = Continues d g (drop from tokens) (nesting_of task.nest) (syntax_of task.syntax) (drop task.from tokens)
 
 -- the place behind a step
 abbrev pub reached : Progress → ℕ

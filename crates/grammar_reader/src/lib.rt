@@ -3,7 +3,6 @@
 
 mod behaviour_rules;
 mod expression_rules;
-mod nesting;
 pub mod part;
 pub mod recognise;
 pub mod recognised;

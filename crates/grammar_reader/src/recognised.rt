@@ -1,15 +1,6 @@
 // What the recogniser answers.
 
-/// Why reading stops at a token.
-#[derive(Clone, Copy, Debug, PartialEq, Eq)]
-pub enum Fault {
-    /// No text goes on with it.
-    Unexpected,
-    /// It is nested too deep.
-    TooDeep,
-    /// No text goes on with it, and it marks an item as external.
-    External,
-}
+use lotos_ast::fault::Fault;
 
 /// What reading a part of the grammar comes to.
 #[derive(Clone, Copy, Debug, PartialEq, Eq)]

@@ -5,7 +5,8 @@ use Rattle.lotos_ast.specs.declared.token.Token.{Token}
 use Rattle.lotos_ast.specs.Notation.{Part, Reduction, fits, Syntax, quoted, kept, sequence, either, optional, repeated, placed, reduced, bracketed, enclosed, part}
 use Rattle.lotos_ast.specs.Grammar.{rule}
 use Rattle.lotos_ast.specs.Begins.{mark_at, place_at, starts, begins, is_empty}
-use Rattle.lotos_ast.specs.Nesting.{Nesting, unlimited, Fault, unexpected}
+use Rattle.lotos_ast.specs.declared.fault.Fault.{Fault}
+use Rattle.lotos_ast.specs.Nesting.{Nesting, unlimited}
 use Rattle.lotos_ast.specs.Reads.{Tree, reduce, unkept, leaf, both, left, right, absent, present, no_more, more, node, Reads, Stops, reads_quoted, reads_kept, reads_sequence, reads_left, reads_right, reads_absent, reads_present, reads_no_more, reads_more, reads_placed, reads_reduced, reads_bracketed, reads_enclosed, reads_part, stops_quoted, stops_kept, deep_quoted, deep_kept, stops_first, stops_second, stops_left, stops_right, stops_optional, stops_repeated, stops_later, stops_placed, stops_reduced, stops_bracketed, stops_enclosed, stops_part}
 use Rattle.std.proofs.lemmas.List.{append-nil, append_cancel_right}
 use Rattle.lotos_ast.specs.Notation.{specification, gate_list, functionality, type_definition, where_item, sort_part, operation_part, operation_names, infix_names, operation_name, equation_part, sort_equations, equations, equation, premiss, for_all, declarations, declaration, sort_pair, operation_pair, expression, infixes, simple, head, process, behaviour, enabling, disable, disabling, parallel, composing, operator, choice, choosing, unary, offer, atom, exit_value, binding, gate_choice}
@@ -232,8 +233,8 @@ front_first a b u o (inr h) = front_behind a b u h.0 h.1 (at_end b o)
 
 -- a front of the first, or what is read as the first before a front of the second
 front_sequence : (a b : Syntax) (u v r m : List Token) → m ≡ v ++ r → ((q : List Token) → mark_at q ≡ mark_at m → Accepts unlimited a (u ++ q) q) → IsFront a u → IsFront b v → IsFront (sequence a b) (u ++ v)
-front_sequence a b u [] r m e again (inl h) k = inl (subst (λ z. Stops unlimited unexpected (sequence a b) z []) (sym (append-nil u)) (stops_first h))
-front_sequence a b u [] r m e again (inr h) (inl k) = inl (subst (λ z. Stops unlimited unexpected (sequence a b) z []) (sym (append-nil u)) (stops_second [] h.1 k))
+front_sequence a b u [] r m e again (inl h) k = inl (subst (λ z. Stops unlimited Fault.Unexpected (sequence a b) z []) (sym (append-nil u)) (stops_first h))
+front_sequence a b u [] r m e again (inr h) (inl k) = inl (subst (λ z. Stops unlimited Fault.Unexpected (sequence a b) z []) (sym (append-nil u)) (stops_second [] h.1 k))
 front_sequence a b u [] r m e again (inr h) (inr k) = inr (both h.0 k.0, subst (λ z. Reads unlimited (sequence a b) z (both h.0 k.0) []) (sym (append-nil u)) (reads_sequence [] h.1 k.1))
 front_sequence a b u (t ∷ v) r m e again h (inl k) = let x = again (t ∷ v) (sym (ap mark_at e)) in inl (stops_second (t ∷ v) x.1 k)
 front_sequence a b u (t ∷ v) r m e again h (inr k) = let x = again (t ∷ v) (sym (ap mark_at e)) in inr (both x.0 k.0, reads_sequence (t ∷ v) x.1 k.1)

@@ -3,7 +3,8 @@ use Rattle.std.proofs.Common.{List, [], ◌∷◌, ◌++◌, subst, sym}
 use Rattle.std.proofs.lemmas.List.{append-nil, append_cancel_right}
 use Rattle.lotos_ast.specs.declared.token.Token.{Token}
 use Rattle.lotos_ast.specs.Notation.{Syntax}
-use Rattle.lotos_ast.specs.Nesting.{unlimited, Fault}
+use Rattle.lotos_ast.specs.declared.fault.Fault.{Fault}
+use Rattle.lotos_ast.specs.Nesting.{unlimited}
 use Rattle.lotos_ast.specs.Reads.{Stops}
 use Rattle.lotos_ast.specs.Conditions.{NeverTakesEnd, HasShortestTexts}
 use Rattle.lotos_ast.specs.Fronts.{IsFront, ComesAt, UnexpectedAt}

@@ -5,7 +5,8 @@ use Rattle.lotos_ast.specs.declared.token.Token.{Token}
 use Rattle.lotos_ast.specs.MarkNumbers.{is_same_mark}
 use Rattle.lotos_ast.specs.Notation.{Wanted, fits, Syntax, quoted, kept}
 use Rattle.lotos_ast.specs.Begins.{mark_at}
-use Rattle.lotos_ast.specs.Nesting.{Nesting, unlimited, in_bracket, in_construct, is_within, Fault, unexpected, too_deep, external, fault_at}
+use Rattle.lotos_ast.specs.declared.fault.Fault.{Fault}
+use Rattle.lotos_ast.specs.Nesting.{Nesting, unlimited, in_bracket, in_construct, is_within, fault_at}
 use Rattle.lotos_ast.specs.Reads.{Tree, unkept, leaf, Reads, Stops, reads_quoted, reads_kept, reads_sequence, reads_left, reads_right, reads_absent, reads_present, reads_no_more, reads_more, reads_placed, reads_reduced, reads_bracketed, reads_enclosed, reads_part, stops_quoted, stops_kept, deep_quoted, deep_kept, stops_first, stops_second, stops_left, stops_right, stops_optional, stops_repeated, stops_later, stops_placed, stops_reduced, stops_bracketed, stops_enclosed, stops_part}
 use Rattle.std.specs.Prelude.{if◌then◌else◌}
 
@@ -26,13 +27,13 @@ reads_unlimited (reads_bracketed h) = reads_bracketed (reads_unlimited h)
 reads_unlimited (reads_enclosed h) = reads_enclosed (reads_unlimited h)
 reads_unlimited (reads_part e h) = reads_part e (reads_unlimited h)
 
-free_fault : (mark within : Bool) (f : Fault) → (if mark then (if within then external else too_deep) else unexpected) ≡ f → (f ≡ too_deep → ⊥) → (if mark then external else unexpected) ≡ f
+free_fault : (mark within : Bool) (f : Fault) → (if mark then (if within then Fault.External else Fault.TooDeep) else Fault.Unexpected) ≡ f → (f ≡ Fault.TooDeep → ⊥) → (if mark then Fault.External else Fault.Unexpected) ≡ f
 free_fault true true f e n = e
 free_fault true false f e n = absurd (n (sym e))
 free_fault false within f e n = e
 
 -- where reading stops within limits for another reason, it stops there without them
-pub stops_unlimited : {d : Nesting} {f : Fault} {g : Syntax} {s r : List Token} → Stops d f g s r → (f ≡ too_deep → ⊥) → Stops unlimited f g s r
+pub stops_unlimited : {d : Nesting} {f : Fault} {g : Syntax} {s r : List Token} → Stops d f g s r → (f ≡ Fault.TooDeep → ⊥) → Stops unlimited f g s r
 stops_unlimited (stops_quoted {d = d} {f = f} {s = s} b e i) n = stops_quoted b (free_fault (is_same_mark Mark.ExternalMark (mark_at s)) (is_within d) f e n) i
 stops_unlimited (stops_kept {d = d} {f = f} {s = s} b e i) n = stops_kept b (free_fault (is_same_mark Mark.ExternalMark (mark_at s)) (is_within d) f e n) i
 stops_unlimited (deep_quoted m v e) n = absurd (n refl)
@@ -52,7 +53,7 @@ stops_unlimited (stops_part h) n = stops_part (stops_unlimited h n)
 
 -- read within limits, or too deep
 abbrev OrDeep : Type 0 → Nesting → Syntax → List Token → Type 0
-OrDeep P d g s = P ⊎ ((q : List Token) × Stops d too_deep g s q)
+OrDeep P d g s = P ⊎ ((q : List Token) × Stops d Fault.TooDeep g s q)
 
 not_false : true ≡ false → ⊥
 not_false h = cc
@@ -88,14 +89,14 @@ read_within d (reads_enclosed h) = elim (read_within (in_construct d) h) [ inl y
 read_within d (reads_part e h) = elim (read_within d h) [ inl y ↦ inl (reads_part e y) | inr q ↦ inr (q.0, stops_part q.1) ]
 
 -- the fault at a token that marks nothing as external, and at one that does
-other_mark : (v : Bool) (m : Mark) → is_same_mark Mark.ExternalMark m ≡ false → fault_at v m ≡ unexpected
-other_mark v m h = ap (λ y. if y then (if v then external else too_deep) else unexpected) h
+other_mark : (v : Bool) (m : Mark) → is_same_mark Mark.ExternalMark m ≡ false → fault_at v m ≡ Fault.Unexpected
+other_mark v m h = ap (λ y. if y then (if v then Fault.External else Fault.TooDeep) else Fault.Unexpected) h
 
-deep_mark : (m : Mark) → is_same_mark Mark.ExternalMark m ≡ true → fault_at false m ≡ too_deep
-deep_mark m h = ap (λ y. if y then too_deep else unexpected) h
+deep_mark : (m : Mark) → is_same_mark Mark.ExternalMark m ≡ true → fault_at false m ≡ Fault.TooDeep
+deep_mark m h = ap (λ y. if y then Fault.TooDeep else Fault.Unexpected) h
 
 -- the fault within limits is that without them, or it is too deep
-fault_within : (d : Nesting) (v x : Bool) (f : Fault) (m : Mark) → is_within d ≡ v → is_same_mark Mark.ExternalMark m ≡ x → fault_at true m ≡ f → (fault_at (is_within d) m ≡ f) ⊎ (fault_at (is_within d) m ≡ too_deep)
+fault_within : (d : Nesting) (v x : Bool) (f : Fault) (m : Mark) → is_within d ≡ v → is_same_mark Mark.ExternalMark m ≡ x → fault_at true m ≡ f → (fault_at (is_within d) m ≡ f) ⊎ (fault_at (is_within d) m ≡ Fault.TooDeep)
 fault_within d true x f m w h e = inl (ap (λ z. fault_at z m) w ∙ e)
 fault_within d false true f m w h e = inr (ap (λ z. fault_at z m) w ∙ deep_mark m h)
 fault_within d false false f m w h e = inl (other_mark (is_within d) m h ∙ sym (other_mark true m h) ∙ e)

@@ -3,7 +3,8 @@ use Rattle.std.proofs.Common.{List, [], ◌∷◌, ◌++◌, true, false, ◌≡
 use Rattle.lotos_ast.specs.declared.token.Token.{Token}
 use Rattle.lotos_ast.specs.Notation.{fits, Syntax, sequence, either, optional, repeated}
 use Rattle.lotos_ast.specs.Begins.{mark_at, place_at, starts, is_empty}
-use Rattle.lotos_ast.specs.Nesting.{unlimited, Fault}
+use Rattle.lotos_ast.specs.declared.fault.Fault.{Fault}
+use Rattle.lotos_ast.specs.Nesting.{unlimited}
 use Rattle.lotos_ast.specs.Reads.{Tree, reduce, unkept, leaf, both, left, right, absent, present, no_more, more, node, Reads, Stops, reads_quoted, reads_kept, reads_sequence, reads_left, reads_right, reads_absent, reads_present, reads_no_more, reads_more, reads_placed, reads_reduced, reads_bracketed, reads_enclosed, reads_part}
 use Rattle.std.proofs.lemmas.List.{append-nil, append_cancel_right}
 use Rattle.lotos_ast.specs.Conditions.{NeverTakesEnd, IsPredictive}

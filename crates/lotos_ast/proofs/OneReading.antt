@@ -5,7 +5,8 @@ use Rattle.lotos_ast.specs.declared.token.Token.{Token}
 use Rattle.lotos_ast.specs.MarkNumbers.{mark_number, is_same_mark}
 use Rattle.lotos_ast.specs.Notation.{Syntax}
 use Rattle.lotos_ast.specs.Begins.{mark_at}
-use Rattle.lotos_ast.specs.Nesting.{Nesting, Fault}
+use Rattle.lotos_ast.specs.declared.fault.Fault.{Fault}
+use Rattle.lotos_ast.specs.Nesting.{Nesting}
 use Rattle.lotos_ast.specs.Reads.{Tree, reduce, Reads, Stops, reads_quoted, reads_kept, reads_sequence, reads_left, reads_right, reads_absent, reads_present, reads_no_more, reads_more, reads_placed, reads_reduced, reads_bracketed, reads_enclosed, reads_part, stops_quoted, stops_kept, deep_quoted, deep_kept, stops_first, stops_second, stops_left, stops_right, stops_optional, stops_repeated, stops_later, stops_placed, stops_reduced, stops_bracketed, stops_enclosed, stops_part}
 
 reads_from : (d : Nesting) (g : Syntax) (s s' : List Token) (x : Tree) (r : List Token) → s ≡ s' → Reads d g s' x r → Reads d g s x r

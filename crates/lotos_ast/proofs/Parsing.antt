@@ -2,10 +2,11 @@
 use Rattle.std.proofs.Common.{List, subst}
 use Rattle.lotos_ast.specs.declared.token.Token.{Token}
 use Rattle.lotos_ast.specs.Notation.{Syntax}
-use Rattle.lotos_ast.specs.Nesting.{unlimited, Fault}
+use Rattle.lotos_ast.specs.declared.fault.Fault.{Fault}
+use Rattle.lotos_ast.specs.Nesting.{unlimited, outermost}
 use Rattle.lotos_ast.specs.Reads.{Tree, Reads, Stops}
 use Rattle.lotos_ast.specs.Conditions.{IsWellFormed}
-use Rattle.lotos_ast.specs.Parsing.{outermost, IsParsed, IsRefused}
+use Rattle.lotos_ast.specs.Parsing.{IsParsed, IsRefused}
 use Rattle.lotos_ast.proofs.Tails.{reads_cut}
 use Rattle.lotos_ast.proofs.Limits.{reads_unlimited, stops_unlimited}
 use Rattle.lotos_ast.proofs.Fronts.{before_is_front}

@@ -7,7 +7,8 @@ use Rattle.lotos_ast.specs.MarkNumbers.{is_same_mark}
 use Rattle.lotos_ast.specs.Notation.{Part, Wanted, Reduction, fits, Syntax, quoted, kept, sequence, either, optional, repeated, placed, reduced, bracketed, enclosed, part}
 use Rattle.lotos_ast.specs.Grammar.{rule}
 use Rattle.lotos_ast.specs.Begins.{mark_at, place_at, starts}
-use Rattle.lotos_ast.specs.Nesting.{Nesting, in_bracket, in_construct, is_within, Fault, too_deep, fault_at}
+use Rattle.lotos_ast.specs.declared.fault.Fault.{Fault}
+use Rattle.lotos_ast.specs.Nesting.{Nesting, in_bracket, in_construct, is_within, fault_at}
 use Rattle.lotos_ast.specs.Reads.{Tree, reduce, unkept, leaf, both, left, right, absent, present, no_more, more, node, Reads, Stops, reads_quoted, reads_kept, reads_sequence, reads_left, reads_right, reads_absent, reads_present, reads_no_more, reads_more, reads_placed, reads_reduced, reads_bracketed, reads_enclosed, reads_part, stops_quoted, stops_kept, deep_quoted, deep_kept, stops_first, stops_second, stops_left, stops_right, stops_optional, stops_repeated, stops_later, stops_placed, stops_reduced, stops_bracketed, stops_enclosed, stops_part}
 
 pub reads_quoted_at : (d : Nesting) (k : Mark) (t : Token) (s r : List Token) → s ≡ t ∷ r → mark_at s ≡ k → is_within d ≡ true → Reads d (quoted k) s unkept r
@@ -58,10 +59,10 @@ stops_quoted_at d f k s r h0 h1 h2 = stops_quoted h0 h1 h2
 pub stops_kept_at : (d : Nesting) (f : Fault) (w : Wanted) (s r : List Token) → fits w (mark_at s) ≡ false → fault_at (is_within d) (mark_at s) ≡ f → s ≡ r → Stops d f (kept w) s r
 stops_kept_at d f w s r h0 h1 h2 = stops_kept h0 h1 h2
 
-pub deep_quoted_at : (d : Nesting) (k : Mark) (s r : List Token) → mark_at s ≡ k → is_within d ≡ false → s ≡ r → Stops d too_deep (quoted k) s r
+pub deep_quoted_at : (d : Nesting) (k : Mark) (s r : List Token) → mark_at s ≡ k → is_within d ≡ false → s ≡ r → Stops d Fault.TooDeep (quoted k) s r
 deep_quoted_at d k s r h0 h1 h2 = deep_quoted h0 h1 h2
 
-pub deep_kept_at : (d : Nesting) (w : Wanted) (s r : List Token) → fits w (mark_at s) ≡ true → is_within d ≡ false → s ≡ r → Stops d too_deep (kept w) s r
+pub deep_kept_at : (d : Nesting) (w : Wanted) (s r : List Token) → fits w (mark_at s) ≡ true → is_within d ≡ false → s ≡ r → Stops d Fault.TooDeep (kept w) s r
 deep_kept_at d w s r h0 h1 h2 = deep_kept h0 h1 h2
 
 pub stops_first_at : (d : Nesting) (f : Fault) (a b : Syntax) (s r : List Token) → Stops d f a s r → Stops d f (sequence a b) s r

@@ -2,7 +2,8 @@
 use Rattle.std.specs.Prelude.{List, [], ◌∷◌, ◌++◌, ◌≡◌, ◌⊎◌}
 use Rattle.lotos_ast.specs.declared.token.Token.{Token}
 use Rattle.lotos_ast.specs.Notation.{Syntax}
-use Rattle.lotos_ast.specs.Nesting.{Nesting, unlimited, unexpected}
+use Rattle.lotos_ast.specs.declared.fault.Fault.{Fault}
+use Rattle.lotos_ast.specs.Nesting.{Nesting, unlimited}
 use Rattle.lotos_ast.specs.Reads.{Tree, Reads, Stops}
 
 -- the tokens from the first list to the second are read as the part
@@ -16,7 +17,7 @@ IsWhole g s = Accepts unlimited g s []
 -- Reading gets to the end of the tokens: they are whole, or in some alternative the parts before the last one begun are
 -- whole and that one is itself a front.
 abbrev pub IsFront : Syntax → List Token → Type 0
-IsFront g s = Stops unlimited unexpected g s [] ⊎ IsWhole g s
+IsFront g s = Stops unlimited Fault.Unexpected g s [] ⊎ IsWhole g s
 
 -- some text of the grammar begins with the tokens
 abbrev pub IsViable : Syntax → List Token → Type 0

@@ -2,7 +2,8 @@
 use Rattle.std.specs.Prelude.{List, ◌++◌, ◌≡◌, ◌↔◌, ◌⊎◌}
 use Rattle.lotos_ast.specs.declared.token.Token.{Token}
 use Rattle.lotos_ast.specs.Notation.{Part, Syntax, repeated, part, type_definition}
-use Rattle.lotos_ast.specs.Nesting.{Nesting, unlimited, Fault, too_deep}
+use Rattle.lotos_ast.specs.declared.fault.Fault.{Fault}
+use Rattle.lotos_ast.specs.Nesting.{Nesting, unlimited}
 use Rattle.lotos_ast.specs.Reads.{Tree, Reads, Stops}
 use Rattle.lotos_ast.specs.Fronts.{Accepts, IsFront, IsLongest, IsWhole, IsViable, UnexpectedAt}
 use Rattle.lotos_ast.specs.Spelled.{Spells}
@@ -45,7 +46,7 @@ ReadWithoutLimits = (d : Nesting) (g : Syntax) (s r : List Token) (x : Tree) →
 
 -- where reading stops within limits for another reason than these, it stops there without them
 abbrev pub StopsWithoutLimits : Type 0
-StopsWithoutLimits = (d : Nesting) (f : Fault) (g : Syntax) (s r : List Token) → (f ≡ too_deep → ⊥) → Stops d f g s r → Stops unlimited f g s r
+StopsWithoutLimits = (d : Nesting) (f : Fault) (g : Syntax) (s r : List Token) → (f ≡ Fault.TooDeep → ⊥) → Stops d f g s r → Stops unlimited f g s r
 
 -- The tokens before a rest are read exactly where they are a whole text and, with the next token, no front: so the longest
 -- front is read, where that is a whole text.
@@ -60,12 +61,12 @@ StopsAtLongest = (f : Fault) (g : Syntax) (before rest : List Token) → IsWellF
 -- what is read without limits is read within them, or reading stops too deep
 abbrev pub ReadOrTooDeep : Type 0
 ReadOrTooDeep = (d : Nesting) (g : Syntax) (s r : List Token) (x : Tree) → Reads unlimited g s x r →
-    Reads d g s x r ⊎ ((q : List Token) × Stops d too_deep g s q)
+    Reads d g s x r ⊎ ((q : List Token) × Stops d Fault.TooDeep g s q)
 
 -- where reading stops without limits, it stops there within them, or it stops too deep
 abbrev pub StopsOrTooDeep : Type 0
 StopsOrTooDeep = (d : Nesting) (f : Fault) (g : Syntax) (s r : List Token) → Stops unlimited f g s r →
-    Stops d f g s r ⊎ ((q : List Token) × Stops d too_deep g s q)
+    Stops d f g s r ⊎ ((q : List Token) × Stops d Fault.TooDeep g s q)
 
 -- where reading stops, too deep or not, the tokens before are a front
 abbrev pub FrontBeforeFault : Type 0

@@ -6,14 +6,11 @@ use Rattle.lotos_ast.specs.declared.refusal.Refusal.{Refusal}
 use Rattle.lotos_ast.specs.declared.refusal.RefusalKind.TheVariants.{Unexpected, TooDeep, External}
 use Rattle.lotos_ast.specs.Places.{start_place, place_after}
 use Rattle.lotos_ast.specs.Notation.{Syntax}
-use Rattle.lotos_ast.specs.Nesting.{Nesting, nested, Fault, unexpected, too_deep, external}
+use Rattle.lotos_ast.specs.declared.fault.Fault.{Fault}
+use Rattle.lotos_ast.specs.Nesting.{outermost}
 use Rattle.lotos_ast.specs.Reads.{Tree, Reads, Stops}
 use Rattle.lotos_ast.specs.Spelled.{Spells}
 use Rattle.lotos_ast.specs.Fronts.{IsViable, IsLongest}
-
--- round a text's first token no bracket is open, and no construct stands
-abbrev pub outermost : Nesting
-outermost = nested 0 0
 
 -- The tokens before the rest are the longest front of the part. They are a whole text of it, which the tree stands for, and
 -- nowhere nested too deep.
@@ -30,7 +27,7 @@ pub record IsRefused (g : Syntax) (s : List Token) (f : Fault) (rest : List Toke
   pub before : List Token
   pub all : s ≡ before ++ rest
   pub viable : IsViable g before
-  pub first : (f ≡ too_deep → ⊥) → IsLongest g before rest × (Spells g before → ⊥)
+  pub first : (f ≡ Fault.TooDeep → ⊥) → IsLongest g before rest × (Spells g before → ⊥)
   pub stopped : Stops outermost f g s rest
 
 -- the tokens from one number to another are parsed as the part with this tree
@@ -58,12 +55,12 @@ end_place tokens = place_behind_last (slice_get tokens (length tokens - 1))
 
 -- the refusal of the tokens, where reading stops before the rest of them for this reason (docs/LANGUAGE.md, "Refusals")
 abbrev pub refusal_at : Fault → List Token → List Token → Refusal
-refusal_at unexpected tokens [] = record { kind = Unexpected; place = end_place tokens; names = codes "end of text" ∷ [] }
-refusal_at unexpected tokens (t ∷ ts) = record { kind = Unexpected; place = t.place; names = t.text ∷ [] }
-refusal_at too_deep tokens [] = record { kind = TooDeep; place = end_place tokens; names = [] }
-refusal_at too_deep tokens (t ∷ ts) = record { kind = TooDeep; place = t.place; names = [] }
-refusal_at external tokens [] = record { kind = External; place = end_place tokens; names = [] }
-refusal_at external tokens (t ∷ ts) = record { kind = External; place = t.place; names = [] }
+refusal_at Fault.Unexpected tokens [] = record { kind = Unexpected; place = end_place tokens; names = codes "end of text" ∷ [] }
+refusal_at Fault.Unexpected tokens (t ∷ ts) = record { kind = Unexpected; place = t.place; names = t.text ∷ [] }
+refusal_at Fault.TooDeep tokens [] = record { kind = TooDeep; place = end_place tokens; names = [] }
+refusal_at Fault.TooDeep tokens (t ∷ ts) = record { kind = TooDeep; place = t.place; names = [] }
+refusal_at Fault.External tokens [] = record { kind = External; place = end_place tokens; names = [] }
+refusal_at Fault.External tokens (t ∷ ts) = record { kind = External; place = t.place; names = [] }
 
 -- the refusal of the tokens from a number on, read as the part
 pub data IsRefusedFrom (g : Syntax) (tokens : List Token) (from : ℕ) : Refusal → Type 0 where

@@ -7,7 +7,8 @@ use Rattle.lotos_ast.specs.MarkNumbers.{is_same_mark}
 use Rattle.lotos_ast.specs.Notation.{Part, Wanted, Reduction, presence, last_mark, fits, Syntax, quoted, kept, sequence, either, optional, repeated, placed, reduced, bracketed, enclosed, part}
 use Rattle.lotos_ast.specs.Grammar.{rule}
 use Rattle.lotos_ast.specs.Begins.{mark_at, place_at, starts}
-use Rattle.lotos_ast.specs.Nesting.{Nesting, in_bracket, in_construct, is_within, Fault, too_deep, fault_at}
+use Rattle.lotos_ast.specs.declared.fault.Fault.{Fault}
+use Rattle.lotos_ast.specs.Nesting.{Nesting, in_bracket, in_construct, is_within, fault_at}
 
 -- a tree of the grammar: what was read for each part
 pub data Tree : Type 0 where
@@ -67,9 +68,9 @@ pub data Stops : Nesting → Fault → Syntax → List Token → List Token → 
   stops_kept : {d : Nesting} {f : Fault} {w : Wanted} {s r : List Token} →
       fits w (mark_at s) ≡ false → fault_at (is_within d) (mark_at s) ≡ f → s ≡ r → Stops d f (kept w) s r
   deep_quoted : {d : Nesting} {k : Mark} {s r : List Token} →
-      mark_at s ≡ k → is_within d ≡ false → s ≡ r → Stops d too_deep (quoted k) s r
+      mark_at s ≡ k → is_within d ≡ false → s ≡ r → Stops d Fault.TooDeep (quoted k) s r
   deep_kept : {d : Nesting} {w : Wanted} {s r : List Token} →
-      fits w (mark_at s) ≡ true → is_within d ≡ false → s ≡ r → Stops d too_deep (kept w) s r
+      fits w (mark_at s) ≡ true → is_within d ≡ false → s ≡ r → Stops d Fault.TooDeep (kept w) s r
   stops_first : {d : Nesting} {f : Fault} {a b : Syntax} {s r : List Token} →
       Stops d f a s r → Stops d f (sequence a b) s r
   stops_second : {d : Nesting} {f : Fault} {a b : Syntax} {s r : List Token} {x : Tree} (m : List Token) →

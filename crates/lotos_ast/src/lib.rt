@@ -4,9 +4,11 @@
 pub mod behaviour;
 pub mod declaration;
 pub mod expression;
+pub mod fault;
 pub mod laws;
 pub mod mark;
 pub mod names;
+pub mod nest;
 pub mod place;
 pub mod refusal;
 pub mod spec;

@@ -16,15 +16,15 @@ advance-returns-in-Reduced-clause-step t c =
     let k : syntax_of c.args.task.syntax ≡ reduced (reduction_of c.in-Reduced.field-0) (syntax_of c.into_inner-in-Reduced.result) = search (rules, the_lemmas) in
     onward _ _ _ _ _ _ _ _ _ _ c.further-in-Reduced.ensures k refl refl (reduced_part _ _ _ _)
 
-pub advance-returns-in_ok-in_bracket-in-Bracketed-clause-step : goal.advance-returns-in_ok-in_bracket-in-Bracketed-clause-step
-advance-returns-in_ok-in_bracket-in-Bracketed-clause-step t c =
+pub advance-returns-in_ok-bracket-in-Bracketed-clause-step : goal.advance-returns-in_ok-bracket-in-Bracketed-clause-step
+advance-returns-in_ok-bracket-in-Bracketed-clause-step t c =
     let k : syntax_of c.args.task.syntax ≡ bracketed (syntax_of c.into_inner-in-Bracketed.result) = search (rules, the_lemmas) in
-    onward _ _ _ _ _ _ _ _ _ _ c.further-in-Bracketed.ensures k c.in_ok-in_bracket-in-Bracketed.ensures refl (bracketed_part _ _ _)
+    onward _ _ _ _ _ _ _ _ _ _ c.further-in-Bracketed.ensures k c.in_ok-bracket-in-Bracketed.ensures refl (bracketed_part _ _ _)
 
-pub advance-returns-in_ok-in_construct-in-Enclosed-clause-step : goal.advance-returns-in_ok-in_construct-in-Enclosed-clause-step
-advance-returns-in_ok-in_construct-in-Enclosed-clause-step t c =
+pub advance-returns-in_ok-construct-in-Enclosed-clause-step : goal.advance-returns-in_ok-construct-in-Enclosed-clause-step
+advance-returns-in_ok-construct-in-Enclosed-clause-step t c =
     let k : syntax_of c.args.task.syntax ≡ enclosed (syntax_of c.into_inner-in-Enclosed.result) = search (rules, the_lemmas) in
-    onward _ _ _ _ _ _ _ _ _ _ c.further-in-Enclosed.ensures k c.in_ok-in_construct-in-Enclosed.ensures refl (enclosed_part _ _ _)
+    onward _ _ _ _ _ _ _ _ _ _ c.further-in-Enclosed.ensures k c.in_ok-construct-in-Enclosed.ensures refl (enclosed_part _ _ _)
 
 pub advance-returns-in_ok-rule_of-in-Rule-clause-step : goal.advance-returns-in_ok-rule_of-in-Rule-clause-step
 advance-returns-in_ok-rule_of-in-Rule-clause-step t c =

@@ -3,7 +3,7 @@ use Rattle.lotos_ast.specs.declared.mark.Mark.{Mark}
 use Rattle.lotos_ast.specs.Notation.{quoted, part, expression, ◌▸◌}
 use Rattle.lotos_ast.specs.ListTrees.{behind}
 use Rattle.lotos_ast.specs.ExpressionTrees.{expr_tree, infix_tree}
-use Rattle.data_parser.specs.Parsers.{nesting_of}
+use Rattle.lotos_ast.specs.Nesting.{nesting_of}
 use Rattle.data_parser.specs.Loops.{Repeats}
 use Rattle.data_parser.specs.Chains.{ChainsOn}
 use Rattle.data_parser.proofs.cursor.Cursor.+expression.Given as goal

@@ -1,5 +1,5 @@
 use Rattle.std.proofs.Common.{length, ◌<◌}
-use Rattle.data_parser.specs.Parsers.{nesting_of}
+use Rattle.lotos_ast.specs.Nesting.{nesting_of}
 use Rattle.data_parser.specs.OperationNames.{NamesOn}
 use Rattle.data_parser.proofs.cursor.Cursor.declared_names.Given as goal
 

@@ -1,6 +1,6 @@
 use Rattle.std.proofs.Common.{length, map, ◌≤◌}
 use Rattle.lotos_ast.specs.TypeTrees.{equation_tree}
-use Rattle.data_parser.specs.Parsers.{nesting_of}
+use Rattle.lotos_ast.specs.Nesting.{nesting_of}
 use Rattle.data_parser.specs.Equations.{EquationsOn}
 use Rattle.data_parser.proofs.cursor.Cursor.equations.Given as goal
 

@@ -1,5 +1,5 @@
 use Rattle.std.proofs.Common.{length, map, ◌≤◌}
-use Rattle.data_parser.specs.Parsers.{nesting_of}
+use Rattle.lotos_ast.specs.Nesting.{nesting_of}
 use Rattle.data_parser.specs.Loops.{Repeats}
 use Rattle.data_parser.proofs.cursor.Cursor.repeated.Given as goal
 

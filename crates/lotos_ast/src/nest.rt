@@ -1,9 +1,7 @@
 // How deep a token is nested.
 
 ghost use Rattle.std.specs.Prelude.{◌≡◌, IfOk};
-ghost use Rattle.lotos_ast.specs.Nesting.{in_bracket, in_construct, is_within};
-ghost use Rattle.lotos_ast.specs.Parsing.{outermost};
-ghost use Rattle.data_parser.specs.Parsers.{nesting_of};
+ghost use Rattle.lotos_ast.specs.Nesting.{outermost, in_bracket, in_construct, is_within, nesting_of};
 
 use spec_core::memory::Memory;
 
