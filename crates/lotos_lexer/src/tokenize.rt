@@ -94,6 +94,3 @@ fn open_after(opened: bool, bytes: &[u8]) -> bool
         opened
     }
 }
-
-#[cfg(test)]
-mod tests;

@@ -1,5 +1,5 @@
-// Texts for the parsers, each with what reading it comes to. The recogniser of the grammar is run on all of them, and each parser on
-// those of its part.
+// Tests of the front end: texts and their tokens, and texts with what reading them comes to. The recogniser of the grammar is run on all
+// of these, and each parser on those of its part.
 #![tactic(auto)]
 
 #[cfg(test)]
@@ -11,6 +11,8 @@ mod grouping;
 #[cfg(test)]
 mod long_texts;
 #[cfg(test)]
+mod marks;
+#[cfg(test)]
 mod nested_texts;
 #[cfg(test)]
 mod parsed;
@@ -19,6 +21,10 @@ mod parsed_behaviours;
 #[cfg(test)]
 mod recognised;
 #[cfg(test)]
+mod refusals;
+#[cfg(test)]
 mod specification_texts;
+#[cfg(test)]
+mod tokens;
 #[cfg(test)]
 mod type_texts;

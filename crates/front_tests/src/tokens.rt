@@ -1,8 +1,11 @@
 // Texts and their tokens, worked out from the rules of docs/LANGUAGE.md.
 
-use super::*;
 use lotos_ast::mark::Mark;
-use lotos_ast::refusal::Refusal;
+use lotos_ast::refusal::{FrontFault, Refusal};
+use lotos_ast::token::{Token, TokenKind};
+use lotos_lexer::{TEXT_LIMIT, tokens};
+use spec_core::memory::Memory;
+use std::alloc::Global;
 use std::process::Abort;
 use std::test::Fail;
 
