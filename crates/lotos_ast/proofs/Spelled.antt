@@ -11,7 +11,8 @@ use Rattle.lotos_ast.specs.Reads.{Tree, reduce, unkept, leaf, both, left, right,
 use Rattle.lotos_ast.specs.Notation.{specification, gate_list, functionality, type_definition, where_item, sort_part, operation_part, operation_names, infix_names, operation_name, equation_part, sort_equations, equations, equation, premiss, for_all, declarations, declaration, sort_pair, operation_pair, expression, infixes, simple, head, process, behaviour, enabling, disable, disabling, parallel, composing, operator, choice, choosing, unary, offer, atom, exit_value, binding, gate_choice}
 use Rattle.lotos_ast.specs.Begins.{or_behind}
 use Rattle.lotos_ast.specs.Conditions.{IsPredictive, Apart, implies}
-use Rattle.lotos_ast.specs.Spelled.{is_far, Spelled, Spells, onward, unless, reaches, spelled_quoted, spelled_kept, spelled_sequence, spelled_left, spelled_right, spelled_absent, spelled_present, spelled_no_more, spelled_more, spelled_placed, spelled_reduced, spelled_bracketed, spelled_enclosed, spelled_part}
+use Rattle.lotos_ast.specs.GoesOn.{onward}
+use Rattle.lotos_ast.specs.Spelled.{is_far, Spelled, Spells, unless, reaches, spelled_quoted, spelled_kept, spelled_sequence, spelled_left, spelled_right, spelled_absent, spelled_present, spelled_no_more, spelled_more, spelled_placed, spelled_reduced, spelled_bracketed, spelled_enclosed, spelled_part}
 use Rattle.lotos_ast.specs.Fronts.{Accepts, IsWhole}
 use Rattle.lotos_ast.proofs.RulesArePredictive.{rules_are_predictive}
 use Rattle.lotos_ast.proofs.Tables.{every, contra, modus, not_empty, begins_checked, onward_checked}

@@ -7,9 +7,9 @@ use Rattle.lotos_ast.specs.MarkNumbers.{mark_number, is_same_mark, marks, holds_
 use Rattle.lotos_ast.specs.Notation.{Part, specification, gate_list, functionality, type_definition, where_item, sort_part, operation_part, operation_names, infix_names, operation_name, equation_part, sort_equations, equations, equation, premiss, for_all, declarations, declaration, sort_pair, operation_pair, expression, infixes, simple, head, process, behaviour, enabling, disable, disabling, parallel, composing, operator, choice, choosing, unary, offer, atom, exit_value, binding, gate_choice}
 use Rattle.lotos_ast.specs.Grammar.{rule}
 use Rattle.lotos_ast.specs.Begins.{begins, is_empty, starts}
-use Rattle.lotos_ast.specs.GoesOn.{goes_on, extends}
+use Rattle.lotos_ast.specs.GoesOn.{goes_on, extends, onward}
 use Rattle.lotos_ast.specs.Shortest.{short, short_part}
-use Rattle.lotos_ast.specs.Spelled.{onward, reaches}
+use Rattle.lotos_ast.specs.Spelled.{reaches}
 use Rattle.lotos_ast.specs.Conditions.{implies}
 
 -- what holds of every mark holds of each

@@ -1,8 +1,8 @@
 -- By which tokens a part that was read would have gone on.
-use Rattle.std.specs.Prelude.{[], ◌∷◌, Bool, false, ◌||◌, ◌&&◌}
+use Rattle.std.specs.Prelude.{[], ◌∷◌, Bool, true, false, ◌||◌, ◌&&◌}
 use Rattle.lotos_ast.specs.declared.mark.Mark.{Mark}
 use Rattle.lotos_ast.specs.MarkNumbers.{is_same_mark}
-use Rattle.lotos_ast.specs.Notation.{Part, named, fits, Syntax, quoted, kept, sequence, either, optional, repeated, placed, reduced, bracketed, enclosed, part, specification, gate_list, functionality, type_definition, where_item, sort_part, operation_part, operation_names, infix_names, operation_name, equation_part, sort_equations, equations, equation, premiss, for_all, declarations, declaration, sort_pair, operation_pair, expression, infixes, simple, head, process, behaviour, enabling, disable, disabling, parallel, composing, operator, choice, choosing, unary, offer, atom, exit_value, binding, gate_choice}
+use Rattle.lotos_ast.specs.Notation.{Part, named, fits, Syntax, quoted, kept, sequence, either, optional, repeated, placed, reduced, bracketed, enclosed, part, functionality, sort_part, operation_part, equation_part, sort_equations, equations, equation, premiss, for_all, declarations, expression, infixes, simple, head, behaviour, enabling, disable, disabling, parallel, composing, choice, choosing, unary, offer, atom, exit_value, binding}
 use Rattle.lotos_ast.specs.Begins.{is_among, begins_name, is_empty, starts}
 
 abbrev pub after_expression : Mark → Bool
@@ -15,51 +15,57 @@ after_equation m = is_among (Mark.Comma ∷ Mark.DoubleArrow ∷ []) m || after_
 abbrev pub after_process : Mark → Bool
 after_process m = is_among (Mark.Semicolon ∷ Mark.Exclamation ∷ Mark.Question ∷ Mark.LeftBracket ∷ Mark.LeftParenthesis ∷ []) m
 
-abbrev pub after_behaviour : Mark → Bool
-after_behaviour m = is_among (Mark.Brackets ∷ Mark.Interleave ∷ Mark.Synchronise ∷ Mark.LeftBars ∷ Mark.Disable ∷ Mark.Enable ∷ []) m || after_process m
+-- a rule, operators aside
+abbrev pub onward : Part → Mark → Bool
+onward functionality m = is_same_mark Mark.LeftParenthesis m
+onward sort_part m = is_among (Mark.Comma ∷ Mark.Identifier ∷ []) m
+onward operation_part m = begins_name m
+onward equation_part m = is_among (Mark.ForAll ∷ Mark.OfSort ∷ Mark.Semicolon ∷ []) m || after_equation m
+onward sort_equations m = is_among (Mark.ForAll ∷ Mark.Semicolon ∷ []) m || after_equation m
+onward equations m = is_same_mark Mark.Semicolon m || after_equation m
+onward equation m = after_equation m
+onward premiss m = is_same_mark Mark.Equals m || after_expression m
+onward for_all m = is_same_mark Mark.Comma m
+onward declarations m = is_same_mark Mark.Comma m
+onward expression m = after_expression m
+onward infixes m = after_expression m
+onward simple m = is_among (Mark.LeftParenthesis ∷ Mark.Of ∷ []) m
+onward head m = is_same_mark Mark.LeftParenthesis m
+onward behaviour m = after_process m
+onward enabling m = after_process m
+onward disable m = after_process m
+onward disabling m = after_process m
+onward parallel m = after_process m
+onward composing m = after_process m
+onward choice m = after_process m
+onward choosing m = after_process m
+onward unary m = after_process m
+onward offer m = after_expression m
+onward atom m = after_process m
+onward exit_value m = after_expression m
+onward binding m = after_expression m
+onward p m = false
+
+-- a behaviour, or a part of one that ends with a behaviour
+abbrev pub ends_with_behaviour : Part → Bool
+ends_with_behaviour behaviour = true
+ends_with_behaviour enabling = true
+ends_with_behaviour disable = true
+ends_with_behaviour disabling = true
+ends_with_behaviour parallel = true
+ends_with_behaviour composing = true
+ends_with_behaviour choice = true
+ends_with_behaviour choosing = true
+ends_with_behaviour unary = true
+ends_with_behaviour atom = true
+ends_with_behaviour p = false
+
+abbrev pub is_operator : Mark → Bool
+is_operator m = is_among (Mark.Brackets ∷ Mark.Interleave ∷ Mark.Synchronise ∷ Mark.LeftBars ∷ Mark.Disable ∷ Mark.Enable ∷ []) m
 
 -- a rule
 abbrev pub goes_on : Part → Mark → Bool
-goes_on specification m = false
-goes_on gate_list m = false
-goes_on functionality m = is_same_mark Mark.LeftParenthesis m
-goes_on type_definition m = false
-goes_on where_item m = false
-goes_on sort_part m = is_among (Mark.Comma ∷ Mark.Identifier ∷ []) m
-goes_on operation_part m = begins_name m
-goes_on operation_names m = false
-goes_on infix_names m = false
-goes_on operation_name m = false
-goes_on equation_part m = is_among (Mark.ForAll ∷ Mark.OfSort ∷ Mark.Semicolon ∷ []) m || after_equation m
-goes_on sort_equations m = is_among (Mark.ForAll ∷ Mark.Semicolon ∷ []) m || after_equation m
-goes_on equations m = is_same_mark Mark.Semicolon m || after_equation m
-goes_on equation m = after_equation m
-goes_on premiss m = is_same_mark Mark.Equals m || after_expression m
-goes_on for_all m = is_same_mark Mark.Comma m
-goes_on declarations m = is_same_mark Mark.Comma m
-goes_on declaration m = false
-goes_on sort_pair m = false
-goes_on operation_pair m = false
-goes_on expression m = after_expression m
-goes_on infixes m = after_expression m
-goes_on simple m = is_among (Mark.LeftParenthesis ∷ Mark.Of ∷ []) m
-goes_on head m = is_same_mark Mark.LeftParenthesis m
-goes_on process m = false
-goes_on behaviour m = after_behaviour m
-goes_on enabling m = after_behaviour m
-goes_on disable m = after_behaviour m
-goes_on disabling m = after_behaviour m
-goes_on parallel m = after_behaviour m
-goes_on composing m = after_behaviour m
-goes_on operator m = false
-goes_on choice m = after_behaviour m
-goes_on choosing m = after_behaviour m
-goes_on unary m = after_behaviour m
-goes_on offer m = after_expression m
-goes_on atom m = after_behaviour m
-goes_on exit_value m = after_expression m
-goes_on binding m = after_expression m
-goes_on gate_choice m = false
+goes_on p m = onward p m || ends_with_behaviour p && is_operator m
 
 -- a part
 abbrev pub extends : Syntax → Mark → Bool

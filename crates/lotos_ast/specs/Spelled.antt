@@ -4,54 +4,18 @@
 use Rattle.std.specs.Prelude.{List, [], ◌∷◌, Bool, true, false, ◌||◌, ◌&&◌, ◌≡◌}
 use Rattle.lotos_ast.specs.declared.mark.Mark.{Mark}
 use Rattle.lotos_ast.specs.declared.token.Token.{Token}
-use Rattle.lotos_ast.specs.MarkNumbers.{is_same_mark}
-use Rattle.lotos_ast.specs.Notation.{Part, Wanted, Reduction, fits, Syntax, quoted, kept, sequence, either, optional, repeated, placed, reduced, bracketed, enclosed, part, specification, gate_list, functionality, type_definition, where_item, sort_part, operation_part, operation_names, infix_names, operation_name, equation_part, sort_equations, equations, equation, premiss, for_all, declarations, declaration, sort_pair, operation_pair, expression, infixes, simple, head, process, behaviour, enabling, disable, disabling, parallel, composing, operator, choice, choosing, unary, offer, atom, exit_value, binding, gate_choice}
+use Rattle.lotos_ast.specs.Notation.{Part, Wanted, Reduction, fits, Syntax, quoted, kept, sequence, either, optional, repeated, placed, reduced, bracketed, enclosed, part, enabling, disabling, composing, choosing}
 use Rattle.lotos_ast.specs.Grammar.{rule}
-use Rattle.lotos_ast.specs.Begins.{mark_at, is_among, begins_name, is_empty, starts}
-use Rattle.lotos_ast.specs.GoesOn.{after_expression, after_equation, after_process}
+use Rattle.lotos_ast.specs.Begins.{mark_at, is_empty, starts}
+use Rattle.lotos_ast.specs.GoesOn.{onward}
 
 -- an operator with its right side
 abbrev pub is_far_part : Part → Bool
-is_far_part specification = false
-is_far_part gate_list = false
-is_far_part functionality = false
-is_far_part type_definition = false
-is_far_part where_item = false
-is_far_part sort_part = false
-is_far_part operation_part = false
-is_far_part operation_names = false
-is_far_part infix_names = false
-is_far_part operation_name = false
-is_far_part equation_part = false
-is_far_part sort_equations = false
-is_far_part equations = false
-is_far_part equation = false
-is_far_part premiss = false
-is_far_part for_all = false
-is_far_part declarations = false
-is_far_part declaration = false
-is_far_part sort_pair = false
-is_far_part operation_pair = false
-is_far_part expression = false
-is_far_part infixes = false
-is_far_part simple = false
-is_far_part head = false
-is_far_part process = false
-is_far_part behaviour = false
 is_far_part enabling = true
-is_far_part disable = false
 is_far_part disabling = true
-is_far_part parallel = false
 is_far_part composing = true
-is_far_part operator = false
-is_far_part choice = false
 is_far_part choosing = true
-is_far_part unary = false
-is_far_part offer = false
-is_far_part atom = false
-is_far_part exit_value = false
-is_far_part binding = false
-is_far_part gate_choice = false
+is_far_part p = false
 
 abbrev pub is_far : Syntax → Bool
 is_far (quoted k) = false
@@ -100,49 +64,6 @@ pub data Spelled : Syntax → List Token → List Token → Type 0 where
 -- all tokens spell the part
 abbrev pub Spells : Syntax → List Token → Type 0
 Spells g s = Spelled g s []
-
--- by which tokens a rule that is spelled may go on, operators aside
-abbrev pub onward : Part → Mark → Bool
-onward specification m = false
-onward gate_list m = false
-onward functionality m = is_same_mark Mark.LeftParenthesis m
-onward type_definition m = false
-onward where_item m = false
-onward sort_part m = is_among (Mark.Comma ∷ Mark.Identifier ∷ []) m
-onward operation_part m = begins_name m
-onward operation_names m = false
-onward infix_names m = false
-onward operation_name m = false
-onward equation_part m = is_among (Mark.ForAll ∷ Mark.OfSort ∷ Mark.Semicolon ∷ []) m || after_equation m
-onward sort_equations m = is_among (Mark.ForAll ∷ Mark.Semicolon ∷ []) m || after_equation m
-onward equations m = is_same_mark Mark.Semicolon m || after_equation m
-onward equation m = after_equation m
-onward premiss m = is_same_mark Mark.Equals m || after_expression m
-onward for_all m = is_same_mark Mark.Comma m
-onward declarations m = is_same_mark Mark.Comma m
-onward declaration m = false
-onward sort_pair m = false
-onward operation_pair m = false
-onward expression m = after_expression m
-onward infixes m = after_expression m
-onward simple m = is_among (Mark.LeftParenthesis ∷ Mark.Of ∷ []) m
-onward head m = is_same_mark Mark.LeftParenthesis m
-onward process m = false
-onward behaviour m = after_process m
-onward enabling m = after_process m
-onward disable m = after_process m
-onward disabling m = after_process m
-onward parallel m = after_process m
-onward composing m = after_process m
-onward operator m = false
-onward choice m = after_process m
-onward choosing m = after_process m
-onward unary m = after_process m
-onward offer m = after_expression m
-onward atom m = after_process m
-onward exit_value m = after_expression m
-onward binding m = after_expression m
-onward gate_choice m = false
 
 abbrev pub unless : Bool → Bool → Bool
 unless true b = false
