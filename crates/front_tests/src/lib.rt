@@ -1,5 +1,4 @@
-// Tests of the front end: texts and their tokens, and texts with what reading them comes to. The recogniser of the grammar is run on all
-// of these, and each parser on those of its part.
+// Tests of the front end: texts and their tokens, and texts with what reading them comes to. Each parser is run on those of its part.
 #![tactic(auto)]
 
 #[cfg(test)]
@@ -18,8 +17,6 @@ mod nested_texts;
 mod parsed;
 #[cfg(test)]
 mod parsed_behaviours;
-#[cfg(test)]
-mod recognised;
 #[cfg(test)]
 mod refusals;
 #[cfg(test)]

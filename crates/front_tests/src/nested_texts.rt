@@ -1,10 +1,10 @@
 // Texts at the limits of nesting: 256 open brackets and 4,096 constructs.
 
-use grammar_reader::part::Part;
+use spec_core::memory::Memory;
+use std::alloc::Global;
 
-/// A text of a part, and what reading it comes to. The text is a beginning many times, a middle, and an end as many times.
+/// A text, and what reading it comes to. The text is a beginning many times, a middle, and an end as many times.
 pub struct NestedText {
-    pub part: Part,
     pub beginning: &'static str,
     pub times: u32,
     pub middle: &'static str,
@@ -12,10 +12,26 @@ pub struct NestedText {
     pub outcome: &'static str,
 }
 
-/// Texts that are nested as deep as they may be or deeper.
-pub const NESTED_TEXTS: [NestedText; 38] = [
+/// A part of a text many times.
+pub fn repeat(text: &mut String, part: &str, times: u32) -> Result<(), Memory> {
+    for _ in 0..times {
+        text.push_str(part)?;
+    }
+    Ok(())
+}
+
+/// The text that is nested so deep.
+pub fn spell(alloc: Global, nested: &NestedText) -> Result<String, Memory> {
+    let mut text = String::new(alloc);
+    repeat(&mut text, nested.beginning, nested.times)?;
+    text.push_str(nested.middle)?;
+    repeat(&mut text, nested.end, nested.times)?;
+    Ok(text)
+}
+
+/// Expressions that are nested as deep as they may be or deeper.
+pub const NESTED_EXPRESSIONS: [NestedText; 8] = [
     NestedText {
-        part: Part::Expression,
         beginning: "(",
         times: 256,
         middle: "x",
@@ -23,7 +39,6 @@ pub const NESTED_TEXTS: [NestedText; 38] = [
         outcome: "whole, 0 left",
     },
     NestedText {
-        part: Part::Expression,
         beginning: "(",
         times: 257,
         middle: "x",
@@ -31,7 +46,6 @@ pub const NESTED_TEXTS: [NestedText; 38] = [
         outcome: "4 1:257 (",
     },
     NestedText {
-        part: Part::Expression,
         beginning: "f(",
         times: 256,
         middle: "x",
@@ -39,7 +53,6 @@ pub const NESTED_TEXTS: [NestedText; 38] = [
         outcome: "whole, 0 left",
     },
     NestedText {
-        part: Part::Expression,
         beginning: "f(",
         times: 257,
         middle: "x",
@@ -47,7 +60,6 @@ pub const NESTED_TEXTS: [NestedText; 38] = [
         outcome: "4 1:514 (",
     },
     NestedText {
-        part: Part::Expression,
         beginning: "x+",
         times: 4096,
         middle: "x",
@@ -55,7 +67,6 @@ pub const NESTED_TEXTS: [NestedText; 38] = [
         outcome: "whole, 0 left",
     },
     NestedText {
-        part: Part::Expression,
         beginning: "x+",
         times: 4097,
         middle: "x",
@@ -63,247 +74,6 @@ pub const NESTED_TEXTS: [NestedText; 38] = [
         outcome: "4 1:8195 x",
     },
     NestedText {
-        part: Part::Behaviour,
-        beginning: "(",
-        times: 256,
-        middle: "stop",
-        end: ")",
-        outcome: "whole, 0 left",
-    },
-    NestedText {
-        part: Part::Behaviour,
-        beginning: "(",
-        times: 257,
-        middle: "stop",
-        end: ")",
-        outcome: "4 1:257 (",
-    },
-    NestedText {
-        part: Part::Behaviour,
-        beginning: "hide a in ",
-        times: 256,
-        middle: "stop",
-        end: "",
-        outcome: "whole, 0 left",
-    },
-    NestedText {
-        part: Part::Behaviour,
-        beginning: "hide a in ",
-        times: 257,
-        middle: "stop",
-        end: "",
-        outcome: "4 1:2561 hide",
-    },
-    NestedText {
-        part: Part::Behaviour,
-        beginning: "let x:S=y in ",
-        times: 256,
-        middle: "stop",
-        end: "",
-        outcome: "whole, 0 left",
-    },
-    NestedText {
-        part: Part::Behaviour,
-        beginning: "let x:S=y in ",
-        times: 257,
-        middle: "stop",
-        end: "",
-        outcome: "4 1:3329 let",
-    },
-    NestedText {
-        part: Part::Behaviour,
-        beginning: "choice x:S[]",
-        times: 256,
-        middle: "stop",
-        end: "",
-        outcome: "whole, 0 left",
-    },
-    NestedText {
-        part: Part::Behaviour,
-        beginning: "choice x:S[]",
-        times: 257,
-        middle: "stop",
-        end: "",
-        outcome: "4 1:3073 choice",
-    },
-    NestedText {
-        part: Part::Behaviour,
-        beginning: "par g in[a]|||",
-        times: 256,
-        middle: "stop",
-        end: "",
-        outcome: "whole, 0 left",
-    },
-    NestedText {
-        part: Part::Behaviour,
-        beginning: "par g in[a]|||",
-        times: 257,
-        middle: "stop",
-        end: "",
-        outcome: "4 1:3585 par",
-    },
-    NestedText {
-        part: Part::Behaviour,
-        beginning: "i;",
-        times: 4096,
-        middle: "stop",
-        end: "",
-        outcome: "whole, 0 left",
-    },
-    NestedText {
-        part: Part::Behaviour,
-        beginning: "i;",
-        times: 4097,
-        middle: "stop",
-        end: "",
-        outcome: "4 1:8195 stop",
-    },
-    NestedText {
-        part: Part::Behaviour,
-        beginning: "a!x;",
-        times: 4096,
-        middle: "stop",
-        end: "",
-        outcome: "whole, 0 left",
-    },
-    NestedText {
-        part: Part::Behaviour,
-        beginning: "a!x;",
-        times: 4097,
-        middle: "stop",
-        end: "",
-        outcome: "4 1:16389 stop",
-    },
-    NestedText {
-        part: Part::Behaviour,
-        beginning: "[x]->",
-        times: 4096,
-        middle: "stop",
-        end: "",
-        outcome: "whole, 0 left",
-    },
-    NestedText {
-        part: Part::Behaviour,
-        beginning: "[x]->",
-        times: 4097,
-        middle: "stop",
-        end: "",
-        outcome: "4 1:20486 stop",
-    },
-    NestedText {
-        part: Part::Behaviour,
-        beginning: "stop[]",
-        times: 4096,
-        middle: "stop",
-        end: "",
-        outcome: "whole, 0 left",
-    },
-    NestedText {
-        part: Part::Behaviour,
-        beginning: "stop[]",
-        times: 4097,
-        middle: "stop",
-        end: "",
-        outcome: "4 1:24583 stop",
-    },
-    NestedText {
-        part: Part::Behaviour,
-        beginning: "stop|||",
-        times: 4096,
-        middle: "stop",
-        end: "",
-        outcome: "whole, 0 left",
-    },
-    NestedText {
-        part: Part::Behaviour,
-        beginning: "stop|||",
-        times: 4097,
-        middle: "stop",
-        end: "",
-        outcome: "4 1:28680 stop",
-    },
-    NestedText {
-        part: Part::Behaviour,
-        beginning: "stop[>",
-        times: 4096,
-        middle: "stop",
-        end: "",
-        outcome: "whole, 0 left",
-    },
-    NestedText {
-        part: Part::Behaviour,
-        beginning: "stop[>",
-        times: 4097,
-        middle: "stop",
-        end: "",
-        outcome: "4 1:24583 stop",
-    },
-    NestedText {
-        part: Part::Behaviour,
-        beginning: "exit>>accept x:S in ",
-        times: 4096,
-        middle: "stop",
-        end: "",
-        outcome: "whole, 0 left",
-    },
-    NestedText {
-        part: Part::Behaviour,
-        beginning: "exit>>accept x:S in ",
-        times: 4097,
-        middle: "stop",
-        end: "",
-        outcome: "4 1:81941 stop",
-    },
-    NestedText {
-        part: Part::Process,
-        beginning: "process P:noexit:=stop where ",
-        times: 256,
-        middle: "",
-        end: " endproc",
-        outcome: "whole, 0 left",
-    },
-    NestedText {
-        part: Part::Process,
-        beginning: "process P:noexit:=stop where ",
-        times: 257,
-        middle: "",
-        end: " endproc",
-        outcome: "4 1:7425 process",
-    },
-    NestedText {
-        part: Part::Behaviour,
-        beginning: "i;",
-        times: 4096,
-        middle: "(*! external *)",
-        end: "",
-        outcome: "27 1:8193 (*! external *)",
-    },
-    NestedText {
-        part: Part::Behaviour,
-        beginning: "i;",
-        times: 4097,
-        middle: "(*! external *)",
-        end: "",
-        outcome: "4 1:8195 (*! external *)",
-    },
-    NestedText {
-        part: Part::Behaviour,
-        beginning: "i;",
-        times: 4097,
-        middle: ";",
-        end: "",
-        outcome: "3 1:8195 ;",
-    },
-    NestedText {
-        part: Part::Behaviour,
-        beginning: "i;",
-        times: 4097,
-        middle: "",
-        end: "",
-        outcome: "3 1:8195 end of text",
-    },
-    NestedText {
-        part: Part::Expression,
         beginning: "x+",
         times: 4097,
         middle: "(*! external *)",
@@ -311,11 +81,210 @@ pub const NESTED_TEXTS: [NestedText; 38] = [
         outcome: "4 1:8195 (*! external *)",
     },
     NestedText {
-        part: Part::Expression,
         beginning: "(",
         times: 256,
         middle: "(*! external *)",
         end: "",
         outcome: "27 1:257 (*! external *)",
+    },
+];
+
+/// Behaviours that are nested as deep as they may be or deeper.
+pub const NESTED_BEHAVIOURS: [NestedText; 28] = [
+    NestedText {
+        beginning: "(",
+        times: 256,
+        middle: "stop",
+        end: ")",
+        outcome: "whole, 0 left",
+    },
+    NestedText {
+        beginning: "(",
+        times: 257,
+        middle: "stop",
+        end: ")",
+        outcome: "4 1:257 (",
+    },
+    NestedText {
+        beginning: "hide a in ",
+        times: 256,
+        middle: "stop",
+        end: "",
+        outcome: "whole, 0 left",
+    },
+    NestedText {
+        beginning: "hide a in ",
+        times: 257,
+        middle: "stop",
+        end: "",
+        outcome: "4 1:2561 hide",
+    },
+    NestedText {
+        beginning: "let x:S=y in ",
+        times: 256,
+        middle: "stop",
+        end: "",
+        outcome: "whole, 0 left",
+    },
+    NestedText {
+        beginning: "let x:S=y in ",
+        times: 257,
+        middle: "stop",
+        end: "",
+        outcome: "4 1:3329 let",
+    },
+    NestedText {
+        beginning: "choice x:S[]",
+        times: 256,
+        middle: "stop",
+        end: "",
+        outcome: "whole, 0 left",
+    },
+    NestedText {
+        beginning: "choice x:S[]",
+        times: 257,
+        middle: "stop",
+        end: "",
+        outcome: "4 1:3073 choice",
+    },
+    NestedText {
+        beginning: "par g in[a]|||",
+        times: 256,
+        middle: "stop",
+        end: "",
+        outcome: "whole, 0 left",
+    },
+    NestedText {
+        beginning: "par g in[a]|||",
+        times: 257,
+        middle: "stop",
+        end: "",
+        outcome: "4 1:3585 par",
+    },
+    NestedText {
+        beginning: "i;",
+        times: 4096,
+        middle: "stop",
+        end: "",
+        outcome: "whole, 0 left",
+    },
+    NestedText {
+        beginning: "i;",
+        times: 4097,
+        middle: "stop",
+        end: "",
+        outcome: "4 1:8195 stop",
+    },
+    NestedText {
+        beginning: "a!x;",
+        times: 4096,
+        middle: "stop",
+        end: "",
+        outcome: "whole, 0 left",
+    },
+    NestedText {
+        beginning: "a!x;",
+        times: 4097,
+        middle: "stop",
+        end: "",
+        outcome: "4 1:16389 stop",
+    },
+    NestedText {
+        beginning: "[x]->",
+        times: 4096,
+        middle: "stop",
+        end: "",
+        outcome: "whole, 0 left",
+    },
+    NestedText {
+        beginning: "[x]->",
+        times: 4097,
+        middle: "stop",
+        end: "",
+        outcome: "4 1:20486 stop",
+    },
+    NestedText {
+        beginning: "stop[]",
+        times: 4096,
+        middle: "stop",
+        end: "",
+        outcome: "whole, 0 left",
+    },
+    NestedText {
+        beginning: "stop[]",
+        times: 4097,
+        middle: "stop",
+        end: "",
+        outcome: "4 1:24583 stop",
+    },
+    NestedText {
+        beginning: "stop|||",
+        times: 4096,
+        middle: "stop",
+        end: "",
+        outcome: "whole, 0 left",
+    },
+    NestedText {
+        beginning: "stop|||",
+        times: 4097,
+        middle: "stop",
+        end: "",
+        outcome: "4 1:28680 stop",
+    },
+    NestedText {
+        beginning: "stop[>",
+        times: 4096,
+        middle: "stop",
+        end: "",
+        outcome: "whole, 0 left",
+    },
+    NestedText {
+        beginning: "stop[>",
+        times: 4097,
+        middle: "stop",
+        end: "",
+        outcome: "4 1:24583 stop",
+    },
+    NestedText {
+        beginning: "exit>>accept x:S in ",
+        times: 4096,
+        middle: "stop",
+        end: "",
+        outcome: "whole, 0 left",
+    },
+    NestedText {
+        beginning: "exit>>accept x:S in ",
+        times: 4097,
+        middle: "stop",
+        end: "",
+        outcome: "4 1:81941 stop",
+    },
+    NestedText {
+        beginning: "i;",
+        times: 4096,
+        middle: "(*! external *)",
+        end: "",
+        outcome: "27 1:8193 (*! external *)",
+    },
+    NestedText {
+        beginning: "i;",
+        times: 4097,
+        middle: "(*! external *)",
+        end: "",
+        outcome: "4 1:8195 (*! external *)",
+    },
+    NestedText {
+        beginning: "i;",
+        times: 4097,
+        middle: ";",
+        end: "",
+        outcome: "3 1:8195 ;",
+    },
+    NestedText {
+        beginning: "i;",
+        times: 4097,
+        middle: "",
+        end: "",
+        outcome: "3 1:8195 end of text",
     },
 ];

@@ -1,16 +1,14 @@
-// The parsers run on the same texts.
+// The parsers of expressions and types run on the texts.
 
 use crate::expression_texts::{CHAINS, MARKED, OPERANDS, SORTED};
 use crate::long_texts::{BOOLEAN, LISTS, NATURAL_NUMBER};
-use crate::nested_texts::NESTED_TEXTS;
-use crate::recognised::spell;
+use crate::nested_texts::{NESTED_EXPRESSIONS, spell};
 use crate::type_texts::{BODIES, EQUATIONS, LIBRARIES, OPERATIONS, PAIRS, SEQUENCES};
 use data_parser::cursor::Cursor;
 use data_parser::item::Item;
 use data_parser::refusals::refusal;
 use data_parser::type_definition::OneTypeDefinition;
 use data_parser::{expression, types};
-use grammar_reader::part::Part;
 use lotos_ast::nest::Nest;
 use lotos_ast::refusal::FrontFault;
 use lotos_lexer::tokens;
@@ -171,12 +169,10 @@ fn an_expression_from_a_token_on(rt: HostRuntime) -> Result<(), Fail> {
 
 #[test]
 fn nested_expressions_are_parsed_as_they_are_read(rt: HostRuntime) -> Result<(), Fail> {
-    for nested in &NESTED_TEXTS {
-        if nested.part == Part::Expression {
-            let text = spell(rt.alloc(), nested)?;
-            let found = parse_expression(rt.alloc(), text.as_str(), 0)?;
-            compare(&rt, "a nested text", found.as_str(), nested.outcome);
-        }
+    for nested in &NESTED_EXPRESSIONS {
+        let text = spell(rt.alloc(), nested)?;
+        let found = parse_expression(rt.alloc(), text.as_str(), 0)?;
+        compare(&rt, "a nested expression", found.as_str(), nested.outcome);
     }
     Ok(())
 }

@@ -1,16 +1,14 @@
-// The parser of behaviours and specifications run on the same texts.
+// The parser of behaviours and specifications run on the texts.
 
 use crate::behaviour_texts::{ACTIONS, BINDERS, EXTERNALS, OPERATORS, PROCESSES};
 use crate::long_texts::{ALTERNATING_BIT, LISTS};
-use crate::nested_texts::NESTED_TEXTS;
+use crate::nested_texts::{NESTED_BEHAVIOURS, repeat, spell};
 use crate::parsed::{compare, describe};
-use crate::recognised::{repeat, spell};
 use crate::specification_texts::{BEHIND_THE_END, HEADS, WHERES};
 use behaviour_parser::behaviour::behaviour;
 use behaviour_parser::specification;
 use data_parser::cursor::Cursor;
 use data_parser::refusals::refusal;
-use grammar_reader::part::Part;
 use lotos_ast::nest::Nest;
 use lotos_lexer::tokens;
 use spec_core::memory::Memory;
@@ -52,16 +50,13 @@ fn compare_behaviours(
     Ok(())
 }
 
-// Where a whole specification ends before the last token, reading it isn't what parsing it comes to.
 fn compare_specifications(
     rt: &(impl Abort + AllocGlobal),
     texts: &[(&str, &str)],
 ) -> Result<(), Memory> {
     for (text, outcome) in texts {
-        if *outcome != "whole, 1 left" {
-            let found = parse_specification(rt.alloc(), text)?;
-            compare(rt, text, found.as_str(), outcome);
-        }
+        let found = parse_specification(rt.alloc(), text)?;
+        compare(rt, text, found.as_str(), outcome);
     }
     Ok(())
 }
@@ -102,12 +97,10 @@ fn a_cut_specification_is_refused_at_its_end(rt: HostRuntime) -> Result<(), Fail
 
 #[test]
 fn nested_behaviours_are_parsed_as_they_are_read(rt: HostRuntime) -> Result<(), Fail> {
-    for nested in &NESTED_TEXTS {
-        if nested.part == Part::Behaviour {
-            let text = spell(rt.alloc(), nested)?;
-            let found = parse_behaviour(rt.alloc(), text.as_str())?;
-            compare(&rt, "a nested behaviour", found.as_str(), nested.outcome);
-        }
+    for nested in &NESTED_BEHAVIOURS {
+        let text = spell(rt.alloc(), nested)?;
+        let found = parse_behaviour(rt.alloc(), text.as_str())?;
+        compare(&rt, "a nested behaviour", found.as_str(), nested.outcome);
     }
     Ok(())
 }

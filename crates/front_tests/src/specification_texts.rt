@@ -1,7 +1,7 @@
 // Texts of specifications, each with what reading it comes to, worked out from the grammar of docs/LANGUAGE.md.
 
 /// Specifications without `where`.
-pub const HEADS: [(&str, &str); 19] = [
+pub const HEADS: [(&str, &str); 18] = [
     (
         "specification S : noexit behaviour stop endspec",
         "whole, 0 left",
@@ -56,10 +56,6 @@ pub const HEADS: [(&str, &str); 19] = [
         "3 1:41 stop",
     ),
     (
-        "specification S : noexit behaviour stop endspec stop",
-        "whole, 1 left",
-    ),
-    (
         "specification S : noexit behaviour endspec",
         "3 1:36 endspec",
     ),
@@ -72,7 +68,7 @@ pub const HEADS: [(&str, &str); 19] = [
 ];
 
 /// Types and processes behind `where`.
-pub const WHERES: [(&str, &str); 16] = [
+pub const WHERES: [(&str, &str); 15] = [
     (
         "specification S : noexit behaviour stop where endspec",
         "whole, 0 left",
@@ -133,14 +129,10 @@ pub const WHERES: [(&str, &str); 16] = [
         "specification S : noexit behaviour P where process P : noexit := (*! external *) endproc endspec",
         "27 1:66 (*! external *)",
     ),
-    (
-        "specification S : noexit behaviour P where endspec where",
-        "whole, 1 left",
-    ),
 ];
 
 /// Tokens behind a whole specification, each with what parsing it comes to.
-pub const BEHIND_THE_END: [(&str, &str); 4] = [
+pub const BEHIND_THE_END: [(&str, &str); 5] = [
     (
         "specification S : noexit behaviour stop endspec stop",
         "3 1:49 stop",
@@ -148,6 +140,10 @@ pub const BEHIND_THE_END: [(&str, &str); 4] = [
     (
         "specification S : noexit behaviour stop endspec endspec",
         "3 1:49 endspec",
+    ),
+    (
+        "specification S : noexit behaviour P where endspec where",
+        "3 1:52 where",
     ),
     (
         "specification S : noexit behaviour stop endspec (*! constructor *)",

@@ -24,6 +24,9 @@ tree_or_fault d f g s r q x h k = never_both k h
 pub one_fault : OneFault
 one_fault d f e g s r q h k = one_place h k
 
+-- reading has at most one result
+pub ruleset one_result = (one_tree, tree_or_fault, one_fault)
+
 comes : (g : Syntax) (f : Fault) (before rest : List Token) → Stops unlimited f g (before ++ rest) rest → ComesAt g before rest
 comes g f before [] h = λ w. never_both (subst (λ z. Stops unlimited f g z []) (append-nil before) h) w.1
 comes g f before (t ∷ u) h = none_goes_on g f before u t h

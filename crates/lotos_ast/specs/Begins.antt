@@ -5,7 +5,14 @@ use Rattle.lotos_ast.specs.declared.place.Place.{Place}
 use Rattle.lotos_ast.specs.declared.token.Token.{Token}
 use Rattle.lotos_ast.specs.TokenMarks.{mark_of}
 use Rattle.lotos_ast.specs.MarkNumbers.{is_same_mark}
-use Rattle.lotos_ast.specs.Notation.{Part, named, fits, Syntax, quoted, kept, sequence, either, optional, repeated, placed, reduced, bracketed, enclosed, part, specification, gate_list, functionality, type_definition, where_item, sort_part, operation_part, operation_names, infix_names, operation_name, equation_part, sort_equations, equations, equation, premiss, for_all, declarations, declaration, sort_pair, operation_pair, expression, infixes, simple, head, process, behaviour, enabling, disable, disabling, parallel, composing, operator, choice, choosing, unary, offer, atom, exit_value, binding, gate_choice}
+use Rattle.lotos_ast.specs.Notation.{Part, named, fits, Syntax, quoted, kept, sequence, either, optional, repeated}
+use Rattle.lotos_ast.specs.Notation.{placed, reduced, bracketed, enclosed, part, specification, gate_list}
+use Rattle.lotos_ast.specs.Notation.{functionality, type_definition, where_item, sort_part, operation_part}
+use Rattle.lotos_ast.specs.Notation.{operation_names, infix_names, operation_name, equation_part, sort_equations}
+use Rattle.lotos_ast.specs.Notation.{equations, equation, premiss, for_all, declarations, declaration, sort_pair}
+use Rattle.lotos_ast.specs.Notation.{operation_pair, expression, infixes, simple, head, process, behaviour, enabling}
+use Rattle.lotos_ast.specs.Notation.{disable, disabling, parallel, composing, operator, choice, choosing, unary, offer}
+use Rattle.lotos_ast.specs.Notation.{atom, exit_value, binding, gate_choice}
 
 -- the mark of the next token, and its place; a list without tokens has the mark of the end, and no place
 abbrev pub mark_at : List Token → Mark

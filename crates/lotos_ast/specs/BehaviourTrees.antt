@@ -26,7 +26,9 @@ use Rattle.lotos_ast.specs.declared.behaviour.Binding.{Binding}
 use Rattle.lotos_ast.specs.declared.behaviour.GateChoice.{GateChoice}
 use Rattle.lotos_ast.specs.declared.behaviour.Unary.{Unary}
 use Rattle.lotos_ast.specs.declared.behaviour.Atom.{Atom}
-use Rattle.lotos_ast.specs.declared.behaviour.Atom.TheOpen.{Atom-F, Unary-F, Stop, Exit, Call, Group, Hide, Let, ChoiceOfValues, ChoiceOfGates, Par, Guarded, Prefixed, Atomic}
+use Rattle.lotos_ast.specs.declared.behaviour.Atom.TheOpen.{Atom-F, Unary-F, Stop, Exit, Call, Group, Hide, Let}
+use Rattle.lotos_ast.specs.declared.behaviour.Atom.TheOpen.{ChoiceOfValues, ChoiceOfGates, Par, Guarded, Prefixed}
+use Rattle.lotos_ast.specs.declared.behaviour.Atom.TheOpen.{Atomic}
 use Rattle.lotos_ast.specs.declared.behaviour.Atom.TheFolds.{fold-Atom, fold-Unary}
 use Rattle.lotos_ast.specs.Reads.{Tree, unkept, leaf, both, left, right, absent, present, node}
 use Rattle.lotos_ast.specs.ListTrees.{repeated_tree, list_tree, token_list_tree, optional_tree, behind, between}
@@ -58,7 +60,8 @@ offers_tree (offer ∷ offers) rest = both (offer_tree offer) (both (repeated_tr
 abbrev pub action_tree : Action → Tree → Tree
 action_tree (Internal place) rest = right (left (both (node place unkept) (behind rest)))
 action_tree (Plain place gate) rest = right (right (left (node place (both (leaf gate) (left (behind rest))))))
-action_tree (Offering place gate offers predicate) rest = right (right (left (node place (both (leaf gate) (right (left (offers_tree offers.items (both (optional_predicate_tree predicate) (behind rest)))))))))
+action_tree (Offering place gate offers predicate) rest = right (right (left (node place (both (leaf gate)
+    (right (left (offers_tree offers.items (both (optional_predicate_tree predicate) (behind rest)))))))))
 
 abbrev pub exit_value_tree : ExitValue → Tree
 exit_value_tree (Any place sort) = node place (left (behind (leaf sort)))
@@ -85,12 +88,14 @@ first_names_tree place (t ∷ ts) rest = node place (both (leaf t) (right (both 
 
 abbrev pub choice_declarations_tree : List Declaration → Tree → Tree
 choice_declarations_tree [] rest = unkept
-choice_declarations_tree (d ∷ ds) rest = first_names_tree d.place d.names.items (behind (both (leaf d.sort) (both (repeated_tree (map behind (map declaration_tree ds))) rest)))
+choice_declarations_tree (d ∷ ds) rest = first_names_tree d.place d.names.items
+    (behind (both (leaf d.sort) (both (repeated_tree (map behind (map declaration_tree ds))) rest)))
 
 -- gates of a choice, and what follows them
 abbrev pub choice_gates_tree : List GateChoice → Tree → Tree
 choice_gates_tree [] rest = unkept
-choice_gates_tree (c ∷ cs) rest = node c.place (node c.place (both (leaf c.gate) (left (behind (both (gate_list_tree c.gates) (both (repeated_tree (map behind (map gate_choice_tree cs))) rest))))))
+choice_gates_tree (c ∷ cs) rest = node c.place (node c.place (both (leaf c.gate)
+    (left (behind (both (gate_list_tree c.gates) (both (repeated_tree (map behind (map gate_choice_tree cs))) rest))))))
 
 -- a behaviour that is an atom of its own rule
 abbrev pub atomic_tree : Place → Tree → Tree
@@ -99,14 +104,20 @@ atomic_tree place x = node place (right (right (right (node place x))))
 -- an atom, as the behaviour that it is
 abbrev pub atom_step : Atom-F Tree Tree Tree Tree Tree Tree Tree Tree Tree Tree → Tree
 atom_step (Group place inner) = atomic_tree place (left (between (box_value inner)))
-atom_step (Hide place gates inner) = atomic_tree place (right (left (behind (both (token_list_tree gates.items) (behind (box_value inner))))))
-atom_step (Let place bindings inner) = atomic_tree place (right (right (left (behind (both (list_tree (map binding_tree bindings.items)) (behind (box_value inner)))))))
-atom_step (ChoiceOfValues place declarations brackets inner) = atomic_tree place (right (right (right (left (behind (node declarations.place (choice_declarations_tree declarations.list.items (brackets_tree brackets (box_value inner)))))))))
-atom_step (ChoiceOfGates place choices brackets inner) = atomic_tree place (right (right (right (left (behind (choice_gates_tree choices.items (brackets_tree brackets (box_value inner))))))))
-atom_step (Par place gate gates operator inner) = atomic_tree place (right (right (right (right (left (behind (both (leaf gate) (behind (both (gate_list_tree gates) (both (operator_tree operator) (box_value inner)))))))))))
+atom_step (Hide place gates inner) = atomic_tree place
+    (right (left (behind (both (token_list_tree gates.items) (behind (box_value inner))))))
+atom_step (Let place bindings inner) = atomic_tree place
+    (right (right (left (behind (both (list_tree (map binding_tree bindings.items)) (behind (box_value inner)))))))
+atom_step (ChoiceOfValues place declarations brackets inner) = atomic_tree place (right (right (right (left (behind
+    (node declarations.place (choice_declarations_tree declarations.list.items (brackets_tree brackets (box_value inner)))))))))
+atom_step (ChoiceOfGates place choices brackets inner) = atomic_tree place
+    (right (right (right (left (behind (choice_gates_tree choices.items (brackets_tree brackets (box_value inner))))))))
+atom_step (Par place gate gates operator inner) = atomic_tree place (right (right (right (right (left (behind
+    (both (leaf gate) (behind (both (gate_list_tree gates) (both (operator_tree operator) (box_value inner)))))))))))
 atom_step (Exit place values) = atomic_tree place (right (right (right (right (right (left (behind (exit_values_tree values))))))))
 atom_step (Stop place) = atomic_tree place (right (right (right (right (right (right unkept))))))
-atom_step (Call place name gates values) = node place (right (right (left (node place (both (leaf name) (right (right (both (optional_gates_tree gates) (values_tree values)))))))))
+atom_step (Call place name gates values) = node place
+    (right (right (left (node place (both (leaf name) (right (right (both (optional_gates_tree gates) (values_tree values)))))))))
 
 abbrev pub unary_step : Unary-F Tree Tree Tree Tree Tree Tree Tree Tree Tree Tree → Tree
 unary_step (Guarded place guard rest) = node place (left (both (predicate_tree guard) (behind (box_value rest))))
@@ -143,35 +154,45 @@ abbrev pub parallel_step : Parallel-F Tree Tree Tree Tree Tree Tree Tree Tree Tr
 parallel_step p = node p.place (both p.first (optional_tree p.rest))
 
 abbrev pub behaviour_tree : Behaviour → Tree
-behaviour_tree = fold-Behaviour Tree Tree Tree Tree Tree Tree Tree Tree Tree Tree atom_step unary_step behaviour_step choice_step choosing_step composing_step disable_step disabling_step enabling_step parallel_step
+behaviour_tree = fold-Behaviour Tree Tree Tree Tree Tree Tree Tree Tree Tree Tree atom_step unary_step behaviour_step choice_step
+    choosing_step composing_step disable_step disabling_step enabling_step parallel_step
 
 abbrev pub enabling_tree : Enabling → Tree
-enabling_tree = fold-Enabling Tree Tree Tree Tree Tree Tree Tree Tree Tree Tree atom_step unary_step behaviour_step choice_step choosing_step composing_step disable_step disabling_step enabling_step parallel_step
+enabling_tree = fold-Enabling Tree Tree Tree Tree Tree Tree Tree Tree Tree Tree atom_step unary_step behaviour_step choice_step
+    choosing_step composing_step disable_step disabling_step enabling_step parallel_step
 
 abbrev pub disable_tree : Disable → Tree
-disable_tree = fold-Disable Tree Tree Tree Tree Tree Tree Tree Tree Tree Tree atom_step unary_step behaviour_step choice_step choosing_step composing_step disable_step disabling_step enabling_step parallel_step
+disable_tree = fold-Disable Tree Tree Tree Tree Tree Tree Tree Tree Tree Tree atom_step unary_step behaviour_step choice_step
+    choosing_step composing_step disable_step disabling_step enabling_step parallel_step
 
 abbrev pub disabling_tree : Disabling → Tree
-disabling_tree = fold-Disabling Tree Tree Tree Tree Tree Tree Tree Tree Tree Tree atom_step unary_step behaviour_step choice_step choosing_step composing_step disable_step disabling_step enabling_step parallel_step
+disabling_tree = fold-Disabling Tree Tree Tree Tree Tree Tree Tree Tree Tree Tree atom_step unary_step behaviour_step choice_step
+    choosing_step composing_step disable_step disabling_step enabling_step parallel_step
 
 abbrev pub parallel_tree : Parallel → Tree
-parallel_tree = fold-Parallel Tree Tree Tree Tree Tree Tree Tree Tree Tree Tree atom_step unary_step behaviour_step choice_step choosing_step composing_step disable_step disabling_step enabling_step parallel_step
+parallel_tree = fold-Parallel Tree Tree Tree Tree Tree Tree Tree Tree Tree Tree atom_step unary_step behaviour_step choice_step
+    choosing_step composing_step disable_step disabling_step enabling_step parallel_step
 
 abbrev pub composing_tree : Composing → Tree
-composing_tree = fold-Composing Tree Tree Tree Tree Tree Tree Tree Tree Tree Tree atom_step unary_step behaviour_step choice_step choosing_step composing_step disable_step disabling_step enabling_step parallel_step
+composing_tree = fold-Composing Tree Tree Tree Tree Tree Tree Tree Tree Tree Tree atom_step unary_step behaviour_step choice_step
+    choosing_step composing_step disable_step disabling_step enabling_step parallel_step
 
 abbrev pub choice_tree : Choice → Tree
-choice_tree = fold-Choice Tree Tree Tree Tree Tree Tree Tree Tree Tree Tree atom_step unary_step behaviour_step choice_step choosing_step composing_step disable_step disabling_step enabling_step parallel_step
+choice_tree = fold-Choice Tree Tree Tree Tree Tree Tree Tree Tree Tree Tree atom_step unary_step behaviour_step choice_step
+    choosing_step composing_step disable_step disabling_step enabling_step parallel_step
 
 abbrev pub choosing_tree : Choosing → Tree
-choosing_tree = fold-Choosing Tree Tree Tree Tree Tree Tree Tree Tree Tree Tree atom_step unary_step behaviour_step choice_step choosing_step composing_step disable_step disabling_step enabling_step parallel_step
+choosing_tree = fold-Choosing Tree Tree Tree Tree Tree Tree Tree Tree Tree Tree atom_step unary_step behaviour_step choice_step
+    choosing_step composing_step disable_step disabling_step enabling_step parallel_step
 
 abbrev pub unary_tree : Unary → Tree
-unary_tree = fold-Unary Tree Tree Tree Tree Tree Tree Tree Tree Tree Tree atom_step unary_step behaviour_step choice_step choosing_step composing_step disable_step disabling_step enabling_step parallel_step
+unary_tree = fold-Unary Tree Tree Tree Tree Tree Tree Tree Tree Tree Tree atom_step unary_step behaviour_step choice_step choosing_step
+    composing_step disable_step disabling_step enabling_step parallel_step
 
 -- the tree of the behaviour that is this atom
 abbrev pub atom_tree : Atom → Tree
-atom_tree = fold-Atom Tree Tree Tree Tree Tree Tree Tree Tree Tree Tree atom_step unary_step behaviour_step choice_step choosing_step composing_step disable_step disabling_step enabling_step parallel_step
+atom_tree = fold-Atom Tree Tree Tree Tree Tree Tree Tree Tree Tree Tree atom_step unary_step behaviour_step choice_step choosing_step
+    composing_step disable_step disabling_step enabling_step parallel_step
 
 abbrev pub enabling_rest_tree : Option Enabling → Tree
 enabling_rest_tree None = absent

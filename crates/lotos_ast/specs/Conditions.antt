@@ -3,7 +3,8 @@ use Rattle.std.specs.Prelude.{Bool, true, false, not, ◌||◌, ◌≡◌}
 use Rattle.lotos_ast.specs.declared.mark.Mark.{Mark}
 use Rattle.lotos_ast.specs.TokenMarks.{mark_of}
 use Rattle.lotos_ast.specs.MarkNumbers.{is_same_mark, AllMarks}
-use Rattle.lotos_ast.specs.Notation.{fits, Syntax, quoted, kept, sequence, either, optional, repeated, placed, reduced, bracketed, enclosed, part}
+use Rattle.lotos_ast.specs.Notation.{fits, Syntax, quoted, kept, sequence, either, optional, repeated, placed, reduced}
+use Rattle.lotos_ast.specs.Notation.{bracketed, enclosed, part}
 use Rattle.lotos_ast.specs.Begins.{mark_at, is_empty, starts}
 use Rattle.lotos_ast.specs.GoesOn.{extends}
 use Rattle.lotos_ast.specs.Shortest.{sample, sample_of, short}

@@ -2,7 +2,12 @@
 use Rattle.std.specs.Prelude.{[], ◌∷◌, Bool, true, false, ◌||◌, ◌&&◌}
 use Rattle.lotos_ast.specs.declared.mark.Mark.{Mark}
 use Rattle.lotos_ast.specs.MarkNumbers.{is_same_mark}
-use Rattle.lotos_ast.specs.Notation.{Part, named, fits, Syntax, quoted, kept, sequence, either, optional, repeated, placed, reduced, bracketed, enclosed, part, functionality, sort_part, operation_part, equation_part, sort_equations, equations, equation, premiss, for_all, declarations, expression, infixes, simple, head, behaviour, enabling, disable, disabling, parallel, composing, choice, choosing, unary, offer, atom, exit_value, binding}
+use Rattle.lotos_ast.specs.Notation.{Part, named, fits, Syntax, quoted, kept, sequence, either, optional, repeated}
+use Rattle.lotos_ast.specs.Notation.{placed, reduced, bracketed, enclosed, part, functionality, sort_part}
+use Rattle.lotos_ast.specs.Notation.{operation_part, equation_part, sort_equations, equations, equation, premiss}
+use Rattle.lotos_ast.specs.Notation.{for_all, declarations, expression, infixes, simple, head, behaviour, enabling}
+use Rattle.lotos_ast.specs.Notation.{disable, disabling, parallel, composing, choice, choosing, unary, offer, atom}
+use Rattle.lotos_ast.specs.Notation.{exit_value, binding}
 use Rattle.lotos_ast.specs.Begins.{is_among, begins_name, is_empty, starts}
 
 abbrev pub after_expression : Mark → Bool

@@ -1,7 +1,15 @@
 -- The grammar, rule by rule (docs/LANGUAGE.md, "Grammar"). Alternatives are told apart by the next token; where a rule as
 -- it is usually written needs more than that, what its alternatives share stands before them.
 use Rattle.lotos_ast.specs.declared.mark.Mark.{Mark}
-use Rattle.lotos_ast.specs.Notation.{Part, Syntax, quoted, optional, repeated, placed, bracketed, enclosed, part, ◌▸◌, ◌∣◌, identifier, name, constructor_mark, list, loose_list, mark_and, in_parentheses, specification, gate_list, functionality, type_definition, where_item, sort_part, operation_part, operation_names, infix_names, operation_name, equation_part, sort_equations, equations, equation, premiss, for_all, declarations, declaration, sort_pair, operation_pair, expression, infixes, simple, head, process, behaviour, enabling, disable, disabling, parallel, composing, operator, choice, choosing, unary, offer, atom, exit_value, binding, gate_choice}
+use Rattle.lotos_ast.specs.Notation.{Part, Syntax, quoted, optional, repeated, placed, bracketed, enclosed, part, ◌▸◌}
+use Rattle.lotos_ast.specs.Notation.{◌∣◌, identifier, name, constructor_mark, list, loose_list, mark_and}
+use Rattle.lotos_ast.specs.Notation.{in_parentheses, specification, gate_list, functionality, type_definition}
+use Rattle.lotos_ast.specs.Notation.{where_item, sort_part, operation_part, operation_names, infix_names}
+use Rattle.lotos_ast.specs.Notation.{operation_name, equation_part, sort_equations, equations, equation, premiss}
+use Rattle.lotos_ast.specs.Notation.{for_all, declarations, declaration, sort_pair, operation_pair, expression, infixes}
+use Rattle.lotos_ast.specs.Notation.{simple, head, process, behaviour, enabling, disable, disabling, parallel}
+use Rattle.lotos_ast.specs.Notation.{composing, operator, choice, choosing, unary, offer, atom, exit_value, binding}
+use Rattle.lotos_ast.specs.Notation.{gate_choice}
 
 -- "where" and any number of types and processes
 abbrev pub where_part : Syntax
@@ -19,13 +27,16 @@ abbrev pub equation_body : Syntax
 equation_body = placed (repeated (part for_all) ▸ repeated (part sort_equations))
 
 abbrev pub formals : Syntax
-formals = placed (optional (quoted Mark.FormalSorts ▸ sort_list) ▸ optional (quoted Mark.FormalOpns ▸ repeated operation_declaration) ▸ optional (quoted Mark.FormalEqns ▸ equation_body))
+formals = placed (optional (quoted Mark.FormalSorts ▸ sort_list)
+    ▸ optional (quoted Mark.FormalOpns ▸ repeated operation_declaration)
+    ▸ optional (quoted Mark.FormalEqns ▸ equation_body))
 
 abbrev pub declared_items : Syntax
 declared_items = formals ▸ optional (part sort_part) ▸ optional (part operation_part) ▸ optional (part equation_part)
 
 abbrev pub pairs : Syntax
-pairs = placed (optional (quoted Mark.SortNames ▸ loose_list (part sort_pair)) ▸ optional (quoted Mark.OpnNames ▸ loose_list (part operation_pair)))
+pairs = placed (optional (quoted Mark.SortNames ▸ loose_list (part sort_pair))
+    ▸ optional (quoted Mark.OpnNames ▸ loose_list (part operation_pair)))
 
 -- the three forms of a type's body; each may begin with an identifier
 abbrev pub type_body : Syntax
@@ -69,7 +80,8 @@ abbrev pub choice_brackets : Syntax
 choice_brackets = placed (quoted Mark.Brackets)
 
 abbrev pub rule : Part → Syntax
-rule specification = quoted Mark.Specification ▸ identifier ▸ optional (part gate_list) ▸ quoted Mark.Colon ▸ part functionality ▸ repeated (part type_definition) ▸ quoted Mark.Behaviour ▸ part behaviour ▸ optional where_part ▸ quoted Mark.EndSpec
+rule specification = quoted Mark.Specification ▸ identifier ▸ optional (part gate_list) ▸ quoted Mark.Colon ▸ part functionality
+    ▸ repeated (part type_definition) ▸ quoted Mark.Behaviour ▸ part behaviour ▸ optional where_part ▸ quoted Mark.EndSpec
 rule gate_list = quoted Mark.LeftBracket ▸ list identifier ▸ quoted Mark.RightBracket
 rule functionality = quoted Mark.NoExit ∣ quoted Mark.Exit ▸ optional (in_parentheses (list identifier))
 rule where_item = part type_definition ∣ part process
@@ -105,7 +117,8 @@ rule expression = part simple ▸ optional (part infixes)
 rule infixes = name ▸ enclosed (part simple ▸ optional (part infixes))
 rule simple = part head ▸ repeated (quoted Mark.Of ▸ identifier)
 rule head = in_parentheses (part expression) ∣ name ▸ optional (in_parentheses (list (part expression)))
-rule process = bracketed (quoted Mark.Process ▸ identifier ▸ optional (part gate_list) ▸ optional (in_parentheses (part declarations)) ▸ quoted Mark.Colon ▸ part functionality ▸ quoted Mark.ColonEquals ▸ part behaviour ▸ optional where_part ▸ quoted Mark.EndProc)
+rule process = bracketed (quoted Mark.Process ▸ identifier ▸ optional (part gate_list) ▸ optional (in_parentheses (part declarations))
+    ▸ quoted Mark.Colon ▸ part functionality ▸ quoted Mark.ColonEquals ▸ part behaviour ▸ optional where_part ▸ quoted Mark.EndProc)
 rule behaviour = part disable ▸ optional (part enabling)
 rule enabling = quoted Mark.Enable ▸ optional (quoted Mark.Accept ▸ part declarations ▸ quoted Mark.In) ▸ enclosed (part behaviour)
 rule disable = part parallel ▸ optional (part disabling)
@@ -133,7 +146,8 @@ rule atom =
     ∣ bracketed (quoted Mark.Let ▸ list (part binding) ▸ quoted Mark.In ▸ part behaviour)
     ∣ bracketed (quoted Mark.Choice ▸ placed (placed (identifier ▸
     (quoted Mark.In ▸ part gate_list ▸ repeated (quoted Mark.Comma ▸ part gate_choice) ▸ choice_brackets ▸ part behaviour
-    ∣ repeated (quoted Mark.Comma ▸ identifier) ▸ quoted Mark.Colon ▸ identifier ▸ repeated (quoted Mark.Comma ▸ part declaration) ▸ choice_brackets ▸ part behaviour))))
+    ∣ repeated (quoted Mark.Comma ▸ identifier) ▸ quoted Mark.Colon ▸ identifier ▸ repeated (quoted Mark.Comma ▸ part declaration)
+    ▸ choice_brackets ▸ part behaviour))))
     ∣ bracketed (quoted Mark.Par ▸ identifier ▸ quoted Mark.In ▸ part gate_list ▸ part operator ▸ part behaviour)
     ∣ quoted Mark.Exit ▸ optional (in_parentheses (list (part exit_value)))
     ∣ quoted Mark.Stop

@@ -46,12 +46,14 @@ ReadWithoutLimits = (d : Nesting) (g : Syntax) (s r : List Token) (x : Tree) →
 
 -- where reading stops within limits for another reason than these, it stops there without them
 abbrev pub StopsWithoutLimits : Type 0
-StopsWithoutLimits = (d : Nesting) (f : Fault) (g : Syntax) (s r : List Token) → (f ≡ Fault.TooDeep → ⊥) → Stops d f g s r → Stops unlimited f g s r
+StopsWithoutLimits = (d : Nesting) (f : Fault) (g : Syntax) (s r : List Token) → (f ≡ Fault.TooDeep → ⊥) → Stops d f g s r
+    → Stops unlimited f g s r
 
 -- The tokens before a rest are read exactly where they are a whole text and, with the next token, no front: so the longest
 -- front is read, where that is a whole text.
 abbrev pub LongestIsRead : Type 0
-LongestIsRead = (g : Syntax) (before rest : List Token) → IsWellFormed g → (Spells g before × IsLongest g before rest) ↔ Accepts unlimited g (before ++ rest) rest
+LongestIsRead = (g : Syntax) (before rest : List Token) → IsWellFormed g → (Spells g before × IsLongest g before rest)
+    ↔ Accepts unlimited g (before ++ rest) rest
 
 -- reading stops behind the longest front, where that isn't a whole text
 abbrev pub StopsAtLongest : Type 0
@@ -70,4 +72,5 @@ StopsOrTooDeep = (d : Nesting) (f : Fault) (g : Syntax) (s r : List Token) → S
 
 -- where reading stops, too deep or not, the tokens before are a front
 abbrev pub FrontBeforeFault : Type 0
-FrontBeforeFault = (d : Nesting) (f : Fault) (g : Syntax) (before rest : List Token) → IsWellFormed g → Stops d f g (before ++ rest) rest → IsFront g before
+FrontBeforeFault = (d : Nesting) (f : Fault) (g : Syntax) (before rest : List Token) → IsWellFormed g
+    → Stops d f g (before ++ rest) rest → IsFront g before

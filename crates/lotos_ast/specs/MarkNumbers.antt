@@ -1,7 +1,17 @@
 -- Marks by number, and what holds of all of them.
 use Rattle.std.specs.Prelude.{ℕ, List, [], ◌∷◌, Bool, true, nat_eq, ◌&&◌, ◌≡◌}
 use Rattle.lotos_ast.specs.declared.mark.Mark.{Mark}
-use Rattle.lotos_ast.specs.declared.mark.Mark.TheVariants.{Accept, ActualizedBy, Any, Behaviour, Choice, EndLib, EndProc, EndSpec, EndType, Eqns, Exit, For, ForAll, FormalEqns, FormalOpns, FormalSorts, Hide, I, In, Is, Let, Library, NoExit, Of, OfSort, OpnNames, Opns, Par, Process, RenamedBy, SortNames, Sorts, Specification, Stop, TypeKeyword, Using, Where, Brackets, Disable, LeftBracket, RightBars, RightBracket, Interleave, Synchronise, LeftBars, ColonEquals, Colon, Equals, DoubleArrow, Arrow, Enable, LeftParenthesis, RightParenthesis, Semicolon, Comma, Exclamation, Question, Underscore, Identifier, Numeral, Operation, ConstructorMark, ExternalMark, End, Unknown}
+use Rattle.lotos_ast.specs.declared.mark.Mark.TheVariants.{Accept, ActualizedBy, Any, Behaviour, Choice, EndLib}
+use Rattle.lotos_ast.specs.declared.mark.Mark.TheVariants.{EndProc, EndSpec, EndType, Eqns, Exit, For, ForAll}
+use Rattle.lotos_ast.specs.declared.mark.Mark.TheVariants.{FormalEqns, FormalOpns, FormalSorts, Hide, I, In, Is, Let}
+use Rattle.lotos_ast.specs.declared.mark.Mark.TheVariants.{Library, NoExit, Of, OfSort, OpnNames, Opns, Par, Process}
+use Rattle.lotos_ast.specs.declared.mark.Mark.TheVariants.{RenamedBy, SortNames, Sorts, Specification, Stop}
+use Rattle.lotos_ast.specs.declared.mark.Mark.TheVariants.{TypeKeyword, Using, Where, Brackets, Disable, LeftBracket}
+use Rattle.lotos_ast.specs.declared.mark.Mark.TheVariants.{RightBars, RightBracket, Interleave, Synchronise, LeftBars}
+use Rattle.lotos_ast.specs.declared.mark.Mark.TheVariants.{ColonEquals, Colon, Equals, DoubleArrow, Arrow, Enable}
+use Rattle.lotos_ast.specs.declared.mark.Mark.TheVariants.{LeftParenthesis, RightParenthesis, Semicolon, Comma}
+use Rattle.lotos_ast.specs.declared.mark.Mark.TheVariants.{Exclamation, Question, Underscore, Identifier, Numeral}
+use Rattle.lotos_ast.specs.declared.mark.Mark.TheVariants.{Operation, ConstructorMark, ExternalMark, End, Unknown}
 
 -- a mark's place in the list of all marks
 abbrev pub mark_number : Mark → ℕ

@@ -1,7 +1,8 @@
 -- The notation that the grammar is written in, as data (extended Backus-Naur form, as in ISO 8807).
 use Rattle.std.specs.Prelude.{Bool, ◌||◌}
 use Rattle.lotos_ast.specs.declared.mark.Mark.{Mark}
-use Rattle.lotos_ast.specs.declared.mark.Mark.TheVariants.{Identifier, Numeral, Operation, Comma, LeftParenthesis, RightParenthesis, ConstructorMark}
+use Rattle.lotos_ast.specs.declared.mark.Mark.TheVariants.{Identifier, Numeral, Operation, Comma, LeftParenthesis}
+use Rattle.lotos_ast.specs.declared.mark.Mark.TheVariants.{RightParenthesis, ConstructorMark}
 use Rattle.lotos_ast.specs.MarkNumbers.{is_same_mark}
 
 -- the rules of the grammar, by name

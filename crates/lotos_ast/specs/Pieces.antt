@@ -1,10 +1,12 @@
 -- What stands at the front of a text: the rules 1 to 5 for tokens of docs/LANGUAGE.md, in their order (ISO 8807's lexical tokens, with
 -- this profile's choices). The first rule that fits makes the piece.
-use Rattle.std.specs.Prelude.{ℕ, ◌+◌, nat_eq, nat_lt, List, [], ◌∷◌, take, drop, codes, Bool, true, false, ◌&&◌, ◌||◌, not, if◌then◌else◌, Option, Some, None, option_map, is_some, length}
+use Rattle.std.specs.Prelude.{ℕ, ◌+◌, nat_eq, nat_lt, List, [], ◌∷◌, take, drop, codes, Bool, true, false, ◌&&◌, ◌||◌}
+use Rattle.std.specs.Prelude.{not, if◌then◌else◌, Option, Some, None, option_map, is_some, length}
 use Rattle.std.specs.List.{list_any, prefix_len, starts_with}
 use Rattle.std.specs.Char.{is_ascii_digit}
 use Rattle.lotos_ast.specs.declared.token.TokenKind.{TokenKind}
-use Rattle.lotos_ast.specs.declared.token.TokenKind.TheVariants.{Keyword, Identifier, Numeral, Operation, Symbol, ConstructorMark, ExternalMark}
+use Rattle.lotos_ast.specs.declared.token.TokenKind.TheVariants.{Keyword, Identifier, Numeral, Operation, Symbol}
+use Rattle.lotos_ast.specs.declared.token.TokenKind.TheVariants.{ConstructorMark, ExternalMark}
 use Rattle.lotos_ast.specs.Bytes.{is_blank, is_letter_or_digit, is_low_line, is_word_byte, is_operation_byte}
 use Rattle.lotos_ast.specs.Marks.{is_same_word, keyword_of, symbol_of}
 

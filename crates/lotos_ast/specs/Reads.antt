@@ -4,7 +4,8 @@ use Rattle.lotos_ast.specs.declared.mark.Mark.{Mark}
 use Rattle.lotos_ast.specs.declared.place.Place.{Place}
 use Rattle.lotos_ast.specs.declared.token.Token.{Token}
 use Rattle.lotos_ast.specs.MarkNumbers.{is_same_mark}
-use Rattle.lotos_ast.specs.Notation.{Part, Wanted, Reduction, presence, last_mark, fits, Syntax, quoted, kept, sequence, either, optional, repeated, placed, reduced, bracketed, enclosed, part}
+use Rattle.lotos_ast.specs.Notation.{Part, Wanted, Reduction, presence, last_mark, fits, Syntax, quoted, kept, sequence}
+use Rattle.lotos_ast.specs.Notation.{either, optional, repeated, placed, reduced, bracketed, enclosed, part}
 use Rattle.lotos_ast.specs.Grammar.{rule}
 use Rattle.lotos_ast.specs.Begins.{mark_at, place_at, starts}
 use Rattle.lotos_ast.specs.declared.fault.Fault.{Fault}

@@ -1,7 +1,14 @@
--- Refusals of a text: their numbers, in the order in which this profile lists them.
-use Rattle.std.specs.Prelude.{ℕ, Result, Ok, Err}
+-- Refusals of a text: their numbers, in the order in which this profile lists them, and their names.
+use Rattle.std.specs.Prelude.{ℕ, List, codes, Result, Ok, Err}
 use Rattle.lotos_ast.specs.declared.refusal.RefusalKind.{RefusalKind}
-use Rattle.lotos_ast.specs.declared.refusal.RefusalKind.TheVariants.{BadByte, OpenComment, Unexpected, TooDeep, TooLong, UnknownType, TypeCycle, UnknownSort, DuplicateName, BadRenaming, BadActual, UnknownName, NoReading, Ambiguous, ConstructorHasEquation, PatternHasDefined, NotLeftLinear, LooseVariable, Overlap, NotDecreasing, NotCovered, UnknownGate, UnknownProcess, WrongCount, WrongFunctionality, Unguarded, External}
+use Rattle.lotos_ast.specs.declared.refusal.RefusalKind.TheVariants.{BadByte, OpenComment, Unexpected, TooDeep, TooLong}
+use Rattle.lotos_ast.specs.declared.refusal.RefusalKind.TheVariants.{UnknownType, TypeCycle, UnknownSort, DuplicateName}
+use Rattle.lotos_ast.specs.declared.refusal.RefusalKind.TheVariants.{BadRenaming, BadActual, UnknownName, NoReading}
+use Rattle.lotos_ast.specs.declared.refusal.RefusalKind.TheVariants.{Ambiguous, ConstructorHasEquation}
+use Rattle.lotos_ast.specs.declared.refusal.RefusalKind.TheVariants.{PatternHasDefined, NotLeftLinear, LooseVariable}
+use Rattle.lotos_ast.specs.declared.refusal.RefusalKind.TheVariants.{Overlap, NotDecreasing, NotCovered, UnknownGate}
+use Rattle.lotos_ast.specs.declared.refusal.RefusalKind.TheVariants.{UnknownProcess, WrongCount, WrongFunctionality}
+use Rattle.lotos_ast.specs.declared.refusal.RefusalKind.TheVariants.{Unguarded, External}
 use Rattle.lotos_ast.specs.declared.refusal.Refusal.{Refusal}
 use Rattle.lotos_ast.specs.declared.refusal.FrontFault.{FrontFault}
 use Rattle.lotos_ast.specs.declared.refusal.FrontFault.TheVariants.{Refused, Memory}
@@ -34,6 +41,36 @@ number_of WrongCount = 24
 number_of WrongFunctionality = 25
 number_of Unguarded = 26
 number_of External = 27
+
+-- the name by which a refusal of this kind is printed
+abbrev pub name_of : RefusalKind → List ℕ
+name_of BadByte = codes "BadByte"
+name_of OpenComment = codes "OpenComment"
+name_of Unexpected = codes "Unexpected"
+name_of TooDeep = codes "TooDeep"
+name_of TooLong = codes "TooLong"
+name_of UnknownType = codes "UnknownType"
+name_of TypeCycle = codes "TypeCycle"
+name_of UnknownSort = codes "UnknownSort"
+name_of DuplicateName = codes "DuplicateName"
+name_of BadRenaming = codes "BadRenaming"
+name_of BadActual = codes "BadActual"
+name_of UnknownName = codes "UnknownName"
+name_of NoReading = codes "NoReading"
+name_of Ambiguous = codes "Ambiguous"
+name_of ConstructorHasEquation = codes "ConstructorHasEquation"
+name_of PatternHasDefined = codes "PatternHasDefined"
+name_of NotLeftLinear = codes "NotLeftLinear"
+name_of LooseVariable = codes "LooseVariable"
+name_of Overlap = codes "Overlap"
+name_of NotDecreasing = codes "NotDecreasing"
+name_of NotCovered = codes "NotCovered"
+name_of UnknownGate = codes "UnknownGate"
+name_of UnknownProcess = codes "UnknownProcess"
+name_of WrongCount = codes "WrongCount"
+name_of WrongFunctionality = codes "WrongFunctionality"
+name_of Unguarded = codes "Unguarded"
+name_of External = codes "External"
 
 -- what holds of the refusal, where the fault is one
 abbrev pub OnRefusal : FrontFault → (Refusal → Type 0) → Type 0

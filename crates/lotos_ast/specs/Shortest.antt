@@ -4,7 +4,14 @@ use Rattle.lotos_ast.specs.declared.mark.Mark.{Mark}
 use Rattle.lotos_ast.specs.declared.token.Token.{Token}
 use Rattle.lotos_ast.specs.declared.token.TokenKind.{TokenKind}
 use Rattle.lotos_ast.specs.Begins.{no_place, is_empty}
-use Rattle.lotos_ast.specs.Notation.{Part, Wanted, marked, named, Syntax, quoted, kept, sequence, either, optional, repeated, placed, reduced, bracketed, enclosed, part, specification, gate_list, functionality, type_definition, where_item, sort_part, operation_part, operation_names, infix_names, operation_name, equation_part, sort_equations, equations, equation, premiss, for_all, declarations, declaration, sort_pair, operation_pair, expression, infixes, simple, head, process, behaviour, enabling, disable, disabling, parallel, composing, operator, choice, choosing, unary, offer, atom, exit_value, binding, gate_choice}
+use Rattle.lotos_ast.specs.Notation.{Part, Wanted, marked, named, Syntax, quoted, kept, sequence, either, optional}
+use Rattle.lotos_ast.specs.Notation.{repeated, placed, reduced, bracketed, enclosed, part, specification, gate_list}
+use Rattle.lotos_ast.specs.Notation.{functionality, type_definition, where_item, sort_part, operation_part}
+use Rattle.lotos_ast.specs.Notation.{operation_names, infix_names, operation_name, equation_part, sort_equations}
+use Rattle.lotos_ast.specs.Notation.{equations, equation, premiss, for_all, declarations, declaration, sort_pair}
+use Rattle.lotos_ast.specs.Notation.{operation_pair, expression, infixes, simple, head, process, behaviour, enabling}
+use Rattle.lotos_ast.specs.Notation.{disable, disabling, parallel, composing, operator, choice, choosing, unary, offer}
+use Rattle.lotos_ast.specs.Notation.{atom, exit_value, binding, gate_choice}
 
 abbrev pub token : TokenKind → List ℕ → Token
 token kind text = record { kind = kind; place = no_place; text = text }
@@ -83,31 +90,39 @@ sample_of named = sample Mark.Identifier
 
 -- a shortest text of each rule (of alternatives, of the last one)
 abbrev pub short_part : Part → List Token
-short_part specification = sample Mark.Specification ∷ sample Mark.Identifier ∷ sample Mark.Colon ∷ sample Mark.Exit ∷ sample Mark.Behaviour ∷ sample Mark.Stop ∷ sample Mark.EndSpec ∷ []
+short_part specification = sample Mark.Specification ∷ sample Mark.Identifier ∷ sample Mark.Colon ∷ sample Mark.Exit
+    ∷ sample Mark.Behaviour ∷ sample Mark.Stop ∷ sample Mark.EndSpec ∷ []
 short_part gate_list = sample Mark.LeftBracket ∷ sample Mark.Identifier ∷ sample Mark.RightBracket ∷ []
 short_part functionality = sample Mark.Exit ∷ []
 short_part type_definition = sample Mark.TypeKeyword ∷ sample Mark.Identifier ∷ sample Mark.Is ∷ sample Mark.EndType ∷ []
-short_part where_item = sample Mark.Process ∷ sample Mark.Identifier ∷ sample Mark.Colon ∷ sample Mark.Exit ∷ sample Mark.ColonEquals ∷ sample Mark.Stop ∷ sample Mark.EndProc ∷ []
+short_part where_item = sample Mark.Process ∷ sample Mark.Identifier ∷ sample Mark.Colon ∷ sample Mark.Exit ∷ sample Mark.ColonEquals
+    ∷ sample Mark.Stop ∷ sample Mark.EndProc ∷ []
 short_part sort_part = sample Mark.Sorts ∷ sample Mark.Identifier ∷ []
 short_part operation_part = sample Mark.Opns ∷ []
-short_part operation_names = sample Mark.Underscore ∷ sample Mark.Identifier ∷ sample Mark.Underscore ∷ sample Mark.Colon ∷ sample Mark.Identifier ∷ sample Mark.Comma ∷ sample Mark.Identifier ∷ sample Mark.Arrow ∷ sample Mark.Identifier ∷ []
-short_part infix_names = sample Mark.Underscore ∷ sample Mark.Identifier ∷ sample Mark.Underscore ∷ sample Mark.Colon ∷ sample Mark.Identifier ∷ sample Mark.Comma ∷ sample Mark.Identifier ∷ sample Mark.Arrow ∷ sample Mark.Identifier ∷ []
+short_part operation_names = sample Mark.Underscore ∷ sample Mark.Identifier ∷ sample Mark.Underscore ∷ sample Mark.Colon
+    ∷ sample Mark.Identifier ∷ sample Mark.Comma ∷ sample Mark.Identifier ∷ sample Mark.Arrow ∷ sample Mark.Identifier ∷ []
+short_part infix_names = sample Mark.Underscore ∷ sample Mark.Identifier ∷ sample Mark.Underscore ∷ sample Mark.Colon
+    ∷ sample Mark.Identifier ∷ sample Mark.Comma ∷ sample Mark.Identifier ∷ sample Mark.Arrow ∷ sample Mark.Identifier ∷ []
 short_part operation_name = sample Mark.Underscore ∷ sample Mark.Identifier ∷ sample Mark.Underscore ∷ []
 short_part equation_part = sample Mark.Eqns ∷ []
 short_part sort_equations = sample Mark.OfSort ∷ sample Mark.Identifier ∷ []
-short_part equations = sample Mark.Identifier ∷ sample Mark.DoubleArrow ∷ sample Mark.Identifier ∷ sample Mark.Equals ∷ sample Mark.Identifier ∷ []
-short_part equation = sample Mark.Identifier ∷ sample Mark.DoubleArrow ∷ sample Mark.Identifier ∷ sample Mark.Equals ∷ sample Mark.Identifier ∷ []
+short_part equations = sample Mark.Identifier ∷ sample Mark.DoubleArrow ∷ sample Mark.Identifier ∷ sample Mark.Equals
+    ∷ sample Mark.Identifier ∷ []
+short_part equation = sample Mark.Identifier ∷ sample Mark.DoubleArrow ∷ sample Mark.Identifier ∷ sample Mark.Equals
+    ∷ sample Mark.Identifier ∷ []
 short_part premiss = sample Mark.Identifier ∷ []
 short_part for_all = sample Mark.ForAll ∷ sample Mark.Identifier ∷ sample Mark.Colon ∷ sample Mark.Identifier ∷ []
 short_part declarations = sample Mark.Identifier ∷ sample Mark.Colon ∷ sample Mark.Identifier ∷ []
 short_part declaration = sample Mark.Identifier ∷ sample Mark.Colon ∷ sample Mark.Identifier ∷ []
 short_part sort_pair = sample Mark.Identifier ∷ sample Mark.For ∷ sample Mark.Identifier ∷ []
-short_part operation_pair = sample Mark.Underscore ∷ sample Mark.Identifier ∷ sample Mark.Underscore ∷ sample Mark.For ∷ sample Mark.Underscore ∷ sample Mark.Identifier ∷ sample Mark.Underscore ∷ []
+short_part operation_pair = sample Mark.Underscore ∷ sample Mark.Identifier ∷ sample Mark.Underscore ∷ sample Mark.For
+    ∷ sample Mark.Underscore ∷ sample Mark.Identifier ∷ sample Mark.Underscore ∷ []
 short_part expression = sample Mark.Identifier ∷ []
 short_part infixes = sample Mark.Identifier ∷ sample Mark.Identifier ∷ []
 short_part simple = sample Mark.Identifier ∷ []
 short_part head = sample Mark.Identifier ∷ []
-short_part process = sample Mark.Process ∷ sample Mark.Identifier ∷ sample Mark.Colon ∷ sample Mark.Exit ∷ sample Mark.ColonEquals ∷ sample Mark.Stop ∷ sample Mark.EndProc ∷ []
+short_part process = sample Mark.Process ∷ sample Mark.Identifier ∷ sample Mark.Colon ∷ sample Mark.Exit ∷ sample Mark.ColonEquals
+    ∷ sample Mark.Stop ∷ sample Mark.EndProc ∷ []
 short_part behaviour = sample Mark.Stop ∷ []
 short_part enabling = sample Mark.Enable ∷ sample Mark.Stop ∷ []
 short_part disable = sample Mark.Stop ∷ []
@@ -122,7 +137,8 @@ short_part offer = sample Mark.Question ∷ sample Mark.Identifier ∷ sample Ma
 short_part atom = sample Mark.Stop ∷ []
 short_part exit_value = sample Mark.Identifier ∷ []
 short_part binding = sample Mark.Identifier ∷ sample Mark.Colon ∷ sample Mark.Identifier ∷ sample Mark.Equals ∷ sample Mark.Identifier ∷ []
-short_part gate_choice = sample Mark.Identifier ∷ sample Mark.In ∷ sample Mark.LeftBracket ∷ sample Mark.Identifier ∷ sample Mark.RightBracket ∷ []
+short_part gate_choice = sample Mark.Identifier ∷ sample Mark.In ∷ sample Mark.LeftBracket ∷ sample Mark.Identifier
+    ∷ sample Mark.RightBracket ∷ []
 
 -- a shortest text of a part
 abbrev pub short : Syntax → List Token

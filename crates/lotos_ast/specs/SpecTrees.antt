@@ -28,7 +28,9 @@ where_item_step (Types types) = node (tree_place (type_def_tree types)) (left (t
 where_item_step (Definition process) = node (tree_place process) (right process)
 
 abbrev pub process_step : Process-F Tree Tree → Tree
-process_step p = node p.place (behind (both (leaf p.name) (both (optional_gates_tree p.gates) (both (parameters_tree p.parameters) (behind (both (functionality_tree p.functionality) (behind (both (behaviour_tree p.behaviour) (both (items_step p.items) unkept)))))))))
+process_step p = node p.place (behind (both (leaf p.name) (both (optional_gates_tree p.gates)
+    (both (parameters_tree p.parameters) (behind (both (functionality_tree p.functionality)
+    (behind (both (behaviour_tree p.behaviour) (both (items_step p.items) unkept)))))))))
 
 abbrev pub where_item_tree : WhereItem → Tree
 where_item_tree = fold-WhereItem Tree Tree where_item_step process_step
@@ -41,4 +43,6 @@ items_tree None = absent
 items_tree (Some items) = present (behind (repeated_tree (map where_item_tree items.items)))
 
 abbrev pub spec_tree : Spec → Tree
-spec_tree s = node s.place (behind (both (leaf s.name) (both (optional_gates_tree s.gates) (behind (both (functionality_tree s.functionality) (both (repeated_tree (map type_def_tree s.types.items)) (behind (both (behaviour_tree s.behaviour) (both (items_tree s.items) unkept)))))))))
+spec_tree s = node s.place (behind (both (leaf s.name) (both (optional_gates_tree s.gates)
+    (behind (both (functionality_tree s.functionality) (both (repeated_tree (map type_def_tree s.types.items))
+    (behind (both (behaviour_tree s.behaviour) (both (items_tree s.items) unkept)))))))))

@@ -4,7 +4,9 @@
 use Rattle.std.specs.Prelude.{List, [], ◌∷◌, Bool, true, false, ◌||◌, ◌&&◌, ◌≡◌}
 use Rattle.lotos_ast.specs.declared.mark.Mark.{Mark}
 use Rattle.lotos_ast.specs.declared.token.Token.{Token}
-use Rattle.lotos_ast.specs.Notation.{Part, Wanted, Reduction, fits, Syntax, quoted, kept, sequence, either, optional, repeated, placed, reduced, bracketed, enclosed, part, enabling, disabling, composing, choosing}
+use Rattle.lotos_ast.specs.Notation.{Part, Wanted, Reduction, fits, Syntax, quoted, kept, sequence, either, optional}
+use Rattle.lotos_ast.specs.Notation.{repeated, placed, reduced, bracketed, enclosed, part, enabling, disabling}
+use Rattle.lotos_ast.specs.Notation.{composing, choosing}
 use Rattle.lotos_ast.specs.Grammar.{rule}
 use Rattle.lotos_ast.specs.Begins.{mark_at, is_empty, starts}
 use Rattle.lotos_ast.specs.GoesOn.{onward}

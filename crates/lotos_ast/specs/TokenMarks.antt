@@ -4,7 +4,8 @@ use Rattle.lotos_ast.specs.declared.mark.Mark.{Mark}
 use Rattle.lotos_ast.specs.declared.mark.Mark.TheVariants.{Unknown}
 use Rattle.lotos_ast.specs.declared.token.Token.{Token}
 use Rattle.lotos_ast.specs.declared.token.TokenKind.{TokenKind}
-use Rattle.lotos_ast.specs.declared.token.TokenKind.TheVariants.{Keyword, Identifier, Numeral, Operation, Symbol, ConstructorMark, ExternalMark}
+use Rattle.lotos_ast.specs.declared.token.TokenKind.TheVariants.{Keyword, Identifier, Numeral, Operation, Symbol}
+use Rattle.lotos_ast.specs.declared.token.TokenKind.TheVariants.{ConstructorMark, ExternalMark}
 use Rattle.lotos_ast.specs.Marks.{keyword_of, symbol_of}
 
 -- what a token with this class and this text is to the grammar; a class whose texts differ is one mark

@@ -1,5 +1,6 @@
 -- The tokens of a text, and its refusal where it has none (docs/LANGUAGE.md, "Tokens" and "Refusals").
-use Rattle.std.specs.Prelude.{ℕ, ◌+◌, ◌/◌, ◌%◌, ◌<◌, ◌≤◌, nat_lt, ◌≡◌, List, [], ◌∷◌, take, drop, length, codes, Bool, true, false, if◌then◌else◌}
+use Rattle.std.specs.Prelude.{ℕ, ◌+◌, ◌/◌, ◌%◌, ◌<◌, ◌≤◌, nat_lt, ◌≡◌, List, [], ◌∷◌, take, drop, length, codes, Bool}
+use Rattle.std.specs.Prelude.{true, false, if◌then◌else◌}
 use Rattle.std.specs.Str.Lossy.{utf8_lossy}
 use Rattle.lotos_ast.specs.declared.place.Place.{Place}
 use Rattle.lotos_ast.specs.declared.token.TokenKind.{TokenKind}

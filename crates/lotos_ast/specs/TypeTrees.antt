@@ -26,7 +26,8 @@ use Rattle.lotos_ast.specs.declared.types.Pairs.{Pairs}
 use Rattle.lotos_ast.specs.declared.types.SortPair.{SortPair}
 use Rattle.lotos_ast.specs.declared.types.OperationPair.{OperationPair}
 use Rattle.lotos_ast.specs.Reads.{Tree, unkept, leaf, both, left, right, absent, present, node}
-use Rattle.lotos_ast.specs.ListTrees.{tree_place, repeated_tree, list_tree, token_list_tree, optional_token_tree, optional_list_tree, behind, between}
+use Rattle.lotos_ast.specs.ListTrees.{tree_place, repeated_tree, list_tree, token_list_tree, optional_token_tree}
+use Rattle.lotos_ast.specs.ListTrees.{optional_list_tree, behind, between}
 use Rattle.lotos_ast.specs.ExpressionTrees.{expr_tree, premiss_tree}
 use Rattle.lotos_ast.specs.DeclarationTrees.{declarations_tree}
 
@@ -55,16 +56,20 @@ both_sorts_tree (Some sorts) result = two_sorts_tree sorts.items result
 -- what follows a name, where one that stands between its arguments is among the names so far
 abbrev pub infix_end_tree : List DeclaredName → Option (Vec Token Global) → Token → Tree
 infix_end_tree [] sorts result = right (both_sorts_tree sorts result)
-infix_end_tree (n ∷ ns) sorts result = left (behind (node n.place (both (operation_name_tree n.name) (both (optional_token_tree n.mark) (infix_end_tree ns sorts result)))))
+infix_end_tree (n ∷ ns) sorts result = left (behind (node n.place (both (operation_name_tree n.name)
+    (both (optional_token_tree n.mark) (infix_end_tree ns sorts result)))))
 
 -- a name where none so far stands between its arguments, with what follows it in either case
 abbrev pub first_name_tree : Place → OperationName → Option Token → Tree → Tree → Tree
-first_name_tree p (Prefix place name) mark prefix_end infix_end = node p (left (both (node place (leaf name)) (both (optional_token_tree mark) prefix_end)))
-first_name_tree p (Infix place name) mark prefix_end infix_end = node p (right (both (node place (both unkept (both (leaf name) unkept))) (both (optional_token_tree mark) infix_end)))
+first_name_tree p (Prefix place name) mark prefix_end infix_end = node p
+    (left (both (node place (leaf name)) (both (optional_token_tree mark) prefix_end)))
+first_name_tree p (Infix place name) mark prefix_end infix_end = node p
+    (right (both (node place (both unkept (both (leaf name) unkept))) (both (optional_token_tree mark) infix_end)))
 
 abbrev pub prefix_end_tree : List DeclaredName → Option (Vec Token Global) → Token → Tree
 prefix_end_tree [] sorts result = right (behind (both (optional_list_tree sorts) (behind (leaf result))))
-prefix_end_tree (n ∷ ns) sorts result = left (behind (first_name_tree n.place n.name n.mark (prefix_end_tree ns sorts result) (infix_end_tree ns sorts result)))
+prefix_end_tree (n ∷ ns) sorts result = left (behind (first_name_tree n.place n.name n.mark (prefix_end_tree ns sorts result)
+    (infix_end_tree ns sorts result)))
 
 abbrev pub names_tree : List DeclaredName → Option (Vec Token Global) → Token → Tree
 names_tree [] sorts result = unkept
@@ -95,7 +100,8 @@ first_premiss_tree (Some r) rest = left (behind (both (expr_tree r) (present res
 
 abbrev pub premisses_tree : List Premiss → Expr → Expr → Tree
 premisses_tree [] l r = unkept
-premisses_tree (p ∷ ps) l r = node p.place (both (expr_tree p.left) (first_premiss_tree p.right (conclusion_tree (map premiss_tree ps) l r)))
+premisses_tree (p ∷ ps) l r = node p.place (both (expr_tree p.left) (first_premiss_tree p.right
+    (conclusion_tree (map premiss_tree ps) l r)))
 
 abbrev pub sides_tree : Option (Vec Premiss Global) → Expr → Expr → Tree
 sides_tree None l r = node (tree_place (expr_tree l)) (both (expr_tree l) (left (behind (both (expr_tree r) absent))))
@@ -110,10 +116,12 @@ equations_tree [] = absent
 equations_tree (x ∷ xs) = present (node (tree_place x) (both x (equations_tree xs)))
 
 abbrev pub sort_equations_tree : SortEquations → Tree
-sort_equations_tree e = node e.place (behind (both (leaf e.sort) (both (repeated_tree (map for_all_tree e.variables.items)) (equations_tree (map equation_tree e.equations.items)))))
+sort_equations_tree e = node e.place (behind (both (leaf e.sort) (both (repeated_tree (map for_all_tree e.variables.items))
+    (equations_tree (map equation_tree e.equations.items)))))
 
 abbrev pub equation_body_tree : EquationBody → Tree
-equation_body_tree b = node b.place (both (repeated_tree (map for_all_tree b.variables.items)) (repeated_tree (map sort_equations_tree b.parts.items)))
+equation_body_tree b = node b.place (both (repeated_tree (map for_all_tree b.variables.items))
+    (repeated_tree (map sort_equations_tree b.parts.items)))
 
 abbrev pub equation_part_tree : EquationPart → Tree
 equation_part_tree e = node e.place (behind (equation_body_tree e.body))
@@ -133,7 +141,8 @@ formal_equations_tree None = absent
 formal_equations_tree (Some body) = present (behind (equation_body_tree body))
 
 abbrev pub formals_tree : Formals → Tree
-formals_tree f = node f.place (both (formal_sorts_tree f.sorts) (both (formal_operations_tree f.operations) (formal_equations_tree f.equations)))
+formals_tree f = node f.place (both (formal_sorts_tree f.sorts) (both (formal_operations_tree f.operations)
+    (formal_equations_tree f.equations)))
 
 -- bodies
 
@@ -167,7 +176,8 @@ optional_equation_part_tree None = absent
 optional_equation_part_tree (Some equations) = present (equation_part_tree equations)
 
 abbrev pub declared_items_tree : Formals → Option SortPart → Option OperationPart → Option EquationPart → Tree
-declared_items_tree formals sorts operations equations = both (formals_tree formals) (both (optional_sort_part_tree sorts) (both (optional_operation_part_tree operations) (optional_equation_part_tree equations)))
+declared_items_tree formals sorts operations equations = both (formals_tree formals)
+    (both (optional_sort_part_tree sorts) (both (optional_operation_part_tree operations) (optional_equation_part_tree equations)))
 
 -- imported types, and what the type declares
 abbrev pub imports_tree : List Token → Tree → Tree
@@ -179,9 +189,11 @@ declared_body_tree None items = right items
 declared_body_tree (Some imports) items = imports_tree imports.items items
 
 abbrev pub type_body_tree : TypeBody → Tree
-type_body_tree (Declared place imports formals sorts operations equations) = node place (declared_body_tree imports (declared_items_tree formals sorts operations equations))
+type_body_tree (Declared place imports formals sorts operations equations) = node place
+    (declared_body_tree imports (declared_items_tree formals sorts operations equations))
 type_body_tree (Renamed place source pairs) = node place (left (both (leaf source) (left (behind (pairs_tree pairs)))))
-type_body_tree (Actualized place source actuals pairs) = node place (left (both (leaf source) (right (left (behind (both (token_list_tree actuals.items) (behind (pairs_tree pairs))))))))
+type_body_tree (Actualized place source actuals pairs) = node place
+    (left (both (leaf source) (right (left (behind (both (token_list_tree actuals.items) (behind (pairs_tree pairs))))))))
 
 abbrev pub type_def_tree : TypeDef → Tree
 type_def_tree (Library place names) = node place (left (between (token_list_tree names.items)))

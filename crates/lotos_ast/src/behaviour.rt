@@ -5,7 +5,13 @@ ghost use Rattle.lotos_ast.specs.Reads.{unkept, leaf, both, left, right, node};
 ghost use Rattle.lotos_ast.specs.ListTrees.{list_tree, token_list_tree, behind, between};
 ghost use Rattle.lotos_ast.specs.ExpressionTrees.{values_tree};
 ghost use Rattle.lotos_ast.specs.DeclarationTrees.{gate_list_tree, optional_gates_tree};
-ghost use Rattle.lotos_ast.specs.BehaviourTrees.{behaviour_tree, enabling_tree, disable_tree, disabling_tree, parallel_tree, composing_tree, choice_tree, choosing_tree, unary_tree, atom_tree, enabling_rest_tree, disabling_rest_tree, composing_rest_tree, choosing_rest_tree, operator_tree, predicate_tree, action_tree, exit_values_tree, binding_tree, brackets_tree, choice_declarations_tree, choice_gates_tree, atomic_tree, accepts_tree};
+ghost use Rattle.lotos_ast.specs.BehaviourTrees.{behaviour_tree, enabling_tree, disable_tree, disabling_tree};
+ghost use Rattle.lotos_ast.specs.BehaviourTrees.{parallel_tree, composing_tree, choice_tree, choosing_tree, unary_tree};
+ghost use Rattle.lotos_ast.specs.BehaviourTrees.{atom_tree, enabling_rest_tree, disabling_rest_tree};
+ghost use Rattle.lotos_ast.specs.BehaviourTrees.{composing_rest_tree, choosing_rest_tree, operator_tree};
+ghost use Rattle.lotos_ast.specs.BehaviourTrees.{predicate_tree, action_tree, exit_values_tree, binding_tree};
+ghost use Rattle.lotos_ast.specs.BehaviourTrees.{brackets_tree, choice_declarations_tree, choice_gates_tree};
+ghost use Rattle.lotos_ast.specs.BehaviourTrees.{atomic_tree, accepts_tree};
 
 use crate::declaration::{Declarations, GateList};
 use crate::expression::{Expr, Premiss};
@@ -352,7 +358,8 @@ impl Enabling {
         accepts: Option<Declarations>,
         right: Behaviour,
     ) -> Result<Enabling, Memory>
-        ensures tree { IfOk result (λ enabling. enabling_tree enabling ≡ node place (behind (both (accepts_tree accepts) (behaviour_tree right)))) }
+        ensures tree { IfOk result (λ enabling. enabling_tree enabling
+            ≡ node place (behind (both (accepts_tree accepts) (behaviour_tree right)))) }
     {
         Ok(Enabling {
             place,
@@ -400,7 +407,8 @@ impl Composing {
         operator: Operator,
         right: Parallel,
     ) -> Result<Composing, Memory>
-        ensures tree { IfOk result (λ composing. composing_tree composing ≡ node place (both (operator_tree operator) (parallel_tree right))) }
+        ensures tree { IfOk result (λ composing. composing_tree composing
+            ≡ node place (both (operator_tree operator) (parallel_tree right))) }
     {
         Ok(Composing {
             place,
@@ -439,7 +447,8 @@ impl Unary {
         guard: Premiss,
         rest: Unary,
     ) -> Result<Unary, Memory>
-        ensures tree { IfOk result (λ unary. unary_tree unary ≡ node place (left (both (predicate_tree guard) (behind (unary_tree rest))))) }
+        ensures tree { IfOk result (λ unary. unary_tree unary
+            ≡ node place (left (both (predicate_tree guard) (behind (unary_tree rest))))) }
     {
         Ok(Unary::Guarded {
             place,
@@ -482,7 +491,8 @@ impl Atom {
 
     /// The end, with values. It takes no memory.
     pub fn exit(place: Place, values: Option<Vec<ExitValue>>) -> Atom
-        ensures tree { atom_tree result ≡ atomic_tree place (right (right (right (right (right (left (behind (exit_values_tree values)))))))) }
+        ensures tree { atom_tree result
+            ≡ atomic_tree place (right (right (right (right (right (left (behind (exit_values_tree values)))))))) }
     {
         Atom::Exit { place, values }
     }
@@ -494,7 +504,9 @@ impl Atom {
         gates: Option<GateList>,
         values: Option<Vec<Expr>>,
     ) -> Atom
-        ensures tree { atom_tree result ≡ node place (right (right (left (node place (both (leaf name) (right (right (both (optional_gates_tree gates) (values_tree values))))))))) }
+        ensures tree { atom_tree result
+            ≡ node place (right (right (left (node place (both (leaf name)
+            (right (right (both (optional_gates_tree gates) (values_tree values))))))))) }
     {
         Atom::Call {
             place,
@@ -521,7 +533,8 @@ impl Atom {
         gates: Vec<Token>,
         inner: Behaviour,
     ) -> Result<Atom, Memory>
-        ensures tree { IfOk result (λ atom. atom_tree atom ≡ atomic_tree place (right (left (behind (both (token_list_tree gates.items) (behind (behaviour_tree inner))))))) }
+        ensures tree { IfOk result (λ atom. atom_tree atom
+            ≡ atomic_tree place (right (left (behind (both (token_list_tree gates.items) (behind (behaviour_tree inner))))))) }
     {
         Ok(Atom::Hide {
             place,
@@ -537,7 +550,9 @@ impl Atom {
         bindings: Vec<Binding>,
         inner: Behaviour,
     ) -> Result<Atom, Memory>
-        ensures tree { IfOk result (λ atom. atom_tree atom ≡ atomic_tree place (right (right (left (behind (both (list_tree (map binding_tree bindings.items)) (behind (behaviour_tree inner)))))))) }
+        ensures tree { IfOk result (λ atom. atom_tree atom
+            ≡ atomic_tree place (right (right (left (behind
+            (both (list_tree (map binding_tree bindings.items)) (behind (behaviour_tree inner)))))))) }
     {
         Ok(Atom::Let {
             place,
@@ -554,7 +569,9 @@ impl Atom {
         brackets: Place,
         inner: Behaviour,
     ) -> Result<Atom, Memory>
-        ensures tree { IfOk result (λ atom. atom_tree atom ≡ atomic_tree place (right (right (right (left (behind (node declarations.place (choice_declarations_tree declarations.list.items (brackets_tree brackets (behaviour_tree inner)))))))))) }
+        ensures tree { IfOk result (λ atom. atom_tree atom
+            ≡ atomic_tree place (right (right (right (left (behind (node declarations.place
+            (choice_declarations_tree declarations.list.items (brackets_tree brackets (behaviour_tree inner)))))))))) }
     {
         Ok(Atom::ChoiceOfValues {
             place,
@@ -572,7 +589,9 @@ impl Atom {
         brackets: Place,
         inner: Behaviour,
     ) -> Result<Atom, Memory>
-        ensures tree { IfOk result (λ atom. atom_tree atom ≡ atomic_tree place (right (right (right (left (behind (choice_gates_tree choices.items (brackets_tree brackets (behaviour_tree inner))))))))) }
+        ensures tree { IfOk result (λ atom. atom_tree atom
+            ≡ atomic_tree place (right (right (right (left (behind
+            (choice_gates_tree choices.items (brackets_tree brackets (behaviour_tree inner))))))))) }
     {
         Ok(Atom::ChoiceOfGates {
             place,
@@ -591,7 +610,9 @@ impl Atom {
         operator: Operator,
         inner: Behaviour,
     ) -> Result<Atom, Memory>
-        ensures tree { IfOk result (λ atom. atom_tree atom ≡ atomic_tree place (right (right (right (right (left (behind (both (leaf gate) (behind (both (gate_list_tree gates) (both (operator_tree operator) (behaviour_tree inner)))))))))))) }
+        ensures tree { IfOk result (λ atom. atom_tree atom
+            ≡ atomic_tree place (right (right (right (right (left (behind (both (leaf gate) (behind
+            (both (gate_list_tree gates) (both (operator_tree operator) (behaviour_tree inner)))))))))))) }
     {
         Ok(Atom::Par {
             place,

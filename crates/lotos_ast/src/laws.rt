@@ -1,6 +1,9 @@
 // What holds of the definitions.
 
-ghost use Rattle.lotos_ast.specs.GrammarLaws.{OneTree, TreeOrFault, OneFault, RulesAreWellFormed, TypesAreWellFormed, StopsAtFirst, FrontsAreViable, SpelledIsRead, ReadWithoutLimits, StopsWithoutLimits, FrontBeforeFault, ReadOrTooDeep, StopsOrTooDeep, LongestIsRead, StopsAtLongest};
+ghost use Rattle.lotos_ast.specs.GrammarLaws.{OneTree, TreeOrFault, OneFault, RulesAreWellFormed, TypesAreWellFormed};
+ghost use Rattle.lotos_ast.specs.GrammarLaws.{StopsAtFirst, FrontsAreViable, SpelledIsRead, ReadWithoutLimits};
+ghost use Rattle.lotos_ast.specs.GrammarLaws.{StopsWithoutLimits, FrontBeforeFault, ReadOrTooDeep, StopsOrTooDeep};
+ghost use Rattle.lotos_ast.specs.GrammarLaws.{LongestIsRead, StopsAtLongest};
 ghost use Rattle.lotos_ast.specs.TokenLaws.{TokensOrRefusal, NotBoth, OneTokenList, OneRefusal};
 
 /// Each text either isn't too long and has one list of tokens, or it has one refusal. The function does nothing.
@@ -14,7 +17,7 @@ pub fn tokens_are_determined()
 
 /// Reading tokens by the grammar has at most one result: a tree and a rest, or a place and a reason at which it stops. The
 /// function does nothing.
-#[tactic(auto, using(crate::proofs::GrammarLaws::one_tree, crate::proofs::GrammarLaws::tree_or_fault, crate::proofs::GrammarLaws::one_fault))]
+#[tactic(auto, using(crate::proofs::GrammarLaws::one_result))]
 pub fn reading_has_at_most_one_result()
     ensures one_tree { OneTree }
     ensures not_both { TreeOrFault }

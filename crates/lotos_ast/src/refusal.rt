@@ -1,7 +1,7 @@
 // Why a text is refused.
 
 ghost use Rattle.std.specs.Prelude.{◌≡◌};
-ghost use Rattle.lotos_ast.specs.Refusals.{number_of};
+ghost use Rattle.lotos_ast.specs.Refusals.{number_of, name_of};
 
 use crate::names::Names;
 use crate::place::Place;
@@ -73,6 +73,41 @@ impl RefusalKind {
             RefusalKind::WrongFunctionality => 25,
             RefusalKind::Unguarded => 26,
             RefusalKind::External => 27,
+        }
+    }
+
+    /// The name by which a refusal of this kind is printed. It takes no memory.
+    pub fn name(self) -> &'static str
+        ensures { result.now ≡ name_of self }
+    {
+        match self {
+            RefusalKind::BadByte => "BadByte",
+            RefusalKind::OpenComment => "OpenComment",
+            RefusalKind::Unexpected => "Unexpected",
+            RefusalKind::TooDeep => "TooDeep",
+            RefusalKind::TooLong => "TooLong",
+            RefusalKind::UnknownType => "UnknownType",
+            RefusalKind::TypeCycle => "TypeCycle",
+            RefusalKind::UnknownSort => "UnknownSort",
+            RefusalKind::DuplicateName => "DuplicateName",
+            RefusalKind::BadRenaming => "BadRenaming",
+            RefusalKind::BadActual => "BadActual",
+            RefusalKind::UnknownName => "UnknownName",
+            RefusalKind::NoReading => "NoReading",
+            RefusalKind::Ambiguous => "Ambiguous",
+            RefusalKind::ConstructorHasEquation => "ConstructorHasEquation",
+            RefusalKind::PatternHasDefined => "PatternHasDefined",
+            RefusalKind::NotLeftLinear => "NotLeftLinear",
+            RefusalKind::LooseVariable => "LooseVariable",
+            RefusalKind::Overlap => "Overlap",
+            RefusalKind::NotDecreasing => "NotDecreasing",
+            RefusalKind::NotCovered => "NotCovered",
+            RefusalKind::UnknownGate => "UnknownGate",
+            RefusalKind::UnknownProcess => "UnknownProcess",
+            RefusalKind::WrongCount => "WrongCount",
+            RefusalKind::WrongFunctionality => "WrongFunctionality",
+            RefusalKind::Unguarded => "Unguarded",
+            RefusalKind::External => "External",
         }
     }
 }

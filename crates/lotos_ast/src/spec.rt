@@ -90,7 +90,10 @@ impl Process {
         behaviour: Behaviour,
         items: Option<Vec<WhereItem>>,
     ) -> Process
-        ensures tree { process_tree result ≡ node place (behind (both (leaf name) (both (optional_gates_tree gates) (both (parameters_tree parameters) (behind (both (functionality_tree functionality) (behind (both (behaviour_tree behaviour) (both (items_tree items) unkept))))))))) }
+        ensures tree { process_tree result
+            ≡ node place (behind (both (leaf name) (both (optional_gates_tree gates) (both (parameters_tree parameters)
+            (behind (both (functionality_tree functionality)
+            (behind (both (behaviour_tree behaviour) (both (items_tree items) unkept))))))))) }
     {
         Process {
             place,

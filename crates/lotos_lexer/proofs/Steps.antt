@@ -45,3 +45,6 @@ stop_at_byte text all opened p s b r h c e = subst (λ z. IsStopped Bool.false s
 
 pub stop_at_comment : (text : List ℕ) (all : List Token) (opened : Bool) (p : Place) (s : List ℕ) (r : Refusal) → Reading text all opened p s → first_piece opened s ≡ unclosed → r ≡ open_comment p → IsStopped Bool.false start_place text r
 stop_at_comment text all opened p s r h c e = subst (λ z. IsStopped Bool.false start_place text z) (sym e) (h.refusal (open_comment p) (at_comment c))
+
+-- the steps and the three ends
+pub ruleset steps = (begin, over_gap, over_token, finish, stop_at_byte, stop_at_comment)

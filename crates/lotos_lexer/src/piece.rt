@@ -3,7 +3,8 @@
 ghost use Rattle.std.specs.Prelude.{◌≡◌, ◌+◌, ◌<◌, ◌≤◌, length, take};
 ghost use Rattle.std.specs.List.{prefix_len};
 ghost use Rattle.lotos_ast.specs.Bytes.{is_operation_byte};
-ghost use Rattle.lotos_ast.specs.Pieces.{first_piece, word_piece, operation_piece, symbol_piece, comment_piece, comment_mark, comment_length, marked, word_rest, first_length, symbols_where};
+ghost use Rattle.lotos_ast.specs.Pieces.{first_piece, word_piece, operation_piece, symbol_piece, comment_piece};
+ghost use Rattle.lotos_ast.specs.Pieces.{comment_mark, comment_length, marked, word_rest, first_length, symbols_where};
 ghost use Rattle.lotos_lexer.specs.Pieces.{piece_of, IsWithin};
 
 use crate::bytes::{is_blank, is_letter_or_digit, is_operation_byte};

@@ -43,7 +43,7 @@ pub fn tokens(alloc: Global, text: &[u8]) -> Result<Vec<Token>, FrontFault>
 }
 
 // The tokens of a text that isn't too long.
-#[tactic(auto, using(crate::proofs::Steps::begin, crate::proofs::Steps::over_gap, crate::proofs::Steps::over_token, crate::proofs::Steps::finish, crate::proofs::Steps::stop_at_byte, crate::proofs::Steps::stop_at_comment))]
+#[tactic(auto, using(crate::proofs::Steps::steps))]
 fn spelled_tokens(alloc: Global, text: &[u8]) -> Result<Vec<Token>, FrontFault>
     requires { length text.now ≤ text_limit }
     ensures tokens { IfOk result (λ all. Tokenizes text.now all.items) }

@@ -1,2 +1,0 @@
-mod OneAnswer
-mod Steps
