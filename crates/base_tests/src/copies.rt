@@ -32,6 +32,14 @@ fn a_specification_is_copied_whole(rt: HostRuntime) -> Result<(), Fail> {
     };
     let copied = checked.copy(alloc)?;
     assert_eq!(rt; copied.code.len(), 2);
+    let guarded = match &copied.code[1] {
+        CodeNode::Act {
+            guard: Some((left, right)),
+            ..
+        } => left.same(&Term::Var(0)) && right.same(&constant(alloc, ZERO)),
+        _ => false,
+    };
+    assert!(rt; guarded);
     assert_eq!(rt; copied.algebra.equations.len(), 5);
     assert_eq!(rt; copied.start, 1);
     Ok(())

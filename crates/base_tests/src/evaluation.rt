@@ -2,7 +2,7 @@
 
 use crate::naturals::{ACK, DUP, SUCC, naturals, number};
 use crate::samples::{binary, unary};
-use spec_core::plain_evaluation::{EvaluationFault, plain_value};
+use plain_evaluation::{EvaluationFault, plain_value};
 use spec_core::term::Term;
 use std::test::Fail;
 

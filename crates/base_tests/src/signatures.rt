@@ -26,5 +26,6 @@ fn items_are_found_by_name_and_sorts(rt: HostRuntime) -> Result<(), Fail> {
     assert_eq!(rt; signature.op("_EQ_", &[BOOL, BOOL], BOOL), Some(Op(1)));
     assert_eq!(rt; signature.op("_eq_", &[NAT, BOOL], BOOL), None);
     assert_eq!(rt; signature.op("_eq_", &[NAT, NAT], NAT), None);
+    assert_eq!(rt; signature.op("_eq_", &[], BOOL), None);
     Ok(())
 }

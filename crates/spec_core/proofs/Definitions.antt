@@ -9,7 +9,8 @@ use Rattle.spec_core.specs.Orthogonality.{HasPatterns}
 use Rattle.spec_core.specs.Order.{IsInside, IsInsideAny, IsSmaller, IsBelow, itself}
 use Rattle.spec_core.specs.Executable.{IsExecutable}
 use Rattle.spec_core.specs.Windows.{IsLess, IsBefore, IsInOrder}
-use Rattle.spec_core.specs.Laws.{ConstructorsKeepValues, ValuesEvaluateToThemselves, ValuesAreGround, PartsOfArgumentsAreBelow, LeftSidesAreNotBelowThemselves, WindowsHoldGroundTerms, WindowsAreInOrder}
+use Rattle.spec_core.specs.Laws.{ConstructorsKeepValues, ValuesEvaluateToThemselves, ValuesAreGround, PartsOfArgumentsAreBelow}
+use Rattle.spec_core.specs.Laws.{LeftSidesAreNotBelowThemselves, WindowsHoldGroundTerms, WindowsAreInOrder}
 
 -- what follows from P for each element
 each_implied : {A : Type 0} {P Q : A → Type 0} → ((x : A) → P x → Q x) → (xs : List A) → Each P xs → Each Q xs
@@ -27,13 +28,16 @@ heads_none theory ex f (inl h) = h
 heads_none theory ex f (inr marked) = each_implied (λ e h heads. h f heads marked) theory.equations ex.orthogonal.unmarked
 
 -- no call of such an operation is an instance of a left side
-not_like : (theory : Theory) (e : ConditionalEquation) (f : ℕ) (vs : TermTrees) → HasPatterns theory e → (Heads f e → ⊥) → (s : ℕ → TermTree) → instance s e.left ≡ apply f vs → ⊥
+not_like : (theory : Theory) (e : ConditionalEquation) (f : ℕ) (vs : TermTrees) →
+    HasPatterns theory e → (Heads f e → ⊥) → (s : ℕ → TermTree) → instance s e.left ≡ apply f vs → ⊥
 not_like theory e f vs (g, ps, left, patterns) no_head s q =
     let k : apply g (instances s ps) ≡ apply f vs = ap (instance s) (sym left) ∙ q in
     let same : g ≡ f = cc in
     no_head (ps, subst (λ h. e.left ≡ apply h ps) same left)
 
-tries_none : (theory : Theory) (f : ℕ) (vs : TermTrees) → IsConstructor theory f → (es : List ConditionalEquation) → Each (HasPatterns theory) es → Each (λ e. Heads f e → ⊥) es → Tries theory es f vs (apply f vs) 0
+tries_none : (theory : Theory) (f : ℕ) (vs : TermTrees) →
+    IsConstructor theory f → (es : List ConditionalEquation) → Each (HasPatterns theory) es → Each (λ e. Heads f e → ⊥) es →
+    Tries theory es f vs (apply f vs) 0
 tries_none theory f vs c [] ps hs = final c refl refl
 tries_none theory f vs c (e ∷ es) ps hs = unlike (not_like theory e f vs ps.0 hs.0) (tries_none theory f vs c es ps.1 hs.1)
 

@@ -13,7 +13,9 @@ use Rattle.spec_core.specs.Cover.{IsConstant, IsAfter, empty_one, by_constants, 
 use Rattle.spec_core.specs.Laws.{BooleansAreExecutable, OppositePremisesAreFull}
 use Rattle.spec_core.proofs.Lists.{untrue}
 
-negation_fits : (given result : ℕ) → HasSort booleans no_variables (constant given) 0 → HasSort booleans no_variables (constant result) 0 → EquationFits booleans (negation given result)
+negation_fits : (given result : ℕ) →
+    HasSort booleans no_variables (constant given) 0 → HasSort booleans no_variables (constant result) 0 →
+    EquationFits booleans (negation given result)
 negation_fits given result g r = record {
   one_name_each = refl;
   sorts = tt;
@@ -37,11 +39,15 @@ not_is_defined (inr marked) = untrue marked
 no_loose : (given result : ℕ) → HasNoLooseVariables (negation given result)
 no_loose given result = record { right = λ x o. absurd o; premises = λ x o. absurd o }
 
-decreases : (given result : ℕ) → IsConstructor booleans result → (f : ℕ) (ps : TermTrees) → (negation given result).left ≡ apply f ps → Decreases booleans f ps (negation given result)
+decreases : (given result : ℕ) →
+    IsConstructor booleans result → (f : ℕ) (ps : TermTrees) → (negation given result).left ≡ apply f ps →
+    Decreases booleans f ps (negation given result)
 decreases given result c f ps e = record { right = inr (tt, inl c); asked = tt }
 
 -- each value of the sort is one of the two constants
-two_values : (v : TermTree) → HaveSorts booleans no_variables (and_term v no_terms) (0 ∷ []) → AreConstructed booleans (and_term v no_terms) → (v ≡ constant 0) ⊎ (v ≡ constant 1)
+two_values : (v : TermTree) →
+    HaveSorts booleans no_variables (and_term v no_terms) (0 ∷ []) → AreConstructed booleans (and_term v no_terms) →
+    (v ≡ constant 0) ⊎ (v ≡ constant 1)
 two_values (variable x) h c = absurd c.0
 two_values (apply zero no_terms) h c = inl refl
 two_values (apply zero (and_term t ts)) h c = absurd h.0.1
@@ -51,7 +57,8 @@ two_values (apply (suc (suc zero)) ts) h c = absurd (not_is_defined c.0.0)
 two_values (apply (suc (suc (suc f))) ts) h c = absurd h.0
 
 -- each of the two equations makes a group of its own
-covered_call : (given result : ℕ) → IsGroup booleans (negation given result).left ([] ∷ []) → IsCoveredCall booleans (negation given result).left
+covered_call : (given result : ℕ) →
+    IsGroup booleans (negation given result).left ([] ∷ []) → IsCoveredCall booleans (negation given result).left
 covered_call given result group = record {
   left = (negation given result).left;
   bound = λ x. constant 0;
@@ -98,7 +105,10 @@ booleans_are_executable = record {
   };
   orthogonal = record {
     unmarked = (unmarked 0 1, (unmarked 1 0, tt));
-    patterns = ((2, and_term (constant 0) no_terms, refl, ((inr refl, tt), tt)), ((2, and_term (constant 1) no_terms, refl, ((inr refl, tt), tt)), tt));
+    patterns = (
+      (2, and_term (constant 0) no_terms, refl, ((inr refl, tt), tt)),
+      ((2, and_term (constant 1) no_terms, refl, ((inr refl, tt), tt)), tt),
+    );
     linear = ((tt, (λ x o. absurd o), tt), ((tt, (λ x o. absurd o), tt), tt));
     closed = (no_loose 0 1, (no_loose 1 0, tt));
     apart = ((inl (λ s z e. let h : ◌≡◌ {A = ℕ} 0 1 = cc in absurd (omega (arith, h))), tt), (tt, tt));
@@ -109,13 +119,17 @@ booleans_are_executable = record {
 
 pub opposite_premises_are_full : OppositePremisesAreFull
 opposite_premises_are_full theory vars t sort c d sorted constants of_c of_d only =
-    by_constants t sort sorted constants ((c, (of_c, inl refl)), ((d, (of_d, inl refl)), tt)) (λ k constant_k rest after. empty_one (go k constant_k rest after))
+    by_constants t sort sorted constants ((c, (of_c, inl refl)), ((d, (of_d, inl refl)), tt))
+    (λ k constant_k rest after. empty_one (go k constant_k rest after))
   where
-    go : (k : ℕ) → IsConstant theory sort k → (rest : List (List Premise)) → IsAfter theory t k ((premise t (constant c) ∷ []) ∷ (premise t (constant d) ∷ []) ∷ []) rest → OneOf (λ l. l ≡ []) rest
+    go : (k : ℕ) →
+        IsConstant theory sort k → (rest : List (List Premise)) →
+        IsAfter theory t k ((premise t (constant c) ∷ []) ∷ (premise t (constant d) ∷ []) ∷ []) rest → OneOf (λ l. l ≡ []) rest
     go k constant_k rest (inl (gives, (more, e, after))) = subst (OneOf (λ l. l ≡ [])) (sym e) (inl refl)
     go k constant_k rest (inr (not_c, inl (gives, (more, e, after)))) = subst (OneOf (λ l. l ≡ [])) (sym e) (inl refl)
     go k constant_k rest (inr (not_c, inr (not_d, e))) = neither (only k constant_k) not_c not_d
       where
-        neither : (k ≡ c) ⊎ (k ≡ d) → (Gives theory (premise t (constant c)) t k → ⊥) → (Gives theory (premise t (constant d)) t k → ⊥) → OneOf (λ l. l ≡ []) rest
+        neither : (k ≡ c) ⊎ (k ≡ d) →
+            (Gives theory (premise t (constant c)) t k → ⊥) → (Gives theory (premise t (constant d)) t k → ⊥) → OneOf (λ l. l ≡ []) rest
         neither (inl same) a b = absurd (a (constant_k.0, inl (ap (λ n. premise t (constant n)) (sym same))))
         neither (inr same) a b = absurd (b (constant_k.0, inl (ap (λ n. premise t (constant n)) (sym same))))

@@ -38,14 +38,17 @@ module _ (theory : Theory) (tight : Each HasNoLooseVariables theory.equations) w
         let y = one_try b tight us x.0 d in
         (y.0, omega (arith, x.1, y.1))
 
-    pub one_values : {ts vs : TermTrees} {n : ℕ} → EvaluatesAll theory ts vs n → {ws : TermTrees} {m : ℕ} → EvaluatesAll theory ts ws m → (vs ≡ ws) × (n ≡ m)
+    pub one_values : {ts vs : TermTrees} {n : ℕ} →
+        EvaluatesAll theory ts vs n → {ws : TermTrees} {m : ℕ} → EvaluatesAll theory ts ws m → (vs ≡ ws) × (n ≡ m)
     one_values (none e) (none f) = (refl, omega arith)
     one_values (more n m a b e) (more i j c d f) =
         let x = one_value a c in
         let y = one_values b d in
         (cc, omega (arith, x.1, y.1))
 
-    one_try : {es : List ConditionalEquation} {f : ℕ} {vs : TermTrees} {v : TermTree} {n : ℕ} → Tries theory es f vs v n → Each HasNoLooseVariables es → (us : TermTrees) → vs ≡ us → {w : TermTree} {m : ℕ} → Tries theory es f us w m → (v ≡ w) × (n ≡ m)
+    one_try : {es : List ConditionalEquation} {f : ℕ} {vs : TermTrees} {v : TermTree} {n : ℕ} →
+        Tries theory es f vs v n → Each HasNoLooseVariables es → (us : TermTrees) → vs ≡ us → {w : TermTree} {m : ℕ} →
+        Tries theory es f us w m → (v ≡ w) × (n ≡ m)
     one_try (final i e k) t us q (final j g l) = (cc, omega arith)
     one_try (unlike h a) t us q (unlike i b) = one_try a t.1 us q b
     one_try (unlike h a) t us q (like s i b) = absurd (h s (cc))
@@ -56,7 +59,12 @@ module _ (theory : Theory) (tight : Each HasNoLooseVariables theory.equations) w
         (λ x o. agree s z e.left g x (t.0.right x o))
         (λ x o. agree s z e.left g x (t.0.premises x o)) b
 
-    one_ask : {ps : List Premise} {r : TermTree} {s : ℕ → TermTree} {es : List ConditionalEquation} {f : ℕ} {vs : TermTrees} {v : TermTree} {n : ℕ} → Asks theory ps r s es f vs v n → Each HasNoLooseVariables es → (us : TermTrees) → vs ≡ us → (z : ℕ → TermTree) → ((x : ℕ) → Occurs x r → s x ≡ z x) → ((x : ℕ) → OccursInPremises x ps → s x ≡ z x) → {w : TermTree} {m : ℕ} → Asks theory ps r z es f us w m → (v ≡ w) × (n ≡ m)
+    one_ask :
+        {ps : List Premise} {r : TermTree} {s : ℕ → TermTree} {es : List ConditionalEquation} {f : ℕ} {vs : TermTrees} {v : TermTree}
+        {n : ℕ} →
+        Asks theory ps r s es f vs v n → Each HasNoLooseVariables es → (us : TermTrees) → vs ≡ us → (z : ℕ → TermTree) →
+        ((x : ℕ) → Occurs x r → s x ≡ z x) → ((x : ℕ) → OccursInPremises x ps → s x ≡ z x) → {w : TermTree} {m : ℕ} →
+        Asks theory ps r z es f us w m → (v ≡ w) × (n ≡ m)
     one_ask {r = r} {s = s} (used n a e) t us q z hr hp {w = w} (used m b g) =
         let x = one_value a (subst (λ i. Evaluates theory i w m) (sym (same_instance s z r hr)) b) in
         (x.0, omega (arith, x.1))

@@ -23,7 +23,8 @@ lengths (x ∷ xs) (y ∷ ys) e =
     let r = lengths xs ys t in
     grind arith
 
-pub same_at : (xs ys : List Term) (i : ℕ) (d e : Term) → terms (map term_of xs) ≡ terms (map term_of ys) → i < length xs → term_of (get_or xs i d) ≡ term_of (get_or ys i e)
+pub same_at : (xs ys : List Term) (i : ℕ) (d e : Term) →
+    terms (map term_of xs) ≡ terms (map term_of ys) → i < length xs → term_of (get_or xs i d) ≡ term_of (get_or ys i e)
 same_at xs ys i d e same within =
     let n = lengths xs ys same in
     let within' : i < length ys = omega arith in

@@ -10,7 +10,8 @@ use Rattle.spec_core.specs.declared.code.ActField.TheVariants.{Give, Take}
 use Rattle.spec_core.specs.declared.code.GateSet.{GateSet}
 use Rattle.spec_core.specs.declared.code.GateSet.TheVariants.{Every, These}
 use Rattle.spec_core.specs.declared.code.CodeNode.{CodeNode}
-use Rattle.spec_core.specs.declared.code.CodeNode.TheVariants.{Stop, Exit, Inner, Act, Choice, Guard, Let, Values, Gates, Par, Hide, Enable, Disable, Call, Relabel, Process}
+use Rattle.spec_core.specs.declared.code.CodeNode.TheVariants.{Stop, Exit, Inner, Act, Choice, Guard, Let, Values, Gates, Par, Hide, Enable}
+use Rattle.spec_core.specs.declared.code.CodeNode.TheVariants.{Disable, Call, Relabel, Process}
 use Rattle.spec_core.specs.declared.code.Checked.{Checked}
 use Rattle.spec_core.specs.Numbers.{gate_number}
 use Rattle.spec_core.specs.Terms.{TermTree, term_of}

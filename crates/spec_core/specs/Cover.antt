@@ -14,7 +14,8 @@ IsConstant theory sort c = IsConstructor theory c × OnSome (slice_get theory.op
 
 -- all constructors of the sort are constants
 abbrev pub HasConstants : Theory → ℕ → Type 0
-HasConstants theory sort = (c : ℕ) (d : Operation) → slice_get theory.operations c ≡ Some d → IsConstructor theory c → d.result ≡ sort → d.args ≡ []
+HasConstants theory sort =
+    (c : ℕ) (d : Operation) → slice_get theory.operations c ≡ Some d → IsConstructor theory c → d.result ≡ sort → d.args ≡ []
 
 -- each list begins with a premise that gives the term a constant
 abbrev pub BeginWithConstants : Theory → TermTree → List (List Premise) → Type 0
@@ -26,14 +27,21 @@ BeginWithConstants theory t ((p ∷ ps) ∷ ls) = ((c : ℕ) × Gives theory p t
 abbrev pub IsAfter : Theory → TermTree → ℕ → List (List Premise) → List (List Premise) → Type 0
 IsAfter theory t c [] rest = rest ≡ []
 IsAfter theory t c ([] ∷ ls) rest = ⊥
-IsAfter theory t c ((p ∷ ps) ∷ ls) rest = (Gives theory p t c × ((more : List (List Premise)) × (rest ≡ ps ∷ more) × IsAfter theory t c ls more)) ⊎ ((Gives theory p t c → ⊥) × IsAfter theory t c ls rest)
+IsAfter theory t c ((p ∷ ps) ∷ ls) rest =
+    (Gives theory p t c × ((more : List (List Premise)) × (rest ≡ ps ∷ more) × IsAfter theory t c ls more)) ⊎
+    ((Gives theory p t c → ⊥) × IsAfter theory t c ls rest)
 
 -- a full set of lists of premises, over variables of these sorts: one of the lists is empty; or all begin by giving one term a
 -- constant, all constructors of its sort are constants, and for each of these the lists that begin with it are full without that
 -- premise
 pub data IsFull (theory : Theory) (vars : ℕ → Option ℕ) : List (List Premise) → Type 0 where
   empty_one : {ls : List (List Premise)} → OneOf (λ l. l ≡ []) ls → IsFull theory vars ls
-  by_constants : {l : List Premise} {ls : List (List Premise)} (t : TermTree) (sort : ℕ) → HasSort theory vars t sort → HasConstants theory sort → BeginWithConstants theory t (l ∷ ls) → ((c : ℕ) → IsConstant theory sort c → (rest : List (List Premise)) → IsAfter theory t c (l ∷ ls) rest → IsFull theory vars rest) → IsFull theory vars (l ∷ ls)
+  by_constants : {l : List Premise} {ls : List (List Premise)} (t : TermTree) (sort : ℕ) →
+      HasSort theory vars t sort →
+      HasConstants theory sort →
+      BeginWithConstants theory t (l ∷ ls) →
+      ((c : ℕ) → IsConstant theory sort c → (rest : List (List Premise)) → IsAfter theory t c (l ∷ ls) rest → IsFull theory vars rest) →
+      IsFull theory vars (l ∷ ls)
 
 -- the premises of an equation whose left side is this one, up to names of variables
 abbrev pub IsOfGroup : TermTree → List Premise → ConditionalEquation → Type 0
@@ -42,7 +50,8 @@ IsOfGroup l ps e = (r : ℕ → ℕ) × (instance (λ x. variable (r x)) e.left 
 -- the lists of the group: each belongs to an equation of it, and each such equation gives one
 pub record IsGroup (theory : Theory) (l : TermTree) (ls : List (List Premise)) : Type 0 where
   pub from_equations : Each (λ ps. OneOf (IsOfGroup l ps) theory.equations) ls
-  pub all_equations : Each (λ e. (r : ℕ → ℕ) → instance (λ x. variable (r x)) e.left ≡ l → OneOf (λ ps. IsOfGroup l ps e) ls) theory.equations
+  pub all_equations :
+      Each (λ e. (r : ℕ → ℕ) → instance (λ x. variable (r x)) e.left ≡ l → OneOf (λ ps. IsOfGroup l ps e) ls) theory.equations
 
 -- the call matches a left side, by terms of the right sorts, whose group is full
 pub record IsCoveredCall (theory : Theory) (call : TermTree) : Type 0 where
@@ -57,4 +66,9 @@ pub record IsCoveredCall (theory : Theory) (call : TermTree) : Type 0 where
 
 -- every tuple of ground constructor terms matches a left side of a full group
 abbrev pub IsCovered : Theory → Type 0
-IsCovered theory = (f : ℕ) (vs : TermTrees) → (IsConstructor theory f → ⊥) → OnSome (slice_get theory.operations f) (λ d. HaveSorts theory no_variables vs d.args) → AreConstructed theory vs → IsCoveredCall theory (apply f vs)
+IsCovered theory =
+    (f : ℕ) (vs : TermTrees) →
+    (IsConstructor theory f → ⊥) →
+    OnSome (slice_get theory.operations f) (λ d. HaveSorts theory no_variables vs d.args) →
+    AreConstructed theory vs →
+    IsCoveredCall theory (apply f vs)

@@ -17,18 +17,33 @@ mutual
     by_reflexivity : {t : TermTree} → FitsGround theory t → Equal theory t t
     by_symmetry : {a b : TermTree} → Equal theory b a → Equal theory a b
     by_transitivity : {a b : TermTree} (c : TermTree) → Equal theory a c → Equal theory c b → Equal theory a b
-    by_congruence : {f : ℕ} {ts us : TermTrees} → FitsGround theory (apply f ts) → AreEqual theory ts us → Equal theory (apply f ts) (apply f us)
-    by_equation : {a b : TermTree} (e : ConditionalEquation) (s : ℕ → TermTree) → IsOneOf e theory.equations → IsGroundFor theory e s → PremisesHold theory s e.premises → a ≡ instance s e.left → b ≡ instance s e.right → Equal theory a b
+    by_congruence : {f : ℕ} {ts us : TermTrees} →
+        FitsGround theory (apply f ts) →
+        AreEqual theory ts us →
+        Equal theory (apply f ts) (apply f us)
+    by_equation : {a b : TermTree} (e : ConditionalEquation) (s : ℕ → TermTree) →
+        IsOneOf e theory.equations →
+        IsGroundFor theory e s →
+        PremisesHold theory s e.premises →
+        a ≡ instance s e.left →
+        b ≡ instance s e.right →
+        Equal theory a b
 
   -- term by term
   pub data AreEqual (theory : Theory) : TermTrees → TermTrees → Type 0 where
     none_equal : AreEqual theory no_terms no_terms
-    more_equal : {t u : TermTree} {ts us : TermTrees} → Equal theory t u → AreEqual theory ts us → AreEqual theory (and_term t ts) (and_term u us)
+    more_equal : {t u : TermTree} {ts us : TermTrees} →
+        Equal theory t u →
+        AreEqual theory ts us →
+        AreEqual theory (and_term t ts) (and_term u us)
 
   -- the sides of each premise's instance are equal
   pub data PremisesHold (theory : Theory) : (ℕ → TermTree) → List Premise → Type 0 where
     none_asked : {s : ℕ → TermTree} → PremisesHold theory s []
-    more_asked : {s : ℕ → TermTree} {a b : TermTree} {ps : List Premise} → Equal theory (instance s a) (instance s b) → PremisesHold theory s ps → PremisesHold theory s (premise a b ∷ ps)
+    more_asked : {s : ℕ → TermTree} {a b : TermTree} {ps : List Premise} →
+        Equal theory (instance s a) (instance s b) →
+        PremisesHold theory s ps →
+        PremisesHold theory s (premise a b ∷ ps)
 
 -- a proof of an equality, as a tree
 mutual
@@ -49,13 +64,20 @@ abbrev mutual
   Concludes theory (reflexivity t) a b = FitsGround theory t × (a ≡ t) × (b ≡ t)
   Concludes theory (symmetry p) a b = Concludes theory p b a
   Concludes theory (transitivity p q) a b = (c : TermTree) × Concludes theory p a c × Concludes theory q c b
-  Concludes theory (congruence f ps) a b = (ts us : TermTrees) × (a ≡ apply f ts) × (b ≡ apply f us) × FitsGround theory (apply f ts) × ConcludeAll theory ps ts us
-  Concludes theory (equation_instance e s ps) a b = IsOneOf e theory.equations × IsGroundFor theory e s × ConcludePremises theory ps s e.premises × (a ≡ instance s e.left) × (b ≡ instance s e.right)
+  Concludes theory (congruence f ps) a b =
+      (ts us : TermTrees) × (a ≡ apply f ts) × (b ≡ apply f us) × FitsGround theory (apply f ts) × ConcludeAll theory ps ts us
+  Concludes theory (equation_instance e s ps) a b =
+      IsOneOf e theory.equations × IsGroundFor theory e s × ConcludePremises theory ps s e.premises × (a ≡ instance s e.left) ×
+      (b ≡ instance s e.right)
 
   pub ConcludeAll : Theory → EqualityProofs → TermTrees → TermTrees → Type 0
   ConcludeAll theory no_proofs ts us = (ts ≡ no_terms) × (us ≡ no_terms)
-  ConcludeAll theory (and_proof p ps) ts us = (t u : TermTree) × (vs ws : TermTrees) × (ts ≡ and_term t vs) × (us ≡ and_term u ws) × Concludes theory p t u × ConcludeAll theory ps vs ws
+  ConcludeAll theory (and_proof p ps) ts us =
+      (t u : TermTree) × (vs ws : TermTrees) × (ts ≡ and_term t vs) × (us ≡ and_term u ws) × Concludes theory p t u ×
+      ConcludeAll theory ps vs ws
 
   pub ConcludePremises : Theory → EqualityProofs → (ℕ → TermTree) → List Premise → Type 0
   ConcludePremises theory no_proofs s asked = asked ≡ []
-  ConcludePremises theory (and_proof p ps) s asked = (l r : TermTree) × (rest : List Premise) × (asked ≡ premise l r ∷ rest) × Concludes theory p (instance s l) (instance s r) × ConcludePremises theory ps s rest
+  ConcludePremises theory (and_proof p ps) s asked =
+      (l r : TermTree) × (rest : List Premise) × (asked ≡ premise l r ∷ rest) × Concludes theory p (instance s l) (instance s r) ×
+      ConcludePremises theory ps s rest

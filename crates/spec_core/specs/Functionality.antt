@@ -5,7 +5,9 @@ use Rattle.spec_core.specs.Lists.{Each, IsOneOf}
 use Rattle.spec_core.specs.Terms.{TermTree}
 use Rattle.spec_core.specs.Theories.{Premise, Theory}
 use Rattle.spec_core.specs.Sorts.{HasSort, PremiseFits, IsDeclaredSort, no_variables}
-use Rattle.spec_core.specs.Code.{Variable, Binding, Relabelling, ExitValue, exit_given, exit_any, ActionField, give, accept, Synchronised, every_gate, these_gates, Node, stop, exit, inner, action, choice, guarded, bound, value_choice, gate_choice, parallel, hide, enable, disable, call, relabel, process, Program}
+use Rattle.spec_core.specs.Code.{Variable, Binding, Relabelling, ExitValue, exit_given, exit_any, ActionField, give, accept, Synchronised}
+use Rattle.spec_core.specs.Code.{every_gate, these_gates, Node, stop, exit, inner, action, choice, guarded, bound, value_choice}
+use Rattle.spec_core.specs.Code.{gate_choice, parallel, hide, enable, disable, call, relabel, process, Program}
 
 -- how a behaviour may end: never, or with values of these sorts
 pub data Functionality : Type 0 where
@@ -65,7 +67,8 @@ GuardFits theory vars (Some p) = PremiseFits theory vars p
 abbrev pub ExitsWith : Theory → (ℕ → Option ℕ) → List ExitValue → List ℕ → Type 0
 ExitsWith theory vars [] [] = Unit {0}
 ExitsWith theory vars (exit_given t ∷ fields) (sort ∷ sorts) = HasSort theory vars t sort × ExitsWith theory vars fields sorts
-ExitsWith theory vars (exit_any any ∷ fields) (sort ∷ sorts) = (any ≡ sort) × IsDeclaredSort theory sort × ExitsWith theory vars fields sorts
+ExitsWith theory vars (exit_any any ∷ fields) (sort ∷ sorts) =
+    (any ≡ sort) × IsDeclaredSort theory sort × ExitsWith theory vars fields sorts
 ExitsWith theory vars [] (sort ∷ sorts) = ⊥
 ExitsWith theory vars (field ∷ fields) [] = ⊥
 
@@ -99,25 +102,86 @@ RelabellingFits program gates m = IsGateInScope program gates m.to
 -- have their sorts, its calls fit the processes that they call, and the part has this functionality
 mutual
   pub data HasFunctionality (program : Program) (processes : ℕ → Functionality) : List ℕ → (ℕ → Option ℕ) → ℕ → Functionality → Type 0 where
-    at_node : {gates : List ℕ} {vars : ℕ → Option ℕ} {part : ℕ} {f : Functionality} (node : Node) → slice_get program.code part ≡ Some node → NodeFits program processes gates vars node f → HasFunctionality program processes gates vars part f
+    at_node : {gates : List ℕ} {vars : ℕ → Option ℕ} {part : ℕ} {f : Functionality} (node : Node) →
+        slice_get program.code part ≡ Some node →
+        NodeFits program processes gates vars node f →
+        HasFunctionality program processes gates vars part f
 
   pub data NodeFits (program : Program) (processes : ℕ → Functionality) : List ℕ → (ℕ → Option ℕ) → Node → Functionality → Type 0 where
     stop_fits : {gates : List ℕ} {vars : ℕ → Option ℕ} → NodeFits program processes gates vars stop noexit
-    exit_fits : {gates : List ℕ} {vars : ℕ → Option ℕ} {fields : List ExitValue} {sorts : List ℕ} → ExitsWith program.theory vars fields sorts → NodeFits program processes gates vars (exit fields) (exits sorts)
-    inner_fits : {gates : List ℕ} {vars : ℕ → Option ℕ} {part : ℕ} {f : Functionality} → HasFunctionality program processes gates vars part f → NodeFits program processes gates vars (inner part) f
-    action_fits : {gates : List ℕ} {vars : ℕ → Option ℕ} {g : ℕ} {fields : List ActionField} {guard : Option Premise} {rest : ℕ} {f : Functionality} → IsGateInScope program gates g → Each (FieldFits program.theory vars) fields → GuardFits program.theory (with_variables (accepted fields) vars) guard → HasFunctionality program processes gates (with_variables (accepted fields) vars) rest f → NodeFits program processes gates vars (action g fields guard rest) f
-    choice_fits : {gates : List ℕ} {vars : ℕ → Option ℕ} {left right : ℕ} {whole : Functionality} (f g : Functionality) → HasFunctionality program processes gates vars left f → HasFunctionality program processes gates vars right g → IsEither f g whole → NodeFits program processes gates vars (choice left right) whole
-    guarded_fits : {gates : List ℕ} {vars : ℕ → Option ℕ} {p : Premise} {part : ℕ} {f : Functionality} → PremiseFits program.theory vars p → HasFunctionality program processes gates vars part f → NodeFits program processes gates vars (guarded p part) f
-    bound_fits : {gates : List ℕ} {vars : ℕ → Option ℕ} {bindings : List Binding} {part : ℕ} {f : Functionality} → Each (BindingFits program.theory vars) bindings → HasFunctionality program processes gates (with_variables (bound_variables bindings) vars) part f → NodeFits program processes gates vars (bound bindings part) f
-    value_choice_fits : {gates : List ℕ} {vars : ℕ → Option ℕ} {x : Variable} {part : ℕ} {f : Functionality} → VariableFits program.theory x → HasFunctionality program processes gates (with_variable x vars) part f → NodeFits program processes gates vars (value_choice x part) f
-    gate_choice_fits : {gates : List ℕ} {vars : ℕ → Option ℕ} {g : ℕ} {among : List ℕ} {part : ℕ} {f : Functionality} → AreGatesInScope program gates among → HasFunctionality program processes (g ∷ gates) vars part f → NodeFits program processes gates vars (gate_choice g among part) f
-    parallel_fits : {gates : List ℕ} {vars : ℕ → Option ℕ} {synchronised : Synchronised} {left right : ℕ} {whole : Functionality} (f g : Functionality) → SynchronisedFits program gates synchronised → HasFunctionality program processes gates vars left f → HasFunctionality program processes gates vars right g → IsBoth f g whole → NodeFits program processes gates vars (parallel synchronised left right) whole
-    hide_fits : {gates : List ℕ} {vars : ℕ → Option ℕ} {hidden : List ℕ} {part : ℕ} {f : Functionality} → HasFunctionality program processes (hidden ++ gates) vars part f → NodeFits program processes gates vars (hide hidden part) f
-    enable_fits : {gates : List ℕ} {vars : ℕ → Option ℕ} {left right : ℕ} {xs : List Variable} {g : Functionality} (f : Functionality) → HasFunctionality program processes gates vars left f → Accepts f xs → Each (VariableFits program.theory) xs → HasFunctionality program processes gates (with_variables xs vars) right g → NodeFits program processes gates vars (enable left xs right) g
-    disable_fits : {gates : List ℕ} {vars : ℕ → Option ℕ} {left right : ℕ} {whole : Functionality} (f g : Functionality) → HasFunctionality program processes gates vars left f → HasFunctionality program processes gates vars right g → IsEither f g whole → NodeFits program processes gates vars (disable left right) whole
-    call_fits : {gates : List ℕ} {vars : ℕ → Option ℕ} {p : ℕ} {actual : List ℕ} {values : List TermTree} (formal : List ℕ) (xs : List Variable) (body : ℕ) → slice_get program.code p ≡ Some (process formal xs body) → length actual ≡ length formal → AreGatesInScope program gates actual → ValuesFit program.theory vars values xs → NodeFits program processes gates vars (call p actual values) (processes p)
-    relabel_fits : {gates : List ℕ} {vars : ℕ → Option ℕ} {relabelling : List Relabelling} {part : ℕ} {f : Functionality} → Each (RelabellingFits program gates) relabelling → HasFunctionality program processes (map (λ m. m.from) relabelling ++ gates) vars part f → NodeFits program processes gates vars (relabel relabelling part) f
+    exit_fits : {gates : List ℕ} {vars : ℕ → Option ℕ} {fields : List ExitValue} {sorts : List ℕ} →
+        ExitsWith program.theory vars fields sorts →
+        NodeFits program processes gates vars (exit fields) (exits sorts)
+    inner_fits : {gates : List ℕ} {vars : ℕ → Option ℕ} {part : ℕ} {f : Functionality} →
+        HasFunctionality program processes gates vars part f →
+        NodeFits program processes gates vars (inner part) f
+    action_fits :
+        {gates : List ℕ} {vars : ℕ → Option ℕ} {g : ℕ} {fields : List ActionField} {guard : Option Premise} {rest : ℕ}
+        {f : Functionality} →
+        IsGateInScope program gates g →
+        Each (FieldFits program.theory vars) fields →
+        GuardFits program.theory (with_variables (accepted fields) vars) guard →
+        HasFunctionality program processes gates (with_variables (accepted fields) vars) rest f →
+        NodeFits program processes gates vars (action g fields guard rest) f
+    choice_fits : {gates : List ℕ} {vars : ℕ → Option ℕ} {left right : ℕ} {whole : Functionality} (f g : Functionality) →
+        HasFunctionality program processes gates vars left f →
+        HasFunctionality program processes gates vars right g →
+        IsEither f g whole →
+        NodeFits program processes gates vars (choice left right) whole
+    guarded_fits : {gates : List ℕ} {vars : ℕ → Option ℕ} {p : Premise} {part : ℕ} {f : Functionality} →
+        PremiseFits program.theory vars p →
+        HasFunctionality program processes gates vars part f →
+        NodeFits program processes gates vars (guarded p part) f
+    bound_fits : {gates : List ℕ} {vars : ℕ → Option ℕ} {bindings : List Binding} {part : ℕ} {f : Functionality} →
+        Each (BindingFits program.theory vars) bindings →
+        HasFunctionality program processes gates (with_variables (bound_variables bindings) vars) part f →
+        NodeFits program processes gates vars (bound bindings part) f
+    value_choice_fits : {gates : List ℕ} {vars : ℕ → Option ℕ} {x : Variable} {part : ℕ} {f : Functionality} →
+        VariableFits program.theory x →
+        HasFunctionality program processes gates (with_variable x vars) part f →
+        NodeFits program processes gates vars (value_choice x part) f
+    gate_choice_fits : {gates : List ℕ} {vars : ℕ → Option ℕ} {g : ℕ} {among : List ℕ} {part : ℕ} {f : Functionality} →
+        AreGatesInScope program gates among →
+        HasFunctionality program processes (g ∷ gates) vars part f →
+        NodeFits program processes gates vars (gate_choice g among part) f
+    parallel_fits :
+        {gates : List ℕ} {vars : ℕ → Option ℕ} {synchronised : Synchronised} {left right : ℕ} {whole : Functionality}
+        (f g : Functionality) →
+        SynchronisedFits program gates synchronised →
+        HasFunctionality program processes gates vars left f →
+        HasFunctionality program processes gates vars right g →
+        IsBoth f g whole →
+        NodeFits program processes gates vars (parallel synchronised left right) whole
+    hide_fits : {gates : List ℕ} {vars : ℕ → Option ℕ} {hidden : List ℕ} {part : ℕ} {f : Functionality} →
+        HasFunctionality program processes (hidden ++ gates) vars part f →
+        NodeFits program processes gates vars (hide hidden part) f
+    enable_fits : {gates : List ℕ} {vars : ℕ → Option ℕ} {left right : ℕ} {xs : List Variable} {g : Functionality} (f : Functionality) →
+        HasFunctionality program processes gates vars left f →
+        Accepts f xs →
+        Each (VariableFits program.theory) xs →
+        HasFunctionality program processes gates (with_variables xs vars) right g →
+        NodeFits program processes gates vars (enable left xs right) g
+    disable_fits : {gates : List ℕ} {vars : ℕ → Option ℕ} {left right : ℕ} {whole : Functionality} (f g : Functionality) →
+        HasFunctionality program processes gates vars left f →
+        HasFunctionality program processes gates vars right g →
+        IsEither f g whole →
+        NodeFits program processes gates vars (disable left right) whole
+    call_fits :
+        {gates : List ℕ} {vars : ℕ → Option ℕ} {p : ℕ} {actual : List ℕ} {values : List TermTree} (formal : List ℕ) (xs : List Variable)
+        (body : ℕ) →
+        slice_get program.code p ≡ Some (process formal xs body) →
+        length actual ≡ length formal →
+        AreGatesInScope program gates actual →
+        ValuesFit program.theory vars values xs →
+        NodeFits program processes gates vars (call p actual values) (processes p)
+    relabel_fits : {gates : List ℕ} {vars : ℕ → Option ℕ} {relabelling : List Relabelling} {part : ℕ} {f : Functionality} →
+        Each (RelabellingFits program gates) relabelling →
+        HasFunctionality program processes (map (λ m. m.from) relabelling ++ gates) vars part f →
+        NodeFits program processes gates vars (relabel relabelling part) f
 
 -- the process's body fits over its own gates and variables alone, and has its functionality or never exits
 abbrev pub ProcessFits : Program → (ℕ → Functionality) → ℕ → List ℕ → List Variable → ℕ → Type 0
-ProcessFits program processes p formal xs body = Each (VariableFits program.theory) xs × ((f : Functionality) × HasFunctionality program processes formal (with_variables xs no_variables) body f × ((f ≡ processes p) ⊎ (f ≡ noexit)))
+ProcessFits program processes p formal xs body =
+    Each (VariableFits program.theory) xs ×
+    ((f : Functionality) × HasFunctionality program processes formal (with_variables xs no_variables) body f ×
+    ((f ≡ processes p) ⊎ (f ≡ noexit)))

@@ -27,11 +27,20 @@ EqualIsTransitive = (theory : Theory) (a b c : TermTree) → Equal theory a b �
 
 -- equal arguments give equal results
 abbrev pub EqualIsCongruent : Type 0
-EqualIsCongruent = (theory : Theory) (f : ℕ) (ts us : TermTrees) → FitsGround theory (apply f ts) → AreEqual theory ts us → Equal theory (apply f ts) (apply f us)
+EqualIsCongruent =
+    (theory : Theory) (f : ℕ) (ts us : TermTrees) →
+    FitsGround theory (apply f ts) →
+    AreEqual theory ts us →
+    Equal theory (apply f ts) (apply f us)
 
 -- the sides of an equation's instance are equal where the instances of its premises hold
 abbrev pub InstancesAreEqual : Type 0
-InstancesAreEqual = (theory : Theory) (e : ConditionalEquation) (s : ℕ → TermTree) → IsOneOf e theory.equations → IsGroundFor theory e s → PremisesHold theory s e.premises → Equal theory (instance s e.left) (instance s e.right)
+InstancesAreEqual =
+    (theory : Theory) (e : ConditionalEquation) (s : ℕ → TermTree) →
+    IsOneOf e theory.equations →
+    IsGroundFor theory e s →
+    PremisesHold theory s e.premises →
+    Equal theory (instance s e.left) (instance s e.right)
 
 -- two terms are equal exactly where some proof concludes it
 abbrev pub EqualTermsHaveProofs : Type 0
@@ -39,11 +48,23 @@ EqualTermsHaveProofs = (theory : Theory) (a b : TermTree) → Equal theory a b �
 
 -- a term has at most one value, at one cost
 abbrev pub EvaluationIsDeterministic : Type 0
-EvaluationIsDeterministic = (theory : Theory) → Each HasNoLooseVariables theory.equations → (t v w : TermTree) (n m : ℕ) → Evaluates theory t v n → Evaluates theory t w m → (v ≡ w) × (n ≡ m)
+EvaluationIsDeterministic =
+    (theory : Theory) →
+    Each HasNoLooseVariables theory.equations →
+    (t v w : TermTree) (n m : ℕ) →
+    Evaluates theory t v n →
+    Evaluates theory t w m →
+    (v ≡ w) × (n ≡ m)
 
 -- a constructor over terms has as value the constructor over their values, at their cost
 abbrev pub ConstructorsKeepValues : Type 0
-ConstructorsKeepValues = (theory : Theory) → IsExecutable theory → (f : ℕ) (ts vs : TermTrees) (n : ℕ) → IsConstructor theory f → EvaluatesAll theory ts vs n → Evaluates theory (apply f ts) (apply f vs) n
+ConstructorsKeepValues =
+    (theory : Theory) →
+    IsExecutable theory →
+    (f : ℕ) (ts vs : TermTrees) (n : ℕ) →
+    IsConstructor theory f →
+    EvaluatesAll theory ts vs n →
+    Evaluates theory (apply f ts) (apply f vs) n
 
 -- a value evaluates to itself without a use
 abbrev pub ValuesEvaluateToThemselves : Type 0
@@ -51,7 +72,13 @@ ValuesEvaluateToThemselves = (theory : Theory) → IsExecutable theory → (v : 
 
 -- what a term evaluates to is its value
 abbrev pub EvaluationGivesValues : Type 0
-EvaluationGivesValues = (theory : Theory) → IsExecutable theory → (t v : TermTree) (n : ℕ) → FitsGround theory t → Evaluates theory t v n → HasValue theory t v
+EvaluationGivesValues =
+    (theory : Theory) →
+    IsExecutable theory →
+    (t v : TermTree) (n : ℕ) →
+    FitsGround theory t →
+    Evaluates theory t v n →
+    HasValue theory t v
 
 abbrev pub ValuesAreGround : Type 0
 ValuesAreGround = (theory : Theory) (v : TermTree) → IsValue theory v → IsGround v
@@ -62,23 +89,44 @@ PartsOfArgumentsAreBelow = (theory : Theory) (f : ℕ) (ps : TermTrees) (u : Ter
 
 -- no left side is below itself
 abbrev pub LeftSidesAreNotBelowThemselves : Type 0
-LeftSidesAreNotBelowThemselves = (theory : Theory) → IsExecutable theory → (e : ConditionalEquation) (f : ℕ) (ps : TermTrees) → IsOneOf e theory.equations → e.left ≡ apply f ps → IsBelow theory f ps e.left → ⊥
+LeftSidesAreNotBelowThemselves =
+    (theory : Theory) →
+    IsExecutable theory →
+    (e : ConditionalEquation) (f : ℕ) (ps : TermTrees) →
+    IsOneOf e theory.equations →
+    e.left ≡ apply f ps →
+    IsBelow theory f ps e.left →
+    ⊥
 
 -- lists of premises of which one is empty are full
 abbrev pub UnconditionalGroupsAreFull : Type 0
-UnconditionalGroupsAreFull = (theory : Theory) (vars : ℕ → Option ℕ) (lists : List (List Premise)) → OneOf (λ l. l ≡ []) lists → IsFull theory vars lists
+UnconditionalGroupsAreFull =
+    (theory : Theory) (vars : ℕ → Option ℕ) (lists : List (List Premise)) → OneOf (λ l. l ≡ []) lists → IsFull theory vars lists
 
 -- each value of a window spells a ground term of the sort
 abbrev pub WindowsHoldGroundTerms : Type 0
-WindowsHoldGroundTerms = (theory : Theory) (sort k : ℕ) (values : List (List ℕ)) (complete : Bool) → IsWindow theory sort k values complete → Each (λ v. (t : TermTree) × (v ≡ preorder t) × HasSort theory no_variables t sort × IsGround t) values
+WindowsHoldGroundTerms =
+    (theory : Theory) (sort k : ℕ) (values : List (List ℕ)) (complete : Bool) →
+    IsWindow theory sort k values complete →
+    Each (λ v. (t : TermTree) × (v ≡ preorder t) × HasSort theory no_variables t sort × IsGround t) values
 
 -- the values of a window are in order, and no two are equal
 abbrev pub WindowsAreInOrder : Type 0
-WindowsAreInOrder = (theory : Theory) (sort k : ℕ) (values : List (List ℕ)) (complete : Bool) → IsWindow theory sort k values complete → IsInOrder values × NoTwo (λ v w. v ≡ w) values
+WindowsAreInOrder =
+    (theory : Theory) (sort k : ℕ) (values : List (List ℕ)) (complete : Bool) →
+    IsWindow theory sort k values complete →
+    IsInOrder values × NoTwo (λ v w. v ≡ w) values
 
 -- where a sort has the two constants c and d alone, the premises t = c and t = d are full
 abbrev pub OppositePremisesAreFull : Type 0
-OppositePremisesAreFull = (theory : Theory) (vars : ℕ → Option ℕ) (t : TermTree) (sort c d : ℕ) → HasSort theory vars t sort → HasConstants theory sort → IsConstructor theory c → IsConstructor theory d → ((k : ℕ) → IsConstant theory sort k → (k ≡ c) ⊎ (k ≡ d)) → IsFull theory vars ((premise t (constant c) ∷ []) ∷ (premise t (constant d) ∷ []) ∷ [])
+OppositePremisesAreFull =
+    (theory : Theory) (vars : ℕ → Option ℕ) (t : TermTree) (sort c d : ℕ) →
+    HasSort theory vars t sort →
+    HasConstants theory sort →
+    IsConstructor theory c →
+    IsConstructor theory d →
+    ((k : ℕ) → IsConstant theory sort k → (k ≡ c) ⊎ (k ≡ d)) →
+    IsFull theory vars ((premise t (constant c) ∷ []) ∷ (premise t (constant d) ∷ []) ∷ [])
 
 -- truth values with their negation are executable data
 abbrev pub BooleansAreExecutable : Type 0

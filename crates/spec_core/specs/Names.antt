@@ -23,7 +23,13 @@ BeginsWith P (b ∷ bs) = P b
 
 -- the reserved words, in their spelling without capitals
 abbrev pub reserved_words : List (List ℕ)
-reserved_words = codes "accept" ∷ codes "actualizedby" ∷ codes "any" ∷ codes "behavior" ∷ codes "behaviour" ∷ codes "choice" ∷ codes "endlib" ∷ codes "endproc" ∷ codes "endspec" ∷ codes "endtype" ∷ codes "eqns" ∷ codes "exit" ∷ codes "for" ∷ codes "forall" ∷ codes "formaleqns" ∷ codes "formalopns" ∷ codes "formalsorts" ∷ codes "hide" ∷ codes "i" ∷ codes "in" ∷ codes "is" ∷ codes "let" ∷ codes "library" ∷ codes "noexit" ∷ codes "of" ∷ codes "ofsort" ∷ codes "opnnames" ∷ codes "opns" ∷ codes "par" ∷ codes "process" ∷ codes "renamedby" ∷ codes "sortnames" ∷ codes "sorts" ∷ codes "specification" ∷ codes "stop" ∷ codes "type" ∷ codes "using" ∷ codes "where" ∷ []
+reserved_words =
+    codes "accept" ∷ codes "actualizedby" ∷ codes "any" ∷ codes "behavior" ∷ codes "behaviour" ∷ codes "choice" ∷ codes "endlib" ∷
+    codes "endproc" ∷ codes "endspec" ∷ codes "endtype" ∷ codes "eqns" ∷ codes "exit" ∷ codes "for" ∷ codes "forall" ∷
+    codes "formaleqns" ∷ codes "formalopns" ∷ codes "formalsorts" ∷ codes "hide" ∷ codes "i" ∷ codes "in" ∷ codes "is" ∷ codes "let" ∷
+    codes "library" ∷ codes "noexit" ∷ codes "of" ∷ codes "ofsort" ∷ codes "opnnames" ∷ codes "opns" ∷ codes "par" ∷ codes "process" ∷
+    codes "renamedby" ∷ codes "sortnames" ∷ codes "sorts" ∷ codes "specification" ∷ codes "stop" ∷ codes "type" ∷ codes "using" ∷
+    codes "where" ∷ []
 
 -- letters, digits and underscores, with a letter or a digit at both ends, and no reserved word
 pub record IsWord (name : List ℕ) : Type 0 where
@@ -49,4 +55,5 @@ IsPlainName name = IsWord name ⊎ IsOperationString name
 
 -- a name of an operation with so many arguments: a plain name, or for two arguments also one between underscores
 abbrev pub IsOperationName : ℕ → List ℕ → Type 0
-IsOperationName arguments name = IsPlainName name ⊎ (arguments ≡ 2) × ((plain : List ℕ) × (name ≡ 95 ∷ (plain ++ 95 ∷ [])) × IsPlainName plain)
+IsOperationName arguments name =
+    IsPlainName name ⊎ (arguments ≡ 2) × ((plain : List ℕ) × (name ≡ 95 ∷ (plain ++ 95 ∷ [])) × IsPlainName plain)

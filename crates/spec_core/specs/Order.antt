@@ -36,7 +36,8 @@ PremisesHaveOperation g (premise a b ∷ ps) = HasOperation g a ⊎ HasOperation
 
 -- g stands in an equation that f heads
 abbrev pub Mentions : Theory → ℕ → ℕ → Type 0
-Mentions theory f g = OneOf (λ e. Heads f e × (HasOperation g e.left ⊎ HasOperation g e.right ⊎ PremisesHaveOperation g e.premises)) theory.equations
+Mentions theory f g =
+    OneOf (λ e. Heads f e × (HasOperation g e.left ⊎ HasOperation g e.right ⊎ PremisesHaveOperation g e.premises)) theory.equations
 
 -- g is f, or is reached from f by mentions
 pub data DependsOn (theory : Theory) : ℕ → ℕ → Type 0 where
@@ -56,7 +57,9 @@ IsLevel theory f g = DependsOn theory f g × DependsOn theory g f
 abbrev mutual
   pub IsBelow : Theory → ℕ → TermTrees → TermTree → Type 0
   IsBelow theory f ps (variable x) = IsInsideAny (variable x) ps
-  IsBelow theory f ps (apply g ts) = IsInsideAny (apply g ts) ps ⊎ AreBelow theory f ps ts × (IsConstructor theory g ⊎ IsAbove theory f g ⊎ IsLevel theory f g × IsSmaller ts ps)
+  IsBelow theory f ps (apply g ts) =
+      IsInsideAny (apply g ts) ps ⊎ AreBelow theory f ps ts ×
+      (IsConstructor theory g ⊎ IsAbove theory f g ⊎ IsLevel theory f g × IsSmaller ts ps)
 
   pub AreBelow : Theory → ℕ → TermTrees → TermTrees → Type 0
   AreBelow theory f ps no_terms = Unit {0}

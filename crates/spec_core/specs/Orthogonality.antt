@@ -48,7 +48,12 @@ pub record IsNegation (theory : Theory) (negation yes no : ℕ) : Type 0 where
   pub false_constant : IsOfLibrary theory no (codes "false") [] bool
   pub of_true : OneOf (λ e. IsPlain e (apply negation (and_term (constant yes) no_terms)) (constant no)) theory.equations
   pub of_false : OneOf (λ e. IsPlain e (apply negation (and_term (constant no) no_terms)) (constant yes)) theory.equations
-  pub no_other : Each (λ e. Heads negation e → IsPlain e (apply negation (and_term (constant yes) no_terms)) (constant no) ⊎ IsPlain e (apply negation (and_term (constant no) no_terms)) (constant yes)) theory.equations
+  pub no_other :
+      Each (λ e.
+      Heads negation e →
+      IsPlain e (apply negation (and_term (constant yes) no_terms)) (constant no) ⊎
+      IsPlain e (apply negation (and_term (constant no) no_terms)) (constant yes))
+      theory.equations
 
 -- the premise is not(t) = true for the library's `not`, and c is the library's `false`
 pub record DeniesTerm (theory : Theory) (p : Premise) (t : TermTree) (c : ℕ) : Type 0 where

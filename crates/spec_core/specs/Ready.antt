@@ -6,7 +6,8 @@ use Rattle.spec_core.specs.Theories.{Operation}
 use Rattle.spec_core.specs.Sorts.{no_variables}
 use Rattle.spec_core.specs.Executable.{IsExecutable}
 use Rattle.spec_core.specs.Names.{IsSameName, IsIdentifier, IsOperationName}
-use Rattle.spec_core.specs.Code.{Variable, Node, stop, exit, inner, action, choice, guarded, bound, value_choice, gate_choice, parallel, hide, enable, disable, call, relabel, process, Program}
+use Rattle.spec_core.specs.Code.{Variable, Node, stop, exit, inner, action, choice, guarded, bound, value_choice, gate_choice, parallel}
+use Rattle.spec_core.specs.Code.{hide, enable, disable, call, relabel, process, Program}
 use Rattle.spec_core.specs.Functionality.{Functionality, HasFunctionality, ProcessFits}
 
 -- two operations share name, argument sorts and result sort
@@ -53,7 +54,8 @@ NamesBehaviour program part = (node : Node) × (slice_get program.code part ≡ 
 
 -- a call names a process
 abbrev pub CallsProcess : Program → Node → Type 0
-CallsProcess program (call p actual values) = (formal : List ℕ) × (xs : List Variable) × (body : ℕ) × (slice_get program.code p ≡ Some (process formal xs body))
+CallsProcess program (call p actual values) =
+    (formal : List ℕ) × (xs : List Variable) × (body : ℕ) × (slice_get program.code p ≡ Some (process formal xs body))
 CallsProcess program _ = Unit {0}
 
 -- each part names a construct of behaviour, with a lower number unless it is a process's body, and a call names a process
@@ -76,7 +78,11 @@ IsCallOf p _ = ⊥
 -- the part calls the process before any action
 pub data CallsAtOnce (program : Program) (p : ℕ) : ℕ → Type 0 where
   here : {part : ℕ} (node : Node) → slice_get program.code part ≡ Some node → IsCallOf p node → CallsAtOnce program p part
-  within : {part : ℕ} (node : Node) (inside : ℕ) → slice_get program.code part ≡ Some node → IsOneOf inside (open_parts node) → CallsAtOnce program p inside → CallsAtOnce program p part
+  within : {part : ℕ} (node : Node) (inside : ℕ) →
+      slice_get program.code part ≡ Some node →
+      IsOneOf inside (open_parts node) →
+      CallsAtOnce program p inside →
+      CallsAtOnce program p part
 
 -- a chain of such calls leads from the first process to the second
 pub data LeadsAtOnce (program : Program) : ℕ → ℕ → Type 0 where
@@ -92,7 +98,9 @@ pub record IsWellFormed (program : Program) : Type 0 where
   pub functionalities : ℕ → Functionality
   pub whole : Functionality
   pub start : HasFunctionality program functionalities [] no_variables program.start whole
-  pub processes : (p : ℕ) (formal : List ℕ) (xs : List Variable) (body : ℕ) → slice_get program.code p ≡ Some (process formal xs body) → ProcessFits program functionalities p formal xs body
+  pub processes : (p : ℕ) (formal : List ℕ) (xs : List Variable) (body : ℕ) →
+      slice_get program.code p ≡ Some (process formal xs body) →
+      ProcessFits program functionalities p formal xs body
 
 -- what every part of a run may rely on
 pub record IsReady (program : Program) : Type 0 where

@@ -1,5 +1,6 @@
 -- Terms as text.
-use Rattle.std.specs.Prelude.{ℕ, List, [], ◌∷◌, ◌++◌, length, take, drop, map, codes, Option, Some, None, unwrap_or, Bool, ◌==◌, ◌&&◌, ◌-◌, if◌then◌else◌, nat_lt, count_by}
+use Rattle.std.specs.Prelude.{ℕ, List, [], ◌∷◌, ◌++◌, length, take, drop, map, codes, Option, Some, None, unwrap_or, Bool, ◌==◌, ◌&&◌, ◌-◌}
+use Rattle.std.specs.Prelude.{if◌then◌else◌, nat_lt, count_by}
 use Rattle.std.specs.Char.{to_ascii_lowercase}
 use Rattle.std.specs.List.{slice_get}
 use Rattle.std.specs.Str.{bytes_eq}
@@ -53,7 +54,8 @@ shares d e = bytes_eq (map to_ascii_lowercase d.name) (map to_ascii_lowercase e.
 
 -- ` of S` behind a term whose operation shares name and argument sorts with another one
 abbrev pub sort_text : List (List ℕ) → List Operation → Operation → List ℕ
-sort_text sorts operations d = if nat_lt 1 (count_by (shares d) operations) then codes " of " ++ unwrap_or (slice_get sorts d.result) [] else []
+sort_text sorts operations d =
+    if nat_lt 1 (count_by (shares d) operations) then codes " of " ++ unwrap_or (slice_get sorts d.result) [] else []
 
 -- a blank where `*` would stand right after a bracket, since `(*` begins a comment
 abbrev pub gap_before : List ℕ → List ℕ
@@ -80,14 +82,17 @@ first_gap operations names (and_term t ts) = gap_before (head_name operations na
 -- an operation over arguments with these texts
 abbrev pub application_text : List (List ℕ) → List Operation → ℕ → List ℕ → List (List ℕ) → Option Operation → List ℕ
 application_text sorts operations arguments gap texts None = []
-application_text sorts operations arguments gap texts (Some d) = opening d.name arguments ++ gap ++ joined (separator d.name arguments) texts ++ closing arguments ++ sort_text sorts operations d
+application_text sorts operations arguments gap texts (Some d) =
+    opening d.name arguments ++ gap ++ joined (separator d.name arguments) texts ++ closing arguments ++ sort_text sorts operations d
 
 -- the text of a term over a signature, with these names of its variables: a constant and a variable are their names, a prefix
 -- application is `f(t1,t2)`, an infix one `(t1 + t2)`
 abbrev mutual
   pub term_text : List (List ℕ) → List Operation → List (List ℕ) → TermTree → List ℕ
   term_text sorts operations names (variable x) = name_text (slice_get names x)
-  term_text sorts operations names (apply f ts) = application_text sorts operations (width ts) (first_gap operations names ts) (term_texts sorts operations names ts) (slice_get operations f)
+  term_text sorts operations names (apply f ts) =
+      application_text sorts operations (width ts) (first_gap operations names ts) (term_texts sorts operations names ts)
+      (slice_get operations f)
 
   pub term_texts : List (List ℕ) → List Operation → List (List ℕ) → TermTrees → List (List ℕ)
   term_texts sorts operations names no_terms = []

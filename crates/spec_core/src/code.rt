@@ -1,7 +1,8 @@
 // Checked specifications: data, and behaviour as numbered nodes.
 
 ghost use Rattle.std.specs.Prelude.{◌≡◌, IfOk, map};
-ghost use Rattle.spec_core.specs.Code.{action, guarded, call, process, variable_of, binding_of, exit_value_of, action_field_of, synchronised_of, guard_of, node_of, program_of};
+ghost use Rattle.spec_core.specs.Code.{action, guarded, call, process, variable_of, binding_of, exit_value_of, action_field_of};
+ghost use Rattle.spec_core.specs.Code.{synchronised_of, guard_of, node_of, program_of};
 ghost use Rattle.spec_core.specs.Numbers.{gate_number};
 ghost use Rattle.spec_core.specs.Terms.{term_of};
 ghost use Rattle.spec_core.specs.Theories.{premise};

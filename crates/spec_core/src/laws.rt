@@ -1,6 +1,10 @@
 // Laws of the definitions: a call does nothing, and its contract is the law.
 
-ghost use Rattle.spec_core.specs.Laws.{BooleansAreExecutable, OppositePremisesAreFull, EqualIsReflexive, EqualIsSymmetric, EqualIsTransitive, EqualIsCongruent, InstancesAreEqual, EqualTermsHaveProofs, EvaluationGivesValues, EvaluationIsDeterministic, ConstructorsKeepValues, ValuesEvaluateToThemselves, ValuesAreGround, PartsOfArgumentsAreBelow, LeftSidesAreNotBelowThemselves, UnconditionalGroupsAreFull, WindowsHoldGroundTerms, WindowsAreInOrder};
+ghost use Rattle.spec_core.specs.Laws.{BooleansAreExecutable, OppositePremisesAreFull, EqualIsReflexive, EqualIsSymmetric};
+ghost use Rattle.spec_core.specs.Laws.{EqualIsTransitive, EqualIsCongruent, InstancesAreEqual, EqualTermsHaveProofs, EvaluationGivesValues};
+ghost use Rattle.spec_core.specs.Laws.{EvaluationIsDeterministic, ConstructorsKeepValues, ValuesEvaluateToThemselves, ValuesAreGround};
+ghost use Rattle.spec_core.specs.Laws.{PartsOfArgumentsAreBelow, LeftSidesAreNotBelowThemselves, UnconditionalGroupsAreFull};
+ghost use Rattle.spec_core.specs.Laws.{WindowsHoldGroundTerms, WindowsAreInOrder};
 
 /// A ground term over the signature is provably equal to itself.
 pub fn equal_is_reflexive()

@@ -1,8 +1,10 @@
 // Terms as text.
 
-ghost use Rattle.std.specs.Prelude.{◌≡◌, ◌↔◌, ◌++◌, ◌∷◌, [], ℕ, List, IfOk, OnOk, IsTrue, MatchOption, Some, None, map, length, string_bytes, count_by, vec_len};
+ghost use Rattle.std.specs.Prelude.{◌≡◌, ◌↔◌, ◌++◌, ◌∷◌, [], ℕ, List, IfOk, OnOk, IsTrue, MatchOption, Some, None, map, length};
+ghost use Rattle.std.specs.Prelude.{string_bytes, count_by, vec_len};
 ghost use Rattle.std.specs.List.{slice_get};
-ghost use Rattle.spec_core.specs.TermText.{infix_word, infix_at, prefix_opening, opening, separator, closing, shares, sort_text, gap_before, between_at, name_text, operation_name, head_name, first_gap, term_text};
+ghost use Rattle.spec_core.specs.TermText.{infix_word, infix_at, prefix_opening, opening, separator, closing, shares, sort_text};
+ghost use Rattle.spec_core.specs.TermText.{gap_before, between_at, name_text, operation_name, head_name, first_gap, term_text};
 ghost use Rattle.spec_core.specs.Terms.{terms, term_of};
 ghost use Rattle.spec_core.specs.Theories.{operation_of, operations_of};
 
@@ -22,7 +24,8 @@ pub fn term_text(
     term: &Term,
     names: &[Name],
 ) -> Result<String, Memory>
-    ensures spelled { IfOk result (λ text. string_bytes text ≡ term_text signature.now.sorts.items (operations_of signature.now) names.now (term_of term.now)) }
+    ensures spelled { IfOk result
+        (λ text. string_bytes text ≡ term_text signature.now.sorts.items (operations_of signature.now) names.now (term_of term.now)) }
 {
     let mut out = String::new(alloc);
     put_term(&mut out, signature, term, names)?;
@@ -36,7 +39,8 @@ fn put_term(
     term: &Term,
     names: &[Name],
 ) -> Result<(), Memory>
-    ensures { OnOk result (string_bytes out.new ≡ string_bytes out.old ++ term_text signature.now.sorts.items (operations_of signature.now) names.now (term_of term.now)) }
+    ensures { OnOk result (string_bytes out.new ≡
+        string_bytes out.old ++ term_text signature.now.sorts.items (operations_of signature.now) names.now (term_of term.now)) }
 {
     match term {
         Term::Var(variable) => put_variable(out, names, *variable),
@@ -74,7 +78,10 @@ fn put_opening(
     args: &[Term],
     names: &[Name],
 ) -> Result<(), Memory>
-    ensures { OnOk result (string_bytes out.new ≡ string_bytes out.old ++ (opening declaration.now.name (length args.now) ++ first_gap (operations_of signature.now) names.now (terms (map term_of args.now)))) }
+    ensures { OnOk result (string_bytes out.new ≡
+        string_bytes out.old ++
+        (opening declaration.now.name (length args.now) ++
+        first_gap (operations_of signature.now) names.now (terms (map term_of args.now)))) }
 {
     match infix_word_at(declaration.name.as_str(), args.len()) {
         Some(_) => out.push_str("(")?,
@@ -102,7 +109,9 @@ fn put_first_gap(
     args: &[Term],
     names: &[Name],
 ) -> Result<(), Memory>
-    ensures { OnOk result (string_bytes out.new ≡ string_bytes out.old ++ first_gap (operations_of signature.now) names.now (terms (map term_of args.now))) }
+    ensures { OnOk result
+        (string_bytes out.new ≡
+        string_bytes out.old ++ first_gap (operations_of signature.now) names.now (terms (map term_of args.now))) }
 {
     match args {
         [] => Ok(()),
@@ -190,7 +199,8 @@ fn put_closing(out: &mut String, count: usize) -> Result<(), Memory>
 
 // Appends ` of S` where the operation shares name and argument sorts with another one.
 fn put_sort(out: &mut String, signature: &Signature, declaration: &OpDecl) -> Result<(), Memory>
-    ensures { OnOk result (string_bytes out.new ≡ string_bytes out.old ++ sort_text signature.now.sorts.items (operations_of signature.now) (operation_of declaration.now)) }
+    ensures { OnOk result (string_bytes out.new ≡
+        string_bytes out.old ++ sort_text signature.now.sorts.items (operations_of signature.now) (operation_of declaration.now)) }
 {
     if count_sharing(&signature.ops, declaration) <= 1 {
         return Ok(());

@@ -7,7 +7,9 @@ use Rattle.spec_core.proofs.constructors.heads_none.Goals as goal
 pub returns-then-heads : goal.returns-then-heads
 returns-then-heads c = (
   λ h. absurd (untrue h),
-  λ h. absurd (each-at (λ e. Heads c.args.op.0 e → ⊥) equation_of _ _ _ c.equation-item.result c.deref-equation-items.ensures.value c.loop-equation-test.true c.equation-item.is h (c.if-heads.ensures.0 refl)),
+  λ h.
+      absurd (each-at (λ e. Heads c.args.op.0 e → ⊥) equation_of _ _ _ c.equation-item.result c.deref-equation-items.ensures.value
+      c.loop-equation-test.true c.equation-item.is h (c.if-heads.ensures.0 refl)),
 )
 
 pub returns : goal.returns

@@ -12,5 +12,7 @@ returns-clause-none c =
 
 pub loop-i-preserved : goal.loop-i-preserved
 loop-i-preserved c =
-    each-next (λ d. IsDeclaredAs c.args.name.now (map sort_number c.args.args.now) c.args.sort.0 (operation_of d) → ⊥) _ _ _ c.declaration-item.result
-    c.deref-declaration-items.ensures.value c.loop-i-test.true c.declaration-item.is c.loop-i.invariant (λ h. untrue (c.if-is_declared_as.ensures.1 h))
+    each-next (λ d. IsDeclaredAs c.args.name.now (map sort_number c.args.args.now) c.args.sort.0 (operation_of d) → ⊥) _ _ _
+    c.declaration-item.result
+    c.deref-declaration-items.ensures.value c.loop-i-test.true c.declaration-item.is c.loop-i.invariant
+    (λ h. untrue (c.if-is_declared_as.ensures.1 h))

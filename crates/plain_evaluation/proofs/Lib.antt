@@ -1,0 +1,4 @@
+pub mod Budgets
+pub mod Outcomes
+pub mod Steps
+pub mod TermLists
