@@ -16,3 +16,4 @@ pub mod GrammarLaws
 pub mod Longest
 pub mod LongestLaws
 pub mod Parsing
+pub mod FirstRefusals

@@ -4,6 +4,7 @@ pub mod Bytes
 pub mod Conditions
 pub mod DeclarationTrees
 pub mod ExpressionTrees
+pub mod FirstRefusals
 pub mod Fronts
 pub mod GoesOn
 pub mod Grammar

@@ -1,5 +1,6 @@
 // What holds of the definitions.
 
+ghost use Rattle.lotos_ast.specs.FirstRefusals.{FirstOfAListIsFirst, FirstOfAListStandsFirst};
 ghost use Rattle.lotos_ast.specs.GrammarLaws.{OneTree, TreeOrFault, OneFault, RulesAreWellFormed, TypesAreWellFormed};
 ghost use Rattle.lotos_ast.specs.GrammarLaws.{StopsAtFirst, FrontsAreViable, SpelledIsRead, ReadWithoutLimits};
 ghost use Rattle.lotos_ast.specs.GrammarLaws.{StopsWithoutLimits, FrontBeforeFault, ReadOrTooDeep, StopsOrTooDeep};
@@ -60,4 +61,12 @@ pub fn limits_change_nothing_below_them()
 pub fn the_longest_front_is_read()
     ensures read { LongestIsRead }
     ensures stops { StopsAtLongest }
+{}
+
+/// What `first_refusal` gives of a list is the first of those in it, and of those that stand together the one that is listed first. The
+/// function does nothing.
+#[tactic(auto, using(crate::proofs::FirstRefusals::first_of_a_list_is_first, crate::proofs::FirstRefusals::first_of_a_list_stands_first))]
+pub fn first_refusals_are_first()
+    ensures first { FirstOfAListIsFirst }
+    ensures stands_first { FirstOfAListStandsFirst }
 {}

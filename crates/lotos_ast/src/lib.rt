@@ -5,6 +5,7 @@ pub mod behaviour;
 pub mod declaration;
 pub mod expression;
 pub mod fault;
+pub mod first_refusal;
 pub mod laws;
 pub mod mark;
 pub mod names;
