@@ -1,3 +1,4 @@
+pub mod Any
 pub mod ByExpressions
 pub mod ByOperations
 pub mod InOrder
@@ -5,3 +6,5 @@ pub mod Law
 pub mod Loops
 pub mod Members
 pub mod Two
+pub mod Listings
+pub mod Whole

@@ -43,7 +43,7 @@ unknown_sort c sort = if is_sort_known c sort.text then [] else refused UnknownS
 abbrev mutual
   pub unknowns : Context → Expression → List Refusal
   unknowns c (named name) = unknown_name c name
-  unknowns c (applied between name (and_expression e es)) = unknowns c e ++ unknown_name c name ++ all_unknowns c es
+  unknowns c (applied between name (and_expression e es)) = (unknowns c e ++ unknown_name c name) ++ all_unknowns c es
   unknowns c (applied position name es) = unknown_name c name ++ all_unknowns c es
   unknowns c (said e sort) = unknowns c e ++ unknown_sort c sort
   unknowns c nothing = []

@@ -8,3 +8,4 @@ mod readings;
 pub mod scope;
 mod selection;
 pub mod table;
+mod unknowns;

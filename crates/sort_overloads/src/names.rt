@@ -11,6 +11,7 @@ use crate::scope::{Scope, Variable};
 use crate::table::{Reading, Root};
 use spec_core::items::Sort;
 use spec_core::memory::Memory;
+use spec_core::name::Name;
 use std::alloc::Global;
 
 /// The variable of this name, or else the constants.
@@ -62,9 +63,16 @@ fn later_of(
     ensures { found_of result
         ≡ (if is_same_name variable.now.name name.now then found_of (Some (number, variable.now.sort)) else found_of found) }
 {
-    if variable.name.as_str().eq_ignore_ascii_case(name) {
+    if has_name(&variable.name, name) {
         Some((number, variable.sort))
     } else {
         found
     }
+}
+
+/// Whether a name is this one, letters of ASCII without case.
+pub fn has_name(other: &Name, name: &str) -> bool
+    ensures { result ≡ is_same_name other.now name.now }
+{
+    other.as_str().eq_ignore_ascii_case(name)
 }

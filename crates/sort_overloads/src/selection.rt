@@ -2,9 +2,10 @@
 
 ghost use Rattle.std.specs.Prelude.{◌≡◌, ◌++◌, ◌∷◌, [], List, IfOk, OnOk, map, if◌then◌else◌};
 ghost use Rattle.std.specs.List.{slice_get};
-ghost use Rattle.sort_overloads.specs.Listed.{Typed, is_same_name, is_name_of, those};
+ghost use Rattle.sort_overloads.specs.Listed.{Typed, is_name_of, those};
 ghost use Rattle.sort_overloads.specs.Tables.{reading_of, fits};
 
+use crate::names::has_name;
 use crate::table::Reading;
 use spec_core::items::Sort;
 use spec_core::memory::Memory;
@@ -66,11 +67,4 @@ fn is_named(sorts: &[Name], sort: Sort, name: &str) -> bool
     } else {
         false
     }
-}
-
-// Whether a name is this one, letters of ASCII without case.
-fn has_name(other: &Name, name: &str) -> bool
-    ensures { result ≡ is_same_name other.now name.now }
-{
-    other.as_str().eq_ignore_ascii_case(name)
 }
