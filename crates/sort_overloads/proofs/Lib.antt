@@ -1,6 +1,7 @@
 pub mod Any
 pub mod ByExpressions
 pub mod ByOperations
+pub mod Decided
 pub mod InOrder
 pub mod Law
 pub mod Loops

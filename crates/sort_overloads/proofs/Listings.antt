@@ -1,5 +1,5 @@
 -- The unknown names of expressions, part by part.
-use Rattle.std.proofs.Common.{ℕ, ◌≡◌, ◌<◌, ◌≤◌, ◌+◌, List, [], ◌∷◌, ◌++◌, length, map, take, drop, get_or, refl, ap, sym, subst, ◌∙◌, append_assoc}
+use Rattle.std.proofs.Common.{ℕ, ◌≡◌, ◌<◌, ◌≤◌, ◌+◌, List, [], ◌∷◌, ◌++◌, length, map, drop, get_or, refl, ap, sym, subst, ◌∙◌, append_assoc}
 use Rattle.std.proofs.lemmas.List.{append-nil}
 use Rattle.std.specs.List.{flat_map}
 use Rattle.lotos_ast.specs.declared.place.Place.{Place}
@@ -12,7 +12,7 @@ use Rattle.sort_overloads.specs.Expressions.{Expression, said, infix_application
 use Rattle.sort_overloads.specs.Expressions.{arguments, further}
 use Rattle.sort_overloads.specs.Readings.{Context}
 use Rattle.sort_overloads.specs.Refused.{unknowns, all_unknowns, unknown_name, unknown_sort}
-use Rattle.sort_overloads.proofs.Loops.{dropped-next, taken-next, dropped-all, map-join}
+use Rattle.sort_overloads.proofs.Loops.{dropped-next, dropped-all}
 
 -- what is listed for an expression of which these operations are left to be read
 pub record ListedSoFar (c : Context) (whole : Expression) (left_over : List Tree) (old now : List Refusal) : Type 0 where

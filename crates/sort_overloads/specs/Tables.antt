@@ -11,7 +11,7 @@ use Rattle.sort_overloads.specs.declared.table.Root.TheVariants.{Variable, Opera
 use Rattle.sort_overloads.specs.declared.table.Table.{Table}
 use Rattle.sort_overloads.specs.declared.table.Table.TheFolds.{fold-Table}
 use Rattle.sort_overloads.specs.declared.table.Table.TheOpen.{Table-F}
-use Rattle.std.specs.Prelude.{Bool, true, ◌==◌}
+use Rattle.std.specs.Prelude.{Bool, true, ◌==◌, ◌≡◌}
 use Rattle.std.specs.List.{slice_get}
 use Rattle.sort_overloads.specs.declared.selection.Wanted.{Wanted}
 use Rattle.sort_overloads.specs.declared.selection.Wanted.TheVariants.{Any, Just, Named}
@@ -73,3 +73,8 @@ abbrev pub fits : Wanted → ℕ → Bool
 fits Any sort = true
 fits (Just only) sort = only.0 == sort
 fits (Named sorts name) sort = is_name_of name.now (slice_get sorts.now sort)
+
+-- this sort is wanted, or any where there is none
+abbrev pub IsWantedAs : Option Sort → Wanted → Type 0
+IsWantedAs None wanted = wanted ≡ Any
+IsWantedAs (Some sort) wanted = wanted ≡ Just sort

@@ -129,9 +129,7 @@ fn applied(
 fn of_named_sort(alloc: Global, sorts: &[Name], name: &str, table: Table) -> Result<Table, Memory>
     ensures { IfOk result (λ kept. table_of kept ≡ those (λ s. is_name_of name.now (slice_get sorts.now s)) (table_of table)) }
 {
-    let (readings, arguments) = table.into_parts();
-    let kept = selected(alloc, &Wanted::Named { sorts, name }, readings)?;
-    Ok(Table::new(kept, arguments))
+    selected(alloc, &Wanted::Named { sorts, name }, table)
 }
 
 /// How an operation between two arguments is spelled where it is declared.

@@ -3,10 +3,10 @@
 ghost use Rattle.std.specs.Prelude.{◌≡◌, ◌++◌, ◌∷◌, [], List, IfOk, OnOk, map, if◌then◌else◌};
 ghost use Rattle.std.specs.List.{slice_get};
 ghost use Rattle.sort_overloads.specs.Listed.{Typed, is_name_of, those};
-ghost use Rattle.sort_overloads.specs.Tables.{reading_of, fits};
+ghost use Rattle.sort_overloads.specs.Tables.{table_of, reading_of, fits};
 
 use crate::names::has_name;
-use crate::table::Reading;
+use crate::table::{Reading, Table};
 use spec_core::items::Sort;
 use spec_core::memory::Memory;
 use spec_core::name::Name;
@@ -20,8 +20,17 @@ pub enum Wanted<'a> {
     Named { sorts: &'a [Name], name: &'a str },
 }
 
-/// Those of the readings that are of a wanted sort.
-pub fn selected(
+/// The table of those readings that are of a wanted sort.
+pub fn selected(alloc: Global, wanted: &Wanted<'_>, table: Table) -> Result<Table, Memory>
+    ensures { IfOk result (λ kept. table_of kept ≡ those (fits wanted.now) (table_of table)) }
+{
+    let (readings, arguments) = table.into_parts();
+    let kept = selected_readings(alloc, wanted, readings)?;
+    Ok(Table::new(kept, arguments))
+}
+
+// Those of the readings that are of a wanted sort.
+fn selected_readings(
     alloc: Global,
     wanted: &Wanted<'_>,
     readings: Vec<Reading>,

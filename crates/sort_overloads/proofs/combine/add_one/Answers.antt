@@ -1,6 +1,5 @@
-use Rattle.std.proofs.Common.{arith, ◌≡◌, ◌++◌, ◌∷◌, [], length, map, ap, ◌∙◌}
-use Rattle.sort_overloads.specs.Listed.{two}
-use Rattle.sort_overloads.specs.Tables.{list_of, picked, with_last}
+use Rattle.std.proofs.Common.{arith, ◌≡◌, length}
+use Rattle.sort_overloads.specs.Tables.{list_of}
 use Rattle.sort_overloads.proofs.Loops.{enough, one-added}
 use Rattle.sort_overloads.proofs.combine.add_one.Goals as goal
 

@@ -1,6 +1,6 @@
 use Rattle.std.proofs.Common.{arith, ◌≡◌, ◌<◌, ◌∷◌, [], map, ap, ◌∙◌, sym, length}
 use Rattle.spec_core.specs.Numbers.{sort_number}
-use Rattle.sort_overloads.specs.Listed.{two, argument_lists, of_sort, extended}
+use Rattle.sort_overloads.specs.Listed.{two, argument_lists, extended}
 use Rattle.sort_overloads.specs.Tables.{table_of, arguments_of, reading_of, list_of, picked}
 use Rattle.sort_overloads.proofs.Loops.{argument_lists-unlike, lists-continued, mapped-at}
 use Rattle.sort_overloads.proofs.combine.first_lists.Goals as goal

@@ -1,4 +1,4 @@
-use Rattle.std.proofs.Common.{◌≡◌, ◌≤◌, length, map, take, ap, sym, subst}
+use Rattle.std.proofs.Common.{◌≤◌, length, map, sym, subst}
 use Rattle.spec_core.specs.Theories.{operation_of}
 use Rattle.sort_overloads.specs.Listed.{StandsFor, of_operations}
 use Rattle.sort_overloads.specs.Tables.{table_of, reading_of}

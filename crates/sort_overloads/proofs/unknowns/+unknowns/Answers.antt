@@ -1,4 +1,4 @@
-use Rattle.std.proofs.Common.{rules, ◌≡◌, ◌≤◌, ◌++◌, map, length, ap, ◌∙◌, subst}
+use Rattle.std.proofs.Common.{rules, ◌≡◌, ◌≤◌, ◌++◌, map, length, ap, ◌∙◌}
 use Rattle.std.specs.List.{flat_map}
 use Rattle.lotos_ast.specs.declared.expression.Head.TheFolds.{the_lemmas}
 use Rattle.lotos_ast.specs.Reads.{leaf, both, right, present, node}

@@ -1,4 +1,4 @@
-use Rattle.std.proofs.Common.{◌≡◌, ◌||◌, take, map, false}
+use Rattle.std.proofs.Common.{◌≡◌, take, map, false}
 use Rattle.std.specs.List.{list_any}
 use Rattle.sort_overloads.specs.Views.{declared_of}
 use Rattle.sort_overloads.specs.Listed.{is_same_name}

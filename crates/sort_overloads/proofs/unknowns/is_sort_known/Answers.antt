@@ -1,4 +1,4 @@
-use Rattle.std.proofs.Common.{◌∙◌, refl, sym}
+use Rattle.std.proofs.Common.{◌∙◌, sym}
 use Rattle.sort_overloads.specs.Listed.{is_same_name}
 use Rattle.sort_overloads.proofs.Any.{any-in}
 use Rattle.sort_overloads.proofs.unknowns.is_sort_known.Goals as goal

@@ -1,6 +1,6 @@
 use Rattle.sort_overloads.specs.Tables.{reading_of, fits}
 use Rattle.sort_overloads.proofs.Loops.{those-next}
-use Rattle.sort_overloads.proofs.selection.selected.Goals as goal
+use Rattle.sort_overloads.proofs.selection.selected_readings.Goals as goal
 
 pub loop-reading-preserved : goal.loop-reading-preserved
 loop-reading-preserved c tables =
