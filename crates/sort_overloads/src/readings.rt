@@ -45,7 +45,8 @@ fn infix_readings(
     requires few { vec_len scope.now.signature.ops < 2 ^ 32 }
     requires few_variables { vec_len scope.now.vars < 2 ^ 32 }
     ensures stands { IfOk result (λ all. (e : Expression) → StandsFor (readings (context_of scope.now) e) (table_of left) →
-        StandsFor (readings (context_of scope.now) (infix_application operation.now.name e (simple_expression (simple_tree operation.now.right))))
+        StandsFor
+        (readings (context_of scope.now) (infix_application operation.now.name e (simple_expression (simple_tree operation.now.right))))
         (table_of all)) }
 {
     let right = simple_readings(alloc, scope, &operation.right)?;

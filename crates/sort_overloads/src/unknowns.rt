@@ -164,7 +164,8 @@ fn has_variable(variables: &[Variable], name: &str) -> bool
 
 // Whether an operation has one of these names.
 fn has_operation(operations: &[OpDecl], name: &str, spelled: &str) -> bool
-    ensures { result ≡ list_any (λ d. is_same_name d.name name.now || is_same_name d.name spelled.now) (map operation_of operations.now) }
+    ensures { result
+        ≡ list_any (λ d. is_same_name d.name name.now || is_same_name d.name spelled.now) (map operation_of operations.now) }
 {
     for operation in operations {
         if has_either_name(operation, name, spelled) {
@@ -176,7 +177,8 @@ fn has_operation(operations: &[OpDecl], name: &str, spelled: &str) -> bool
 
 // Whether the operation has one of these names.
 fn has_either_name(operation: &OpDecl, name: &str, spelled: &str) -> bool
-    ensures { result ≡ (is_same_name (operation_of operation.now).name name.now || is_same_name (operation_of operation.now).name spelled.now) }
+    ensures { result
+        ≡ (is_same_name (operation_of operation.now).name name.now || is_same_name (operation_of operation.now).name spelled.now) }
 {
     has_name(&operation.name, name) || has_name(&operation.name, spelled)
 }
