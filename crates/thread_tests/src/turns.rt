@@ -5,14 +5,12 @@ ghost use Rattle.std.specs.List.{range_with_len};
 ghost use Rattle.turn_lock.specs.Entries.{Continues};
 ghost use Rattle.turn_lock.specs.Seats.{IsAtRest};
 
-use crate::seat::TurnSeat;
-use crate::standing::Standing;
-use crate::turns::Turns;
 use spec_core::memory::Memory;
 use std::alloc::Global;
 use std::sync::Wait;
 use std::thread;
 use std::thread::Threads;
+use turn_lock::{Standing, TurnSeat, Turns};
 
 /// A list of the numbers of seats, each added by its seat, and a name that stays.
 #[derive(Drop)]
@@ -115,9 +113,11 @@ fn add_in_threads<R: Threads + Wait + Sync>(
     seats: &mut Vec<TurnSeat<Tally>>,
 )
     requires few { vec_len seats.old < 2 ^ 32 }
-    requires each { (i : ℕ) (s : _) → i < vec_len seats.old → s ≡ slice_index_or seats.old.items i s → IsAtRest lock.now.id s × (s.number ≡ i) }
+    requires each { (i : ℕ) (s : _) → i < vec_len seats.old →
+        s ≡ slice_index_or seats.old.items i s → IsAtRest lock.now.id s × (s.number ≡ i) }
     ensures length { length seats.new.items ≡ length seats.old.items }
-    ensures each { (i : ℕ) (s : _) → i < length seats.new.items → s ≡ slice_index_or seats.new.items i s → IsAtRest lock.now.id s × (s.number ≡ i) }
+    ensures each { (i : ℕ) (s : _) → i < length seats.new.items →
+        s ≡ slice_index_or seats.new.items i s → IsAtRest lock.now.id s × (s.number ≡ i) }
 {
     thread::for_each_mut(
         rt,

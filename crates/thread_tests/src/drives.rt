@@ -3,12 +3,11 @@
 ghost use Rattle.std.specs.Prelude.{◌≡◌, ℕ, ◌*◌, true, IfOk};
 ghost use Rattle.worker_drive.specs.Counts.{raised_by};
 
-use crate::desk::{Desk, Offered, Probe};
-use crate::worker::drive;
 use spec_core::memory::Memory;
 use std::alloc::Global;
 use std::cell::Cell;
 use std::sync::Wait;
+use worker_drive::{Desk, Offered, Probe, drive};
 
 /// What a listed desk offers at one look.
 #[derive(Clone, Copy)]
