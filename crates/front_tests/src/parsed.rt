@@ -5,9 +5,6 @@ use crate::long_texts::{BOOLEAN, LISTS, NATURAL_NUMBER};
 use crate::nested_texts::NESTED_TEXTS;
 use crate::recognised::spell;
 use crate::type_texts::{BODIES, EQUATIONS, LIBRARIES, OPERATIONS, PAIRS, SEQUENCES};
-use data_parser::cursor::Cursor;
-use data_parser::item::Item;
-use data_parser::refusals::refusal;
 use data_parser::type_definition::OneTypeDefinition;
 use data_parser::{expression, types};
 use grammar_reader::part::Part;
@@ -18,6 +15,9 @@ use spec_core::memory::Memory;
 use std::alloc::Global;
 use std::process::Abort;
 use std::test::Fail;
+use token_cursor::cursor::Cursor;
+use token_cursor::item::Item;
+use token_cursor::refusals::refusal;
 
 // How many tokens are left, or the refusal's number, place and name.
 pub fn describe(alloc: Global, parsed: Result<usize, FrontFault>) -> Result<String, Memory> {

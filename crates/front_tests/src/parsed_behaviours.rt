@@ -8,8 +8,6 @@ use crate::recognised::{repeat, spell};
 use crate::specification_texts::{BEHIND_THE_END, HEADS, WHERES};
 use behaviour_parser::behaviour::behaviour;
 use behaviour_parser::specification;
-use data_parser::cursor::Cursor;
-use data_parser::refusals::refusal;
 use grammar_reader::part::Part;
 use lotos_ast::nest::Nest;
 use lotos_lexer::tokens;
@@ -17,6 +15,8 @@ use spec_core::memory::Memory;
 use std::alloc::Global;
 use std::process::Abort;
 use std::test::Fail;
+use token_cursor::cursor::Cursor;
+use token_cursor::refusals::refusal;
 
 // What the parser of behaviours answers.
 fn parse_behaviour(alloc: Global, text: &str) -> Result<String, Memory> {

@@ -8,8 +8,8 @@ use Rattle.lotos_ast.specs.Reads.{Stops}
 use Rattle.lotos_ast.specs.Parsing.{refusal_at}
 use Rattle.lotos_ast.specs.declared.refusal.FrontFault.{FrontFault}
 use Rattle.lotos_ast.specs.Refusals.{OnRefusal}
-use Rattle.data_parser.specs.declared.parse_fault.ParseFault.{ParseFault}
-use Rattle.data_parser.specs.declared.parse_fault.ParseFault.TheVariants.{Stopped, Memory}
+use Rattle.token_cursor.specs.declared.parse_fault.ParseFault.{ParseFault}
+use Rattle.token_cursor.specs.declared.parse_fault.ParseFault.TheVariants.{Stopped, Memory}
 
 -- the reason that a parser's fault tells; want of memory tells none
 abbrev pub reason_of : ParseFault → Option Fault

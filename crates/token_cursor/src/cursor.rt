@@ -6,7 +6,7 @@ ghost use Rattle.lotos_ast.specs.Notation.{quoted, kept, marked, named, fits};
 ghost use Rattle.lotos_ast.specs.Nesting.{nesting_of, is_within, fault_at};
 ghost use Rattle.lotos_ast.specs.Reads.{Reads, unkept, leaf};
 ghost use Rattle.lotos_ast.specs.Begins.{mark_at, place_at, begins_expression};
-ghost use Rattle.data_parser.specs.Parsers.{reason_of, Halts};
+ghost use Rattle.token_cursor.specs.Parsers.{reason_of, Halts};
 
 use crate::parse_fault::ParseFault;
 use lotos_ast::fault::Fault;
@@ -118,7 +118,7 @@ impl<'a> Cursor<'a> {
     }
 
     /// Passes over a token that no tree keeps. It takes no memory.
-    #[tactic(auto, using(crate::proofs::Rows::reads_passed, crate::proofs::Rows::halts_unexpected, crate::proofs::Rows::halts_too_deep, crate::proofs::Rows::halts_memory))]
+    #[tactic(auto, using(crate::proofs::Steps::token_steps))]
     pub fn pass(&mut self, nest: Nest, mark: Mark) -> Result<(), ParseFault>
         ensures read { OnOk result (Reads (nesting_of nest) (quoted mark) self.old unkept self.new) }
         ensures halts { IfErr result (λ e. Halts e (nesting_of nest) (quoted mark) self.old self.new) }
@@ -137,7 +137,7 @@ impl<'a> Cursor<'a> {
     }
 
     /// A token with this mark.
-    #[tactic(auto, using(lotos_ast::proofs::Rows::reads_kept_at, crate::proofs::Rows::halts_unkept, crate::proofs::Rows::halts_kept_too_deep, crate::proofs::Rows::halts_memory))]
+    #[tactic(auto, using(crate::proofs::Steps::token_steps))]
     pub fn token(&mut self, nest: Nest, mark: Mark) -> Result<Token, ParseFault>
         ensures read { IfOk result (λ token. Reads (nesting_of nest) (kept (marked mark)) self.old (leaf token) self.new) }
         ensures halts { IfErr result (λ e. Halts e (nesting_of nest) (kept (marked mark)) self.old self.new) }
@@ -156,7 +156,7 @@ impl<'a> Cursor<'a> {
     }
 
     /// A name of an operation or a variable.
-    #[tactic(auto, using(lotos_ast::proofs::Rows::reads_kept_at, crate::proofs::Rows::halts_unkept, crate::proofs::Rows::halts_kept_too_deep, crate::proofs::Rows::halts_memory))]
+    #[tactic(auto, using(crate::proofs::Steps::token_steps))]
     pub fn name(&mut self, nest: Nest) -> Result<Token, ParseFault>
         ensures read { IfOk result (λ token. Reads (nesting_of nest) (kept named) self.old (leaf token) self.new) }
         ensures halts { IfErr result (λ e. Halts e (nesting_of nest) (kept named) self.old self.new) }

@@ -5,7 +5,7 @@ ghost use Rattle.lotos_ast.specs.Notation.{optional, identifier, list};
 ghost use Rattle.lotos_ast.specs.Reads.{Reads};
 ghost use Rattle.lotos_ast.specs.ListTrees.{optional_list_tree};
 ghost use Rattle.lotos_ast.specs.Nesting.{nesting_of};
-ghost use Rattle.data_parser.specs.Parsers.{Halts};
+ghost use Rattle.token_cursor.specs.Parsers.{Halts};
 
 use crate::cursor::Cursor;
 use crate::item::Item;
@@ -39,7 +39,8 @@ impl Item for Identifier {
 impl<'a> Cursor<'a> {
     /// Identifiers with commas between them, where they stand.
     pub fn optional_identifiers(&mut self, nest: Nest) -> Result<Option<Vec<Token>>, ParseFault>
-        ensures read { IfOk result (λ all. Reads (nesting_of nest) (optional (list identifier)) self.old (optional_list_tree all) self.new) }
+        ensures read { IfOk result (λ all. Reads (nesting_of nest) (optional (list identifier)) self.old
+            (optional_list_tree all) self.new) }
         ensures halts { IfErr result (λ e. Halts e (nesting_of nest) (optional (list identifier)) self.old self.new) }
         ensures no_more { OnOk result (length self.new ≤ length self.old) }
     {

@@ -7,7 +7,7 @@ ghost use Rattle.lotos_ast.specs.Reads.{Tree, Reads, unkept};
 ghost use Rattle.lotos_ast.specs.Begins.{mark_at, starts};
 ghost use Rattle.lotos_ast.specs.ListTrees.{repeated_tree, list_tree, behind};
 ghost use Rattle.lotos_ast.specs.Nesting.{nesting_of};
-ghost use Rattle.data_parser.specs.Parsers.{Halts};
+ghost use Rattle.token_cursor.specs.Parsers.{Halts};
 
 use crate::cursor::Cursor;
 use crate::parse_fault::ParseFault;
@@ -91,9 +91,10 @@ impl<'a> Cursor<'a> {
     }
 
     /// Reads an item any number of times.
-    #[tactic(auto, using(crate::proofs::Loops::repeats_none, crate::proofs::Loops::repeats_all, crate::proofs::Loops::repeats_halts, crate::proofs::Rows::halts_memory))]
+    #[tactic(auto, using(crate::proofs::Loops::loop_steps))]
     pub fn repeated<I: Item>(&mut self, nest: Nest) -> Result<Vec<I::Output>, ParseFault>
-        ensures read { IfOk result (λ all. Reads (nesting_of nest) (repeated I.syntax) self.old (repeated_tree (map I.tree all.items)) self.new) }
+        ensures read { IfOk result (λ all. Reads (nesting_of nest) (repeated I.syntax) self.old
+            (repeated_tree (map I.tree all.items)) self.new) }
         ensures halts { IfErr result (λ e. Halts e (nesting_of nest) (repeated I.syntax) self.old self.new) }
         ensures no_more { OnOk result (length self.new ≤ length self.old) }
     {
@@ -106,9 +107,10 @@ impl<'a> Cursor<'a> {
     }
 
     /// Reads an item any number of times, each behind a comma.
-    #[tactic(auto, using(crate::proofs::Loops::reads_behind))]
+    #[tactic(auto, using(crate::proofs::Loops::loop_steps))]
     pub fn after_commas<I: Item>(&mut self, nest: Nest) -> Result<Vec<I::Output>, ParseFault>
-        ensures read { IfOk result (λ all. Reads (nesting_of nest) (repeated (quoted Mark.Comma ▸ I.syntax)) self.old (repeated_tree (map behind (map I.tree all.items))) self.new) }
+        ensures read { IfOk result (λ all. Reads (nesting_of nest) (repeated (quoted Mark.Comma ▸ I.syntax)) self.old
+            (repeated_tree (map behind (map I.tree all.items))) self.new) }
         ensures halts { IfErr result (λ e. Halts e (nesting_of nest) (repeated (quoted Mark.Comma ▸ I.syntax)) self.old self.new) }
         ensures no_more { OnOk result (length self.new ≤ length self.old) }
     {
@@ -117,10 +119,13 @@ impl<'a> Cursor<'a> {
     }
 
     // Reads an item any number of times, each behind a comma that may be left out.
-    #[tactic(auto, using(crate::proofs::Loops::reads_behind))]
+    #[tactic(auto, using(crate::proofs::Loops::loop_steps))]
     fn after_optional_commas<I: Item>(&mut self, nest: Nest) -> Result<Vec<I::Output>, ParseFault>
-        ensures read { IfOk result (λ all. Reads (nesting_of nest) (repeated (reduced presence (optional (quoted Mark.Comma)) ▸ I.syntax)) self.old (repeated_tree (map behind (map I.tree all.items))) self.new) }
-        ensures halts { IfErr result (λ e. Halts e (nesting_of nest) (repeated (reduced presence (optional (quoted Mark.Comma)) ▸ I.syntax)) self.old self.new) }
+        ensures read { IfOk result (λ all.
+            Reads (nesting_of nest) (repeated (reduced presence (optional (quoted Mark.Comma)) ▸ I.syntax)) self.old
+            (repeated_tree (map behind (map I.tree all.items))) self.new) }
+        ensures halts { IfErr result (λ e.
+            Halts e (nesting_of nest) (repeated (reduced presence (optional (quoted Mark.Comma)) ▸ I.syntax)) self.old self.new) }
         ensures no_more { OnOk result (length self.new ≤ length self.old) }
     {
         let all = self.repeated::<AfterOptionalComma<I>>(nest)?;
@@ -128,7 +133,7 @@ impl<'a> Cursor<'a> {
     }
 
     /// Reads one item or more, with commas between them.
-    #[tactic(auto, using(crate::proofs::Loops::reads_list, crate::proofs::Rows::halts_first, crate::proofs::Rows::halts_second, crate::proofs::Rows::halts_memory))]
+    #[tactic(auto, using(crate::proofs::Loops::loop_steps))]
     pub fn list<I: Item>(&mut self, nest: Nest) -> Result<Vec<I::Output>, ParseFault>
         ensures read { IfOk result (λ all. Reads (nesting_of nest) (list I.syntax) self.old (list_tree (map I.tree all.items)) self.new) }
         ensures halts { IfErr result (λ e. Halts e (nesting_of nest) (list I.syntax) self.old self.new) }
@@ -141,9 +146,10 @@ impl<'a> Cursor<'a> {
     }
 
     /// Reads one item or more. A comma between two of them may be left out.
-    #[tactic(auto, using(crate::proofs::Loops::reads_list, crate::proofs::Rows::halts_first, crate::proofs::Rows::halts_second, crate::proofs::Rows::halts_memory))]
+    #[tactic(auto, using(crate::proofs::Loops::loop_steps))]
     pub fn loose_list<I: Item>(&mut self, nest: Nest) -> Result<Vec<I::Output>, ParseFault>
-        ensures read { IfOk result (λ all. Reads (nesting_of nest) (loose_list I.syntax) self.old (list_tree (map I.tree all.items)) self.new) }
+        ensures read { IfOk result (λ all. Reads (nesting_of nest) (loose_list I.syntax) self.old
+            (list_tree (map I.tree all.items)) self.new) }
         ensures halts { IfErr result (λ e. Halts e (nesting_of nest) (loose_list I.syntax) self.old self.new) }
         ensures fewer { OnOk result (length self.new < length self.old) }
     {

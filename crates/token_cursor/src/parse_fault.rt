@@ -15,7 +15,7 @@ pub enum ParseFault {
 
 impl From<Memory> for ParseFault {
     ghost use Rattle.std.specs.Prelude.{◌≡◌};
-    ghost use Rattle.data_parser.specs.declared.parse_fault.ParseFault.TheVariants.{Memory};
+    ghost use Rattle.token_cursor.specs.declared.parse_fault.ParseFault.TheVariants.{Memory};
 
     ghost from_gives = { λ _ fault. fault ≡ Memory };
 
@@ -26,7 +26,7 @@ impl From<Memory> for ParseFault {
 
 impl From<AllocError> for ParseFault {
     ghost use Rattle.std.specs.Prelude.{◌≡◌};
-    ghost use Rattle.data_parser.specs.declared.parse_fault.ParseFault.TheVariants.{Memory};
+    ghost use Rattle.token_cursor.specs.declared.parse_fault.ParseFault.TheVariants.{Memory};
 
     ghost from_gives = { λ _ fault. fault ≡ Memory };
 
@@ -37,7 +37,7 @@ impl From<AllocError> for ParseFault {
 
 impl<T: Drop> From<AllocFailed<T>> for ParseFault {
     ghost use Rattle.std.specs.Prelude.{◌≡◌};
-    ghost use Rattle.data_parser.specs.declared.parse_fault.ParseFault.TheVariants.{Memory};
+    ghost use Rattle.token_cursor.specs.declared.parse_fault.ParseFault.TheVariants.{Memory};
 
     ghost from_gives = { λ _ fault. fault ≡ Memory };
 

@@ -3,7 +3,7 @@
 ghost use Rattle.std.specs.Prelude.{◌≡◌, IfOk};
 ghost use Rattle.lotos_ast.specs.declared.fault.Fault.{Fault};
 ghost use Rattle.lotos_ast.specs.Parsing.{place_behind, has_room, end_place, refusal_at};
-ghost use Rattle.data_parser.specs.Parsers.{Tells};
+ghost use Rattle.token_cursor.specs.Parsers.{Tells};
 
 use crate::parse_fault::ParseFault;
 use lotos_ast::fault::Fault;

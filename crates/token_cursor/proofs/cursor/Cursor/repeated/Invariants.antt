@@ -1,7 +1,7 @@
 use Rattle.std.proofs.Common.{length, map, ◌≤◌}
 use Rattle.lotos_ast.specs.Nesting.{nesting_of}
-use Rattle.data_parser.specs.Loops.{Repeats}
-use Rattle.data_parser.proofs.cursor.Cursor.repeated.Given as goal
+use Rattle.token_cursor.specs.Loops.{Repeats}
+use Rattle.token_cursor.proofs.cursor.Cursor.repeated.Given as goal
 
 abbrev pub invariant-items : goal.invariant-items
 invariant-items g l = record {
