@@ -27,8 +27,7 @@ use Rattle.data_parser.specs.OperationNames.{is_infix, after_names, after_names_
 first_reads : (d : Nesting) (s m r : List Token) (place : Place) (name : OperationName) (mark : Option Token) (ys : List DeclaredName)
     (sorts : Option (Vec Token Global)) (result : Token) →
     Reads d (part operation_name ▸ optional constructor_mark) s (both (operation_name_tree name) (optional_token_tree mark)) m →
-    place ≡ place_at s →
-    Reads d (after_names (is_infix name)) m (after_names_tree (is_infix name) ys sorts result) r →
+    place ≡ place_at s → Reads d (after_names (is_infix name)) m (after_names_tree (is_infix name) ys sorts result) r →
     Reads d (part operation_names) s (names_tree (record { place = place; name = name; mark = mark } ∷ ys) sorts result) r
 first_reads d s m r place (Prefix p t) mark ys sorts result (reads_sequence u (reads_part e (reads_left b h)) k) i g =
     reads_part (sym i) (reads_left b (reads_sequence u (reads_placed e h) (reads_sequence m k g)))
@@ -38,7 +37,8 @@ first_reads d s m r place (Infix p t) mark ys sorts result (reads_sequence u (re
 -- behind the first name, what follows it stops
 first_stops : (d : Nesting) (f : Fault) (s m r : List Token) (name : OperationName) (mark : Option Token) →
     Reads d (part operation_name ▸ optional constructor_mark) s (both (operation_name_tree name) (optional_token_tree mark)) m →
-    Stops d f (after_names (is_infix name)) m r → Stops d f (part operation_names) s r
+    Stops d f (after_names (is_infix name)) m r →
+    Stops d f (part operation_names) s r
 first_stops d f s m r (Prefix p t) mark (reads_sequence u (reads_part e (reads_left b h)) k) g =
     stops_part (stops_left b (stops_second u (reads_placed e h) (stops_second m k g)))
 first_stops d f s m r (Infix p t) mark (reads_sequence u (reads_part e (reads_right b h)) k) g =
@@ -86,18 +86,18 @@ next_reads false d s u m r n ys sorts result b c h i g =
 next_stops : (between : Bool) (d : Nesting) (f : Fault) (s u m r : List Token) (n : DeclaredName) →
     is_same_mark Mark.Comma (mark_at s) ≡ true → Reads d (quoted Mark.Comma) s unkept u →
     Reads d (part operation_name ▸ optional constructor_mark) u (both (operation_name_tree n.name) (optional_token_tree n.mark)) m →
-    Stops d f (after_names (between || is_infix n.name)) m r → Stops d f (after_names between) s r
+    Stops d f (after_names (between || is_infix n.name)) m r →
+    Stops d f (after_names between) s r
 next_stops true d f s u m r n b c (reads_sequence w h k) g =
     stops_left b (stops_second u c (stops_part (stops_second w h (stops_second m k g))))
 next_stops false d f s u m r n b c h g = stops_left b (stops_second u c (first_stops d f u m r n.name n.mark h g))
 
 pub names_next : (d : Nesting) (s : List Token) (all : List DeclaredName) (between : Bool) (m u v : List Token) (n : DeclaredName)
     (now : List DeclaredName) (between_now : Bool) →
-    NamesOn d s all between m →
-    is_same_mark Mark.Comma (mark_at m) ≡ true → Reads d (quoted Mark.Comma) m unkept u →
+    NamesOn d s all between m → is_same_mark Mark.Comma (mark_at m) ≡ true → Reads d (quoted Mark.Comma) m unkept u →
     Reads d (part operation_name ▸ optional constructor_mark) u (both (operation_name_tree n.name) (optional_token_tree n.mark)) v →
-    n.place ≡ place_at u →
-    now ≡ all ++ n ∷ [] → between_now ≡ between || is_infix n.name → NamesOn d s now between_now v
+    n.place ≡ place_at u → now ≡ all ++ n ∷ [] → between_now ≡ between || is_infix n.name →
+    NamesOn d s now between_now v
 names_next d s all between m u v n now between_now h b c k i e j =
     subst (λ z. NamesOn d s z between_now v) (sym e) (subst (λ z. NamesOn d s (all ++ n ∷ []) z v) (sym j) record {
       reads = λ ys sorts result r g. subst (λ z. Reads d (part operation_names) s (names_tree z sorts result) r)

@@ -16,7 +16,7 @@ use Rattle.lotos_ast.specs.declared.behaviour.Offer.{Offer}
 use Rattle.lotos_ast.specs.declared.behaviour.Operator.{Operator}
 use Rattle.lotos_ast.specs.declared.behaviour.Action.TheVariants.{Internal, Plain, Offering}
 use Rattle.lotos_ast.specs.MarkNumbers.{is_same_mark}
-use Rattle.lotos_ast.specs.Notation.{Syntax, sequence, quoted, repeated, part, optional, placed, ◌▸◌, ◌∣◌, identifier, list, in_parentheses, unary, behaviour, offer, binding, gate_list, gate_choice, declaration, operator, expression, exit_value}
+use Rattle.lotos_ast.specs.Notation.{Syntax, sequence, quoted, repeated, part, optional, placed, ◌▸◌, identifier, list, in_parentheses, unary, behaviour, offer, binding, gate_list, gate_choice, declaration, operator, expression, exit_value}
 use Rattle.lotos_ast.specs.Grammar.{predicate, prefixed}
 use Rattle.lotos_ast.specs.Begins.{mark_at, place_at, is_among, starts}
 use Rattle.lotos_ast.specs.Nesting.{Nesting, in_bracket}

@@ -3,7 +3,7 @@ use Rattle.lotos_ast.specs.declared.token.Token.{Token}
 use Rattle.lotos_ast.specs.Notation.{Syntax}
 use Rattle.lotos_ast.specs.Nesting.{Nesting}
 use Rattle.lotos_ast.specs.Reads.{Tree, Reads}
-use Rattle.behaviour_parser.proofs.Levels.{behaviour_joined, disable_joined, parallel_joined, choice_joined, behaviour_steps, disable_steps, parallel_steps, choice_steps}
+use Rattle.behaviour_parser.proofs.Levels.{behaviour_joined, disable_joined, parallel_joined, choice_joined, behaviour_steps, disable_steps, parallel_steps, choice_steps, unary_steps}
 use Rattle.behaviour_parser.proofs.behaviour.+behaviour.Goals as goal
 
 at_nesting : {n d : Nesting} {g : Syntax} {s r : List Token} {x : Tree} → n ≡ d → Reads n g s x r → Reads d g s x r
@@ -119,3 +119,42 @@ choice-returns-in_err-choice_alone-clause-halts h c = grind (arith, choice_steps
 
 pub choice-returns-in_ok-choice_alone-clause-read : goal.choice-returns-in_ok-choice_alone-clause-read
 choice-returns-in_ok-choice_alone-clause-read h c = grind (arith, choice_steps)
+
+pub unary-returns-in_err-inner-in-Before-clause-halts : goal.unary-returns-in_err-inner-in-Before-clause-halts
+unary-returns-in_err-inner-in-Before-clause-halts h c = grind (arith, unary_steps)
+
+pub unary-returns-in_err-rest-in-Before-clause-halts : goal.unary-returns-in_err-rest-in-Before-clause-halts
+unary-returns-in_err-rest-in-Before-clause-halts h c = grind (arith, unary_steps)
+
+pub unary-returns-in_err-before-in-Before-clause-halts : goal.unary-returns-in_err-before-in-Before-clause-halts
+unary-returns-in_err-before-in-Before-clause-halts h c = grind (arith, unary_steps)
+
+pub unary-returns-in_err-inner-in-Around-clause-halts : goal.unary-returns-in_err-inner-in-Around-clause-halts
+unary-returns-in_err-inner-in-Around-clause-halts h c = grind (arith, unary_steps)
+
+pub unary-returns-in_err-inside-in-Around-clause-halts : goal.unary-returns-in_err-inside-in-Around-clause-halts
+unary-returns-in_err-inside-in-Around-clause-halts h c = grind (arith, unary_steps)
+
+pub unary-returns-in_err-around-in-Around-clause-halts : goal.unary-returns-in_err-around-in-Around-clause-halts
+unary-returns-in_err-around-in-Around-clause-halts h c = grind (arith, unary_steps)
+
+pub unary-returns-in_err-inner-in-Parenthesis-clause-halts : goal.unary-returns-in_err-inner-in-Parenthesis-clause-halts
+unary-returns-in_err-inner-in-Parenthesis-clause-halts h c = grind (arith, unary_steps)
+
+pub unary-returns-in_err-group-in-Parenthesis-clause-halts : goal.unary-returns-in_err-group-in-Parenthesis-clause-halts
+unary-returns-in_err-group-in-Parenthesis-clause-halts h c = grind (arith, unary_steps)
+
+pub unary-returns-in_err-pass-in-Parenthesis-clause-halts : goal.unary-returns-in_err-pass-in-Parenthesis-clause-halts
+unary-returns-in_err-pass-in-Parenthesis-clause-halts h c = grind (arith, unary_steps)
+
+pub unary-returns-in_err-grouped-in-Parenthesis-clause-halts : goal.unary-returns-in_err-grouped-in-Parenthesis-clause-halts
+unary-returns-in_err-grouped-in-Parenthesis-clause-halts h c = grind (arith, unary_steps)
+
+pub unary-returns-in_ok-before-in-Before-clause-read : goal.unary-returns-in_ok-before-in-Before-clause-read
+unary-returns-in_ok-before-in-Before-clause-read h c = grind (arith, unary_steps)
+
+pub unary-returns-in_ok-around-in-Around-clause-read : goal.unary-returns-in_ok-around-in-Around-clause-read
+unary-returns-in_ok-around-in-Around-clause-read h c = grind (arith, unary_steps)
+
+pub unary-returns-in_ok-grouped-in-Parenthesis-clause-read : goal.unary-returns-in_ok-grouped-in-Parenthesis-clause-read
+unary-returns-in_ok-grouped-in-Parenthesis-clause-read h c = grind (arith, unary_steps)
