@@ -2,6 +2,8 @@
 #![tactic(auto)]
 
 #[cfg(test)]
+mod constructors;
+#[cfg(test)]
 mod copies;
 #[cfg(test)]
 mod evaluation;

@@ -1,11 +1,11 @@
 // Windows that were worked out by hand, of truth values, natural numbers, lists of truth values, and a sort without values.
 
-use crate::samples::{constant, equation, names, operation, unary};
+use crate::samples::{constant, equation, names, operations, unary};
 use sort_windows::window;
 use spec_core::equation::{DataSpec, Equation};
 use spec_core::items::{Op, Sort};
 use spec_core::memory::Memory;
-use spec_core::signature::{OpDecl, Signature};
+use spec_core::signature::Signature;
 use spec_core::value::Value;
 use spec_core::window::Window;
 use std::alloc::Global;
@@ -51,7 +51,7 @@ const OPERATIONS: [(&str, &[Sort], Sort); 8] = [
 fn data(alloc: Global) -> Result<DataSpec, Memory> {
     let signature = Signature {
         sorts: names(alloc, &SORTS)?,
-        ops: operations(alloc)?,
+        ops: operations(alloc, &OPERATIONS)?,
     };
     Ok(DataSpec {
         signature,
@@ -60,14 +60,6 @@ fn data(alloc: Global) -> Result<DataSpec, Memory> {
             negation(alloc, FALSE, TRUE)?,
         ]?,
     })
-}
-
-fn operations(alloc: Global) -> Result<Vec<OpDecl>, Memory> {
-    let mut all = Vec::new(alloc);
-    for (text, args, sort) in &OPERATIONS {
-        all.push(operation(alloc, text, args, *sort)?)?;
-    }
-    Ok(all)
 }
 
 // not(given) = negated

@@ -12,16 +12,17 @@ use Rattle.lotos_ast.specs.Parsing.{IsParsed, refusal_at}
 use Rattle.lotos_ast.specs.Refusals.{OnRefusal}
 use Rattle.lotos_ast.proofs.Parsing.{parsed, refused}
 use Rattle.lotos_ast.proofs.GrammarLaws.{rules_are_well_formed}
-use Rattle.data_parser.specs.declared.parse_fault.ParseFault.{ParseFault}
-use Rattle.data_parser.specs.Parsers.{reason_of, Halts, Tells}
-use Rattle.data_parser.proofs.Rows.{some_equal}
+use Rattle.token_cursor.specs.declared.parse_fault.ParseFault.{ParseFault}
+use Rattle.token_cursor.specs.Parsers.{reason_of, Halts, Tells}
+use Rattle.token_cursor.proofs.Rows.{some_equal}
 use Rattle.behaviour_parser.specs.Specifications.{IsNoSpecification, stopped, followed, IsFollowed, Fails}
 
 pub fails_halting : (e : ParseFault) (s r : List Token) → Halts e outermost (part specification) s r → Fails e s r
 fails_halting e s r h = record { stops = λ f i. inl (h.stops f i) }
 
-pub fails_followed : (e : ParseFault) (s m u : List Token) (x : Tree) (t : Token) → Reads outermost (part specification) s x m → m ≡ t ∷ u →
-    reason_of e ≡ Some (fault_at true (mark_of t)) → Fails e s m
+pub fails_followed : (e : ParseFault) (s m u : List Token) (x : Tree) (t : Token) →
+    Reads outermost (part specification) s x m → m ≡ t ∷ u → reason_of e ≡ Some (fault_at true (mark_of t)) →
+    Fails e s m
 fails_followed e s m u x t h i k = record {
   stops = λ f j. inr (record { tree = x; token = t; others = u; left = i; read = h; reason = some_equal (sym j ∙ k) });
 }
@@ -29,7 +30,9 @@ fails_followed e s m u x t h i k = record {
 pub whole_parsed : (s : List Token) (x : Tree) → Reads outermost (part specification) s x [] → IsParsed (part specification) s x []
 whole_parsed s x h = parsed (part specification) s x [] (rules_are_well_formed specification) h
 
-at_rest : (f : Fault) (s r : List Token) → Stops outermost f (part specification) s r ⊎ IsFollowed f s r → IsNoSpecification s (refusal_at f s r)
+at_rest : (f : Fault) (s r : List Token) →
+    Stops outermost f (part specification) s r ⊎ IsFollowed f s r →
+    IsNoSpecification s (refusal_at f s r)
 at_rest f s r (inl h) = stopped f r (refused (part specification) s f r (rules_are_well_formed specification) h)
 at_rest f s r (inr k) =
     let p = parsed (part specification) s k.tree r (rules_are_well_formed specification) k.read in
@@ -37,6 +40,8 @@ at_rest f s r (inr k) =
     (subst (λ z. IsNoSpecification s (refusal_at z s (k.token ∷ k.others))) (sym k.reason)
     (followed k.tree k.token k.others (subst (λ z. IsParsed (part specification) s k.tree z) k.left p)))
 
-pub no_specification : (x : FrontFault) (e : ParseFault) (s r : List Token) → Fails e s r → Tells x e s r → OnRefusal x (IsNoSpecification s)
+pub no_specification : (x : FrontFault) (e : ParseFault) (s r : List Token) →
+    Fails e s r → Tells x e s r →
+    OnRefusal x (IsNoSpecification s)
 no_specification (Refused y) e s r h t = subst (λ z. IsNoSpecification s z) (sym t.2) (at_rest t.0 s r (h.stops t.0 t.1))
 no_specification Memory e s r h t = tt

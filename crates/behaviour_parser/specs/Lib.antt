@@ -1,3 +1,1 @@
-pub mod Leads
-pub mod Openings
 pub mod Specifications

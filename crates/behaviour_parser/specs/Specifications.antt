@@ -8,13 +8,15 @@ use Rattle.lotos_ast.specs.declared.fault.Fault.{Fault}
 use Rattle.lotos_ast.specs.Nesting.{fault_at, outermost}
 use Rattle.lotos_ast.specs.Reads.{Tree, Reads, Stops}
 use Rattle.lotos_ast.specs.Parsing.{IsParsed, IsRefused, refusal_at}
-use Rattle.data_parser.specs.declared.parse_fault.ParseFault.{ParseFault}
-use Rattle.data_parser.specs.Parsers.{reason_of}
+use Rattle.token_cursor.specs.declared.parse_fault.ParseFault.{ParseFault}
+use Rattle.token_cursor.specs.Parsers.{reason_of}
 
 -- The refusal of tokens of which no beginning is a whole specification, or of which one ends before the last token: the next one
 -- is then the first with which no specification goes on, and it isn't nested.
 pub data IsNoSpecification (tokens : List Token) : Refusal → Type 0 where
-  stopped : (f : Fault) (rest : List Token) → IsRefused (part specification) tokens f rest → IsNoSpecification tokens (refusal_at f tokens rest)
+  stopped : (f : Fault) (rest : List Token) →
+      IsRefused (part specification) tokens f rest →
+      IsNoSpecification tokens (refusal_at f tokens rest)
   followed : (tree : Tree) (t : Token) (u : List Token) → IsParsed (part specification) tokens tree (t ∷ u) →
       IsNoSpecification tokens (refusal_at (fault_at true (mark_of t)) tokens (t ∷ u))
 

@@ -7,23 +7,23 @@ ghost use Rattle.lotos_ast.specs.Notation.{part, behaviour, disable, parallel, c
 ghost use Rattle.lotos_ast.specs.Reads.{Reads};
 ghost use Rattle.lotos_ast.specs.BehaviourTrees.{behaviour_tree, disable_tree, parallel_tree, choice_tree, unary_tree};
 ghost use Rattle.lotos_ast.specs.Nesting.{nesting_of};
-ghost use Rattle.data_parser.specs.Parsers.{Halts};
+ghost use Rattle.token_cursor.specs.Parsers.{Halts};
 
 use crate::accepts::accepts;
 use crate::joined::{
     behaviour_alone, choice_alone, chosen, composed, disable_alone, disabled, enabled, grouped,
     parallel_alone,
 };
-use crate::opening::{Heading, Opening, Prefix, read_opening};
-use crate::operator::{at_operator, operator};
-use data_parser::cursor::Cursor;
-use data_parser::parse_fault::ParseFault;
 use lotos_ast::behaviour::{Behaviour, Choice, Disable, Parallel, Unary};
 use lotos_ast::mark::Mark;
 use lotos_ast::nest::Nest;
+use opening_parser::opening::{Heading, Opening, Prefix, read_opening};
+use opening_parser::operator::{at_operator, operator};
+use token_cursor::cursor::Cursor;
+use token_cursor::parse_fault::ParseFault;
 
 // A behaviour.
-#[tactic(auto, using(crate::proofs::Levels::behaviour_alone, crate::proofs::Levels::behaviour_joined, crate::proofs::Levels::behaviour_halts_first, crate::proofs::Levels::behaviour_halts_sign, crate::proofs::Levels::behaviour_halts_accepts, crate::proofs::Levels::behaviour_halts_right, data_parser::proofs::Rows::halts_memory))]
+#[tactic(auto, using(crate::proofs::Levels::behaviour_steps))]
 #[cycle(behaviour)]
 pub fn behaviour(cursor: &mut Cursor<'_>, nest: Nest) -> Result<Box<Behaviour>, ParseFault>
     ensures read { IfOk result (λ b. Reads (nesting_of nest) (part behaviour) cursor.old (behaviour_tree (box_value b)) cursor.new) }
@@ -45,7 +45,7 @@ pub fn behaviour(cursor: &mut Cursor<'_>, nest: Nest) -> Result<Box<Behaviour>, 
 }
 
 // A behaviour without `>>` between two parts.
-#[tactic(auto, using(crate::proofs::Levels::disable_alone, crate::proofs::Levels::disable_joined, crate::proofs::Levels::disable_halts_first, crate::proofs::Levels::disable_halts_sign, crate::proofs::Levels::disable_halts_right, data_parser::proofs::Rows::halts_memory))]
+#[tactic(auto, using(crate::proofs::Levels::disable_steps))]
 #[cycle(behaviour)]
 fn disable(cursor: &mut Cursor<'_>, nest: Nest) -> Result<Box<Disable>, ParseFault>
     ensures read { IfOk result (λ d. Reads (nesting_of nest) (part disable) cursor.old (disable_tree (box_value d)) cursor.new) }
@@ -66,7 +66,7 @@ fn disable(cursor: &mut Cursor<'_>, nest: Nest) -> Result<Box<Disable>, ParseFau
 }
 
 // A behaviour without `>>` and `[>` between two parts.
-#[tactic(auto, using(crate::proofs::Levels::parallel_alone, crate::proofs::Levels::parallel_joined, crate::proofs::Levels::parallel_halts_first, crate::proofs::Levels::parallel_halts_sign, crate::proofs::Levels::parallel_halts_right, data_parser::proofs::Rows::halts_memory))]
+#[tactic(auto, using(crate::proofs::Levels::parallel_steps))]
 #[cycle(behaviour)]
 fn parallel(cursor: &mut Cursor<'_>, nest: Nest) -> Result<Box<Parallel>, ParseFault>
     ensures read { IfOk result (λ p. Reads (nesting_of nest) (part parallel) cursor.old (parallel_tree (box_value p)) cursor.new) }
@@ -87,7 +87,7 @@ fn parallel(cursor: &mut Cursor<'_>, nest: Nest) -> Result<Box<Parallel>, ParseF
 }
 
 // A behaviour without an operator between two parts but `[]`.
-#[tactic(auto, using(crate::proofs::Levels::choice_alone, crate::proofs::Levels::choice_joined, crate::proofs::Levels::choice_halts_first, crate::proofs::Levels::choice_halts_sign, crate::proofs::Levels::choice_halts_right, data_parser::proofs::Rows::halts_memory))]
+#[tactic(auto, using(crate::proofs::Levels::choice_steps))]
 #[cycle(behaviour)]
 fn choice(cursor: &mut Cursor<'_>, nest: Nest) -> Result<Box<Choice>, ParseFault>
     ensures read { IfOk result (λ c. Reads (nesting_of nest) (part choice) cursor.old (choice_tree (box_value c)) cursor.new) }
@@ -108,7 +108,7 @@ fn choice(cursor: &mut Cursor<'_>, nest: Nest) -> Result<Box<Choice>, ParseFault
 }
 
 // A behaviour without an operator between two parts.
-#[tactic(auto, using(crate::proofs::Levels::prefix_read, crate::proofs::Levels::prefix_halts, crate::proofs::Levels::heading_read, crate::proofs::Levels::heading_halts, crate::proofs::Levels::group_read, crate::proofs::Levels::group_halts_inner, crate::proofs::Levels::group_halts_end, data_parser::proofs::Rows::halts_memory))]
+#[tactic(auto, using(crate::proofs::Levels::unary_steps))]
 #[cycle(behaviour)]
 fn unary(cursor: &mut Cursor<'_>, nest: Nest) -> Result<Box<Unary>, ParseFault>
     ensures read { IfOk result (λ u. Reads (nesting_of nest) (part unary) cursor.old (unary_tree (box_value u)) cursor.new) }

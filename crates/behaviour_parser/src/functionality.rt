@@ -5,15 +5,15 @@ ghost use Rattle.lotos_ast.specs.Notation.{optional, part, functionality, identi
 ghost use Rattle.lotos_ast.specs.Reads.{Reads};
 ghost use Rattle.lotos_ast.specs.DeclarationTrees.{functionality_tree, sorts_tree};
 ghost use Rattle.lotos_ast.specs.Nesting.{nesting_of};
-ghost use Rattle.data_parser.specs.Parsers.{Halts};
+ghost use Rattle.token_cursor.specs.Parsers.{Halts};
 
-use data_parser::cursor::Cursor;
-use data_parser::identifier::Identifier;
-use data_parser::parse_fault::ParseFault;
 use lotos_ast::declaration::Functionality;
 use lotos_ast::mark::Mark;
 use lotos_ast::nest::Nest;
 use lotos_ast::token::Token;
+use token_cursor::cursor::Cursor;
+use token_cursor::identifier::Identifier;
+use token_cursor::parse_fault::ParseFault;
 
 // What a behaviour gives when it ends.
 pub fn functionality(cursor: &mut Cursor<'_>, nest: Nest) -> Result<Functionality, ParseFault>
@@ -34,7 +34,8 @@ pub fn functionality(cursor: &mut Cursor<'_>, nest: Nest) -> Result<Functionalit
 
 // Sorts in parentheses, where they stand.
 fn optional_sorts(cursor: &mut Cursor<'_>, nest: Nest) -> Result<Option<Vec<Token>>, ParseFault>
-    ensures read { IfOk result (λ sorts. Reads (nesting_of nest) (optional (in_parentheses (list identifier))) cursor.old (sorts_tree sorts) cursor.new) }
+    ensures read { IfOk result (λ sorts. Reads (nesting_of nest) (optional (in_parentheses (list identifier))) cursor.old
+        (sorts_tree sorts) cursor.new) }
     ensures halts { IfErr result (λ e. Halts e (nesting_of nest) (optional (in_parentheses (list identifier))) cursor.old cursor.new) }
     ensures no_more { OnOk result (length cursor.new ≤ length cursor.old) }
 {

@@ -37,7 +37,10 @@ pub fn enabled(
     accepts: Option<Declarations>,
     right: Box<Behaviour>,
 ) -> Result<Box<Behaviour>, Memory>
-    ensures tree { IfOk result (λ all. behaviour_tree (box_value all) ≡ node place (both (disable_tree (box_value first)) (present (node sign (both unkept (both (accepts_tree accepts) (behaviour_tree (box_value right)))))))) }
+    ensures tree { IfOk result
+        (λ all. behaviour_tree (box_value all) ≡ node place
+        (both (disable_tree (box_value first))
+        (present (node sign (both unkept (both (accepts_tree accepts) (behaviour_tree (box_value right)))))))) }
 {
     let rest = Enabling::new(alloc, sign, accepts, Box::into_inner(right))?;
     let all = Behaviour::new(place, Box::into_inner(first), Some(rest));
@@ -66,7 +69,9 @@ pub fn disabled(
     sign: Place,
     right: Box<Disable>,
 ) -> Result<Box<Disable>, Memory>
-    ensures tree { IfOk result (λ all. disable_tree (box_value all) ≡ node place (both (parallel_tree (box_value first)) (present (node sign (both unkept (disable_tree (box_value right))))))) }
+    ensures tree { IfOk result
+        (λ all. disable_tree (box_value all) ≡ node place
+        (both (parallel_tree (box_value first)) (present (node sign (both unkept (disable_tree (box_value right))))))) }
 {
     let rest = Disabling::new(alloc, sign, Box::into_inner(right))?;
     let all = Disable::new(place, Box::into_inner(first), Some(rest));
@@ -96,7 +101,9 @@ pub fn composed(
     operator: Operator,
     right: Box<Parallel>,
 ) -> Result<Box<Parallel>, Memory>
-    ensures tree { IfOk result (λ all. parallel_tree (box_value all) ≡ node place (both (choice_tree (box_value first)) (present (node sign (both (operator_tree operator) (parallel_tree (box_value right))))))) }
+    ensures tree { IfOk result
+        (λ all. parallel_tree (box_value all) ≡ node place
+        (both (choice_tree (box_value first)) (present (node sign (both (operator_tree operator) (parallel_tree (box_value right))))))) }
 {
     let rest = Composing::new(alloc, sign, operator, Box::into_inner(right))?;
     let all = Parallel::new(place, Box::into_inner(first), Some(rest));
@@ -121,7 +128,9 @@ pub fn chosen(
     sign: Place,
     right: Box<Choice>,
 ) -> Result<Box<Choice>, Memory>
-    ensures tree { IfOk result (λ all. choice_tree (box_value all) ≡ node place (both (unary_tree (box_value first)) (present (node sign (both unkept (choice_tree (box_value right))))))) }
+    ensures tree { IfOk result
+        (λ all. choice_tree (box_value all) ≡ node place
+        (both (unary_tree (box_value first)) (present (node sign (both unkept (choice_tree (box_value right))))))) }
 {
     let rest = Choosing::new(alloc, sign, Box::into_inner(right))?;
     let all = Choice::new(place, Box::into_inner(first), Some(rest));

@@ -8,30 +8,32 @@ ghost use Rattle.lotos_ast.specs.Begins.{mark_at, begins};
 ghost use Rattle.lotos_ast.specs.ListTrees.{repeated_tree};
 ghost use Rattle.lotos_ast.specs.SpecTrees.{parameters_tree, items_tree, process_tree, where_item_tree};
 ghost use Rattle.lotos_ast.specs.Nesting.{nesting_of};
-ghost use Rattle.data_parser.specs.Parsers.{Halts};
+ghost use Rattle.token_cursor.specs.Parsers.{Halts};
 
 use crate::behaviour::behaviour;
 use crate::functionality::functionality;
-use crate::gates::optional_gates;
-use data_parser::cursor::Cursor;
-use data_parser::item::Item;
-use data_parser::parse_fault::ParseFault;
+use data_parser::declaration::declarations;
 use data_parser::type_definition::OneTypeDefinition;
 use lotos_ast::declaration::Declarations;
 use lotos_ast::mark::Mark;
 use lotos_ast::nest::Nest;
 use lotos_ast::spec::{Process, WhereItem};
+use opening_parser::gates::optional_gates;
+use token_cursor::cursor::Cursor;
+use token_cursor::item::Item;
+use token_cursor::parse_fault::ParseFault;
 
 // Variables in parentheses, where they stand.
 fn parameters(cursor: &mut Cursor<'_>, nest: Nest) -> Result<Option<Declarations>, ParseFault>
-    ensures read { IfOk result (λ p. Reads (nesting_of nest) (optional (in_parentheses (part declarations))) cursor.old (parameters_tree p) cursor.new) }
+    ensures read { IfOk result (λ p. Reads (nesting_of nest) (optional (in_parentheses (part declarations))) cursor.old
+        (parameters_tree p) cursor.new) }
     ensures halts { IfErr result (λ e. Halts e (nesting_of nest) (optional (in_parentheses (part declarations))) cursor.old cursor.new) }
     ensures no_more { OnOk result (length cursor.new ≤ length cursor.old) }
 {
     if cursor.at(Mark::LeftParenthesis) {
         let inner = nest.bracket()?;
         cursor.pass(inner, Mark::LeftParenthesis)?;
-        let declarations = cursor.declarations(inner)?;
+        let declarations = declarations(cursor, inner)?;
         cursor.pass(inner, Mark::RightParenthesis)?;
         Ok(Some(declarations))
     } else {
@@ -40,7 +42,6 @@ fn parameters(cursor: &mut Cursor<'_>, nest: Nest) -> Result<Option<Declarations
 }
 
 // `where` with its types and processes, where it stands.
-#[tactic(auto, using(crate::proofs::Items::where_halts, lotos_ast::proofs::Rows::reads_sequence_at, lotos_ast::proofs::Rows::reads_absent_at, lotos_ast::proofs::Rows::reads_present_at, data_parser::proofs::Rows::halts_first, data_parser::proofs::Rows::halts_optional, data_parser::proofs::Rows::halts_memory))]
 #[cycle(process)]
 pub fn items(cursor: &mut Cursor<'_>, nest: Nest) -> Result<Option<Vec<WhereItem>>, ParseFault>
     ensures read { IfOk result (λ all. Reads (nesting_of nest) (optional where_part) cursor.old (items_tree all) cursor.new) }
@@ -63,10 +64,11 @@ fn at_where_item(cursor: &Cursor<'_>) -> bool
 }
 
 // Types and processes, any number of them.
-#[tactic(auto, using(data_parser::proofs::Loops::repeats_none, data_parser::proofs::Loops::repeats_all, data_parser::proofs::Loops::repeats_halts, data_parser::proofs::Rows::halts_memory))]
+#[tactic(auto, using(token_cursor::proofs::Loops::loop_steps))]
 #[cycle(process)]
 fn where_items(cursor: &mut Cursor<'_>, nest: Nest) -> Result<Vec<WhereItem>, ParseFault>
-    ensures read { IfOk result (λ all. Reads (nesting_of nest) (repeated (part where_item)) cursor.old (repeated_tree (map where_item_tree all.items)) cursor.new) }
+    ensures read { IfOk result (λ all. Reads (nesting_of nest) (repeated (part where_item)) cursor.old
+        (repeated_tree (map where_item_tree all.items)) cursor.new) }
     ensures halts { IfErr result (λ e. Halts e (nesting_of nest) (repeated (part where_item)) cursor.old cursor.new) }
     ensures no_more { OnOk result (length cursor.new ≤ length cursor.old) }
 {
@@ -79,7 +81,6 @@ fn where_items(cursor: &mut Cursor<'_>, nest: Nest) -> Result<Vec<WhereItem>, Pa
 }
 
 // A type or a process.
-#[tactic(auto, using(crate::proofs::Items::type_reads, crate::proofs::Items::process_item_reads, data_parser::proofs::Rows::halts_part, data_parser::proofs::Rows::halts_left, data_parser::proofs::Rows::halts_right, data_parser::proofs::Rows::halts_memory))]
 #[cycle(process)]
 fn one_where_item(cursor: &mut Cursor<'_>, nest: Nest) -> Result<WhereItem, ParseFault>
     ensures read { IfOk result (λ item. Reads (nesting_of nest) (part where_item) cursor.old (where_item_tree item) cursor.new) }

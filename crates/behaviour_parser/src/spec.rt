@@ -7,23 +7,24 @@ ghost use Rattle.lotos_ast.specs.Reads.{Reads};
 ghost use Rattle.lotos_ast.specs.Parsing.{IsParsed};
 ghost use Rattle.lotos_ast.specs.Refusals.{IfRefused};
 ghost use Rattle.lotos_ast.specs.SpecTrees.{spec_tree};
-ghost use Rattle.data_parser.specs.Parsers.{Halts};
+ghost use Rattle.token_cursor.specs.Parsers.{Halts};
 ghost use Rattle.behaviour_parser.specs.Specifications.{IsNoSpecification, Fails};
 
 use crate::behaviour::behaviour;
 use crate::functionality::functionality;
-use crate::gates::optional_gates;
 use crate::process::items;
-use data_parser::cursor::Cursor;
-use data_parser::parse_fault::ParseFault;
-use data_parser::refusals::refusal;
+use data_parser::type_definition::type_definitions;
 use lotos_ast::fault::Fault;
 use lotos_ast::mark::Mark;
 use lotos_ast::nest::Nest;
 use lotos_ast::refusal::FrontFault;
 use lotos_ast::spec::Spec;
 use lotos_ast::token::Token;
+use opening_parser::gates::optional_gates;
 use std::alloc::Global;
+use token_cursor::cursor::Cursor;
+use token_cursor::parse_fault::ParseFault;
+use token_cursor::refusals::refusal;
 
 /// The specification that the tokens are, all of them.
 ///
@@ -67,7 +68,7 @@ fn one_specification(cursor: &mut Cursor<'_>, nest: Nest) -> Result<Spec, ParseF
     let gates = optional_gates(cursor, nest)?;
     cursor.pass(nest, Mark::Colon)?;
     let functionality = functionality(cursor, nest)?;
-    let types = cursor.type_definitions(nest)?;
+    let types = type_definitions(cursor, nest)?;
     cursor.pass(nest, Mark::Behaviour)?;
     let behaviour = behaviour(cursor, nest)?;
     let items = items(cursor, nest)?;

@@ -2,6 +2,4 @@ pub mod Answered
 pub mod Chains
 pub mod Equations
 pub mod Imports
-pub mod Loops
 pub mod OperationNames
-pub mod Rows

@@ -1,5 +1,3 @@
 pub mod Chains
 pub mod Equations
-pub mod Loops
 pub mod OperationNames
-pub mod Parsers

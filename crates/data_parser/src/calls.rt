@@ -8,21 +8,23 @@ ghost use Rattle.lotos_ast.specs.TypeTrees.{type_def_tree};
 ghost use Rattle.lotos_ast.specs.Parsing.{IsParsedBetween, IsRefusedFrom};
 ghost use Rattle.lotos_ast.specs.Refusals.{IfRefused};
 
-use crate::cursor::Cursor;
-use crate::refusals::refusal;
+use crate::expressions;
+use crate::type_definition::type_definitions;
 use lotos_ast::expression::Expr;
 use lotos_ast::nest::Nest;
 use lotos_ast::refusal::FrontFault;
 use lotos_ast::token::Token;
 use lotos_ast::types::TypeDef;
 use std::alloc::Global;
+use token_cursor::cursor::Cursor;
+use token_cursor::refusals::refusal;
 
 /// The expression that is the longest front of the tokens from number `from` on, and the number of the token behind it. Tokens
 /// count from 0.
 ///
 /// Refusals: 3 Unexpected at the token behind the longest front, where that is no expression; 27 External in its place, where
 /// that token marks an item as external; 4 TooDeep at the first token that is nested too deep.
-#[tactic(auto, using(crate::proofs::Answered::parsed_between, crate::proofs::Answered::refused_from, lotos_ast::proofs::GrammarLaws::rules_are_well_formed))]
+#[tactic(auto, using(crate::proofs::Answered::answer_steps))]
 pub fn expression(alloc: Global, tokens: &[Token], from: usize) -> Result<(Expr, usize), FrontFault>
     requires { from ≤ length tokens.now }
     ensures read { IfOk result (λ r. IsParsedBetween (part expression) tokens.now from (expr_tree r.0) r.1) }
@@ -30,7 +32,7 @@ pub fn expression(alloc: Global, tokens: &[Token], from: usize) -> Result<(Expr,
 {
     let (_, left) = tokens.split_at(from);
     let mut cursor = Cursor::new(alloc, left);
-    match cursor.expression(Nest::outermost()) {
+    match expressions::expression(&mut cursor, Nest::outermost()) {
         Ok(expression) => Ok((expression, tokens.len() - cursor.rest().len())),
         Err(fault) => Err(refusal(alloc, fault, tokens, cursor.rest())),
     }
@@ -41,19 +43,20 @@ pub fn expression(alloc: Global, tokens: &[Token], from: usize) -> Result<(Expr,
 ///
 /// Refusals: 3 Unexpected at the token behind the longest front, where that isn't whole types; 27 External in its place, where that
 /// token marks an item as external; 4 TooDeep at the first token that is nested too deep.
-#[tactic(auto, using(crate::proofs::Answered::parsed_between, crate::proofs::Answered::refused_from, lotos_ast::proofs::GrammarLaws::types_are_well_formed))]
+#[tactic(auto, using(crate::proofs::Answered::answer_steps))]
 pub fn types(
     alloc: Global,
     tokens: &[Token],
     from: usize,
 ) -> Result<(Vec<TypeDef>, usize), FrontFault>
     requires { from ≤ length tokens.now }
-    ensures read { IfOk result (λ r. IsParsedBetween (repeated (part type_definition)) tokens.now from (repeated_tree (map type_def_tree r.0.items)) r.1) }
+    ensures read { IfOk result
+        (λ r. IsParsedBetween (repeated (part type_definition)) tokens.now from (repeated_tree (map type_def_tree r.0.items)) r.1) }
     ensures refused { IfRefused result (IsRefusedFrom (repeated (part type_definition)) tokens.now from) }
 {
     let (_, left) = tokens.split_at(from);
     let mut cursor = Cursor::new(alloc, left);
-    match cursor.type_definitions(Nest::outermost()) {
+    match type_definitions(&mut cursor, Nest::outermost()) {
         Ok(types) => Ok((types, tokens.len() - cursor.rest().len())),
         Err(fault) => Err(refusal(alloc, fault, tokens, cursor.rest())),
     }

@@ -5,15 +5,15 @@ ghost use Rattle.lotos_ast.specs.Notation.{part, declaration, declarations};
 ghost use Rattle.lotos_ast.specs.Reads.{Reads};
 ghost use Rattle.lotos_ast.specs.DeclarationTrees.{declaration_tree, declarations_tree};
 ghost use Rattle.lotos_ast.specs.Nesting.{nesting_of};
-ghost use Rattle.data_parser.specs.Parsers.{Halts};
+ghost use Rattle.token_cursor.specs.Parsers.{Halts};
 
-use crate::cursor::Cursor;
-use crate::identifier::Identifier;
-use crate::item::Item;
-use crate::parse_fault::ParseFault;
 use lotos_ast::declaration::{Declaration, Declarations};
 use lotos_ast::mark::Mark;
 use lotos_ast::nest::Nest;
+use token_cursor::cursor::Cursor;
+use token_cursor::identifier::Identifier;
+use token_cursor::item::Item;
+use token_cursor::parse_fault::ParseFault;
 
 /// Variables of one sort.
 pub struct OneDeclaration;
@@ -41,16 +41,13 @@ impl Item for OneDeclaration {
     }
 }
 
-impl<'a> Cursor<'a> {
-    /// Variables with their sorts.
-    #[tactic(auto, using(lotos_ast::proofs::Rows::reads_part_at, crate::proofs::Rows::halts_part, crate::proofs::Rows::halts_memory))]
-    pub fn declarations(&mut self, nest: Nest) -> Result<Declarations, ParseFault>
-        ensures read { IfOk result (λ d. Reads (nesting_of nest) (part declarations) self.old (declarations_tree d) self.new) }
-        ensures halts { IfErr result (λ e. Halts e (nesting_of nest) (part declarations) self.old self.new) }
-        ensures fewer { OnOk result (length self.new < length self.old) }
-    {
-        let place = self.place();
-        let list = self.list::<OneDeclaration>(nest)?;
-        Ok(Declarations { place, list })
-    }
+/// Variables with their sorts.
+pub fn declarations(cursor: &mut Cursor<'_>, nest: Nest) -> Result<Declarations, ParseFault>
+    ensures read { IfOk result (λ d. Reads (nesting_of nest) (part declarations) cursor.old (declarations_tree d) cursor.new) }
+    ensures halts { IfErr result (λ e. Halts e (nesting_of nest) (part declarations) cursor.old cursor.new) }
+    ensures fewer { OnOk result (length cursor.new < length cursor.old) }
+{
+    let place = cursor.place();
+    let list = cursor.list::<OneDeclaration>(nest)?;
+    Ok(Declarations { place, list })
 }

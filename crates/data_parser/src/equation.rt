@@ -8,16 +8,18 @@ ghost use Rattle.lotos_ast.specs.Reads.{Reads, both, node};
 ghost use Rattle.lotos_ast.specs.ExpressionTrees.{expr_tree, premiss_tree};
 ghost use Rattle.lotos_ast.specs.TypeTrees.{conclusion_tree, first_premiss_tree, equation_tree, equations_tree, equation_body_tree, optional_equation_part_tree};
 ghost use Rattle.lotos_ast.specs.Nesting.{nesting_of};
-ghost use Rattle.data_parser.specs.Parsers.{Halts};
+ghost use Rattle.token_cursor.specs.Parsers.{Halts};
 
-use crate::cursor::Cursor;
-use crate::item::Item;
-use crate::parse_fault::ParseFault;
+use crate::declaration::declarations;
+use crate::expressions::{expression, premiss};
 use lotos_ast::expression::{Expr, Premiss};
 use lotos_ast::mark::Mark;
 use lotos_ast::nest::Nest;
 use lotos_ast::place::Place;
 use lotos_ast::types::{Equation, EquationBody, EquationPart, ForAll, SortEquations};
+use token_cursor::cursor::Cursor;
+use token_cursor::item::Item;
+use token_cursor::parse_fault::ParseFault;
 
 /// A premiss.
 pub struct OnePremiss;
@@ -37,7 +39,7 @@ impl Item for OnePremiss {
     }
 
     fn read(cursor: &mut Cursor<'_>, nest: Nest) -> Result<Premiss, ParseFault> {
-        cursor.premiss(nest)
+        premiss(cursor, nest)
     }
 }
 
@@ -61,7 +63,7 @@ impl Item for OneForAll {
     fn read(cursor: &mut Cursor<'_>, nest: Nest) -> Result<ForAll, ParseFault> {
         let place = cursor.place();
         cursor.pass(nest, Mark::ForAll)?;
-        let declarations = cursor.declarations(nest)?;
+        let declarations = declarations(cursor, nest)?;
         Ok(ForAll {
             place,
             declarations,
@@ -91,7 +93,7 @@ impl Item for EquationsOfSort {
         cursor.pass(nest, Mark::OfSort)?;
         let sort = cursor.token(nest, Mark::Identifier)?;
         let variables = cursor.repeated::<OneForAll>(nest)?;
-        let equations = cursor.equations(nest)?;
+        let equations = equations(cursor, nest)?;
         Ok(SortEquations {
             place,
             sort,
@@ -103,7 +105,7 @@ impl Item for EquationsOfSort {
 
 // What stands behind the first premiss of an equation.
 #[derive(Drop)]
-struct Conclusion {
+struct PremissesAndSides {
     premisses: Vec<Premiss>,
     left: Expr,
     right: Expr,
@@ -111,8 +113,15 @@ struct Conclusion {
 
 // An equation with premisses.
 #[tactic(auto, using(crate::proofs::Equations::premisses_put_together))]
-fn with_premisses(place: Place, first: Premiss, rest: Conclusion) -> Result<Equation, ParseFault>
-    ensures tree { IfOk result (λ e. equation_tree e ≡ node place (node first.place (both (expr_tree first.left) (first_premiss_tree first.right (conclusion_tree (map premiss_tree rest.premisses.items) rest.left rest.right))))) }
+fn with_premisses(
+    place: Place,
+    first: Premiss,
+    rest: PremissesAndSides,
+) -> Result<Equation, ParseFault>
+    ensures tree { IfOk result
+        (λ e. equation_tree e ≡ node place
+        (node first.place (both (expr_tree first.left)
+        (first_premiss_tree first.right (conclusion_tree (map premiss_tree rest.premisses.items) rest.left rest.right))))) }
     ensures memory { IfErr result (λ e. e ≡ ParseFault.Memory) }
 {
     let mut premisses = rest.premisses;
@@ -125,118 +134,122 @@ fn with_premisses(place: Place, first: Premiss, rest: Conclusion) -> Result<Equa
     })
 }
 
-impl<'a> Cursor<'a> {
-    // Whether what stands behind a first premiss begins with the next token.
-    fn at_conclusion(&self) -> bool
-        ensures { result ≡ starts conclusion (mark_at self.now) }
-    {
-        self.at(Mark::Comma) || self.at(Mark::DoubleArrow)
-    }
+// Whether what stands behind a first premiss begins with the next token.
+fn at_conclusion(cursor: &Cursor<'_>) -> bool
+    ensures { result ≡ starts conclusion (mark_at cursor.now) }
+{
+    cursor.at(Mark::Comma) || cursor.at(Mark::DoubleArrow)
+}
 
-    // Further premisses, and both sides of an equation.
-    fn conclusion(&mut self, nest: Nest) -> Result<Conclusion, ParseFault>
-        ensures read { IfOk result (λ c. Reads (nesting_of nest) conclusion self.old (conclusion_tree (map premiss_tree c.premisses.items) c.left c.right) self.new) }
-        ensures halts { IfErr result (λ e. Halts e (nesting_of nest) conclusion self.old self.new) }
-        ensures fewer { OnOk result (length self.new < length self.old) }
-    {
-        let premisses = self.after_commas::<OnePremiss>(nest)?;
-        self.pass(nest, Mark::DoubleArrow)?;
-        let left = self.expression(nest)?;
-        self.pass(nest, Mark::Equals)?;
-        let right = self.expression(nest)?;
-        Ok(Conclusion {
-            premisses,
-            left,
-            right,
-        })
-    }
+// Further premisses, and both sides of an equation.
+fn conclusion(cursor: &mut Cursor<'_>, nest: Nest) -> Result<PremissesAndSides, ParseFault>
+    ensures read { IfOk result (λ c. Reads (nesting_of nest) conclusion cursor.old
+        (conclusion_tree (map premiss_tree c.premisses.items) c.left c.right) cursor.new) }
+    ensures halts { IfErr result (λ e. Halts e (nesting_of nest) conclusion cursor.old cursor.new) }
+    ensures fewer { OnOk result (length cursor.new < length cursor.old) }
+{
+    let premisses = cursor.after_commas::<OnePremiss>(nest)?;
+    cursor.pass(nest, Mark::DoubleArrow)?;
+    let left = expression(cursor, nest)?;
+    cursor.pass(nest, Mark::Equals)?;
+    let right = expression(cursor, nest)?;
+    Ok(PremissesAndSides {
+        premisses,
+        left,
+        right,
+    })
+}
 
-    // An equation.
-    fn equation(&mut self, nest: Nest) -> Result<Equation, ParseFault>
-        ensures read { IfOk result (λ e. Reads (nesting_of nest) (part equation) self.old (equation_tree e) self.new) }
-        ensures halts { IfErr result (λ e. Halts e (nesting_of nest) (part equation) self.old self.new) }
-        ensures fewer { OnOk result (length self.new < length self.old) }
-    {
-        let place = self.place();
-        let first = self.expression(nest)?;
-        if !self.at(Mark::Equals) {
-            let rest = self.conclusion(nest)?;
-            let premiss = Premiss {
-                place,
-                left: first,
-                right: None,
-            };
-            let equation = with_premisses(place, premiss, rest)?;
-            return Ok(equation);
-        }
-        self.pass(nest, Mark::Equals)?;
-        let second = self.expression(nest)?;
-        if self.at_conclusion() {
-            let rest = self.conclusion(nest)?;
-            let premiss = Premiss {
-                place,
-                left: first,
-                right: Some(second),
-            };
-            let equation = with_premisses(place, premiss, rest)?;
-            return Ok(equation);
-        }
-        Ok(Equation {
+// An equation.
+fn equation(cursor: &mut Cursor<'_>, nest: Nest) -> Result<Equation, ParseFault>
+    ensures read { IfOk result (λ e. Reads (nesting_of nest) (part equation) cursor.old (equation_tree e) cursor.new) }
+    ensures halts { IfErr result (λ e. Halts e (nesting_of nest) (part equation) cursor.old cursor.new) }
+    ensures fewer { OnOk result (length cursor.new < length cursor.old) }
+{
+    let place = cursor.place();
+    let first = expression(cursor, nest)?;
+    if !cursor.at(Mark::Equals) {
+        let rest = conclusion(cursor, nest)?;
+        let premiss = Premiss {
             place,
-            premisses: None,
             left: first,
-            right: second,
-        })
+            right: None,
+        };
+        let equation = with_premisses(place, premiss, rest)?;
+        return Ok(equation);
     }
-
-    // Equations with semicolons between them; one may stand behind the last, too.
-    #[tactic(auto, using(crate::proofs::Equations::equations_none, crate::proofs::Equations::equations_all, crate::proofs::Equations::equations_last, crate::proofs::Equations::halts_in_equation, crate::proofs::Equations::halts_at_semicolon, crate::proofs::Rows::halts_memory))]
-    fn equations(&mut self, nest: Nest) -> Result<Vec<Equation>, ParseFault>
-        ensures read { IfOk result (λ all. Reads (nesting_of nest) (optional (part equations)) self.old (equations_tree (map equation_tree all.items)) self.new) }
-        ensures halts { IfErr result (λ e. Halts e (nesting_of nest) (optional (part equations)) self.old self.new) }
-        ensures no_more { OnOk result (length self.new ≤ length self.old) }
-    {
-        let mut all = Vec::new(self.alloc());
-        'equations: while self.at_expression() {
-            let next = self.equation(nest)?;
-            all.push(next)?;
-            if !self.at(Mark::Semicolon) {
-                return Ok(all);
-            }
-            self.pass(nest, Mark::Semicolon)?;
-        }
-        Ok(all)
-    }
-
-    /// Equations by sorts.
-    pub fn equation_body(&mut self, nest: Nest) -> Result<EquationBody, ParseFault>
-        ensures read { IfOk result (λ b. Reads (nesting_of nest) equation_body self.old (equation_body_tree b) self.new) }
-        ensures halts { IfErr result (λ e. Halts e (nesting_of nest) equation_body self.old self.new) }
-        ensures no_more { OnOk result (length self.new ≤ length self.old) }
-    {
-        let place = self.place();
-        let variables = self.repeated::<OneForAll>(nest)?;
-        let parts = self.repeated::<EquationsOfSort>(nest)?;
-        Ok(EquationBody {
+    cursor.pass(nest, Mark::Equals)?;
+    let second = expression(cursor, nest)?;
+    if at_conclusion(cursor) {
+        let rest = conclusion(cursor, nest)?;
+        let premiss = Premiss {
             place,
-            variables,
-            parts,
-        })
+            left: first,
+            right: Some(second),
+        };
+        let equation = with_premisses(place, premiss, rest)?;
+        return Ok(equation);
     }
+    Ok(Equation {
+        place,
+        premisses: None,
+        left: first,
+        right: second,
+    })
+}
 
-    /// The equations that a type declares, where it does.
-    pub fn optional_equation_part(&mut self, nest: Nest) -> Result<Option<EquationPart>, ParseFault>
-        ensures read { IfOk result (λ e. Reads (nesting_of nest) (optional (part equation_part)) self.old (optional_equation_part_tree e) self.new) }
-        ensures halts { IfErr result (λ e. Halts e (nesting_of nest) (optional (part equation_part)) self.old self.new) }
-        ensures no_more { OnOk result (length self.new ≤ length self.old) }
-    {
-        if self.at(Mark::Eqns) {
-            let place = self.place();
-            self.pass(nest, Mark::Eqns)?;
-            let body = self.equation_body(nest)?;
-            Ok(Some(EquationPart { place, body }))
-        } else {
-            Ok(None)
+// Equations with semicolons between them; one may stand behind the last, too.
+#[tactic(auto, using(crate::proofs::Equations::equation_steps))]
+fn equations(cursor: &mut Cursor<'_>, nest: Nest) -> Result<Vec<Equation>, ParseFault>
+    ensures read { IfOk result (λ all. Reads (nesting_of nest) (optional (part equations)) cursor.old
+        (equations_tree (map equation_tree all.items)) cursor.new) }
+    ensures halts { IfErr result (λ e. Halts e (nesting_of nest) (optional (part equations)) cursor.old cursor.new) }
+    ensures no_more { OnOk result (length cursor.new ≤ length cursor.old) }
+{
+    let mut all = Vec::new(cursor.alloc());
+    'equations: while cursor.at_expression() {
+        let next = equation(cursor, nest)?;
+        all.push(next)?;
+        if !cursor.at(Mark::Semicolon) {
+            return Ok(all);
         }
+        cursor.pass(nest, Mark::Semicolon)?;
+    }
+    Ok(all)
+}
+
+/// Equations by sorts.
+pub fn equation_body(cursor: &mut Cursor<'_>, nest: Nest) -> Result<EquationBody, ParseFault>
+    ensures read { IfOk result (λ b. Reads (nesting_of nest) equation_body cursor.old (equation_body_tree b) cursor.new) }
+    ensures halts { IfErr result (λ e. Halts e (nesting_of nest) equation_body cursor.old cursor.new) }
+    ensures no_more { OnOk result (length cursor.new ≤ length cursor.old) }
+{
+    let place = cursor.place();
+    let variables = cursor.repeated::<OneForAll>(nest)?;
+    let parts = cursor.repeated::<EquationsOfSort>(nest)?;
+    Ok(EquationBody {
+        place,
+        variables,
+        parts,
+    })
+}
+
+/// The equations that a type declares, where it does.
+pub fn optional_equation_part(
+    cursor: &mut Cursor<'_>,
+    nest: Nest,
+) -> Result<Option<EquationPart>, ParseFault>
+    ensures read { IfOk result (λ e. Reads (nesting_of nest) (optional (part equation_part)) cursor.old
+        (optional_equation_part_tree e) cursor.new) }
+    ensures halts { IfErr result (λ e. Halts e (nesting_of nest) (optional (part equation_part)) cursor.old cursor.new) }
+    ensures no_more { OnOk result (length cursor.new ≤ length cursor.old) }
+{
+    if cursor.at(Mark::Eqns) {
+        let place = cursor.place();
+        cursor.pass(nest, Mark::Eqns)?;
+        let body = equation_body(cursor, nest)?;
+        Ok(Some(EquationPart { place, body }))
+    } else {
+        Ok(None)
     }
 }

@@ -10,13 +10,13 @@ ghost use Rattle.lotos_ast.specs.Reads.{Reads, both, left, right, leaf, node};
 ghost use Rattle.lotos_ast.specs.ListTrees.{repeated_tree, behind};
 ghost use Rattle.lotos_ast.specs.TypeTrees.{formal_sorts_tree, formal_operations_tree, formal_equations_tree, formals_tree, declared_items_tree, sort_pairs_tree, operation_pairs_tree, pairs_tree, type_body_tree, type_def_tree};
 ghost use Rattle.lotos_ast.specs.Nesting.{nesting_of};
-ghost use Rattle.data_parser.specs.Parsers.{Halts};
+ghost use Rattle.token_cursor.specs.Parsers.{Halts};
 
-use crate::cursor::Cursor;
-use crate::identifier::Identifier;
-use crate::item::Item;
-use crate::operation::OneOperationDeclaration;
-use crate::parse_fault::ParseFault;
+use crate::equation::{equation_body, optional_equation_part};
+use crate::operation::{
+    OneOperationDeclaration, at_operation_name, operation_name, optional_operation_part,
+};
+use crate::sort::{optional_sort_part, sort_list};
 use lotos_ast::mark::Mark;
 use lotos_ast::nest::Nest;
 use lotos_ast::place::Place;
@@ -25,6 +25,10 @@ use lotos_ast::types::{
     EquationBody, EquationPart, Formals, OperationDecl, OperationPair, OperationPart, Pairs,
     SortList, SortPair, SortPart, TypeBody, TypeDef,
 };
+use token_cursor::cursor::Cursor;
+use token_cursor::identifier::Identifier;
+use token_cursor::item::Item;
+use token_cursor::parse_fault::ParseFault;
 
 /// A new sort for an old one.
 pub struct OneSortPair;
@@ -66,14 +70,14 @@ impl Item for OneOperationPair {
     ghost tree = { operation_pair_tree };
 
     fn begins(cursor: &Cursor<'_>) -> bool {
-        cursor.at_operation_name()
+        at_operation_name(cursor)
     }
 
     fn read(cursor: &mut Cursor<'_>, nest: Nest) -> Result<OperationPair, ParseFault> {
         let place = cursor.place();
-        let new = cursor.operation_name(nest)?;
+        let new = operation_name(cursor, nest)?;
         cursor.pass(nest, Mark::For)?;
-        let old = cursor.operation_name(nest)?;
+        let old = operation_name(cursor, nest)?;
         Ok(OperationPair { place, new, old })
     }
 }
@@ -97,9 +101,9 @@ impl Item for OneTypeDefinition {
 
     fn read(cursor: &mut Cursor<'_>, nest: Nest) -> Result<TypeDef, ParseFault> {
         if cursor.at(Mark::Library) {
-            cursor.library(nest)
+            library(cursor, nest)
         } else {
-            cursor.definition(nest)
+            definition(cursor, nest)
         }
     }
 }
@@ -135,7 +139,11 @@ fn with_imports(
     rest: Vec<Token>,
     items: DeclaredItems,
 ) -> Result<TypeBody, ParseFault>
-    ensures tree { IfOk result (λ b. type_body_tree b ≡ node place (left (both (leaf first) (right (right (both (repeated_tree (map behind (map leaf rest.items))) (declared_items_tree items.formals items.sorts items.operations items.equations))))))) }
+    ensures tree { IfOk result
+        (λ b. type_body_tree b ≡ node place
+        (left (both (leaf first) (right
+        (right (both (repeated_tree (map behind (map leaf rest.items)))
+        (declared_items_tree items.formals items.sorts items.operations items.equations))))))) }
     ensures memory { IfErr result (λ e. e ≡ ParseFault.Memory) }
 {
     let mut imports = rest;
@@ -150,205 +158,220 @@ fn with_imports(
     })
 }
 
-impl<'a> Cursor<'a> {
-    // Formal sorts, where they stand.
-    fn formal_sorts(&mut self, nest: Nest) -> Result<Option<SortList>, ParseFault>
-        ensures read { IfOk result (λ s. Reads (nesting_of nest) (optional (quoted Mark.FormalSorts ▸ sort_list)) self.old (formal_sorts_tree s) self.new) }
-        ensures halts { IfErr result (λ e. Halts e (nesting_of nest) (optional (quoted Mark.FormalSorts ▸ sort_list)) self.old self.new) }
-        ensures no_more { OnOk result (length self.new ≤ length self.old) }
-    {
-        if self.at(Mark::FormalSorts) {
-            self.pass(nest, Mark::FormalSorts)?;
-            Ok(Some(self.sort_list(nest)?))
-        } else {
-            Ok(None)
-        }
+// Formal sorts, where they stand.
+fn formal_sorts(cursor: &mut Cursor<'_>, nest: Nest) -> Result<Option<SortList>, ParseFault>
+    ensures read { IfOk result (λ s. Reads (nesting_of nest) (optional (quoted Mark.FormalSorts ▸ sort_list)) cursor.old
+        (formal_sorts_tree s) cursor.new) }
+    ensures halts { IfErr result (λ e. Halts e (nesting_of nest) (optional (quoted Mark.FormalSorts ▸ sort_list)) cursor.old cursor.new) }
+    ensures no_more { OnOk result (length cursor.new ≤ length cursor.old) }
+{
+    if cursor.at(Mark::FormalSorts) {
+        cursor.pass(nest, Mark::FormalSorts)?;
+        Ok(Some(sort_list(cursor, nest)?))
+    } else {
+        Ok(None)
     }
+}
 
-    // Formal operations, where they stand.
-    fn formal_operations(&mut self, nest: Nest) -> Result<Option<Vec<OperationDecl>>, ParseFault>
-        ensures read { IfOk result (λ o. Reads (nesting_of nest) (optional (quoted Mark.FormalOpns ▸ repeated operation_declaration)) self.old (formal_operations_tree o) self.new) }
-        ensures halts { IfErr result (λ e. Halts e (nesting_of nest) (optional (quoted Mark.FormalOpns ▸ repeated operation_declaration)) self.old self.new) }
-        ensures no_more { OnOk result (length self.new ≤ length self.old) }
-    {
-        if self.at(Mark::FormalOpns) {
-            self.pass(nest, Mark::FormalOpns)?;
-            Ok(Some(self.repeated::<OneOperationDeclaration>(nest)?))
-        } else {
-            Ok(None)
-        }
+// Formal operations, where they stand.
+fn formal_operations(
+    cursor: &mut Cursor<'_>,
+    nest: Nest,
+) -> Result<Option<Vec<OperationDecl>>, ParseFault>
+    ensures read { IfOk result (λ o. Reads (nesting_of nest) (optional (quoted Mark.FormalOpns ▸ repeated operation_declaration)) cursor.old
+        (formal_operations_tree o) cursor.new) }
+    ensures halts { IfErr result (λ e.
+        Halts e (nesting_of nest) (optional (quoted Mark.FormalOpns ▸ repeated operation_declaration)) cursor.old cursor.new) }
+    ensures no_more { OnOk result (length cursor.new ≤ length cursor.old) }
+{
+    if cursor.at(Mark::FormalOpns) {
+        cursor.pass(nest, Mark::FormalOpns)?;
+        Ok(Some(cursor.repeated::<OneOperationDeclaration>(nest)?))
+    } else {
+        Ok(None)
     }
+}
 
-    // Formal equations, where they stand.
-    fn formal_equations(&mut self, nest: Nest) -> Result<Option<EquationBody>, ParseFault>
-        ensures read { IfOk result (λ b. Reads (nesting_of nest) (optional (quoted Mark.FormalEqns ▸ equation_body)) self.old (formal_equations_tree b) self.new) }
-        ensures halts { IfErr result (λ e. Halts e (nesting_of nest) (optional (quoted Mark.FormalEqns ▸ equation_body)) self.old self.new) }
-        ensures no_more { OnOk result (length self.new ≤ length self.old) }
-    {
-        if self.at(Mark::FormalEqns) {
-            self.pass(nest, Mark::FormalEqns)?;
-            Ok(Some(self.equation_body(nest)?))
-        } else {
-            Ok(None)
-        }
+// Formal equations, where they stand.
+fn formal_equations(cursor: &mut Cursor<'_>, nest: Nest) -> Result<Option<EquationBody>, ParseFault>
+    ensures read { IfOk result (λ b. Reads (nesting_of nest) (optional (quoted Mark.FormalEqns ▸ equation_body)) cursor.old
+        (formal_equations_tree b) cursor.new) }
+    ensures halts { IfErr result (λ e. Halts e (nesting_of nest) (optional (quoted Mark.FormalEqns ▸ equation_body)) cursor.old
+        cursor.new) }
+    ensures no_more { OnOk result (length cursor.new ≤ length cursor.old) }
+{
+    if cursor.at(Mark::FormalEqns) {
+        cursor.pass(nest, Mark::FormalEqns)?;
+        Ok(Some(equation_body(cursor, nest)?))
+    } else {
+        Ok(None)
     }
+}
 
-    // What is left open in a type.
-    fn formals(&mut self, nest: Nest) -> Result<Formals, ParseFault>
-        ensures read { IfOk result (λ f. Reads (nesting_of nest) formals self.old (formals_tree f) self.new) }
-        ensures halts { IfErr result (λ e. Halts e (nesting_of nest) formals self.old self.new) }
-        ensures no_more { OnOk result (length self.new ≤ length self.old) }
-    {
-        let place = self.place();
-        let sorts = self.formal_sorts(nest)?;
-        let operations = self.formal_operations(nest)?;
-        let equations = self.formal_equations(nest)?;
-        Ok(Formals {
+// What is left open in a type.
+fn formals(cursor: &mut Cursor<'_>, nest: Nest) -> Result<Formals, ParseFault>
+    ensures read { IfOk result (λ f. Reads (nesting_of nest) formals cursor.old (formals_tree f) cursor.new) }
+    ensures halts { IfErr result (λ e. Halts e (nesting_of nest) formals cursor.old cursor.new) }
+    ensures no_more { OnOk result (length cursor.new ≤ length cursor.old) }
+{
+    let place = cursor.place();
+    let sorts = formal_sorts(cursor, nest)?;
+    let operations = formal_operations(cursor, nest)?;
+    let equations = formal_equations(cursor, nest)?;
+    Ok(Formals {
+        place,
+        sorts,
+        operations,
+        equations,
+    })
+}
+
+// What a type declares.
+fn declared_items(cursor: &mut Cursor<'_>, nest: Nest) -> Result<DeclaredItems, ParseFault>
+    ensures read { IfOk result (λ i. Reads (nesting_of nest) declared_items cursor.old
+        (declared_items_tree i.formals i.sorts i.operations i.equations) cursor.new) }
+    ensures halts { IfErr result (λ e. Halts e (nesting_of nest) declared_items cursor.old cursor.new) }
+    ensures no_more { OnOk result (length cursor.new ≤ length cursor.old) }
+{
+    let formals = formals(cursor, nest)?;
+    let sorts = optional_sort_part(cursor, nest)?;
+    let operations = optional_operation_part(cursor, nest)?;
+    let equations = optional_equation_part(cursor, nest)?;
+    Ok(DeclaredItems {
+        formals,
+        sorts,
+        operations,
+        equations,
+    })
+}
+
+// New names for sorts, where they stand.
+fn sort_pairs(cursor: &mut Cursor<'_>, nest: Nest) -> Result<Option<Vec<SortPair>>, ParseFault>
+    ensures read { IfOk result (λ p. Reads (nesting_of nest) (optional (quoted Mark.SortNames ▸ loose_list (part sort_pair))) cursor.old
+        (sort_pairs_tree p) cursor.new) }
+    ensures halts { IfErr result (λ e. Halts e (nesting_of nest) (optional (quoted Mark.SortNames ▸ loose_list (part sort_pair))) cursor.old
+        cursor.new) }
+    ensures no_more { OnOk result (length cursor.new ≤ length cursor.old) }
+{
+    if cursor.at(Mark::SortNames) {
+        cursor.pass(nest, Mark::SortNames)?;
+        Ok(Some(cursor.loose_list::<OneSortPair>(nest)?))
+    } else {
+        Ok(None)
+    }
+}
+
+// New names for operations, where they stand.
+fn operation_pairs(
+    cursor: &mut Cursor<'_>,
+    nest: Nest,
+) -> Result<Option<Vec<OperationPair>>, ParseFault>
+    ensures read { IfOk result (λ p. Reads (nesting_of nest) (optional (quoted Mark.OpnNames ▸ loose_list (part operation_pair))) cursor.old
+        (operation_pairs_tree p) cursor.new) }
+    ensures halts { IfErr result (λ e.
+        Halts e (nesting_of nest) (optional (quoted Mark.OpnNames ▸ loose_list (part operation_pair))) cursor.old cursor.new) }
+    ensures no_more { OnOk result (length cursor.new ≤ length cursor.old) }
+{
+    if cursor.at(Mark::OpnNames) {
+        cursor.pass(nest, Mark::OpnNames)?;
+        Ok(Some(cursor.loose_list::<OneOperationPair>(nest)?))
+    } else {
+        Ok(None)
+    }
+}
+
+// New names for items of a type.
+fn pairs(cursor: &mut Cursor<'_>, nest: Nest) -> Result<Pairs, ParseFault>
+    ensures read { IfOk result (λ p. Reads (nesting_of nest) pairs cursor.old (pairs_tree p) cursor.new) }
+    ensures halts { IfErr result (λ e. Halts e (nesting_of nest) pairs cursor.old cursor.new) }
+    ensures no_more { OnOk result (length cursor.new ≤ length cursor.old) }
+{
+    let place = cursor.place();
+    let sorts = sort_pairs(cursor, nest)?;
+    let operations = operation_pairs(cursor, nest)?;
+    Ok(Pairs {
+        place,
+        sorts,
+        operations,
+    })
+}
+
+// How a type is made.
+fn type_body(cursor: &mut Cursor<'_>, nest: Nest) -> Result<TypeBody, ParseFault>
+    ensures read { IfOk result (λ b. Reads (nesting_of nest) type_body cursor.old (type_body_tree b) cursor.new) }
+    ensures halts { IfErr result (λ e. Halts e (nesting_of nest) type_body cursor.old cursor.new) }
+    ensures no_more { OnOk result (length cursor.new ≤ length cursor.old) }
+{
+    let place = cursor.place();
+    if !cursor.at(Mark::Identifier) {
+        let items = declared_items(cursor, nest)?;
+        return Ok(without_imports(place, items));
+    }
+    let source = cursor.token(nest, Mark::Identifier)?;
+    if cursor.at(Mark::RenamedBy) {
+        cursor.pass(nest, Mark::RenamedBy)?;
+        let pairs = pairs(cursor, nest)?;
+        Ok(TypeBody::Renamed {
             place,
-            sorts,
-            operations,
-            equations,
+            source,
+            pairs,
         })
-    }
-
-    // What a type declares.
-    fn declared_items(&mut self, nest: Nest) -> Result<DeclaredItems, ParseFault>
-        ensures read { IfOk result (λ i. Reads (nesting_of nest) declared_items self.old (declared_items_tree i.formals i.sorts i.operations i.equations) self.new) }
-        ensures halts { IfErr result (λ e. Halts e (nesting_of nest) declared_items self.old self.new) }
-        ensures no_more { OnOk result (length self.new ≤ length self.old) }
-    {
-        let formals = self.formals(nest)?;
-        let sorts = self.optional_sort_part(nest)?;
-        let operations = self.optional_operation_part(nest)?;
-        let equations = self.optional_equation_part(nest)?;
-        Ok(DeclaredItems {
-            formals,
-            sorts,
-            operations,
-            equations,
-        })
-    }
-
-    // New names for sorts, where they stand.
-    fn sort_pairs(&mut self, nest: Nest) -> Result<Option<Vec<SortPair>>, ParseFault>
-        ensures read { IfOk result (λ p. Reads (nesting_of nest) (optional (quoted Mark.SortNames ▸ loose_list (part sort_pair))) self.old (sort_pairs_tree p) self.new) }
-        ensures halts { IfErr result (λ e. Halts e (nesting_of nest) (optional (quoted Mark.SortNames ▸ loose_list (part sort_pair))) self.old self.new) }
-        ensures no_more { OnOk result (length self.new ≤ length self.old) }
-    {
-        if self.at(Mark::SortNames) {
-            self.pass(nest, Mark::SortNames)?;
-            Ok(Some(self.loose_list::<OneSortPair>(nest)?))
-        } else {
-            Ok(None)
-        }
-    }
-
-    // New names for operations, where they stand.
-    fn operation_pairs(&mut self, nest: Nest) -> Result<Option<Vec<OperationPair>>, ParseFault>
-        ensures read { IfOk result (λ p. Reads (nesting_of nest) (optional (quoted Mark.OpnNames ▸ loose_list (part operation_pair))) self.old (operation_pairs_tree p) self.new) }
-        ensures halts { IfErr result (λ e. Halts e (nesting_of nest) (optional (quoted Mark.OpnNames ▸ loose_list (part operation_pair))) self.old self.new) }
-        ensures no_more { OnOk result (length self.new ≤ length self.old) }
-    {
-        if self.at(Mark::OpnNames) {
-            self.pass(nest, Mark::OpnNames)?;
-            Ok(Some(self.loose_list::<OneOperationPair>(nest)?))
-        } else {
-            Ok(None)
-        }
-    }
-
-    // New names for items of a type.
-    fn pairs(&mut self, nest: Nest) -> Result<Pairs, ParseFault>
-        ensures read { IfOk result (λ p. Reads (nesting_of nest) pairs self.old (pairs_tree p) self.new) }
-        ensures halts { IfErr result (λ e. Halts e (nesting_of nest) pairs self.old self.new) }
-        ensures no_more { OnOk result (length self.new ≤ length self.old) }
-    {
-        let place = self.place();
-        let sorts = self.sort_pairs(nest)?;
-        let operations = self.operation_pairs(nest)?;
-        Ok(Pairs {
+    } else if cursor.at(Mark::ActualizedBy) {
+        cursor.pass(nest, Mark::ActualizedBy)?;
+        let actuals = cursor.list::<Identifier>(nest)?;
+        cursor.pass(nest, Mark::Using)?;
+        let pairs = pairs(cursor, nest)?;
+        Ok(TypeBody::Actualized {
             place,
-            sorts,
-            operations,
+            source,
+            actuals,
+            pairs,
         })
+    } else {
+        let rest = cursor.after_commas::<Identifier>(nest)?;
+        let items = declared_items(cursor, nest)?;
+        let body = with_imports(place, source, rest, items)?;
+        Ok(body)
     }
+}
 
-    // How a type is made.
-    fn type_body(&mut self, nest: Nest) -> Result<TypeBody, ParseFault>
-        ensures read { IfOk result (λ b. Reads (nesting_of nest) type_body self.old (type_body_tree b) self.new) }
-        ensures halts { IfErr result (λ e. Halts e (nesting_of nest) type_body self.old self.new) }
-        ensures no_more { OnOk result (length self.new ≤ length self.old) }
-    {
-        let place = self.place();
-        if !self.at(Mark::Identifier) {
-            let items = self.declared_items(nest)?;
-            return Ok(without_imports(place, items));
-        }
-        let source = self.token(nest, Mark::Identifier)?;
-        if self.at(Mark::RenamedBy) {
-            self.pass(nest, Mark::RenamedBy)?;
-            let pairs = self.pairs(nest)?;
-            Ok(TypeBody::Renamed {
-                place,
-                source,
-                pairs,
-            })
-        } else if self.at(Mark::ActualizedBy) {
-            self.pass(nest, Mark::ActualizedBy)?;
-            let actuals = self.list::<Identifier>(nest)?;
-            self.pass(nest, Mark::Using)?;
-            let pairs = self.pairs(nest)?;
-            Ok(TypeBody::Actualized {
-                place,
-                source,
-                actuals,
-                pairs,
-            })
-        } else {
-            let rest = self.after_commas::<Identifier>(nest)?;
-            let items = self.declared_items(nest)?;
-            let body = with_imports(place, source, rest, items)?;
-            Ok(body)
-        }
-    }
+// Types of the library.
+fn library(cursor: &mut Cursor<'_>, nest: Nest) -> Result<TypeDef, ParseFault>
+    requires { is_same_mark Mark.Library (mark_at cursor.old) ≡ true }
+    ensures read { IfOk result (λ t. Reads (nesting_of nest) (part type_definition) cursor.old (type_def_tree t) cursor.new) }
+    ensures halts { IfErr result (λ e. Halts e (nesting_of nest) (part type_definition) cursor.old cursor.new) }
+    ensures fewer { OnOk result (length cursor.new < length cursor.old) }
+{
+    let place = cursor.place();
+    cursor.pass(nest, Mark::Library)?;
+    let names = cursor.list::<Identifier>(nest)?;
+    cursor.pass(nest, Mark::EndLib)?;
+    Ok(TypeDef::Library { place, names })
+}
 
-    // Types of the library.
-    fn library(&mut self, nest: Nest) -> Result<TypeDef, ParseFault>
-        requires { is_same_mark Mark.Library (mark_at self.old) ≡ true }
-        ensures read { IfOk result (λ t. Reads (nesting_of nest) (part type_definition) self.old (type_def_tree t) self.new) }
-        ensures halts { IfErr result (λ e. Halts e (nesting_of nest) (part type_definition) self.old self.new) }
-        ensures fewer { OnOk result (length self.new < length self.old) }
-    {
-        let place = self.place();
-        self.pass(nest, Mark::Library)?;
-        let names = self.list::<Identifier>(nest)?;
-        self.pass(nest, Mark::EndLib)?;
-        Ok(TypeDef::Library { place, names })
-    }
+// The definition of a type.
+fn definition(cursor: &mut Cursor<'_>, nest: Nest) -> Result<TypeDef, ParseFault>
+    requires { is_same_mark Mark.Library (mark_at cursor.old) ≡ false }
+    ensures read { IfOk result (λ t. Reads (nesting_of nest) (part type_definition) cursor.old (type_def_tree t) cursor.new) }
+    ensures halts { IfErr result (λ e. Halts e (nesting_of nest) (part type_definition) cursor.old cursor.new) }
+    ensures fewer { OnOk result (length cursor.new < length cursor.old) }
+{
+    let place = cursor.place();
+    cursor.pass(nest, Mark::TypeKeyword)?;
+    let name = cursor.token(nest, Mark::Identifier)?;
+    cursor.pass(nest, Mark::Is)?;
+    let body = type_body(cursor, nest)?;
+    cursor.pass(nest, Mark::EndType)?;
+    Ok(TypeDef::Definition { place, name, body })
+}
 
-    // The definition of a type.
-    fn definition(&mut self, nest: Nest) -> Result<TypeDef, ParseFault>
-        requires { is_same_mark Mark.Library (mark_at self.old) ≡ false }
-        ensures read { IfOk result (λ t. Reads (nesting_of nest) (part type_definition) self.old (type_def_tree t) self.new) }
-        ensures halts { IfErr result (λ e. Halts e (nesting_of nest) (part type_definition) self.old self.new) }
-        ensures fewer { OnOk result (length self.new < length self.old) }
-    {
-        let place = self.place();
-        self.pass(nest, Mark::TypeKeyword)?;
-        let name = self.token(nest, Mark::Identifier)?;
-        self.pass(nest, Mark::Is)?;
-        let body = self.type_body(nest)?;
-        self.pass(nest, Mark::EndType)?;
-        Ok(TypeDef::Definition { place, name, body })
-    }
-
-    /// Types one after another.
-    pub fn type_definitions(&mut self, nest: Nest) -> Result<Vec<TypeDef>, ParseFault>
-        ensures read { IfOk result (λ all. Reads (nesting_of nest) (repeated (part type_definition)) self.old (repeated_tree (map type_def_tree all.items)) self.new) }
-        ensures halts { IfErr result (λ e. Halts e (nesting_of nest) (repeated (part type_definition)) self.old self.new) }
-        ensures no_more { OnOk result (length self.new ≤ length self.old) }
-    {
-        let all = self.repeated::<OneTypeDefinition>(nest)?;
-        Ok(all)
-    }
+/// Types one after another.
+pub fn type_definitions(cursor: &mut Cursor<'_>, nest: Nest) -> Result<Vec<TypeDef>, ParseFault>
+    ensures read { IfOk result (λ all. Reads (nesting_of nest) (repeated (part type_definition)) cursor.old
+        (repeated_tree (map type_def_tree all.items)) cursor.new) }
+    ensures halts { IfErr result (λ e. Halts e (nesting_of nest) (repeated (part type_definition)) cursor.old cursor.new) }
+    ensures no_more { OnOk result (length cursor.new ≤ length cursor.old) }
+{
+    let all = cursor.repeated::<OneTypeDefinition>(nest)?;
+    Ok(all)
 }

@@ -1,7 +1,9 @@
-// How behaviours are grouped.
+// How behaviours and expressions are grouped.
 
 use behaviour_parser::specification;
+use data_parser::expression;
 use lotos_ast::behaviour::{Atom, Unary};
+use lotos_ast::expression::Expr;
 use lotos_ast::refusal::FrontFault;
 use lotos_ast::spec::Spec;
 use lotos_lexer::tokens;
@@ -60,6 +62,46 @@ fn a_parallel_operator_binds_tighter_than_disabling(rt: HostRuntime) -> Result<(
                 None => panic!(rt; "no disabling"),
             }
         }
+        Err(_) => panic!(rt; "not read"),
+    }
+    Ok(())
+}
+
+#[test]
+fn hide_reaches_over_the_operators_behind_it(rt: HostRuntime) -> Result<(), Fail> {
+    let text = "specification s [b] : noexit behaviour hide a in a; stop [] b; stop endspec";
+    match read(rt.alloc(), text) {
+        Ok(spec) => {
+            let choice = &spec.behaviour.first.first.first;
+            assert!(rt; choice.rest.is_none());
+            match &choice.first {
+                Unary::Atomic(Atom::Hide { inner, .. }) => {
+                    assert!(rt; inner.first.first.first.rest.is_some());
+                }
+                _ => panic!(rt; "no hide"),
+            }
+        }
+        Err(_) => panic!(rt; "not read"),
+    }
+    Ok(())
+}
+
+fn read_expression(alloc: Global, text: &str) -> Result<Expr, FrontFault> {
+    let all = tokens(alloc, text.as_bytes())?;
+    let (whole, _) = expression(alloc, &all, 0)?;
+    Ok(whole)
+}
+
+#[test]
+fn operations_of_a_chain_stand_in_the_order_of_the_text(rt: HostRuntime) -> Result<(), Fail> {
+    match read_expression(rt.alloc(), "x + y * z") {
+        Ok(chain) => match chain.rest.as_slice() {
+            [first, second] => {
+                assert_eq!(rt; first.name.text.as_str(), "+");
+                assert_eq!(rt; second.name.text.as_str(), "*");
+            }
+            _ => panic!(rt; "not two operations"),
+        },
         Err(_) => panic!(rt; "not read"),
     }
     Ok(())

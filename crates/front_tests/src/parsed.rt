@@ -4,9 +4,6 @@ use crate::expression_texts::{CHAINS, MARKED, OPERANDS, SORTED};
 use crate::long_texts::{BOOLEAN, LISTS, NATURAL_NUMBER};
 use crate::nested_texts::{NESTED_EXPRESSIONS, spell};
 use crate::type_texts::{BODIES, EQUATIONS, LIBRARIES, OPERATIONS, PAIRS, SEQUENCES};
-use data_parser::cursor::Cursor;
-use data_parser::item::Item;
-use data_parser::refusals::refusal;
 use data_parser::type_definition::OneTypeDefinition;
 use data_parser::{expression, types};
 use lotos_ast::nest::Nest;
@@ -16,6 +13,9 @@ use spec_core::memory::Memory;
 use std::alloc::Global;
 use std::process::Abort;
 use std::test::Fail;
+use token_cursor::cursor::Cursor;
+use token_cursor::item::Item;
+use token_cursor::refusals::refusal;
 
 // How many tokens are left, or the refusal's number, place and name.
 pub fn describe(alloc: Global, parsed: Result<usize, FrontFault>) -> Result<String, Memory> {

@@ -7,14 +7,14 @@ use crate::parsed::{compare, describe};
 use crate::specification_texts::{BEHIND_THE_END, HEADS, WHERES};
 use behaviour_parser::behaviour::behaviour;
 use behaviour_parser::specification;
-use data_parser::cursor::Cursor;
-use data_parser::refusals::refusal;
 use lotos_ast::nest::Nest;
 use lotos_lexer::tokens;
 use spec_core::memory::Memory;
 use std::alloc::Global;
 use std::process::Abort;
 use std::test::Fail;
+use token_cursor::cursor::Cursor;
+use token_cursor::refusals::refusal;
 
 // What the parser of behaviours answers.
 fn parse_behaviour(alloc: Global, text: &str) -> Result<String, Memory> {

@@ -23,7 +23,12 @@ impl Model for MemoryShelf {
 
     ghost Value = { ShelfState };
 
-    ghost view = { λ s. record { files = files_of s.files.items; fails = s.fails.items; calls = s.calls; failed = map string_bytes s.failed.items } };
+    ghost view = { λ s. record {
+      files = files_of s.files.items;
+      fails = s.fails.items;
+      calls = s.calls;
+      failed = map string_bytes s.failed.items;
+    } };
 }
 
 impl MemoryShelf {
@@ -68,16 +73,19 @@ impl Shelf for MemoryShelf {
     ghost failed = { λ shelf. shelf.failed };
 
     fn fetch(&mut self, name: &str, most: usize, into: &mut Vec<u8>) -> Result<(), ShelfFault>
-        ensures ok { OnOk result (IsSomeAnd (first_file self.old.files name.now) (λ text. into.new.items ≡ into.old.items ++ take most text)) }
+        ensures ok { OnOk result (IsSomeAnd (first_file self.old.files name.now)
+            (λ text. into.new.items ≡ into.old.items ++ take most text)) }
         ensures appends { StartsWith into.new.items into.old.items }
         ensures err { OnErr result (into.new.items ≡ into.old.items) }
 
         // It fails at the calls that it was told to fail at, and where it has no file of the name.
         ensures ok_only { OnOk result (¬ Contains self.old.fails (next_count self.old.calls)) }
-        ensures failed_only { IsErrOf result ShelfFault.Failed → Contains self.old.fails (next_count self.old.calls) ⊎ (first_file self.old.files name.now ≡ None) }
+        ensures failed_only { IsErrOf result ShelfFault.Failed →
+            Contains self.old.fails (next_count self.old.calls) ⊎ (first_file self.old.files name.now ≡ None) }
 
         ensures ok_state { OnOk result (self.new ≡ record self.old { calls = next_count self.old.calls }) }
-        ensures failed_state { IsErrOf result ShelfFault.Failed → self.new ≡ record self.old { calls = next_count self.old.calls; failed = self.old.failed ++ name.now ∷ [] } }
+        ensures failed_state { IsErrOf result ShelfFault.Failed →
+            self.new ≡ record self.old { calls = next_count self.old.calls; failed = self.old.failed ++ name.now ∷ [] } }
         ensures memory_state { IsErrOf result ShelfFault.Memory → self.new ≡ record self.old { calls = next_count self.old.calls } }
     {
         self.calls = self.calls.saturating_add(1);

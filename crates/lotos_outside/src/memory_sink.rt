@@ -53,9 +53,11 @@ impl Sink for MemorySink {
     ghost faults = { λ sink. sink.faults };
 
     fn write(&mut self, piece: &[u8]) -> Result<usize, SinkFault>
-        ensures ok { OnOk result (self.new ≡ record self.old { calls = next_count self.old.calls; written = self.old.written ++ piece.now }) }
+        ensures ok { OnOk result (self.new ≡
+            record self.old { calls = next_count self.old.calls; written = self.old.written ++ piece.now }) }
         ensures whole { IfOk result (λ count. count ≡ length piece.now) }
-        ensures failed { IsErrOf result SinkFault.Failed → self.new ≡ record self.old { calls = next_count self.old.calls; faults = next_count self.old.faults } }
+        ensures failed { IsErrOf result SinkFault.Failed →
+            self.new ≡ record self.old { calls = next_count self.old.calls; faults = next_count self.old.faults } }
         ensures memory { IsErrOf result SinkFault.Memory → self.new ≡ record self.old { calls = next_count self.old.calls } }
         ensures fails { IsErrOf result SinkFault.Failed ↔ Contains self.old.fails (next_count self.old.calls) }
         ensures never_fewer { self.old.faults ≤ self.new.faults }

@@ -94,7 +94,8 @@ impl Source for MemorySource {
         ensures one_piece { IfOk result (λ count. count ≡ min (length (next_piece self.old.pieces)) (length piece.old)) }
         ensures end { result ≡ Ok 0 → 0 < length piece.old → concat self.old.pieces ≡ [] }
         ensures ok_state { OnOk result (self.new ≡ record self.old { calls = next_count self.old.calls; pieces = self.new.pieces }) }
-        ensures err_state { OnErr result (self.new ≡ record self.old { calls = next_count self.old.calls; faults = next_count self.old.faults }) }
+        ensures err_state { OnErr result (self.new ≡
+            record self.old { calls = next_count self.old.calls; faults = next_count self.old.faults }) }
         ensures fails { IsErr result ↔ Contains self.old.fails (next_count self.old.calls) }
         ensures never_fewer { self.old.faults ≤ self.new.faults }
     {

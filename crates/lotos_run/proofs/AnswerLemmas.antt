@@ -1,5 +1,6 @@
 -- The offers of a session and their answers, one offer after another.
-use Rattle.std.proofs.Common.{◌≡◌, ℕ, ◌+◌, ◌<◌, false, List, [], ◌∷◌, ◌++◌, map, length, Option, Some, None, refl, ap, sym, ◌∙◌, subst, arith, append_assoc}
+use Rattle.std.proofs.Common.{◌≡◌, ℕ, ◌+◌, ◌<◌, false, List, [], ◌∷◌, ◌++◌, map, length, Option, Some, None, refl, ap, sym, ◌∙◌, subst}
+use Rattle.std.proofs.Common.{arith, append_assoc}
 use Rattle.std.proofs.lemmas.List.{map-append, length-append, length-map}
 use Rattle.spec_core.specs.declared.items.Gate.{Gate}
 use Rattle.rule_model.specs.Behaviours.{Behaviour}
@@ -38,10 +39,12 @@ numbered-append : (n : ℕ) (xs : List Wish) (wish : Wish) → numbered n (xs ++
 numbered-append n [] wish = let e : n ≡ n + 0 = omega arith in ap (λ (k : ℕ). wished k wish ∷ []) e
 numbered-append n (x ∷ xs) wish =
     let e : n + 1 + length xs ≡ n + length (x ∷ xs) = omega arith in
-    ap (λ (l : List PendingOffer). wished n x ∷ l) (numbered-append (n + 1) xs wish ∙ ap (λ (k : ℕ). numbered (n + 1) xs ++ wished k wish ∷ []) e)
+    ap (λ (l : List PendingOffer). wished n x ∷ l)
+    (numbered-append (n + 1) xs wish ∙ ap (λ (k : ℕ). numbered (n + 1) xs ++ wished k wish ∷ []) e)
 
 -- the entry that answers makes no offer
-no_offer : (b : Behaviour) (gate : Gate) (number steps : ℕ) (event : Event) (rest : Behaviour) (later : ℕ) → IsAnswer b gate number steps event rest later → offers_in (event ∷ []) ≡ []
+no_offer : (b : Behaviour) (gate : Gate) (number steps : ℕ) (event : Event) (rest : Behaviour) (later : ℕ) →
+    IsAnswer b gate number steps event rest later → offers_in (event ∷ []) ≡ []
 no_offer b gate number steps (acted action d by) rest later h = refl
 no_offer b gate number steps (replied client other answer) rest later h = refl
 no_offer b gate number steps (stalled names) rest later h = refl
@@ -49,12 +52,14 @@ no_offer b gate number steps (pended client other offer ask) rest later h = absu
 no_offer b gate number steps (left client) rest later h = absurd h
 
 -- and answers just client 1's offer of this number
-one_answer : (b : Behaviour) (gate : Gate) (number steps : ℕ) (event : Event) (rest : Behaviour) (later : ℕ) → IsAnswer b gate number steps event rest later → answered_in (event ∷ []) ≡ (1, number) ∷ []
+one_answer : (b : Behaviour) (gate : Gate) (number steps : ℕ) (event : Event) (rest : Behaviour) (later : ℕ) →
+    IsAnswer b gate number steps event rest later → answered_in (event ∷ []) ≡ (1, number) ∷ []
 one_answer b gate number steps (acted action d None) rest later h = absurd (no_name (1, number) h.1)
   where
     no_name : (name : OfferName) → ◌≡◌ {A = Option OfferName} None (Some name) → ⊥
     no_name name e = cc
-one_answer b gate number steps (acted action d (Some name)) rest later h = ap (λ (o : Option OfferName). answered_in (acted action d o ∷ [])) h.1
+one_answer b gate number steps (acted action d (Some name)) rest later h =
+    ap (λ (o : Option OfferName). answered_in (acted action d o ∷ [])) h.1
 one_answer b gate number steps (replied client other (deadlock at)) rest later h =
     ap (λ (k : ℕ). answered_in (replied k other (deadlock at) ∷ [])) h.0 ∙ ap (λ (k : ℕ). answered_in (replied 1 k (deadlock at) ∷ [])) h.1
 one_answer b gate number steps (replied client other (taken at values)) rest later h = absurd h
@@ -69,7 +74,9 @@ one_answer b gate number steps (stalled names) rest later h = ap (λ (l : List O
 one_answer b gate number steps (pended client other offer ask) rest later h = absurd h
 one_answer b gate number steps (left client) rest later h = absurd h
 
-more_offers : (done : List Gate) (gate : Gate) (number : ℕ) → number ≡ length done → numbered 1 (map plain_wish (done ++ gate ∷ [])) ≡ numbered 1 (map plain_wish done) ++ wished (number + 1) (plain_wish gate) ∷ []
+more_offers : (done : List Gate) (gate : Gate) (number : ℕ) →
+    number ≡ length done →
+    numbered 1 (map plain_wish (done ++ gate ∷ [])) ≡ numbered 1 (map plain_wish done) ++ wished (number + 1) (plain_wish gate) ∷ []
 more_offers done gate number counted =
     let e : 1 + length (map plain_wish done) ≡ number + 1 = omega (arith, length-map done plain_wish, counted) in
     ap (numbered 1) (map-append plain_wish done (gate ∷ []))
@@ -77,7 +84,11 @@ more_offers done gate number counted =
     ∙ ap (λ (k : ℕ). numbered 1 (map plain_wish done) ++ wished k (plain_wish gate) ∷ []) e
 
 -- the session goes on behind one offer more and its answer
-pub session_goes_on : (gates : ℕ) (start : Behaviour) (done : List Gate) (old new : List Event) (b : Behaviour) (number steps : ℕ) (gate : Gate) (rest : Behaviour) (later : ℕ) → gate.0 < gates → IsSessionSoFar gates start done old b number steps → AppendsAnswer old new b gate (number + 1) steps rest later → IsSessionSoFar gates start (done ++ gate ∷ []) new rest (number + 1) later
+pub session_goes_on :
+    (gates : ℕ) (start : Behaviour) (done : List Gate) (old new : List Event) (b : Behaviour) (number steps : ℕ) (gate : Gate)
+    (rest : Behaviour) (later : ℕ) →
+    gate.0 < gates → IsSessionSoFar gates start done old b number steps → AppendsAnswer old new b gate (number + 1) steps rest later →
+    IsSessionSoFar gates start (done ++ gate ∷ []) new rest (number + 1) later
 session_goes_on gates start done old new b number steps gate rest later within h appends =
     let event : Event = appends.0 in
     let offer : Event = pended 1 (number + 1) (plain gate) false in
@@ -85,8 +96,11 @@ session_goes_on gates start done old new b number steps gate rest later within h
     let made : PendingOffer = wished (number + 1) (plain_wish gate) in
     record {
       goes = λ result_sort.
-          subst (λ (l : List Event). GoesOn result_sort gates (start_state start (1 ∷ [])) (done ++ gate ∷ []) l rest (number + 1) later) (sym appends.1)
-          (one_more result_sort gates (start_state start (1 ∷ [])) done old b number steps gate event rest later within (h.goes result_sort) appends.2);
+          subst
+          (λ (l : List Event). GoesOn result_sort gates (start_state start (1 ∷ [])) (done ++ gate ∷ []) l rest (number + 1) later)
+          (sym appends.1)
+          (one_more result_sort gates (start_state start (1 ∷ [])) done old b number steps gate event rest later within
+          (h.goes result_sort) appends.2);
       counted = omega (arith, h.counted, length-append done (gate ∷ []));
       offers =
           ap offers_in appends.1

@@ -1,5 +1,6 @@
 -- What is read is what the grammar spells.
-use Rattle.std.proofs.Common.{◌≡◌, ◌⊎◌, inl, inr, ℕ, List, [], ◌∷◌, ◌++◌, Bool, true, false, if◌then◌else◌, Option, Some, None, option_map, nat_eq, refl, ap, sym, ◌∙◌, subst, append_assoc}
+use Rattle.std.proofs.Common.{◌≡◌, ◌⊎◌, inl, inr, ℕ, List, [], ◌∷◌, ◌++◌, Bool, true, false, if◌then◌else◌, Option, Some, None, option_map}
+use Rattle.std.proofs.Common.{nat_eq, refl, ap, sym, ◌∙◌, subst, append_assoc}
 use Rattle.std.proofs.lemmas.Bool.{eqb-true}
 use Rattle.std.proofs.lemmas.List.{append-nil}
 use Rattle.spec_core.specs.declared.items.Gate.{Gate}
@@ -7,7 +8,8 @@ use Rattle.rule_model.specs.Behaviours.{Behaviour, stop, act, choice}
 use Rattle.lotos_run.specs.declared.token.Token.{Token}
 use Rattle.lotos_run.specs.declared.token.Token.TheVariants.{Identifier, Stop, Semicolon, Brackets, Fixed}
 use Rattle.lotos_run.specs.declared.token.Mark.{Mark}
-use Rattle.lotos_run.specs.declared.token.Mark.TheVariants.{Specification, Noexit, Library, Endlib, Behaviour as BehaviourWord, Endspec, One, LeftSquare, RightSquare, Colon, Comma, Other}
+use Rattle.lotos_run.specs.declared.token.Mark.TheVariants.{Specification, Noexit, Library, Endlib, Behaviour as BehaviourWord, Endspec}
+use Rattle.lotos_run.specs.declared.token.Mark.TheVariants.{One, LeftSquare, RightSquare, Colon, Comma, Other}
 use Rattle.lotos_run.specs.FirstForm.{FirstForm, gate_at, same_mark, chain, or_chain, on_gate, mark_number, read_alternatives}
 use Rattle.lotos_run.specs.Grammar.{SpellsUnary, SpellsBehaviour}
 
@@ -15,16 +17,22 @@ use Rattle.lotos_run.specs.Grammar.{SpellsUnary, SpellsBehaviour}
 pub record ReadsUnary (gates : List (List ℕ)) (b : Behaviour) (first : List Token) : Type 0 where
   pub prefixes : List Gate
   pub is : b ≡ chain prefixes
-  pub reads : (before : List Gate) (tail : List Token) → read_alternatives gates before (first ++ tail) ≡ read_alternatives gates (before ++ prefixes) (Stop ∷ tail)
+  pub reads : (before : List Gate) (tail : List Token) →
+      read_alternatives gates before (first ++ tail) ≡ read_alternatives gates (before ++ prefixes) (Stop ∷ tail)
 
-one_more : (gates : List (List ℕ)) (word : List ℕ) (gate : Gate) (before : List Gate) (ts : List Token) → gate_at gates word ≡ Some gate → read_alternatives gates before (Identifier word ∷ Semicolon ∷ ts) ≡ read_alternatives gates (before ++ gate ∷ []) ts
+one_more : (gates : List (List ℕ)) (word : List ℕ) (gate : Gate) (before : List Gate) (ts : List Token) →
+    gate_at gates word ≡ Some gate →
+    read_alternatives gates before (Identifier word ∷ Semicolon ∷ ts) ≡ read_alternatives gates (before ++ gate ∷ []) ts
 one_more gates word gate before ts e = ap (λ (o : Option Gate). on_gate o (λ g. read_alternatives gates (before ++ g ∷ []) ts)) e
 
 reads_unary : (gates : List (List ℕ)) (b : Behaviour) (first : List Token) → SpellsUnary gates b first → ReadsUnary gates b first
 reads_unary gates stop first e = record {
   prefixes = [];
   is = refl;
-  reads = λ before tail. ap (λ (ts : List Token). read_alternatives gates before (ts ++ tail)) e ∙ ap (λ (done : List Gate). read_alternatives gates done (Stop ∷ tail)) (sym (append-nil before));
+  reads =
+      λ before tail.
+      ap (λ (ts : List Token). read_alternatives gates before (ts ++ tail)) e
+      ∙ ap (λ (done : List Gate). read_alternatives gates done (Stop ∷ tail)) (sym (append-nil before));
 }
 reads_unary gates (act gate rest) first h =
     let more = reads_unary gates rest h.1 h.4 in
@@ -46,10 +54,12 @@ abbrev pub formed : List (List ℕ) → Behaviour → FirstForm
 formed gates b = record { gates = gates; behaviour = b }
 
 -- one alternative is a behaviour
-one_alternative : (gates : List (List ℕ)) (b : Behaviour) (body : List Token) → ReadsUnary gates b body → read_alternatives gates [] (body ++ the_end) ≡ Some (formed gates b)
+one_alternative : (gates : List (List ℕ)) (b : Behaviour) (body : List Token) →
+    ReadsUnary gates b body → read_alternatives gates [] (body ++ the_end) ≡ Some (formed gates b)
 one_alternative gates b body r = r.reads [] the_end ∙ ap (λ (x : Behaviour). Some (formed gates x)) (sym r.is)
 
-pub reads_behaviour : (gates : List (List ℕ)) (b : Behaviour) (body : List Token) → SpellsBehaviour gates b body → read_alternatives gates [] (body ++ the_end) ≡ Some (formed gates b)
+pub reads_behaviour : (gates : List (List ℕ)) (b : Behaviour) (body : List Token) →
+    SpellsBehaviour gates b body → read_alternatives gates [] (body ++ the_end) ≡ Some (formed gates b)
 reads_behaviour gates stop body h = one_alternative gates stop body (reads_unary gates stop body h)
 reads_behaviour gates (act gate rest) body h = one_alternative gates (act gate rest) body (reads_unary gates (act gate rest) body h)
 reads_behaviour gates (choice left right) body h =
@@ -93,20 +103,28 @@ pub record ReadsAs (gates : List (List ℕ)) (before : List Gate) (ts : List Tok
   pub spelled : SpellsUnary gates (chain prefixes) first
   pub behind :
       (ts ≡ first ++ the_end) × (form.behaviour ≡ chain (before ++ prefixes))
-      ⊎ (others : List Token) × (right : Behaviour) × (ts ≡ first ++ Brackets ∷ (others ++ the_end)) × SpellsBehaviour gates right others × (form.behaviour ≡ choice (chain (before ++ prefixes)) right)
+      ⊎ (others : List Token) × (right : Behaviour) × (ts ≡ first ++ Brackets ∷ (others ++ the_end)) ×
+      SpellsBehaviour gates right others × (form.behaviour ≡ choice (chain (before ++ prefixes)) right)
 
 -- the whole of a behaviour was read
 abbrev pub ReadsWhole : List (List ℕ) → List Token → FirstForm → Type 0
 ReadsWhole gates ts form = (body : List Token) × (ts ≡ body ++ the_end) × SpellsBehaviour gates form.behaviour body × (form.gates ≡ gates)
 
-unary_is_behaviour : (gates : List (List ℕ)) (prefixes : List Gate) (first : List Token) → SpellsUnary gates (chain prefixes) first → SpellsBehaviour gates (chain prefixes) first
+unary_is_behaviour : (gates : List (List ℕ)) (prefixes : List Gate) (first : List Token) →
+    SpellsUnary gates (chain prefixes) first → SpellsBehaviour gates (chain prefixes) first
 unary_is_behaviour gates [] first h = h
 unary_is_behaviour gates (gate ∷ prefixes) first h = h
 
 pub whole_of : (gates : List (List ℕ)) (ts : List Token) (form : FirstForm) → ReadsAs gates [] ts form → ReadsWhole gates ts form
 whole_of gates ts form r =
     elim r.behind [
-      | inl e ↦ (r.first, e.0, subst (λ (b : Behaviour). SpellsBehaviour gates b r.first) (sym e.1) (unary_is_behaviour gates r.prefixes r.first r.spelled), r.same)
+      | inl e ↦ (
+        r.first,
+        e.0,
+        subst (λ (b : Behaviour). SpellsBehaviour gates b r.first) (sym e.1)
+            (unary_is_behaviour gates r.prefixes r.first r.spelled),
+        r.same,
+      )
       | inr e ↦ (
         r.first ++ Brackets ∷ e.0,
         e.2 ∙ sym (append_assoc r.first (Brackets ∷ e.0) the_end),
@@ -122,7 +140,9 @@ some_is_some : (f g : FirstForm) → Some f ≡ Some g → f ≡ g
 some_is_some f g e = cc
 
 -- one prefix more
-prefix_before : (gates : List (List ℕ)) (before : List Gate) (word : List ℕ) (gate : Gate) (ts : List Token) (form : FirstForm) → gate_at gates word ≡ Some gate → ReadsAs gates (before ++ gate ∷ []) ts form → ReadsAs gates before (Identifier word ∷ Semicolon ∷ ts) form
+prefix_before : (gates : List (List ℕ)) (before : List Gate) (word : List ℕ) (gate : Gate) (ts : List Token) (form : FirstForm) →
+    gate_at gates word ≡ Some gate → ReadsAs gates (before ++ gate ∷ []) ts form →
+    ReadsAs gates before (Identifier word ∷ Semicolon ∷ ts) form
 prefix_before gates before word gate ts form at r = record {
   same = r.same;
   prefixes = gate ∷ r.prefixes;
@@ -147,12 +167,18 @@ prefix_before gates before word gate ts form at r = record {
 }
 
 -- the gate of a prefix is one of the heading
-at_gate : (gates : List (List ℕ)) (before : List Gate) (word : List ℕ) (ts : List Token) (form : FirstForm) (o : Option Gate) → gate_at gates word ≡ o → ((gate : Gate) → read_alternatives gates (before ++ gate ∷ []) ts ≡ Some form → ReadsAs gates (before ++ gate ∷ []) ts form) → on_gate o (λ gate. read_alternatives gates (before ++ gate ∷ []) ts) ≡ Some form → ReadsAs gates before (Identifier word ∷ Semicolon ∷ ts) form
+at_gate : (gates : List (List ℕ)) (before : List Gate) (word : List ℕ) (ts : List Token) (form : FirstForm) (o : Option Gate) →
+    gate_at gates word ≡ o →
+    ((gate : Gate) → read_alternatives gates (before ++ gate ∷ []) ts ≡ Some form → ReadsAs gates (before ++ gate ∷ []) ts form) →
+    on_gate o (λ gate. read_alternatives gates (before ++ gate ∷ []) ts) ≡ Some form →
+    ReadsAs gates before (Identifier word ∷ Semicolon ∷ ts) form
 at_gate gates before word ts form None at more h = absurd (none_is_some form h)
 at_gate gates before word ts form (Some gate) at more h = prefix_before gates before word gate ts form at (more gate h)
 
 -- another alternative comes behind stop
-or_behind : (gates : List (List ℕ)) (before : List Gate) (ts : List Token) (form : FirstForm) (o : Option FirstForm) → ((f : FirstForm) → o ≡ Some f → ReadsWhole gates ts f) → option_map (or_chain before) o ≡ Some form → ReadsAs gates before (Stop ∷ Brackets ∷ ts) form
+or_behind : (gates : List (List ℕ)) (before : List Gate) (ts : List Token) (form : FirstForm) (o : Option FirstForm) →
+    ((f : FirstForm) → o ≡ Some f → ReadsWhole gates ts f) → option_map (or_chain before) o ≡ Some form →
+    ReadsAs gates before (Stop ∷ Brackets ∷ ts) form
 or_behind gates before ts form None more h = absurd (none_is_some form h)
 or_behind gates before ts form (Some f) more h =
     let w = more f refl in
@@ -172,7 +198,9 @@ or_behind gates before ts form (Some f) more h =
     }
 
 -- the specification ends behind stop
-end_behind : (gates : List (List ℕ)) (before : List Gate) (mark : Mark) (form : FirstForm) (b : Bool) → same_mark Endspec mark ≡ b → (if b then Some (formed gates (chain before)) else None) ≡ Some form → ReadsAs gates before (Stop ∷ Fixed mark ∷ []) form
+end_behind : (gates : List (List ℕ)) (before : List Gate) (mark : Mark) (form : FirstForm) (b : Bool) →
+    same_mark Endspec mark ≡ b → (if b then Some (formed gates (chain before)) else None) ≡ Some form →
+    ReadsAs gates before (Stop ∷ Fixed mark ∷ []) form
 end_behind gates before mark form false same h = absurd (none_is_some form h)
 end_behind gates before mark form true same h =
     let is : formed gates (chain before) ≡ form = some_is_some (formed gates (chain before)) form h in
@@ -187,7 +215,8 @@ end_behind gates before mark form true same h =
       );
     }
 
-pub spelled_by : (gates : List (List ℕ)) (before : List Gate) (ts : List Token) (form : FirstForm) → read_alternatives gates before ts ≡ Some form → ReadsAs gates before ts form
+pub spelled_by : (gates : List (List ℕ)) (before : List Gate) (ts : List Token) (form : FirstForm) →
+    read_alternatives gates before ts ≡ Some form → ReadsAs gates before ts form
 spelled_by gates before (Identifier word ∷ Semicolon ∷ ts) form h =
     at_gate gates before word ts form (gate_at gates word) refl (λ gate. spelled_by gates (before ++ gate ∷ []) ts form) h
 spelled_by gates before (Stop ∷ Brackets ∷ ts) form h =

@@ -26,7 +26,8 @@ tokens_with-joined hand c s e =
     ∙ ap (filter_map token_of) (glue-onto hand c (pieces s))
 
 -- any other byte ends the piece in hand
-pub tokens_with-alone : (hand : List ℕ) (c : ℕ) (s : List ℕ) → joins c s ≡ false → tokens_with hand (c ∷ s) ≡ filter_map token_of ((hand ++ c ∷ []) ∷ []) ++ tokens_with [] s
+pub tokens_with-alone : (hand : List ℕ) (c : ℕ) (s : List ℕ) →
+    joins c s ≡ false → tokens_with hand (c ∷ s) ≡ filter_map token_of ((hand ++ c ∷ []) ∷ []) ++ tokens_with [] s
 tokens_with-alone hand c s e =
     ap (λ (ps : List (List ℕ)). filter_map token_of (glue hand ps)) (refused (joins c s) (onto c (pieces s)) ((c ∷ []) ∷ pieces s) e)
     ∙ ap (filter_map token_of) (glue-alone hand c (pieces s))

@@ -1,5 +1,6 @@
 -- One offer more, and its answer.
-use Rattle.std.proofs.Common.{◌≡◌, ℕ, zero, suc, ◌+◌, ◌<◌, ◌≤◌, Bool, false, nat_eq, not, List, [], ◌∷◌, ◌++◌, map, filter, Option, Some, None, Contains, refl, ap, sym, ◌∙◌, subst, arith, append_assoc, eq-eqb, if◌then◌else◌}
+use Rattle.std.proofs.Common.{◌≡◌, ℕ, zero, suc, ◌+◌, ◌<◌, ◌≤◌, Bool, false, nat_eq, not, List, [], ◌∷◌, ◌++◌, map, filter, Option, Some}
+use Rattle.std.proofs.Common.{None, Contains, refl, ap, sym, ◌∙◌, subst, arith, append_assoc, eq-eqb, if◌then◌else◌}
 use Rattle.std.proofs.lemmas.List.{append-nil, map-append}
 use Rattle.spec_core.specs.declared.items.Gate.{Gate}
 use Rattle.rule_model.specs.declared.action.Action.{Action}
@@ -10,7 +11,8 @@ use Rattle.rule_model.specs.Derives.{NoStep, SomeStep}
 use Rattle.rule_model.specs.Meets.{NeverMeets}
 use Rattle.rule_model.specs.Answers.{taken, deadlock, stalls, beyond, not_now, ended, spent, too_large, limit}
 use Rattle.rule_model.specs.Events.{OfferName, Event, pended, acted, replied, stalled, left}
-use Rattle.rule_model.specs.States.{PendingOffer, State, start_state, without, after_offer, after_action, after_reply, after_stall, after_leave}
+use Rattle.rule_model.specs.States.{PendingOffer, State, start_state, without, after_offer, after_action, after_reply, after_stall}
+use Rattle.rule_model.specs.States.{after_leave}
 use Rattle.rule_model.specs.Legal.{IsPending, IsIdle, NamesAll, IsPossible}
 use Rattle.rule_model.specs.Settling.{Wish, IsFirstMeeting, IsNextEntry, IsSettled, IsSingleClientRun}
 use Rattle.lotos_run.specs.Walk.{plain, plain_wish, IsFirstAt, IsNeverAt, IsAnswer}
@@ -55,7 +57,9 @@ none_pending_is_settled result_sort s none (stalled names) next = no_names s nam
 none_pending_is_settled result_sort s none (left client) next = absurd next
 
 -- what comes next is appended to a run
-append_next : (result_sort : ℕ → ℕ) (gates : ℕ) (wishes : List Wish) (event : Event) (log : List Event) (s next t : State) → IsNextEntry result_sort s event → IsPossible result_sort gates s event next → IsSingleClientRun result_sort gates wishes log next t → IsSingleClientRun result_sort gates wishes (event ∷ log) s t
+append_next : (result_sort : ℕ → ℕ) (gates : ℕ) (wishes : List Wish) (event : Event) (log : List Event) (s next t : State) →
+    IsNextEntry result_sort s event → IsPossible result_sort gates s event next →
+    IsSingleClientRun result_sort gates wishes log next t → IsSingleClientRun result_sort gates wishes (event ∷ log) s t
 append_next result_sort gates wishes (pended client number offer ask) log s next t is possible run = absurd is
 append_next result_sort gates wishes (acted action d by) log s next t is possible run = (is, next, possible, run)
 append_next result_sort gates wishes (replied client number answer) log s next t is possible run = (is, next, possible, run)
@@ -107,10 +111,12 @@ module _ (s : State) (b : Behaviour) (gate : Gate) (number steps : ℕ) (w : Wai
       ap (without (1, number)) w.pending
       ∙ ap (λ (same : Bool). if not same then plain_offer gate number ∷ [] else []) (eq-eqb number number refl)
 
-  taken_settles : (result_sort : ℕ → ℕ) (gates : ℕ) (d : Derivation) (rest : Behaviour) → IsFirstAt b gate d rest → Settles result_sort gates s (acted (At gate []) d (Some (1, number))) rest number (steps + 1)
+  taken_settles : (result_sort : ℕ → ℕ) (gates : ℕ) (d : Derivation) (rest : Behaviour) →
+      IsFirstAt b gate d rest → Settles result_sort gates s (acted (At gate []) d (Some (1, number))) rest number (steps + 1)
   taken_settles result_sort gates d rest first =
       let meeting : IsFirstMeeting result_sort s.behaviour (plain gate) d (At gate []) rest =
-      subst (λ (x : Behaviour). IsFirstMeeting result_sort x (plain gate) d (At gate []) rest) (sym w.behaviour) (first.first_meeting result_sort) in
+      subst (λ (x : Behaviour). IsFirstMeeting result_sort x (plain gate) d (At gate []) rest) (sym w.behaviour)
+      (first.first_meeting result_sort) in
       record {
         is_next = record {
           before = [];
@@ -124,7 +130,12 @@ module _ (s : State) (b : Behaviour) (gate : Gate) (number steps : ℕ) (w : Wai
           meeting = meeting;
         };
         next = after_action s (At gate []) (Some (1, number)) rest;
-        possible = (rest, meeting.derives, record { waits = plain_offer gate number; among = here; client = refl; number = refl; holds = meeting.meets }, refl);
+        possible = (
+          rest,
+          meeting.derives,
+          record { waits = plain_offer gate number; among = here; client = refl; number = refl; holds = meeting.meets },
+          refl,
+        );
         behaviour = refl;
         open_clients = w.open_clients;
         pending = taken_away;
@@ -132,7 +143,8 @@ module _ (s : State) (b : Behaviour) (gate : Gate) (number steps : ℕ) (w : Wai
         actions = ap (λ (n : ℕ). n + 1) w.actions;
       }
 
-  deadlock_settles : (result_sort : ℕ → ℕ) (gates : ℕ) → NoStep b → Settles result_sort gates s (replied 1 number (deadlock steps)) b number steps
+  deadlock_settles : (result_sort : ℕ → ℕ) (gates : ℕ) →
+      NoStep b → Settles result_sort gates s (replied 1 number (deadlock steps)) b number steps
   deadlock_settles result_sort gates none = record {
     is_next = (
       subst NoStep (sym w.behaviour) none,
@@ -152,20 +164,29 @@ module _ (s : State) (b : Behaviour) (gate : Gate) (number steps : ℕ) (w : Wai
   its_name : NamesAll s (only_name number)
   its_name = record {
     ascending = λ k within. absurd (omega arith);
-    all = λ p among. subst (λ (q : PendingOffer). Contains {X = OfferName} (only_name number) (q.client, q.number)) (sym (its_offer p among)) (0, omega arith, refl);
+    all =
+        λ p among.
+        subst (λ (q : PendingOffer). Contains {X = OfferName} (only_name number) (q.client, q.number)) (sym (its_offer p among))
+        (0, omega arith, refl);
     only = λ name among. subst (IsPending s) (sym (only_one (1, number) name among)) is_pending;
   }
 
-  stall_settles : (result_sort : ℕ → ℕ) (gates : ℕ) → IsNeverAt b gate → SomeStep b → Settles result_sort gates s (stalled (only_name number)) b number steps
+  stall_settles : (result_sort : ℕ → ℕ) (gates : ℕ) →
+      IsNeverAt b gate → SomeStep b → Settles result_sort gates s (stalled (only_name number)) b number steps
   stall_settles result_sort gates never some =
-      let never_here : NeverMeets result_sort s.behaviour (plain gate) = subst (λ (x : Behaviour). NeverMeets result_sort x (plain gate)) (sym w.behaviour) (never.never_meets result_sort) in
+      let never_here : NeverMeets result_sort s.behaviour (plain gate) =
+      subst (λ (x : Behaviour). NeverMeets result_sort x (plain gate)) (sym w.behaviour) (never.never_meets result_sort) in
       let not_empty : only_name number ≡ [] → ⊥ = some_name (1, number) in
       record {
         is_next = (
           (λ p among. subst (λ (q : PendingOffer). NeverMeets result_sort s.behaviour q.offer) (sym (its_offer p among)) never_here),
           subst SomeStep (sym w.behaviour) some,
           (λ d a c derives unseen. all_seen d s.behaviour a c derives unseen),
-          (λ client among. (number, subst (λ (k : ℕ). IsPending s (k, number)) (sym (only_one 1 client (subst (λ (l : List ℕ). Contains l client) w.open_clients among))) is_pending)),
+          (λ client among. (
+            number,
+            subst (λ (k : ℕ). IsPending s (k, number))
+                (sym (only_one 1 client (subst (λ (l : List ℕ). Contains l client) w.open_clients among))) is_pending,
+          )),
           not_empty,
           its_name,
         );
@@ -179,7 +200,8 @@ module _ (s : State) (b : Behaviour) (gate : Gate) (number steps : ℕ) (w : Wai
       }
 
   -- each answer of client 1's offer is what comes next
-  answer_settles : (result_sort : ℕ → ℕ) (gates : ℕ) (event : Event) (rest : Behaviour) (later : ℕ) → IsAnswer b gate number steps event rest later → Settles result_sort gates s event rest number later
+  answer_settles : (result_sort : ℕ → ℕ) (gates : ℕ) (event : Event) (rest : Behaviour) (later : ℕ) →
+      IsAnswer b gate number steps event rest later → Settles result_sort gates s event rest number later
   answer_settles result_sort gates (acted action d by) rest later h =
       subst (λ (a : Action). Settles result_sort gates s (acted a d by) rest number later) (sym h.0)
       (subst (λ (n : Option OfferName). Settles result_sort gates s (acted (At gate []) d n) rest number later) (sym h.1)
@@ -209,7 +231,8 @@ module _ (s : State) (b : Behaviour) (gate : Gate) (number steps : ℕ) (w : Wai
   answer_settles result_sort gates (left client) rest later h = absurd h
 
 -- the wishes behind one more
-more_wishes : (done : List Gate) (gate : Gate) (wishes : List Wish) → map plain_wish (done ++ gate ∷ []) ++ wishes ≡ map plain_wish done ++ plain_wish gate ∷ wishes
+more_wishes : (done : List Gate) (gate : Gate) (wishes : List Wish) →
+    map plain_wish (done ++ gate ∷ []) ++ wishes ≡ map plain_wish done ++ plain_wish gate ∷ wishes
 more_wishes done gate wishes =
     ap (λ (l : List Wish). l ++ wishes) (map-append plain_wish done (gate ∷ []))
     ∙ append_assoc (map plain_wish done) (plain_wish gate ∷ []) wishes
@@ -221,7 +244,12 @@ open_one : (s : State) → s.open_clients ≡ 1 ∷ [] → Contains s.open_clien
 open_one s one = subst (λ (l : List ℕ). Contains l 1) (sym one) (0, omega arith, refl)
 
 -- the run goes on behind one offer more and its answer
-pub one_more : (result_sort : ℕ → ℕ) (gates : ℕ) (start : State) (done : List Gate) (log : List Event) (b : Behaviour) (number steps : ℕ) (gate : Gate) (event : Event) (rest : Behaviour) (later : ℕ) → gate.0 < gates → GoesOn result_sort gates start done log b number steps → IsAnswer b gate (number + 1) steps event rest later → GoesOn result_sort gates start (done ++ gate ∷ []) (log ++ pended 1 (number + 1) (plain gate) false ∷ event ∷ []) rest (number + 1) later
+pub one_more :
+    (result_sort : ℕ → ℕ) (gates : ℕ) (start : State) (done : List Gate) (log : List Event) (b : Behaviour) (number steps : ℕ)
+    (gate : Gate) (event : Event) (rest : Behaviour) (later : ℕ) →
+    gate.0 < gates → GoesOn result_sort gates start done log b number steps → IsAnswer b gate (number + 1) steps event rest later →
+    GoesOn result_sort gates start (done ++ gate ∷ []) (log ++ pended 1 (number + 1) (plain gate) false ∷ event ∷ []) rest (number + 1)
+    later
 one_more result_sort gates start done log b number steps gate event rest later within h answer =
     let offered : State = after_offer h.state 1 (number + 1) (plain gate) false in
     let w : Waits offered b gate (number + 1) steps =
@@ -232,7 +260,8 @@ one_more result_sort gates start done log b number steps gate event rest later w
       made = ap (λ (n : ℕ). n + 1) h.made;
       actions = h.actions;
     } in
-    let settles : Settles result_sort gates offered event rest (number + 1) later = answer_settles offered b gate (number + 1) steps w result_sort gates event rest later answer in
+    let settles : Settles result_sort gates offered event rest (number + 1) later =
+    answer_settles offered b gate (number + 1) steps w result_sort gates event rest later answer in
     let possible : IsPossible result_sort gates h.state (pended 1 (number + 1) (plain gate) false) offered =
     (open_one h.state h.open_clients, idle h.state 1 h.pending, sym (ap (λ (n : ℕ). n + 1) h.made), within, refl) in
     record {
@@ -243,11 +272,16 @@ one_more result_sort gates start done log b number steps gate event rest later w
       made = settles.made;
       actions = settles.actions;
       goes_on = λ wishes more t run.
-          let inner : IsSingleClientRun result_sort gates wishes (event ∷ more) offered t = append_next result_sort gates wishes event more offered settles.next t settles.is_next settles.possible run in
-          let outer : IsSingleClientRun result_sort gates (plain_wish gate ∷ wishes) (pended 1 (number + 1) (plain gate) false ∷ event ∷ more) h.state t =
+          let inner : IsSingleClientRun result_sort gates wishes (event ∷ more) offered t =
+          append_next result_sort gates wishes event more offered settles.next t settles.is_next settles.possible run in
+          let outer : IsSingleClientRun result_sort gates (plain_wish gate ∷ wishes)
+          (pended 1 (number + 1) (plain gate) false ∷ event ∷ more) h.state t =
           (wishes, refl, refl, none_pending_is_settled result_sort h.state h.pending, offered, possible, inner) in
-          subst (λ (ws : List Wish). IsSingleClientRun result_sort gates ws ((log ++ pended 1 (number + 1) (plain gate) false ∷ event ∷ []) ++ more) start t) (sym (more_wishes done gate wishes))
-          (subst (λ (l : List Event). IsSingleClientRun result_sort gates (map plain_wish done ++ plain_wish gate ∷ wishes) l start t) (sym (append_assoc log (pended 1 (number + 1) (plain gate) false ∷ event ∷ []) more))
+          subst (λ (ws : List Wish).
+          IsSingleClientRun result_sort gates ws ((log ++ pended 1 (number + 1) (plain gate) false ∷ event ∷ []) ++ more) start t)
+          (sym (more_wishes done gate wishes))
+          (subst (λ (l : List Event). IsSingleClientRun result_sort gates (map plain_wish done ++ plain_wish gate ∷ wishes) l start t)
+          (sym (append_assoc log (pended 1 (number + 1) (plain gate) false ∷ event ∷ []) more))
           (h.goes_on (plain_wish gate ∷ wishes) (pended 1 (number + 1) (plain gate) false ∷ event ∷ more) t outer));
     }
 
@@ -264,7 +298,11 @@ begins result_sort gates b = record {
 }
 
 -- the client leaves, and the run is whole
-pub leaves : (result_sort : ℕ → ℕ) (gates : ℕ) (start : State) (done : List Gate) (log : List Event) (b : Behaviour) (number steps : ℕ) → GoesOn result_sort gates start done log b number steps → (t : State) × (t.behaviour ≡ b) × (t.open_clients ≡ []) × IsSingleClientRun result_sort gates (map plain_wish done) (log ++ left 1 ∷ []) start t
+pub leaves :
+    (result_sort : ℕ → ℕ) (gates : ℕ) (start : State) (done : List Gate) (log : List Event) (b : Behaviour) (number steps : ℕ) →
+    GoesOn result_sort gates start done log b number steps →
+    (t : State) × (t.behaviour ≡ b) × (t.open_clients ≡ []) ×
+    IsSingleClientRun result_sort gates (map plain_wish done) (log ++ left 1 ∷ []) start t
 leaves result_sort gates start done log b number steps h =
     let gone : State = after_leave h.state 1 in
     let nobody : gone.open_clients ≡ [] = ap (filter (λ (other : ℕ). not (nat_eq other 1))) h.open_clients in
@@ -279,9 +317,11 @@ leaves result_sort gates start done log b number steps h =
       gone,
       h.behaviour,
       nobody,
-      subst (λ (ws : List Wish). IsSingleClientRun result_sort gates ws (log ++ left 1 ∷ []) start gone) (append-nil (map plain_wish done)) (h.goes_on [] (left 1 ∷ []) gone last),
+      subst (λ (ws : List Wish). IsSingleClientRun result_sort gates ws (log ++ left 1 ∷ []) start gone)
+          (append-nil (map plain_wish done)) (h.goes_on [] (left 1 ∷ []) gone last),
     )
 
 -- without a client nothing happens
-pub nobody_runs : (result_sort : ℕ → ℕ) (gates : ℕ) (b : Behaviour) → IsSingleClientRun result_sort gates [] [] (start_state b []) (start_state b [])
+pub nobody_runs : (result_sort : ℕ → ℕ) (gates : ℕ) (b : Behaviour) →
+    IsSingleClientRun result_sort gates [] [] (start_state b []) (start_state b [])
 nobody_runs result_sort gates b = (refl, refl, none_pending_is_settled result_sort (start_state b []) refl, refl)

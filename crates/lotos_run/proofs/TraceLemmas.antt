@@ -11,13 +11,17 @@ from_map f P xs all k d within =
     subst P (get_or-map f xs k d (f d) within) (all k (f d) (omega (arith, length-map xs f, within)))
 
 -- the entries are plain where their events are
-pub all_plain : (entries : List Entry) (events : List Event) → map event_of entries ≡ events → All IsPlain events → All (λ entry. IsPlain (event_of entry)) entries
+pub all_plain : (entries : List Entry) (events : List Event) →
+    map event_of entries ≡ events → All IsPlain events → All (λ entry. IsPlain (event_of entry)) entries
 all_plain entries events same plain = from_map event_of IsPlain entries (subst (All IsPlain) (sym same) plain)
 
-pub whole_trace : (gates : List (List ℕ)) (log : List Event) (ending : Ending) (begun lines whole : List ℕ) → begun ≡ codes "lotos-trace 1\n" → lines ≡ begun ++ flat_map (line (names_of gates)) log → whole ≡ lines ++ (codes "end " ++ end_word (names_of gates) ending ++ codes "\n") → whole ≡ trace_bytes (names_of gates) log ending
+pub whole_trace : (gates : List (List ℕ)) (log : List Event) (ending : Ending) (begun lines whole : List ℕ) →
+    begun ≡ codes "lotos-trace 1\n" → lines ≡ begun ++ flat_map (line (names_of gates)) log →
+    whole ≡ lines ++ (codes "end " ++ end_word (names_of gates) ending ++ codes "\n") → whole ≡ trace_bytes (names_of gates) log ending
 whole_trace gates log ending begun lines whole a b c =
     c
-    ∙ ap (λ (l : List ℕ). l ++ (codes "end " ++ end_word (names_of gates) ending ++ codes "\n")) (b ∙ ap (λ (l : List ℕ). l ++ flat_map (line (names_of gates)) log) a)
+    ∙ ap (λ (l : List ℕ). l ++ (codes "end " ++ end_word (names_of gates) ending ++ codes "\n"))
+    (b ∙ ap (λ (l : List ℕ). l ++ flat_map (line (names_of gates)) log) a)
     ∙ simp append_assoc
 
 -- a log with one plain event more

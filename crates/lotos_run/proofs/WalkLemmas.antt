@@ -26,13 +26,16 @@ first_of_prefix gate rest = record {
 }
 
 -- steps whose trees and rests are given by equations
-at_tree : (b : Behaviour) (gate : Gate) (d e : Derivation) (rest left : Behaviour) → e ≡ d → left ≡ rest → IsFirstAt b gate d rest → IsFirstAt b gate e left
+at_tree : (b : Behaviour) (gate : Gate) (d e : Derivation) (rest left : Behaviour) →
+    e ≡ d → left ≡ rest → IsFirstAt b gate d rest → IsFirstAt b gate e left
 at_tree b gate d e rest left tree is first =
     subst (λ (t : Derivation). IsFirstAt b gate t left) (sym tree) (subst (λ (c : Behaviour). IsFirstAt b gate d c) (sym is) first)
 
-pub prefix_steps : (gate wanted : Gate) (rest left : Behaviour) (d : Derivation) → gate ≡ wanted → d ≡ pre [] → left ≡ rest → IsFirstAt (act gate rest) wanted d left
+pub prefix_steps : (gate wanted : Gate) (rest left : Behaviour) (d : Derivation) →
+    gate ≡ wanted → d ≡ pre [] → left ≡ rest → IsFirstAt (act gate rest) wanted d left
 prefix_steps gate wanted rest left d same tree is =
-    subst (λ (w : Gate). IsFirstAt (act gate rest) w d left) same (at_tree (act gate rest) gate (pre []) d rest left tree is (first_of_prefix gate rest))
+    subst (λ (w : Gate). IsFirstAt (act gate rest) w d left) same
+    (at_tree (act gate rest) gate (pre []) d rest left tree is (first_of_prefix gate rest))
 
 -- what a prefix meets is at its gate
 at_gate : (result_sort : ℕ → ℕ) (gate other : Gate) (a : Action) → a ≡ At gate [] → Meets result_sort a (plain other) → gate ≡ other
@@ -40,7 +43,8 @@ at_gate result_sort gate other (At g values) e m = let same : g ≡ gate = cc in
 at_gate result_sort gate other Inner e m = absurd m
 at_gate result_sort gate other (Exit values) e m = absurd m
 
-prefix_never : (gate other : Gate) (rest : Behaviour) → (gate ≡ other → ⊥) → (result_sort : ℕ → ℕ) → NeverMeets result_sort (act gate rest) (plain other)
+prefix_never : (gate other : Gate) (rest : Behaviour) →
+    (gate ≡ other → ⊥) → (result_sort : ℕ → ℕ) → NeverMeets result_sort (act gate rest) (plain other)
 prefix_never gate other rest differ result_sort (pre slots) a c h m = differ (at_gate result_sort gate other a h.1 m)
 prefix_never gate other rest differ result_sort (chl d) a c h m = absurd h
 prefix_never gate other rest differ result_sort (chr d) a c h m = absurd h
@@ -65,12 +69,15 @@ right_goes_on d e (inl same) = inl (ap chr same)
 right_goes_on d e (inr before) = inr before
 
 -- the first tree of the left side is the first of the choice
-left_first : (result_sort : ℕ → ℕ) (x y : Behaviour) (gate : Gate) (d : Derivation) (rest : Behaviour) → IsFirstMeeting result_sort x (plain gate) d (At gate []) rest → (e : Derivation) (a : Action) (c : Behaviour) → Derives (choice x y) e a c → Meets result_sort a (plain gate) → (e ≡ chl d) ⊎ Precedes (chl d) e
+left_first : (result_sort : ℕ → ℕ) (x y : Behaviour) (gate : Gate) (d : Derivation) (rest : Behaviour) →
+    IsFirstMeeting result_sort x (plain gate) d (At gate []) rest → (e : Derivation) (a : Action) (c : Behaviour) →
+    Derives (choice x y) e a c → Meets result_sort a (plain gate) → (e ≡ chl d) ⊎ Precedes (chl d) e
 left_first result_sort x y gate d rest f (pre slots) a c h m = absurd h
 left_first result_sort x y gate d rest f (chl e) a c h m = left_goes_on d e (f.first e a c h m)
 left_first result_sort x y gate d rest f (chr e) a c h m = inr tt
 
-pub left_steps : (x y : Behaviour) (gate : Gate) (d e : Derivation) (rest left : Behaviour) → e ≡ chl d → left ≡ rest → IsFirstAt x gate d rest → IsFirstAt (choice x y) gate e left
+pub left_steps : (x y : Behaviour) (gate : Gate) (d e : Derivation) (rest left : Behaviour) →
+    e ≡ chl d → left ≡ rest → IsFirstAt x gate d rest → IsFirstAt (choice x y) gate e left
 left_steps x y gate d e rest left tree is f =
     at_tree (choice x y) gate (chl d) e rest left tree is (
     record {
@@ -83,12 +90,15 @@ left_steps x y gate d e rest left tree is f =
     )
 
 -- where the left side never meets, the first tree of the right side is the first of the choice
-right_first : (result_sort : ℕ → ℕ) (x y : Behaviour) (gate : Gate) (d : Derivation) (rest : Behaviour) → IsNeverAt x gate → IsFirstMeeting result_sort y (plain gate) d (At gate []) rest → (e : Derivation) (a : Action) (c : Behaviour) → Derives (choice x y) e a c → Meets result_sort a (plain gate) → (e ≡ chr d) ⊎ Precedes (chr d) e
+right_first : (result_sort : ℕ → ℕ) (x y : Behaviour) (gate : Gate) (d : Derivation) (rest : Behaviour) →
+    IsNeverAt x gate → IsFirstMeeting result_sort y (plain gate) d (At gate []) rest → (e : Derivation) (a : Action) (c : Behaviour) →
+    Derives (choice x y) e a c → Meets result_sort a (plain gate) → (e ≡ chr d) ⊎ Precedes (chr d) e
 right_first result_sort x y gate d rest never f (pre slots) a c h m = absurd h
 right_first result_sort x y gate d rest never f (chl e) a c h m = absurd (never.never_meets result_sort e a c h m)
 right_first result_sort x y gate d rest never f (chr e) a c h m = right_goes_on d e (f.first e a c h m)
 
-pub right_steps : (x y : Behaviour) (gate : Gate) (d e : Derivation) (rest left : Behaviour) → e ≡ chr d → left ≡ rest → IsNeverAt x gate → IsFirstAt y gate d rest → IsFirstAt (choice x y) gate e left
+pub right_steps : (x y : Behaviour) (gate : Gate) (d e : Derivation) (rest left : Behaviour) →
+    e ≡ chr d → left ≡ rest → IsNeverAt x gate → IsFirstAt y gate d rest → IsFirstAt (choice x y) gate e left
 right_steps x y gate d e rest left tree is never f =
     at_tree (choice x y) gate (chr d) e rest left tree is (
     record {
@@ -100,7 +110,8 @@ right_steps x y gate d e rest left tree is never f =
     }
     )
 
-choice_never : (x y : Behaviour) (gate : Gate) → IsNeverAt x gate → IsNeverAt y gate → (result_sort : ℕ → ℕ) → NeverMeets result_sort (choice x y) (plain gate)
+choice_never : (x y : Behaviour) (gate : Gate) →
+    IsNeverAt x gate → IsNeverAt y gate → (result_sort : ℕ → ℕ) → NeverMeets result_sort (choice x y) (plain gate)
 choice_never x y gate left right result_sort (pre slots) a c h m = absurd h
 choice_never x y gate left right result_sort (chl d) a c h m = left.never_meets result_sort d a c h m
 choice_never x y gate left right result_sort (chr d) a c h m = right.never_meets result_sort d a c h m
@@ -138,3 +149,8 @@ all_seen (pre slots) (act gate rest) a c h u = at_is_seen gate a h.1 u
 all_seen (chl d) (choice x y) a c h u = all_seen d x a c h u
 all_seen (chr d) (choice x y) a c h u = all_seen d y a c h u
 all_seen _ _ a c h u = absurd h
+
+-- what finds the first step at a gate, and what tells whether there is a step
+pub ruleset first_steps = (left_steps, right_steps, never_of_stop, never_of_choice)
+
+pub ruleset stuck_steps = (no_step_of_stop, no_step_of_choice, step_of_prefix, step_of_left, step_of_right)

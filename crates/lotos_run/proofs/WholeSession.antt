@@ -24,7 +24,8 @@ end_here s b (ends_spent term) is end = absurd end
 end_here s b (ends_too_large term) is end = absurd end
 end_here s b (ends_at_limit kind) is end = absurd end
 
-empty_log : (log : List Event) → log ≡ [] → (gates : ℕ) (start : Behaviour) (ending : Ending) → EndsIn start ending → IsSession gates start [] log ending
+empty_log : (log : List Event) →
+    log ≡ [] → (gates : ℕ) (start : Behaviour) (ending : Ending) → EndsIn start ending → IsSession gates start [] log ending
 empty_log log e gates start ending end =
     subst (λ (l : List Event). IsSession gates start [] l ending) (sym e) (
     record {
@@ -39,12 +40,15 @@ empty_log log e gates start ending end =
     )
 
 -- without a wish nothing happens
-pub nobody_there : (gates : ℕ) (start : Behaviour) (wishes : List Gate) (log : List Event) (ending : Ending) → length wishes ≡ 0 → log ≡ [] → EndsIn start ending → IsSession gates start wishes log ending
+pub nobody_there : (gates : ℕ) (start : Behaviour) (wishes : List Gate) (log : List Event) (ending : Ending) →
+    length wishes ≡ 0 → log ≡ [] → EndsIn start ending → IsSession gates start wishes log ending
 nobody_there gates start [] log ending none e end = empty_log log e gates start ending end
 nobody_there gates start (gate ∷ wishes) log ending none e end = absurd (omega arith)
 
 -- after its last offer the client leaves
-pub client_leaves : (gates : ℕ) (start : Behaviour) (wishes : List Gate) (log whole : List Event) (b : Behaviour) (ending : Ending) → (length wishes ≡ 0 → ⊥) → WasDriven gates start wishes log b → whole ≡ log ++ left 1 ∷ [] → EndsIn b ending → IsSession gates start wishes whole ending
+pub client_leaves : (gates : ℕ) (start : Behaviour) (wishes : List Gate) (log whole : List Event) (b : Behaviour) (ending : Ending) →
+    (length wishes ≡ 0 → ⊥) → WasDriven gates start wishes log b → whole ≡ log ++ left 1 ∷ [] → EndsIn b ending →
+    IsSession gates start wishes whole ending
 client_leaves gates start [] log whole b ending some driven e end = absurd (some refl)
 client_leaves gates start (gate ∷ wishes) log whole b ending some driven e end =
     let all : List Gate = gate ∷ wishes in

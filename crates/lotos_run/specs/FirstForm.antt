@@ -1,15 +1,17 @@
 -- The first form of specifications: a heading, and a behaviour of prefixes and choices.
 --
--- Grammar.antt has its grammar. Here each definition reads one part of it from its first token on, and goes on with the next part; a law says
--- that both agree. The text has at most 4,096 bytes; the gates differ, and each ID before a ";" is one of them.
-use Rattle.std.specs.Prelude.{ℕ, List, [], ◌∷◌, ◌++◌, Bool, true, ◌&&◌, not, if◌then◌else◌, codes, Option, Some, None, option_map, nat_le, nat_eq, position, length, ◌<◌}
+-- Grammar.antt has its grammar. Here each definition reads one part of it from its first token on, and goes on with the next part; a law
+-- says that both agree. The text has at most 4,096 bytes; the gates differ, and each ID before a ";" is one of them.
+use Rattle.std.specs.Prelude.{ℕ, List, [], ◌∷◌, ◌++◌, Bool, true, ◌&&◌, not, if◌then◌else◌, codes, Option, Some, None, option_map, nat_le}
+use Rattle.std.specs.Prelude.{nat_eq, position, length, ◌<◌}
 use Rattle.std.specs.List.{list_any}
 use Rattle.spec_core.specs.declared.items.Gate.{Gate}
 use Rattle.rule_model.specs.Behaviours.{Behaviour, stop, act, choice}
 use Rattle.lotos_run.specs.declared.token.Token.{Token}
 use Rattle.lotos_run.specs.declared.token.Token.TheVariants.{Identifier, Stop, Semicolon, Brackets, Fixed}
 use Rattle.lotos_run.specs.declared.token.Mark.{Mark}
-use Rattle.lotos_run.specs.declared.token.Mark.TheVariants.{Specification, Noexit, Library, Endlib, Behaviour as BehaviourWord, Endspec, One, LeftSquare, RightSquare, Colon, Comma, Other}
+use Rattle.lotos_run.specs.declared.token.Mark.TheVariants.{Specification, Noexit, Library, Endlib, Behaviour as BehaviourWord, Endspec}
+use Rattle.lotos_run.specs.declared.token.Mark.TheVariants.{One, LeftSquare, RightSquare, Colon, Comma, Other}
 use Rattle.lotos_run.specs.Letters.{same_word}
 use Rattle.lotos_run.specs.Tokens.{tokens_of}
 

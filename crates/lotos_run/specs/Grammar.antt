@@ -8,7 +8,8 @@ use Rattle.std.specs.Prelude.{ℕ, ◌≡◌, ◌≤◌, ◌⊎◌, List, [], �
 use Rattle.rule_model.specs.Behaviours.{Behaviour, stop, act, choice}
 use Rattle.lotos_run.specs.declared.token.Token.{Token}
 use Rattle.lotos_run.specs.declared.token.Token.TheVariants.{Identifier, Stop, Semicolon, Brackets, Fixed}
-use Rattle.lotos_run.specs.declared.token.Mark.TheVariants.{Specification, Noexit, Library, Endlib, Behaviour as BehaviourWord, Endspec, LeftSquare, RightSquare, Colon, Comma}
+use Rattle.lotos_run.specs.declared.token.Mark.TheVariants.{Specification, Noexit, Library, Endlib, Behaviour as BehaviourWord, Endspec}
+use Rattle.lotos_run.specs.declared.token.Mark.TheVariants.{LeftSquare, RightSquare, Colon, Comma}
 use Rattle.lotos_run.specs.Letters.{same_word}
 use Rattle.lotos_run.specs.Tokens.{tokens_of}
 use Rattle.lotos_run.specs.FirstForm.{FirstForm, gate_at, all_differ, first_form}
@@ -17,7 +18,8 @@ use Rattle.lotos_run.specs.FirstForm.{FirstForm, gate_at, all_differ, first_form
 abbrev pub SpellsUnary : List (List ℕ) → Behaviour → List Token → Type 0
 SpellsUnary gates stop ts = ts ≡ Stop ∷ []
 SpellsUnary gates (act gate rest) ts =
-    (word : List ℕ) × (more : List Token) × (ts ≡ Identifier word ∷ Semicolon ∷ more) × (gate_at gates word ≡ Some gate) × SpellsUnary gates rest more
+    (word : List ℕ) × (more : List Token) × (ts ≡ Identifier word ∷ Semicolon ∷ more) × (gate_at gates word ≡ Some gate) ×
+    SpellsUnary gates rest more
 SpellsUnary gates (choice left right) ts = ⊥
 
 -- beh: alternatives, grouped to the right
@@ -25,7 +27,8 @@ abbrev pub SpellsBehaviour : List (List ℕ) → Behaviour → List Token → Ty
 SpellsBehaviour gates stop ts = SpellsUnary gates stop ts
 SpellsBehaviour gates (act gate rest) ts = SpellsUnary gates (act gate rest) ts
 SpellsBehaviour gates (choice left right) ts =
-    (first : List Token) × (others : List Token) × (ts ≡ first ++ Brackets ∷ others) × SpellsUnary gates left first × SpellsBehaviour gates right others
+    (first : List Token) × (others : List Token) × (ts ≡ first ++ Brackets ∷ others) × SpellsUnary gates left first ×
+    SpellsBehaviour gates right others
 
 -- gates, where there are any, and the colon
 abbrev pub more_gates : List (List ℕ) → List Token
@@ -55,9 +58,14 @@ pub record Spells (ts : List Token) (form : FirstForm) : Type 0 where
   pub differ : all_differ form.gates ≡ true
   pub library_part : MayBeLibrary library
   pub behaviour : SpellsBehaviour form.gates form.behaviour body
-  pub whole : ts ≡ Fixed Specification ∷ Identifier name ∷ (gate_tokens form.gates ++ Fixed Noexit ∷ (library ++ Fixed BehaviourWord ∷ (body ++ Fixed Endspec ∷ [])))
+  pub whole :
+      ts ≡
+      Fixed Specification ∷ Identifier name ∷
+      (gate_tokens form.gates ++ Fixed Noexit ∷ (library ++ Fixed BehaviourWord ∷ (body ++ Fixed Endspec ∷ [])))
 
 -- a text is of the first form exactly where it is short enough and its tokens spell a specification, and then this is the one that is read
 abbrev pub FirstFormsAreSpelled : Type 0
 FirstFormsAreSpelled =
-    (text : List ℕ) (form : FirstForm) → (first_form text ≡ Some form → (length text ≤ 4096) × Spells (tokens_of text) form) × ((length text ≤ 4096) × Spells (tokens_of text) form → first_form text ≡ Some form)
+    (text : List ℕ) (form : FirstForm) →
+    (first_form text ≡ Some form → (length text ≤ 4096) × Spells (tokens_of text) form) ×
+    ((length text ≤ 4096) × Spells (tokens_of text) form → first_form text ≡ Some form)

@@ -2,7 +2,8 @@
 --
 -- A script has at most 65,536 bytes. A line ends with LF or CR LF, the last one also with the end of the text. A line is empty,
 -- or begins with #, or is the tokens 1, ":" and an identifier that is a gate of the specification.
-use Rattle.std.specs.Prelude.{ℕ, List, [], ◌∷◌, ◌++◌, Bool, false, ◌&&◌, ◌||◌, if◌then◌else◌, Option, Some, None, option_map, nat_eq, nat_le, length, ◌≡◌}
+use Rattle.std.specs.Prelude.{ℕ, List, [], ◌∷◌, ◌++◌, Bool, false, ◌&&◌, ◌||◌, if◌then◌else◌, Option, Some, None, option_map, nat_eq}
+use Rattle.std.specs.Prelude.{nat_le, length, ◌≡◌}
 use Rattle.spec_core.specs.declared.items.Gate.{Gate}
 use Rattle.lotos_run.specs.declared.token.Token.{Token}
 use Rattle.lotos_run.specs.declared.token.Token.TheVariants.{Identifier, Fixed}

@@ -12,7 +12,8 @@ use Rattle.lotos_run.specs.Walk.{plain_wish}
 
 -- Client 1 is open and has no offer pending; it has made so many offers, and there were so many actions. Whatever run goes on from
 -- here, with the offers that were made before it, is a run from the beginning.
-pub record GoesOn (result_sort : ℕ → ℕ) (gates : ℕ) (start : State) (done : List Gate) (log : List Event) (b : Behaviour) (number steps : ℕ) : Type 0 where
+pub record GoesOn (result_sort : ℕ → ℕ) (gates : ℕ) (start : State) (done : List Gate) (log : List Event) (b : Behaviour)
+    (number steps : ℕ) : Type 0 where
   pub state : State
   pub behaviour : state.behaviour ≡ b
   pub open_clients : state.open_clients ≡ 1 ∷ []
@@ -20,10 +21,12 @@ pub record GoesOn (result_sort : ℕ → ℕ) (gates : ℕ) (start : State) (don
   pub made : state.made 1 ≡ number
   pub actions : state.actions ≡ steps
   pub goes_on :
-      (wishes : List Wish) (more : List Event) (t : State) → IsSingleClientRun result_sort gates wishes more state t → IsSingleClientRun result_sort gates (map plain_wish done ++ wishes) (log ++ more) start t
+      (wishes : List Wish) (more : List Event) (t : State) → IsSingleClientRun result_sort gates wishes more state t →
+      IsSingleClientRun result_sort gates (map plain_wish done ++ wishes) (log ++ more) start t
 
 -- The offers of client 1 at these gates were made and answered, from the beginning of the behaviour on.
-pub record IsSessionSoFar (gates : ℕ) (start : Behaviour) (done : List Gate) (log : List Event) (b : Behaviour) (number steps : ℕ) : Type 0 where
+pub record IsSessionSoFar (gates : ℕ) (start : Behaviour) (done : List Gate) (log : List Event) (b : Behaviour)
+    (number steps : ℕ) : Type 0 where
   pub goes : (result_sort : ℕ → ℕ) → GoesOn result_sort gates (start_state start (1 ∷ [])) done log b number steps
   pub counted : number ≡ length done
   pub offers : offers_in log ≡ numbered 1 (map plain_wish done)

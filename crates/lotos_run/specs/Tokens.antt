@@ -5,7 +5,8 @@ use Rattle.std.specs.Str.{bytes_eq}
 use Rattle.std.specs.Char.{is_ascii_alphabetic, is_ascii_alphanumeric}
 use Rattle.lotos_run.specs.declared.token.Token.{Token}
 use Rattle.lotos_run.specs.declared.token.Token.TheVariants.{Identifier, Stop, Semicolon, Brackets, Fixed}
-use Rattle.lotos_run.specs.declared.token.Mark.TheVariants.{Specification, Noexit, Library, Endlib, Behaviour, Endspec, One, LeftSquare, RightSquare, Colon, Comma, Other}
+use Rattle.lotos_run.specs.declared.token.Mark.TheVariants.{Specification, Noexit, Library, Endlib, Behaviour, Endspec, One, LeftSquare}
+use Rattle.lotos_run.specs.declared.token.Mark.TheVariants.{RightSquare, Colon, Comma, Other}
 use Rattle.lotos_run.specs.declared.pieces.TheConstants.{OTHER_WORDS}
 use Rattle.lotos_run.specs.Letters.{same_word, is_blank, onto, pieces}
 

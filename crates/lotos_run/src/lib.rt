@@ -53,11 +53,17 @@ pub fn lotos_main<R: AllocGlobal, F: Shelf, I: Source, O: Sink>(
     out: &mut O,
 ) -> Status
     // A final status is due, and the text that is due with it was written.
-    ensures due { IsFinal result → (text : List ℕ) × IsDue (F.files shelf.old) (F.failed shelf.old) (F.failed shelf.new) (call_of (map string_bytes words.now)) result text × (O.written out.new ≡ with_more text (O.written out.old)) }
+    ensures due { IsFinal result →
+        (text : List ℕ) ×
+        IsDue (F.files shelf.old) (F.failed shelf.old) (F.failed shelf.new) (call_of (map string_bytes words.now)) result text ×
+        (O.written out.new ≡ with_more text (O.written out.old)) }
 
     // Where the output failed, the sink noted a fault in this call, and a prefix of the text that was due was written.
     ensures write_fault { result ≡ Status.WriteFault → Rose (O.faults out.old) (O.faults out.new) }
-    ensures prefix { result ≡ Status.WriteFault → (status : Status) × (text : List ℕ) × IsDue (F.files shelf.old) (F.failed shelf.old) (F.failed shelf.new) (call_of (map string_bytes words.now)) status text × AppendsPrefix text (O.written out.old) (O.written out.new) }
+    ensures prefix { result ≡ Status.WriteFault →
+        (status : Status) × (text : List ℕ) ×
+        IsDue (F.files shelf.old) (F.failed shelf.old) (F.failed shelf.new) (call_of (map string_bytes words.now)) status text ×
+        AppendsPrefix text (O.written out.old) (O.written out.new) }
 {
     let _ = input;
     match due_answer(rt.alloc(), words, shelf) {

@@ -175,7 +175,9 @@ fn take_byte(
     byte: u8,
     behind: &[u8],
 ) -> Result<Vec<u8>, Memory>
-    ensures taken { IfOk result (λ hand. tokens.old.items ++ tokens_with piece.items (byte ∷ behind.now) ≡ tokens.new.items ++ tokens_with hand.items behind.now) }
+    ensures taken { IfOk result
+        (λ hand.
+        tokens.old.items ++ tokens_with piece.items (byte ∷ behind.now) ≡ tokens.new.items ++ tokens_with hand.items behind.now) }
     ensures empty_at_the_end { IfOk result (λ hand. length behind.now ≡ 0 → hand.items ≡ []) }
 {
     piece.push(byte)?;

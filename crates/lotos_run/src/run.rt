@@ -1,6 +1,7 @@
 // The command run.
 
-ghost use Rattle.std.specs.Prelude.{◌≡◌, ◌++◌, ℕ, List, None, Some, IfOk, OnOk, IsErrOf, OnErr, take, map, string_bytes, length, All, ◌<◌, ◌^◌};
+ghost use Rattle.std.specs.Prelude.{◌≡◌, ◌++◌, ℕ, List, None, Some, IfOk, OnOk, IsErrOf, OnErr, take, map, string_bytes, length, All, ◌<◌};
+ghost use Rattle.std.specs.Prelude.{◌^◌};
 ghost use Rattle.lotos_outside.specs.Shelf.{OnFetched, Notes};
 ghost use Rattle.lotos_run.specs.FirstForm.{first_form, IsGateOf};
 ghost use Rattle.lotos_run.specs.Forms.{form_of};
@@ -67,7 +68,10 @@ fn run_script<F: Shelf>(
     form: Specification,
     name: &str,
 ) -> Result<Answer, Memory>
-    ensures { IfOk result (λ a. IsDueForScript (F.files shelf.old) (F.failed shelf.old) (F.failed shelf.new) (form_of form) name.now a.status a.text.items) }
+    ensures { IfOk result
+        (λ a.
+        IsDueForScript (F.files shelf.old) (F.failed shelf.old) (F.failed shelf.new) (form_of form) name.now a.status
+        a.text.items) }
 {
     match fetch(alloc, shelf, name, 65537) {
         Err(ShelfFault::Failed) => with_text(alloc, Status::ReadFault, b"read fault\n"),
@@ -93,7 +97,9 @@ fn run<F: Shelf>(
     specification: &str,
     script: &str,
 ) -> Result<Answer, Memory>
-    ensures { IfOk result (λ a. IsDue (F.files shelf.old) (F.failed shelf.old) (F.failed shelf.new) (Some (record { specification = specification.now; script = script.now })) a.status a.text.items) }
+    ensures { IfOk result (λ a.
+        IsDue (F.files shelf.old) (F.failed shelf.old) (F.failed shelf.new)
+        (Some (record { specification = specification.now; script = script.now })) a.status a.text.items) }
 {
     match fetch(alloc, shelf, specification, 4097) {
         Err(ShelfFault::Failed) => with_text(alloc, Status::ReadFault, b"read fault\n"),
@@ -112,7 +118,9 @@ pub fn due_answer<F: Shelf>(
     words: &[String],
     shelf: &mut F,
 ) -> Result<Answer, Memory>
-    ensures { IfOk result (λ a. IsDue (F.files shelf.old) (F.failed shelf.old) (F.failed shelf.new) (call_of (map string_bytes words.now)) a.status a.text.items) }
+    ensures { IfOk result (λ a.
+        IsDue (F.files shelf.old) (F.failed shelf.old) (F.failed shelf.new) (call_of (map string_bytes words.now)) a.status
+        a.text.items) }
 {
     match call(words) {
         None => with_text(alloc, Status::Usage, b"usage\n"),

@@ -6,7 +6,8 @@ ghost use Rattle.lotos_run.specs.declared.token.Token.{Token};
 ghost use Rattle.lotos_run.specs.declared.token.Mark.{Mark};
 ghost use Rattle.lotos_run.specs.declared.token.Token.TheVariants.{Identifier, Fixed};
 ghost use Rattle.lotos_run.specs.FirstForm.{IsGateOf};
-ghost use Rattle.lotos_run.specs.Script.{begins_with, is_skipped, lines_with, wish_of, wishes_of, behind, first_script, IsNoWish, TakesLine, IsUnfitLine};
+ghost use Rattle.lotos_run.specs.Script.{begins_with, is_skipped, lines_with, wish_of, wishes_of, behind, first_script, IsNoWish};
+ghost use Rattle.lotos_run.specs.Script.{TakesLine, IsUnfitLine};
 ghost use Rattle.lotos_run.specs.Tokens.{tokens_of};
 
 use crate::pieces::tokens;
@@ -121,7 +122,9 @@ fn take_byte(
     byte: u8,
     rest: &[u8],
 ) -> Result<Vec<u8>, ReadFault>
-    ensures ok { IfOk result (λ hand. behind wishes.old.items (wishes_of gates.now (lines_with line.items (byte ∷ rest.now))) ≡ behind wishes.new.items (wishes_of gates.now (lines_with hand.items rest.now))) }
+    ensures ok { IfOk result (λ hand.
+        behind wishes.old.items (wishes_of gates.now (lines_with line.items (byte ∷ rest.now))) ≡
+        behind wishes.new.items (wishes_of gates.now (lines_with hand.items rest.now))) }
     ensures known { All (IsGateOf gates.now) wishes.old.items → OnOk result (All (IsGateOf gates.now) wishes.new.items) }
     ensures unfit { IsErrOf result ReadFault.Unfit → wishes_of gates.now (lines_with line.items (byte ∷ rest.now)) ≡ None }
 {

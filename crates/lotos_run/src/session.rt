@@ -87,7 +87,8 @@ fn settle(
     actions: u64,
 ) -> Result<Settled, Memory>
     requires { actions + 1 < 2 ^ 64 }
-    ensures answer { IfOk result (λ s. IsAnswer (behaviour_of from) gate number actions (event_of s.entry) (behaviour_of s.rest) s.actions) }
+    ensures answer { IfOk result (λ s.
+        IsAnswer (behaviour_of from) gate number actions (event_of s.entry) (behaviour_of s.rest) s.actions) }
     ensures counted { IfOk result (λ s. s.actions ≤ actions + 1) }
     ensures plain { IfOk result (λ s. IsPlain (event_of s.entry)) }
 {
@@ -113,7 +114,8 @@ fn answer(
     actions: u64,
 ) -> Result<(Beh, u64), Memory>
     requires { actions + 1 < 2 ^ 64 }
-    ensures answer { IfOk result (λ r. AppendsAnswer (events_of log.old) (events_of log.new) (behaviour_of from) gate number actions (behaviour_of r.0) r.1) }
+    ensures answer { IfOk result
+        (λ r. AppendsAnswer (events_of log.old) (events_of log.new) (behaviour_of from) gate number actions (behaviour_of r.0) r.1) }
     ensures counted { IfOk result (λ r. r.1 ≤ actions + 1) }
     ensures plain { All IsPlain (events_of log.old) → OnOk result (All IsPlain (events_of log.new)) }
 {

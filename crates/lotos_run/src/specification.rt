@@ -8,7 +8,8 @@ ghost use Rattle.lotos_run.specs.declared.token.Token.TheVariants.{Identifier, S
 ghost use Rattle.lotos_run.specs.Steps.{Takes, IsNoStep};
 ghost use Rattle.lotos_run.specs.declared.token.Token.{Token};
 ghost use Rattle.lotos_run.specs.declared.specification.ReadFault.TheVariants.{Memory};
-ghost use Rattle.lotos_run.specs.FirstForm.{FirstForm, IsGateOf, gate_at, all_differ, same_mark, after, named, chain, read_alternatives, read_types, read_library, read_kind, read_names, read_gates, read_text, first_form};
+ghost use Rattle.lotos_run.specs.FirstForm.{FirstForm, IsGateOf, gate_at, all_differ, same_mark, after, named, chain, read_alternatives};
+ghost use Rattle.lotos_run.specs.FirstForm.{read_types, read_library, read_kind, read_names, read_gates, read_text, first_form};
 ghost use Rattle.lotos_run.specs.Forms.{form_of};
 
 use crate::pieces::{is_same_word, tokens};
@@ -306,7 +307,8 @@ fn alternatives(
     mut prefixes: Vec<Gate>,
     tokens: &mut Tokens,
 ) -> Result<Beh, ReadFault>
-    ensures ok { IfOk result (λ b. read_alternatives gates.now prefixes.items tokens.old ≡ Some (record { gates = gates.now; behaviour = behaviour_of b })) }
+    ensures ok { IfOk result
+        (λ b. read_alternatives gates.now prefixes.items tokens.old ≡ Some (record { gates = gates.now; behaviour = behaviour_of b })) }
     ensures unfit { IsErrOf result ReadFault.Unfit → read_alternatives gates.now prefixes.items tokens.old ≡ None }
 {
     match next_step(tokens)? {

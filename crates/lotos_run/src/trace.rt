@@ -5,7 +5,8 @@ ghost use Rattle.rule_model.specs.Derivations.{derivation_of};
 ghost use Rattle.rule_model.specs.Answers.{answer_of};
 ghost use Rattle.rule_model.specs.Events.{event_of, ending_of};
 ghost use Rattle.rule_model.specs.Logs.{events_of};
-ghost use Rattle.lotos_run.specs.Trace.{IsPlain, IsPlainEnd, IsPlainAction, IsPlainAnswer, IsPlainTree, names_of, name_text, by_text, offer_word, tree_text, action_text, answer_word, event_line, line, end_word, trace_bytes};
+ghost use Rattle.lotos_run.specs.Trace.{IsPlain, IsPlainEnd, IsPlainAction, IsPlainAnswer, IsPlainTree, names_of, name_text, by_text};
+ghost use Rattle.lotos_run.specs.Trace.{offer_word, tree_text, action_text, answer_word, event_line, line, end_word, trace_bytes};
 
 use crate::token::Word;
 use rule_model::action::Action;
@@ -71,7 +72,8 @@ fn put_gate(out: &mut Vec<u8>, gates: &[Word], gate: Gate) -> Result<(), Memory>
 #[cycle(put_tree)]
 fn put_part(out: &mut Vec<u8>, word: &[u8], part: &Rules) -> Result<(), Memory>
     requires { IsPlainTree (derivation_of part.now) }
-    ensures { OnOk result ((gates : List (List ℕ)) → out.new.items ≡ out.old.items ++ (word.now ++ codes "(" ++ tree_text (names_of gates) (derivation_of part.now) ++ codes ")")) }
+    ensures { OnOk result ((gates : List (List ℕ)) →
+        out.new.items ≡ out.old.items ++ (word.now ++ codes "(" ++ tree_text (names_of gates) (derivation_of part.now) ++ codes ")")) }
 {
     put(out, word)?;
     put(out, b"(")?;
@@ -82,7 +84,8 @@ fn put_part(out: &mut Vec<u8>, word: &[u8], part: &Rules) -> Result<(), Memory>
 #[cycle(put_tree)]
 fn put_tree(out: &mut Vec<u8>, rules: &Rules) -> Result<(), Memory>
     requires { IsPlainTree (derivation_of rules.now) }
-    ensures { OnOk result ((gates : List (List ℕ)) → out.new.items ≡ out.old.items ++ tree_text (names_of gates) (derivation_of rules.now)) }
+    ensures { OnOk result ((gates : List (List ℕ)) →
+        out.new.items ≡ out.old.items ++ tree_text (names_of gates) (derivation_of rules.now)) }
 {
     match rules {
         Rules::Pre(_) => put(out, b"pre"),
@@ -209,7 +212,8 @@ fn put_lines(out: &mut Vec<u8>, gates: &[Word], entries: &[Entry]) -> Result<(),
 
 fn put_end(out: &mut Vec<u8>, end: &End) -> Result<(), Memory>
     requires { IsPlainEnd (ending_of end.now) }
-    ensures { OnOk result ((gates : List (List ℕ)) → out.new.items ≡ out.old.items ++ (codes "end " ++ end_word (names_of gates) (ending_of end.now) ++ codes "\n")) }
+    ensures { OnOk result ((gates : List (List ℕ)) →
+        out.new.items ≡ out.old.items ++ (codes "end " ++ end_word (names_of gates) (ending_of end.now) ++ codes "\n")) }
 {
     put(out, b"end ")?;
     put_end_word(out, end)?;

@@ -23,7 +23,8 @@ pub struct Step {
 // The step of a prefix.
 #[tactic(auto, using(crate::proofs::WalkLemmas::prefix_steps, crate::proofs::WalkLemmas::never_of_prefix))]
 fn prefix_step(alloc: Global, gate: Gate, rest: &Beh, wanted: Gate) -> Result<Option<Step>, Memory>
-    ensures some { IfOk result (λ o. IfSome o (λ s. IsFirstAt (act gate (behaviour_of rest.now)) wanted (derivation_of s.rules) (behaviour_of s.rest))) }
+    ensures some { IfOk result
+        (λ o. IfSome o (λ s. IsFirstAt (act gate (behaviour_of rest.now)) wanted (derivation_of s.rules) (behaviour_of s.rest))) }
     ensures none { IfOk result (λ o. IfNone o (IsNeverAt (act gate (behaviour_of rest.now)) wanted)) }
     ensures plain { IfOk result (λ o. IfSome o (λ s. IsPlainTree (derivation_of s.rules))) }
 {
@@ -61,7 +62,7 @@ fn right_step(alloc: Global, part: Step) -> Result<Step, Memory>
 }
 
 /// The first step at the gate.
-#[tactic(auto, using(crate::proofs::WalkLemmas::left_steps, crate::proofs::WalkLemmas::right_steps, crate::proofs::WalkLemmas::never_of_stop, crate::proofs::WalkLemmas::never_of_choice))]
+#[tactic(auto, using(crate::proofs::WalkLemmas::first_steps))]
 pub fn first_step(alloc: Global, from: &Beh, gate: Gate) -> Result<Option<Step>, Memory>
     ensures some { IfOk result (λ o. IfSome o (λ s. IsFirstAt (behaviour_of from.now) gate (derivation_of s.rules) (behaviour_of s.rest))) }
     ensures none { IfOk result (λ o. IfNone o (IsNeverAt (behaviour_of from.now) gate)) }
@@ -81,7 +82,7 @@ pub fn first_step(alloc: Global, from: &Beh, gate: Gate) -> Result<Option<Step>,
 }
 
 /// Whether the behaviour has no step.
-#[tactic(auto, using(crate::proofs::WalkLemmas::no_step_of_stop, crate::proofs::WalkLemmas::no_step_of_choice, crate::proofs::WalkLemmas::step_of_prefix, crate::proofs::WalkLemmas::step_of_left, crate::proofs::WalkLemmas::step_of_right))]
+#[tactic(auto, using(crate::proofs::WalkLemmas::stuck_steps))]
 pub fn is_stuck(from: &Beh) -> bool
     ensures { MatchBool result (NoStep (behaviour_of from.now)) (SomeStep (behaviour_of from.now)) }
 {

@@ -15,7 +15,8 @@ fn is_name(word: &str) -> bool
 
 /// The names of the specification and of the script, where the words are a call.
 pub fn call(words: &[String]) -> Option<(&str, &str)>
-    ensures { MatchOption result (call_of (map string_bytes words.now) ≡ None) (λ r. call_of (map string_bytes words.now) ≡ Some (record { specification = r.0.now; script = r.1.now })) }
+    ensures { MatchOption result (call_of (map string_bytes words.now) ≡ None)
+        (λ r. call_of (map string_bytes words.now) ≡ Some (record { specification = r.0.now; script = r.1.now })) }
 {
     match words {
         [command, specification, script] => {

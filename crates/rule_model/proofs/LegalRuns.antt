@@ -8,7 +8,8 @@ use Rattle.rule_model.specs.Settling.{IsNextEntry}
 use Rattle.rule_model.specs.Laws.{RunsAreLegal, LegalLogsAreDerivations}
 
 -- a reply that comes next is justified
-reply_justified : (result_sort : ℕ → ℕ) (gates : ℕ) (s : State) (client number : ℕ) (answer : Answer) → IsNextEntry result_sort s (replied client number answer) → Justifies result_sort gates s (replied client number answer)
+reply_justified : (result_sort : ℕ → ℕ) (gates : ℕ) (s : State) (client number : ℕ) (answer : Answer) →
+    IsNextEntry result_sort s (replied client number answer) → Justifies result_sort gates s (replied client number answer)
 reply_justified result_sort gates s client number (deadlock at) next = next.0
 reply_justified result_sort gates s client number (taken at values) next = absurd next
 reply_justified result_sort gates s client number (stalls at) next = absurd next
@@ -23,11 +24,16 @@ pub runs_are_legal : RunsAreLegal
 runs_are_legal result_sort gates [] wishes s t run = run.3
 runs_are_legal result_sort gates (pended client number offer ask ∷ log) wishes s t run =
     (run.4, run.5, tt, runs_are_legal result_sort gates log run.0 run.4 t run.6)
-runs_are_legal result_sort gates (left client ∷ log) wishes s t run = (run.3, run.4, tt, runs_are_legal result_sort gates log [] run.3 t run.5)
+runs_are_legal result_sort gates (left client ∷ log) wishes s t run =
+    (run.3, run.4, tt, runs_are_legal result_sort gates log [] run.3 t run.5)
 runs_are_legal result_sort gates (acted action d by ∷ log) wishes s t run =
     (run.1, run.2, tt, runs_are_legal result_sort gates log wishes run.1 t run.3)
-runs_are_legal result_sort gates (replied client number answer ∷ log) wishes s t run =
-    (run.1, run.2, reply_justified result_sort gates s client number answer run.0, runs_are_legal result_sort gates log wishes run.1 t run.3)
+runs_are_legal result_sort gates (replied client number answer ∷ log) wishes s t run = (
+  run.1,
+  run.2,
+  reply_justified result_sort gates s client number answer run.0,
+  runs_are_legal result_sort gates log wishes run.1 t run.3,
+)
 runs_are_legal result_sort gates (stalled names ∷ log) wishes s t run =
     (run.1, run.2, (run.0.3, run.0.2, run.0.0), runs_are_legal result_sort gates log wishes run.1 t run.3)
 

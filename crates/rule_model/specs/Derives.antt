@@ -1,4 +1,5 @@
--- The inference rules (ISO 8807, dynamic semantics of behaviour expressions): what a behaviour does by a tree of rules, and what it becomes.
+-- The inference rules (ISO 8807, dynamic semantics of behaviour expressions): what a behaviour does by a tree of rules, and what it
+-- becomes.
 use Rattle.std.specs.Prelude.{[], ◌≡◌}
 use Rattle.spec_core.specs.declared.items.Gate.{Gate}
 use Rattle.rule_model.specs.declared.action.Action.{Action}

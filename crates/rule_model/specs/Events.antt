@@ -15,7 +15,8 @@ use Rattle.rule_model.specs.Answers.{Answer, answer_of}
 abbrev pub OfferName : Type 0
 OfferName = ℕ × ℕ
 
--- an offer or an ask of a client; an action by a tree, with the offer that it takes; a reply; the stall of all pending offers; a client that leaves
+-- an offer or an ask of a client; an action by a tree, with the offer that it takes; a reply; the stall of all pending offers; a
+-- client that leaves
 pub data Event : Type 0 where
   pended : ℕ → ℕ → Offer → Bool → Event
   acted : Action → Derivation → Option OfferName → Event

@@ -60,7 +60,8 @@ module _ (result_sort : ℕ → ℕ) (gates : ℕ) where
   -- the entry is possible in the state s, which becomes t; the specification has so many gates
   abbrev pub IsPossible : State → Event → State → Type 0
   IsPossible s (pended client number offer ask) t =
-      Contains s.open_clients client × IsIdle s client × (number ≡ s.made client + 1) × (offer.gate.0 < gates) × (t ≡ after_offer s client number offer ask)
+      Contains s.open_clients client × IsIdle s client × (number ≡ s.made client + 1) × (offer.gate.0 < gates) ×
+      (t ≡ after_offer s client number offer ask)
   IsPossible s (acted action d by) t =
       (rest : Behaviour) × Derives s.behaviour d action rest × IsAgreed s action by × (t ≡ after_action s action by rest)
   IsPossible s (replied client number answer) t =

@@ -7,7 +7,8 @@ use Rattle.rule_model.specs.Derivations.{Derivation, chl, chr}
 use Rattle.rule_model.specs.Derives.{Derives, NoStep, SomeStep}
 use Rattle.rule_model.specs.Meets.{Meets, NoUnseenStep}
 use Rattle.rule_model.specs.Answers.{deadlock}
-use Rattle.rule_model.specs.Events.{OfferName, Event, pended, acted, replied, stalled, left, Ending, exits, deadlocked, waiting, ends_beyond, ends_spent, ends_too_large, ends_at_limit}
+use Rattle.rule_model.specs.Events.{OfferName, Event, pended, acted, replied, stalled, left, Ending, exits, deadlocked, waiting}
+use Rattle.rule_model.specs.Events.{ends_beyond, ends_spent, ends_too_large, ends_at_limit}
 use Rattle.rule_model.specs.States.{PendingOffer, State}
 use Rattle.rule_model.specs.Legal.{IsPending, IsPossible, NamesAll, NoneMet, AllWait}
 
@@ -69,7 +70,8 @@ module _ (result_sort : ℕ → ℕ) where
       (others : List Wish) × (wishes ≡ record { offer = offer; ask = ask } ∷ others) × (client ≡ 1) × IsSettled s
       × (next : State) × IsPossible result_sort gates s (pended client number offer ask) next × IsSingleClientRun gates others log next t
   IsSingleClientRun gates wishes (left client ∷ log) s t =
-      (wishes ≡ []) × (client ≡ 1) × IsSettled s × (next : State) × IsPossible result_sort gates s (left client) next × IsSingleClientRun gates [] log next t
+      (wishes ≡ []) × (client ≡ 1) × IsSettled s × (next : State) × IsPossible result_sort gates s (left client) next ×
+      IsSingleClientRun gates [] log next t
   IsSingleClientRun gates wishes (event ∷ log) s t =
       IsNextEntry s event × (next : State) × IsPossible result_sort gates s event next × IsSingleClientRun gates wishes log next t
 

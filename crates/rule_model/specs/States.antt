@@ -12,7 +12,8 @@ pub record PendingOffer : Type 0 where
   pub offer : Offer
   pub ask : Bool
 
--- the behaviour; the open clients, ascending; the pending offers in log order; how many offers each client has made; how many actions there were; the last one
+-- the behaviour; the open clients, ascending; the pending offers in log order; how many offers each client has made; how many
+-- actions there were; the last one
 pub record State : Type 0 where
   pub behaviour : Behaviour
   pub open_clients : List ℕ

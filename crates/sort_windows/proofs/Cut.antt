@@ -1,5 +1,6 @@
 -- The first values of a closed window with room for one more.
-use Rattle.std.proofs.Common.{ℕ, zero, suc, ◌≡◌, ◌<◌, ◌≤◌, ◌+◌, ◌⊎◌, inl, inr, List, [], ◌∷◌, length, take, get_or, refl, sym, subst, arith, IsTrue}
+use Rattle.std.proofs.Common.{ℕ, zero, suc, ◌≡◌, ◌<◌, ◌≤◌, ◌+◌, ◌⊎◌, inl, inr, List, [], ◌∷◌, length, take, get_or, refl, sym, subst, arith}
+use Rattle.std.proofs.Common.{IsTrue}
 use Rattle.std.proofs.Math.Dec.{leb}
 use Rattle.std.proofs.lemmas.Bool.{leb-true, le-leb, cases_order}
 use Rattle.std.proofs.lemmas.List.{length-take, take_all}
@@ -23,7 +24,8 @@ one_of (x ∷ xs) v zero w e = inl (sym e)
 one_of (x ∷ xs) v (suc i) w e = inr (one_of xs v i (omega arith) e)
 
 -- a value of a window is one of the first k, or comes after these
-front_or_later : (k : ℕ) (xs : List (List ℕ)) (v : List ℕ) → IsInOrder xs → IsOneOf v xs → IsOneOf v (take k xs) ⊎ Each (λ w. IsBefore w v) (take k xs)
+front_or_later : (k : ℕ) (xs : List (List ℕ)) (v : List ℕ) →
+    IsInOrder xs → IsOneOf v xs → IsOneOf v (take k xs) ⊎ Each (λ w. IsBefore w v) (take k xs)
 front_or_later zero [] v h m = absurd m
 front_or_later (suc k) [] v h m = absurd m
 front_or_later zero (x ∷ xs) v h m = inr tt
@@ -39,28 +41,38 @@ one_later : (k : ℕ) (xs : List (List ℕ)) → IsInOrder xs → k < length xs 
 one_later zero [] h l = absurd (omega arith)
 one_later (suc k) [] h l = absurd (omega arith)
 one_later zero (x ∷ xs) h l = (x, inl refl, tt)
-one_later (suc k) (x ∷ xs) h l = let r = one_later k xs h.1 (omega arith) in (r.0, inr r.1, (each_one (λ w. IsBefore x w) xs r.0 h.0 r.1, r.2))
+one_later (suc k) (x ∷ xs) h l =
+    let r = one_later k xs h.1 (omega arith) in (r.0, inr r.1, (each_one (λ w. IsBefore x w) xs r.0 h.0 r.1, r.2))
 
-module _ (theory : Theory) (k sort : ℕ) (windows : ℕ → List (List ℕ)) (closed : IsClosed theory (k + 1) windows) (sound : AreWindows theory (k + 1) windows) where
+module _ (theory : Theory) (k sort : ℕ) (windows : ℕ → List (List ℕ)) (closed : IsClosed theory (k + 1) windows)
+    (sound : AreWindows theory (k + 1) windows) where
   counted : length (take k (windows sort)) ≤ k
   counted = let e = length-take k (windows sort) in omega (arith, e)
 
   filled : length (windows sort) ≡ k + 1 → length (take k (windows sort)) ≡ k
   filled h = let e = length-take k (windows sort) in omega (arith, e)
 
-  first_values : (v : List ℕ) → IsMember theory sort v → Contains (take k (windows sort)) v ⊎ (length (take k (windows sort)) ≡ k) × Each (λ w. IsBefore w v) (take k (windows sort))
+  first_values : (v : List ℕ) →
+      IsMember theory sort v →
+      Contains (take k (windows sort)) v ⊎ (length (take k (windows sort)) ≡ k) × Each (λ w. IsBefore w v) (take k (windows sort))
   first_values v m = go (value_found theory (k + 1) windows closed sound sort v m)
     where
-      later : Each (λ w. IsBefore w v) (take k (windows sort)) → IsOneOf v (windows sort) → (length (windows sort) ≡ k + 1) ⊎ ((length (windows sort) < k + 1) ⊎ (k + 1 < length (windows sort))) → Contains (take k (windows sort)) v ⊎ (length (take k (windows sort)) ≡ k) × Each (λ w. IsBefore w v) (take k (windows sort))
+      later : Each (λ w. IsBefore w v) (take k (windows sort)) →
+          IsOneOf v (windows sort) →
+          (length (windows sort) ≡ k + 1) ⊎ ((length (windows sort) < k + 1) ⊎ (k + 1 < length (windows sort))) →
+          Contains (take k (windows sort)) v ⊎ (length (take k (windows sort)) ≡ k) × Each (λ w. IsBefore w v) (take k (windows sort))
       later b o (inl e) = inr (filled e, b)
       later b o (inr (inl l)) = inl (contained _ v (subst (IsOneOf v) (sym (take_all k (windows sort) (omega arith))) o))
       later b o (inr (inr l)) = absurd (let most = sound.at_most sort in omega (arith, most))
 
-      split : IsOneOf v (windows sort) → IsOneOf v (take k (windows sort)) ⊎ Each (λ w. IsBefore w v) (take k (windows sort)) → Contains (take k (windows sort)) v ⊎ (length (take k (windows sort)) ≡ k) × Each (λ w. IsBefore w v) (take k (windows sort))
+      split : IsOneOf v (windows sort) →
+          IsOneOf v (take k (windows sort)) ⊎ Each (λ w. IsBefore w v) (take k (windows sort)) →
+          Contains (take k (windows sort)) v ⊎ (length (take k (windows sort)) ≡ k) × Each (λ w. IsBefore w v) (take k (windows sort))
       split o (inl f) = inl (contained _ v f)
       split o (inr b) = later b o (cases_order (length (windows sort)) (k + 1))
 
-      go : IsFound (k + 1) (windows sort) v → Contains (take k (windows sort)) v ⊎ (length (take k (windows sort)) ≡ k) × Each (λ w. IsBefore w v) (take k (windows sort))
+      go : IsFound (k + 1) (windows sort) v →
+          Contains (take k (windows sort)) v ⊎ (length (take k (windows sort)) ≡ k) × Each (λ w. IsBefore w v) (take k (windows sort))
       go (inl o) = split o (front_or_later k (windows sort) v (sound.in_order sort) o)
       go (inr b) = inr (filled b.0, each_take (λ w. IsBefore w v) k (windows sort) b.1)
 
@@ -77,7 +89,8 @@ module _ (theory : Theory) (k sort : ℕ) (windows : ℕ → List (List ℕ)) (c
       let c = all r.0 (each_one (IsMember theory sort) (windows sort) r.0 (sound.members sort) r.1) in
       not_before r.0 (each_one (λ w. IsBefore w r.0) (take k (windows sort)) r.0 r.2 (one_of (take k (windows sort)) r.0 c.0 c.1 c.2))
 
-  told : ((v : List ℕ) → IsMember theory sort v → Contains (take k (windows sort)) v) → (length (windows sort) ≡ k) ⊎ ((length (windows sort) < k) ⊎ (k < length (windows sort))) → IsTrue (leb (length (windows sort)) k)
+  told : ((v : List ℕ) → IsMember theory sort v → Contains (take k (windows sort)) v) →
+      (length (windows sort) ≡ k) ⊎ ((length (windows sort) < k) ⊎ (k < length (windows sort))) → IsTrue (leb (length (windows sort)) k)
   told all (inl e) = le-leb _ _ (omega arith)
   told all (inr (inl l)) = le-leb _ _ (omega arith)
   told all (inr (inr l)) = absurd (incomplete_lacks_one all l)
@@ -91,5 +104,8 @@ module _ (theory : Theory) (k sort : ℕ) (windows : ℕ → List (List ℕ)) (c
     all = (λ h. complete_holds_all (leb-true _ _ h), λ all. told all (cases_order (length (windows sort)) k));
   }
 
-  pub window_of_closed : (values : List (List ℕ)) (n : ℕ) → values ≡ take k (windows sort) → n ≡ length (windows sort) → IsWindow theory sort k values (leb n k)
-  window_of_closed values n e f = subst (λ vs. IsWindow theory sort k vs (leb n k)) (sym e) (subst (λ m. IsWindow theory sort k (take k (windows sort)) (leb m k)) (sym f) the_window)
+  pub window_of_closed : (values : List (List ℕ)) (n : ℕ) →
+      values ≡ take k (windows sort) → n ≡ length (windows sort) → IsWindow theory sort k values (leb n k)
+  window_of_closed values n e f =
+      subst (λ vs. IsWindow theory sort k vs (leb n k)) (sym e)
+      (subst (λ m. IsWindow theory sort k (take k (windows sort)) (leb m k)) (sym f) the_window)

@@ -28,14 +28,16 @@ each_insert P [] (suc i) v h k = (k, tt)
 each_insert P (x ∷ xs) zero v h k = (k, h)
 each_insert P (x ∷ xs) (suc i) v h k = (h.0, each_insert P xs i v h.1 k)
 
-in_order_insert : (xs : List (List ℕ)) (i : ℕ) (v : List ℕ) → IsInOrder xs → Each (λ w. IsBefore w v) (take i xs) → Each (λ w. IsBefore v w) (drop i xs) → IsInOrder (insert xs i v)
+in_order_insert : (xs : List (List ℕ)) (i : ℕ) (v : List ℕ) →
+    IsInOrder xs → Each (λ w. IsBefore w v) (take i xs) → Each (λ w. IsBefore v w) (drop i xs) → IsInOrder (insert xs i v)
 in_order_insert [] zero v h b a = (tt, tt)
 in_order_insert [] (suc i) v h b a = (tt, tt)
 in_order_insert (x ∷ xs) zero v h b a = (a, h)
 in_order_insert (x ∷ xs) (suc i) v h b a = (each_insert (λ w. IsBefore x w) xs i v h.0 b.0, in_order_insert xs i v h.1 b.1 a)
 
 -- the place before all of a window in order, where the first of it does not come before the value
-pub place_at_front : (v x : List ℕ) (xs : List (List ℕ)) → IsInOrder (x ∷ xs) → (IsBefore x v → ⊥) → (IsOneOf v (x ∷ xs) → ⊥) → IsPlaceOf v (x ∷ xs) 0
+pub place_at_front : (v x : List ℕ) (xs : List (List ℕ)) →
+    IsInOrder (x ∷ xs) → (IsBefore x v → ⊥) → (IsOneOf v (x ∷ xs) → ⊥) → IsPlaceOf v (x ∷ xs) 0
 place_at_front v x xs order not_before new = record {
   within = omega arith;
   before = tt;
@@ -58,7 +60,9 @@ pub place_of_none : (v : List ℕ) → IsPlaceOf v [] 0
 place_of_none v = record { within = omega arith; before = tt; after = tt }
 
 -- what holds of the windows' values before holds after one has gained a value, if it holds of the window that gained it
-each_window : (P : ℕ → List (List ℕ) → Type 0) (limit sort : ℕ) (v : List ℕ) (windows now : ℕ → List (List ℕ)) → HaveGained limit sort v windows now → ((s : ℕ) → P s (windows s)) → ((place : ℕ) → IsPlaceOf v (windows sort) place → P sort (take limit (insert (windows sort) place v))) → (s : ℕ) → P s (now s)
+each_window : (P : ℕ → List (List ℕ) → Type 0) (limit sort : ℕ) (v : List ℕ) (windows now : ℕ → List (List ℕ)) →
+    HaveGained limit sort v windows now → ((s : ℕ) → P s (windows s)) →
+    ((place : ℕ) → IsPlaceOf v (windows sort) place → P sort (take limit (insert (windows sort) place v))) → (s : ℕ) → P s (now s)
 each_window P limit sort v windows now g before gained s = go (cases_order s sort)
   where
     here : P sort (now sort)
@@ -72,13 +76,24 @@ each_window P limit sort v windows now g before gained s = go (cases_order s sor
     go (inr (inl h)) = other (λ e. omega arith)
     go (inr (inr h)) = other (λ e. omega arith)
 
-pub windows_with_more : (theory : Theory) (limit sort : ℕ) (v : List ℕ) (windows now : ℕ → List (List ℕ)) → AreWindows theory limit windows → IsMissing theory windows sort v → HaveGained limit sort v windows now → AreWindows theory limit now
+pub windows_with_more : (theory : Theory) (limit sort : ℕ) (v : List ℕ) (windows now : ℕ → List (List ℕ)) →
+    AreWindows theory limit windows → IsMissing theory windows sort v → HaveGained limit sort v windows now →
+    AreWindows theory limit now
 windows_with_more theory limit sort v windows now h m g = record {
-  members = each_window (λ s xs. Each (IsMember theory s) xs) limit sort v windows now g h.members (λ place p. each_take _ limit _ (each_insert _ (windows sort) place v (h.members sort) (missing_is_member theory windows h.members sort v m)));
-  in_order = each_window (λ s xs. IsInOrder xs) limit sort v windows now g h.in_order (λ place p. in_order_take limit _ (in_order_insert (windows sort) place v (h.in_order sort) p.before p.after));
-  at_most = each_window (λ s xs. length xs ≤ limit) limit sort v windows now g h.at_most (λ place p. let e = length-take limit (insert (windows sort) place v) in omega (arith, e));
+  members =
+      each_window (λ s xs. Each (IsMember theory s) xs) limit sort v windows now g h.members (λ place p.
+      each_take _ limit _
+      (each_insert _ (windows sort) place v (h.members sort) (missing_is_member theory windows h.members sort v m)));
+  in_order =
+      each_window (λ s xs. IsInOrder xs) limit sort v windows now g h.in_order
+      (λ place p. in_order_take limit _ (in_order_insert (windows sort) place v (h.in_order sort) p.before p.after));
+  at_most =
+      each_window (λ s xs. length xs ≤ limit) limit sort v windows now g h.at_most
+      (λ place p. let e = length-take limit (insert (windows sort) place v) in omega (arith, e));
 }
 
-pub place_at_front_of : (v x : List ℕ) (xs : List (List ℕ)) → 1 ≤ length xs → x ≡ get_or xs 0 x → IsInOrder xs → (IsBefore x v → ⊥) → (IsOneOf v xs → ⊥) → IsPlaceOf v xs 0
+pub place_at_front_of : (v x : List ℕ) (xs : List (List ℕ)) →
+    1 ≤ length xs → x ≡ get_or xs 0 x → IsInOrder xs → (IsBefore x v → ⊥) → (IsOneOf v xs → ⊥) → IsPlaceOf v xs 0
 place_at_front_of v x [] within at order not_before new = absurd (omega arith)
-place_at_front_of v x (y ∷ xs) within at order not_before new = place_at_front v y xs order (subst (λ z. IsBefore z v → ⊥) at not_before) new
+place_at_front_of v x (y ∷ xs) within at order not_before new =
+    place_at_front v y xs order (subst (λ z. IsBefore z v → ⊥) at not_before) new

@@ -36,7 +36,8 @@ less_or_more [] (y ∷ ys) e = absurd (omega arith)
 less_or_more (x ∷ xs) [] e = absurd (omega arith)
 less_or_more (x ∷ xs) (y ∷ ys) e = go (cases_order x y) (less_or_more xs ys (omega arith))
   where
-    go : (x ≡ y) ⊎ ((x < y) ⊎ (y < x)) → IsLess xs ys ⊎ (xs ≡ ys) ⊎ IsLess ys xs → IsLess (x ∷ xs) (y ∷ ys) ⊎ (x ∷ xs ≡ y ∷ ys) ⊎ IsLess (y ∷ ys) (x ∷ xs)
+    go : (x ≡ y) ⊎ ((x < y) ⊎ (y < x)) →
+        IsLess xs ys ⊎ (xs ≡ ys) ⊎ IsLess ys xs → IsLess (x ∷ xs) (y ∷ ys) ⊎ (x ∷ xs ≡ y ∷ ys) ⊎ IsLess (y ∷ ys) (x ∷ xs)
     go (inr (inl h)) k = inl (inl h)
     go (inr (inr h)) k = inr (inr (inl h))
     go (inl s) (inl k) = inl (inr (s, k))
@@ -70,8 +71,15 @@ less_in_front (x ∷ xs) (y ∷ ys) q (inr h) = inr (h.0, less_in_front xs ys q 
 
 -- what comes before also does inside the same list
 pub before_inside : (p xs ys q : List ℕ) → IsBefore xs ys → IsBefore ((p ++ xs) ++ q) ((p ++ ys) ++ q)
-before_inside p xs ys q (inl h) = inl (omega (arith, length-append (p ++ xs) q, length-append p xs, length-append (p ++ ys) q, length-append p ys))
-before_inside p xs ys q (inr h) = let e : length xs ≡ length ys = h.0 in inr (omega (arith, length-append (p ++ xs) q, length-append p xs, length-append (p ++ ys) q, length-append p ys), less_in_front (p ++ xs) (p ++ ys) q (less_behind p xs ys h.1))
+before_inside p xs ys q (inl h) =
+    inl (omega (arith, length-append (p ++ xs) q, length-append p xs, length-append (p ++ ys) q, length-append p ys))
+before_inside p xs ys q (inr h) =
+    let e : length xs ≡ length ys = h.0 in
+    inr (
+      omega (arith, length-append (p ++ xs) q, length-append p xs, length-append (p ++ ys) q, length-append p ys),
+      less_in_front
+          (p ++ xs) (p ++ ys) q (less_behind p xs ys h.1),
+    )
 
 pub each_implied : {A : Type 0} {P Q : A → Type 0} → ((x : A) → P x → Q x) → (xs : List A) → Each P xs → Each Q xs
 each_implied f [] h = tt
@@ -92,10 +100,12 @@ each_of_map P f (x ∷ xs) h = (h.0, each_of_map P f xs h.1)
 
 pub in_order_inside : (p q : List ℕ) (xs : List (List ℕ)) → IsInOrder xs → IsInOrder (map (λ x. (p ++ x) ++ q) xs)
 in_order_inside p q [] h = tt
-in_order_inside p q (x ∷ xs) h = (each_of_map _ (λ y. (p ++ y) ++ q) xs (each_implied (λ y b. before_inside p x y q b) xs h.0), in_order_inside p q xs h.1)
+in_order_inside p q (x ∷ xs) h =
+    (each_of_map _ (λ y. (p ++ y) ++ q) xs (each_implied (λ y b. before_inside p x y q b) xs h.0), in_order_inside p q xs h.1)
 
 -- lists in order, of which the second has all of the first, are equal, or the first is shorter
-pub same_or_shorter : (xs ys : List (List ℕ)) → IsInOrder xs → IsInOrder ys → Each (λ x. IsOneOf x ys) xs → (xs ≡ ys) ⊎ (length xs < length ys)
+pub same_or_shorter : (xs ys : List (List ℕ)) →
+    IsInOrder xs → IsInOrder ys → Each (λ x. IsOneOf x ys) xs → (xs ≡ ys) ⊎ (length xs < length ys)
 same_or_shorter [] [] h k e = inl refl
 same_or_shorter [] (y ∷ ys) h k e = inr (omega arith)
 same_or_shorter (x ∷ xs) [] h k e = absurd e.0

@@ -1,5 +1,6 @@
 -- Where each constructor over values of the windows is found, each value is.
-use Rattle.std.proofs.Common.{ℕ, ◌≡◌, ◌<◌, ◌≤◌, ◌⊎◌, inl, inr, List, [], ◌∷◌, ◌++◌, length, map, refl, ap, sym, subst, ◌∙◌, arith, append_assoc, Option, Some, None}
+use Rattle.std.proofs.Common.{ℕ, ◌≡◌, ◌<◌, ◌≤◌, ◌⊎◌, inl, inr, List, [], ◌∷◌, ◌++◌, length, map, refl, ap, sym, subst, ◌∙◌, arith}
+use Rattle.std.proofs.Common.{append_assoc, Option, Some, None}
 use Rattle.std.proofs.lemmas.List.{append-nil, length-map}
 use Rattle.std.specs.List.{slice_get}
 use Rattle.spec_core.specs.Lists.{Each, IsOneOf}
@@ -12,41 +13,73 @@ use Rattle.sort_windows.specs.Found.{IsFound, IsClosedFrom, IsClosed, Continues,
 use Rattle.sort_windows.proofs.Order.{before_onward, before_inside, each_implied, each_one, each_of_map, in_order_inside, same_or_shorter}
 
 -- all lists are of the window, or one lies beyond it
-all_or_beyond : (limit : ℕ) (window : List (List ℕ)) (f : List ℕ → List ℕ) (xs : List (List ℕ)) → Each (λ x. IsFound limit window (f x)) xs → Each (λ x. IsOneOf (f x) window) xs ⊎ ((x : List ℕ) × IsOneOf x xs × (length window ≡ limit) × Each (λ w. IsBefore w (f x)) window)
+all_or_beyond : (limit : ℕ) (window : List (List ℕ)) (f : List ℕ → List ℕ) (xs : List (List ℕ)) →
+    Each (λ x. IsFound limit window (f x)) xs →
+    Each (λ x. IsOneOf (f x) window) xs ⊎ ((x : List ℕ) × IsOneOf x xs × (length window ≡ limit) × Each (λ w. IsBefore w (f x)) window)
 all_or_beyond limit window f [] h = inl tt
 all_or_beyond limit window f (x ∷ xs) (inr b, h) = inr (x, inl refl, b.0, b.1)
 all_or_beyond limit window f (x ∷ xs) (inl m, h) = go (all_or_beyond limit window f xs h)
   where
-    go : Each (λ x. IsOneOf (f x) window) xs ⊎ ((x : List ℕ) × IsOneOf x xs × (length window ≡ limit) × Each (λ w. IsBefore w (f x)) window) → Each (λ x. IsOneOf (f x) window) (x ∷ xs) ⊎ ((y : List ℕ) × IsOneOf y (x ∷ xs) × (length window ≡ limit) × Each (λ w. IsBefore w (f y)) window)
+    go :
+        Each (λ x. IsOneOf (f x) window) xs ⊎
+        ((x : List ℕ) × IsOneOf x xs × (length window ≡ limit) × Each (λ w. IsBefore w (f x)) window) →
+        Each (λ x. IsOneOf (f x) window) (x ∷ xs) ⊎
+        ((y : List ℕ) × IsOneOf y (x ∷ xs) × (length window ≡ limit) × Each (λ w. IsBefore w (f y)) window)
     go (inl e) = inl (m, e)
     go (inr b) = inr (b.0, inr b.1, b.2, b.3)
 
 -- a value in the place of those of a window: where it lies beyond them, so does the whole
-replaced : (limit : ℕ) (window inner : List (List ℕ)) (p q v : List ℕ) → IsInOrder window → length window ≤ limit → IsInOrder inner → Each (λ w. IsFound limit window ((p ++ w) ++ q)) inner → IsFound limit inner v → IsFound limit window ((p ++ v) ++ q)
+replaced : (limit : ℕ) (window inner : List (List ℕ)) (p q v : List ℕ) →
+    IsInOrder window → length window ≤ limit → IsInOrder inner → Each (λ w. IsFound limit window ((p ++ w) ++ q)) inner →
+    IsFound limit inner v → IsFound limit window ((p ++ v) ++ q)
 replaced limit window inner p q v order most inner_order h (inl m) = each_one (λ w. IsFound limit window ((p ++ w) ++ q)) inner v h m
 replaced limit window inner p q v order most inner_order h (inr b) = go (all_or_beyond limit window (λ w. (p ++ w) ++ q) inner h)
   where
-    ends : (map (λ w. (p ++ w) ++ q) inner ≡ window) ⊎ (length (map (λ w. (p ++ w) ++ q) inner) < length window) → IsFound limit window ((p ++ v) ++ q)
+    ends : (map (λ w. (p ++ w) ++ q) inner ≡ window) ⊎ (length (map (λ w. (p ++ w) ++ q) inner) < length window) →
+        IsFound limit window ((p ++ v) ++ q)
     ends (inr t) = absurd (let e = length-map inner (λ w. (p ++ w) ++ q) in let full : length inner ≡ limit = b.0 in omega (arith, e))
-    ends (inl t) = inr (sym (ap length t) ∙ length-map inner (λ w. (p ++ w) ++ q) ∙ b.0, subst (λ ws. Each (λ w. IsBefore w ((p ++ v) ++ q)) ws) t (each_of_map _ (λ w. (p ++ w) ++ q) inner (each_implied (λ w k. before_inside p w v q k) inner b.1)))
+    ends (inl t) =
+        inr (
+          sym (ap length t)
+              ∙ length-map inner (λ w. (p ++ w) ++ q)
+              ∙ b.0,
+          subst (λ ws. Each (λ w. IsBefore w ((p ++ v) ++ q)) ws) t
+              (each_of_map _ (λ w. (p ++ w) ++ q) inner (each_implied (λ w k. before_inside p w v q k) inner b.1)),
+        )
 
-    go : Each (λ x. IsOneOf ((p ++ x) ++ q) window) inner ⊎ ((x : List ℕ) × IsOneOf x inner × (length window ≡ limit) × Each (λ w. IsBefore w ((p ++ x) ++ q)) window) → IsFound limit window ((p ++ v) ++ q)
-    go (inr s) = inr (s.2, each_implied (λ w k. before_onward w ((p ++ s.0) ++ q) ((p ++ v) ++ q) k (before_inside p s.0 v q (each_one (λ w. IsBefore w v) inner s.0 b.1 s.1))) window s.3)
-    go (inl s) = ends (same_or_shorter (map (λ w. (p ++ w) ++ q) inner) window (in_order_inside p q inner inner_order) order (each_of_map _ (λ w. (p ++ w) ++ q) inner s))
+    go :
+        Each (λ x. IsOneOf ((p ++ x) ++ q) window) inner ⊎
+        ((x : List ℕ) × IsOneOf x inner × (length window ≡ limit) × Each (λ w. IsBefore w ((p ++ x) ++ q)) window) →
+        IsFound limit window ((p ++ v) ++ q)
+    go (inr s) =
+        inr (
+          s.2,
+          each_implied (λ w k.
+              before_onward w ((p ++ s.0) ++ q) ((p ++ v) ++ q) k
+              (before_inside p s.0 v q (each_one (λ w. IsBefore w v) inner s.0 b.1 s.1)))
+              window s.3,
+        )
+    go (inl s) =
+        ends (same_or_shorter (map (λ w. (p ++ w) ++ q) inner) window (in_order_inside p q inner inner_order) order
+        (each_of_map _ (λ w. (p ++ w) ++ q) inner s))
 
 some_both : {A : Type 0} (P : A → Type 0) (o : Option A) → OnSome o P → (x : A) × (o ≡ Some x) × P x
 some_both P None h = absurd h
 some_both P (Some x) h = (x, refl, h)
 
-module _ (theory : Theory) (limit : ℕ) (windows : ℕ → List (List ℕ)) (closed : IsClosed theory limit windows) (sound : AreWindows theory limit windows) where
+module _ (theory : Theory) (limit : ℕ) (windows : ℕ → List (List ℕ)) (closed : IsClosed theory limit windows)
+    (sound : AreWindows theory limit windows) where
   mutual
     term_found : (t : TermTree) (s : ℕ) → HasSort theory no_variables t s → IsConstructed theory t → IsFound limit (windows s) (preorder t)
     term_found (variable x) s h c = absurd c
     term_found (apply f ts) s h c =
         let d = some_both (λ d. (d.result ≡ s) × HaveSorts theory no_variables ts d.args) (slice_get theory.operations f) h in
-        subst (λ r. IsFound limit (windows r) (f ∷ preorders ts)) d.2.0 (terms_found ts d.0.args d.0.result (f ∷ []) d.2.1 c.1 (closed f c.0 d.0 d.1))
+        subst (λ r. IsFound limit (windows r) (f ∷ preorders ts)) d.2.0
+        (terms_found ts d.0.args d.0.result (f ∷ []) d.2.1 c.1 (closed f c.0 d.0 d.1))
 
-    terms_found : (ts : TermTrees) (args : List ℕ) (s : ℕ) (p : List ℕ) → HaveSorts theory no_variables ts args → AreConstructed theory ts → IsClosedFrom limit windows s args p → IsFound limit (windows s) (p ++ preorders ts)
+    terms_found : (ts : TermTrees) (args : List ℕ) (s : ℕ) (p : List ℕ) →
+        HaveSorts theory no_variables ts args → AreConstructed theory ts → IsClosedFrom limit windows s args p →
+        IsFound limit (windows s) (p ++ preorders ts)
     terms_found no_terms [] s p h c k = subst (IsFound limit (windows s)) (sym (append-nil p)) k
     terms_found no_terms (a ∷ args) s p h c k = absurd h
     terms_found (and_term t ts) [] s p h c k = absurd h
@@ -60,7 +93,9 @@ module _ (theory : Theory) (limit : ℕ) (windows : ℕ → List (List ℕ)) (cl
   value_found s v m = subst (IsFound limit (windows s)) (sym m.1) (term_found m.0 s m.2 m.3)
 
 -- a list that continues another by members is that of terms
-continued_by_terms : (theory : Theory) (windows : ℕ → List (List ℕ)) → ((s : ℕ) → Each (IsMember theory s) (windows s)) → (args : List ℕ) (p v : List ℕ) → Continues windows args p v → (ts : TermTrees) × (v ≡ p ++ preorders ts) × HaveSorts theory no_variables ts args × AreConstructed theory ts
+continued_by_terms : (theory : Theory) (windows : ℕ → List (List ℕ)) →
+    ((s : ℕ) → Each (IsMember theory s) (windows s)) → (args : List ℕ) (p v : List ℕ) → Continues windows args p v →
+    (ts : TermTrees) × (v ≡ p ++ preorders ts) × HaveSorts theory no_variables ts args × AreConstructed theory ts
 continued_by_terms theory windows members [] p v c = (no_terms, c ∙ sym (append-nil p), tt, tt)
 continued_by_terms theory windows members (a ∷ args) p v c =
     let m : IsMember theory a c.0 = each_one (IsMember theory a) (windows a) c.0 (members a) c.1 in
@@ -68,8 +103,17 @@ continued_by_terms theory windows members (a ∷ args) p v c =
     (and_term m.0 r.0, r.1 ∙ append_assoc p c.0 (preorders r.0) ∙ ap (λ w. p ++ (w ++ preorders r.0)) m.1, (m.2, r.2), (m.3, r.3))
 
 -- a missing value is a value of the sort
-pub missing_is_member : (theory : Theory) (windows : ℕ → List (List ℕ)) → ((s : ℕ) → Each (IsMember theory s) (windows s)) → (sort : ℕ) (v : List ℕ) → IsMissing theory windows sort v → IsMember theory sort v
+pub missing_is_member : (theory : Theory) (windows : ℕ → List (List ℕ)) →
+    ((s : ℕ) → Each (IsMember theory s) (windows s)) → (sort : ℕ) (v : List ℕ) → IsMissing theory windows sort v →
+    IsMember theory sort v
 missing_is_member theory windows members sort v m =
-    let d = some_both (λ d. (d.result ≡ sort) × Continues windows d.args (m.operation ∷ []) v) (slice_get theory.operations m.operation) m.declared in
-    let r = continued_by_terms theory windows members d.0.args (m.operation ∷ []) v d.2.1 in
-    (apply m.operation r.0, r.1, subst (λ o. OnSome o (λ e. (e.result ≡ sort) × HaveSorts theory no_variables r.0 e.args)) (sym d.1) (d.2.0, r.2), (m.constructor, r.3))
+    let d =
+    some_both (λ d. (d.result ≡ sort) × Continues windows d.args (m.operation ∷ []) v) (slice_get theory.operations m.operation)
+    m.declared in
+    let r = continued_by_terms theory windows members d.0.args (m.operation ∷ []) v d.2.1 in (
+      apply m.operation r.0,
+      r.1,
+      subst (λ o. OnSome o (λ e. (e.result ≡ sort) × HaveSorts theory no_variables r.0 e.args)) (sym d.1)
+          (d.2.0, r.2),
+      (m.constructor, r.3),
+    )

@@ -18,7 +18,12 @@ IsClosedFrom limit windows sort (a ∷ args) front = Each (λ v. IsClosedFrom li
 
 -- each constructor over values of the windows is found in the window of its result's sort
 abbrev pub IsClosed : Theory → ℕ → (ℕ → List (List ℕ)) → Type 0
-IsClosed theory limit windows = (f : ℕ) → IsConstructor theory f → (d : Operation) → slice_get theory.operations f ≡ Some d → IsClosedFrom limit windows d.result d.args (f ∷ [])
+IsClosed theory limit windows =
+    (f : ℕ) →
+    IsConstructor theory f →
+    (d : Operation) →
+    slice_get theory.operations f ≡ Some d →
+    IsClosedFrom limit windows d.result d.args (f ∷ [])
 
 -- the list continues the first one by a value of the window of each of these sorts
 abbrev pub Continues : (ℕ → List (List ℕ)) → List ℕ → List ℕ → List ℕ → Type 0

@@ -19,7 +19,8 @@ pub fn add_value(
 ) -> Result<(), Memory>
     requires in_order { IsInOrder (windows_of windows.old.items missing.sort.0) }
     requires new { IsOneOf missing.value (windows_of windows.old.items missing.sort.0) → ⊥ }
-    ensures gained { OnOk result (HaveGained limit missing.sort.0 missing.value (windows_of windows.old.items) (windows_of windows.new.items)) }
+    ensures gained { OnOk result
+        (HaveGained limit missing.sort.0 missing.value (windows_of windows.old.items) (windows_of windows.new.items)) }
 {
     let place = missing.sort.0 as usize;
     make_room(alloc, windows, place)?;

@@ -71,8 +71,11 @@ fn missing_of(
     op: Op,
     declaration: &OpDecl,
 ) -> Result<Option<Value>, Memory>
-    ensures none { IfOk result (λ found. IfNone found (IsClosedFrom limit (windows_of windows.now) declaration.now.result.0 (map sort_number declaration.now.args.items) (op.0 ∷ []))) }
-    ensures continued { IfOk result (λ found. IfSome found (λ v. Continues (windows_of windows.now) (map sort_number declaration.now.args.items) (op.0 ∷ []) v)) }
+    ensures none { IfOk result (λ found. IfNone found
+        (IsClosedFrom limit (windows_of windows.now) declaration.now.result.0
+        (map sort_number declaration.now.args.items) (op.0 ∷ []))) }
+    ensures continued { IfOk result (λ found. IfSome found (λ v.
+        Continues (windows_of windows.now) (map sort_number declaration.now.args.items) (op.0 ∷ []) v)) }
     ensures new { IfOk result (λ found. IfSome found (λ v. IsOneOf v (windows_of windows.now declaration.now.result.0) → ⊥)) }
 {
     let front = Value::new(vec![in alloc; op]?);
@@ -95,8 +98,10 @@ fn missing_after(
     args: &[Sort],
     front: &Value,
 ) -> Result<Option<Value>, Memory>
-    ensures none { IfOk result (λ found. IfNone found (IsClosedFrom limit (windows_of windows.now) sort.0 (map sort_number args.now) front.now)) }
-    ensures continued { IfOk result (λ found. IfSome found (λ v. Continues (windows_of windows.now) (map sort_number args.now) front.now v)) }
+    ensures none { IfOk result (λ found. IfNone found
+        (IsClosedFrom limit (windows_of windows.now) sort.0 (map sort_number args.now) front.now)) }
+    ensures continued { IfOk result (λ found. IfSome found (λ v.
+        Continues (windows_of windows.now) (map sort_number args.now) front.now v)) }
     ensures new { IfOk result (λ found. IfSome found (λ v. IsOneOf v (windows_of windows.now sort.0) → ⊥)) }
 {
     match args {

@@ -1,5 +1,6 @@
 -- Lists by their places, and functions that are changed at one point.
-use Rattle.std.proofs.Common.{◌≡◌, ◌≢◌, ◌⊎◌, ℕ, zero, suc, Bool, true, false, true≢false, List, [], ◌∷◌, ◌++◌, length, set, refl, sym, ap, ◌∙◌, subst, inl, inr, ⊎_elim}
+use Rattle.std.proofs.Common.{◌≡◌, ◌≢◌, ◌⊎◌, ℕ, zero, suc, Bool, true, false, true≢false, List, [], ◌∷◌, ◌++◌, length, set, refl, sym, ap}
+use Rattle.std.proofs.Common.{◌∙◌, subst, inl, inr, ⊎_elim}
 use Rattle.std.specs.Prelude.{◌||◌}
 use mathlib.Core.Logic.{dite}
 use mathlib.Core.Option.{some, some-injective, some-ne-none}
@@ -61,8 +62,14 @@ module _ {A : Type 0} where
   at_only (suc j) a b e = absurd (some-ne-none b (sym e))
 
   -- a fact of the element that a place names, after the element i was changed
-  pub at_changed : (P : A → Type 0) (xs : List A) (i : ℕ) (v w : A) → get_elem? xs i ≡ some v → (P v → P w) → (k : ℕ) → ((u : A) × (get_elem? xs k ≡ some u) × P u)
+  pub at_changed : (P : A → Type 0) (xs : List A) (i : ℕ) (v w : A) →
+      get_elem? xs i ≡ some v → (P v → P w) → (k : ℕ) → ((u : A) × (get_elem? xs k ≡ some u) × P u)
       → (u : A) × (get_elem? (set xs i w) k ≡ some u) × P u
   at_changed P xs i v w at f k x = dite (ℕ_discrete k i)
-      (λ same. (w, subst (λ n. get_elem? (set xs i w) n ≡ some w) (sym same) (set_at xs i v w at), f (subst P (some-injective x.0 v (sym x.1 ∙ (ap (get_elem? xs) same ∙ at))) x.2)))
+      (λ same. (
+        w,
+        subst (λ n. get_elem? (set xs i w) n ≡ some w) (sym same) (set_at xs i v w at),
+        f
+            (subst P (some-injective x.0 v (sym x.1 ∙ (ap (get_elem? xs) same ∙ at))) x.2),
+      ))
       (λ other. (x.0, set_else xs i k w other ∙ x.1, x.2))

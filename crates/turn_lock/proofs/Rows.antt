@@ -1,5 +1,6 @@
 -- Rows of seats that grow and shrink at their end.
-use Rattle.std.proofs.Common.{◌≡◌, ◌⊎◌, ℕ, zero, suc, ◌+◌, ◌-◌, ◌<◌, ◌≤◌, List, [], ◌∷◌, ◌++◌, length, map, ap, ◌∙◌, subst, inl, inr, ⊎_elim, arith}
+use Rattle.std.proofs.Common.{◌≡◌, ◌⊎◌, ℕ, zero, suc, ◌+◌, ◌-◌, ◌<◌, ◌≤◌, List, [], ◌∷◌, ◌++◌, length, map, ap, ◌∙◌, subst, inl, inr}
+use Rattle.std.proofs.Common.{⊎_elim, arith}
 use Rattle.std.specs.Prelude.{slice_index_or, Contains}
 use Rattle.std.proofs.lemmas.List.{length-map, get_or-map, get_or_default}
 use Rattle.std.proofs.lemmas.List.FromFn.{length-range_with_len, get_or-range_with_len}
@@ -11,18 +12,24 @@ use Rattle.turn_lock.specs.Closing.{account_of, HasAccount, AllNoted}
 
 module _ {A : Type 0} where
   -- one more number at the end
-  pub map_range_longer : (f : ℕ → A) (from count : ℕ) → map f (range_with_len from count) ++ f (from + count) ∷ [] ≡ map f (range_with_len from (suc count))
+  pub map_range_longer : (f : ℕ → A) (from count : ℕ) →
+      map f (range_with_len from count) ++ f (from + count) ∷ [] ≡ map f (range_with_len from (suc count))
   map_range_longer f from zero = ap (λ n. f n ∷ []) (omega arith)
-  map_range_longer f from (suc count) = ap (λ l. f from ∷ l) (ap (λ n. map f (range_with_len (from + 1) count) ++ f n ∷ []) (omega arith) ∙ map_range_longer f (from + 1) count)
+  map_range_longer f from (suc count) =
+      ap (λ l. f from ∷ l)
+      (ap (λ n. map f (range_with_len (from + 1) count) ++ f n ∷ []) (omega arith) ∙ map_range_longer f (from + 1) count)
 
-  pub map_range_next : (f : ℕ → A) (next : ℕ) → 1 ≤ next → map f (range_with_len 1 (next - 1)) ++ f next ∷ [] ≡ map f (range_with_len 1 (next + 1 - 1))
+  pub map_range_next : (f : ℕ → A) (next : ℕ) →
+      1 ≤ next → map f (range_with_len 1 (next - 1)) ++ f next ∷ [] ≡ map f (range_with_len 1 (next + 1 - 1))
   map_range_next f zero some = absurd (omega arith)
   map_range_next f (suc k) some =
       let less : suc k - 1 ≡ k = omega arith in let plus : suc k ≡ 1 + k = omega arith in let more : suc k ≡ suc k + 1 - 1 = omega arith in
-      ap (λ n. map f (range_with_len 1 n) ++ f (suc k) ∷ []) less ∙ (ap (λ n. map f (range_with_len 1 k) ++ f n ∷ []) plus ∙ (map_range_longer f 1 k ∙ ap (λ n. map f (range_with_len 1 n)) more))
+      ap (λ n. map f (range_with_len 1 n) ++ f (suc k) ∷ []) less
+      ∙ (ap (λ n. map f (range_with_len 1 k) ++ f n ∷ []) plus ∙ (map_range_longer f 1 k ∙ ap (λ n. map f (range_with_len 1 n)) more))
 
   -- the first number, and the others
-  pub map_range_first : (f : ℕ → A) (from count : ℕ) → 1 ≤ count → f from ∷ map f (range_with_len (from + 1) (count - 1)) ≡ map f (range_with_len from count)
+  pub map_range_first : (f : ℕ → A) (from count : ℕ) →
+      1 ≤ count → f from ∷ map f (range_with_len (from + 1) (count - 1)) ≡ map f (range_with_len from count)
   map_range_first f from zero some = absurd (omega arith)
   map_range_first f from (suc count) some = ap (λ n. f from ∷ map f (range_with_len (from + 1) n)) (omega arith)
 
@@ -36,14 +43,21 @@ module _ {A : Type 0} where
 
 -- each number below the count
 pub range_contains : (count n : ℕ) → n < count → Contains (range_with_len 0 count) n
-range_contains count n below = (n, (let size = length-range_with_len 0 count in omega arith), get_or-range_with_len 0 count n n below ∙ omega arith)
+range_contains count n below =
+    (n, (let size = length-range_with_len 0 count in omega arith), get_or-range_with_len 0 count n n below ∙ omega arith)
 
 module _ {E : Type 0} where
   -- where the seat at each place has the place as its number, the row has each number
-  pub row_contains : (seats : List (SeatModel E)) → ((i : ℕ) (s : SeatModel E) → i < length seats → s ≡ slice_index_or seats i s → s.number ≡ i) → (n : ℕ) → n < length seats → Contains (map (λ (s : SeatModel E). s.number) seats) n
+  pub row_contains : (seats : List (SeatModel E)) →
+      ((i : ℕ) (s : SeatModel E) → i < length seats → s ≡ slice_index_or seats i s → s.number ≡ i) → (n : ℕ) → n < length seats →
+      Contains (map (λ (s : SeatModel E). s.number) seats) n
   row_contains [] numbered n below = absurd (omega arith)
-  row_contains (s ∷ ss) numbered n below = let number : SeatModel E → ℕ = λ s. s.number in let x = slice_index_or (s ∷ ss) n s in
-      (n, (let size = length-map (s ∷ ss) number in omega arith), get_or-map number (s ∷ ss) n s n below ∙ numbered n x below (get_or_default (s ∷ ss) n s x below))
+  row_contains (s ∷ ss) numbered n below = let number : SeatModel E → ℕ = λ s. s.number in let x = slice_index_or (s ∷ ss) n s in (
+    n,
+    (let size = length-map (s ∷ ss) number in omega arith),
+    get_or-map number (s ∷ ss) n s n below
+        ∙ numbered n x below (get_or_default (s ∷ ss) n s x below),
+  )
 
   has_account_right : (a : Account E) (xs ys : List (Account E)) → HasAccount ys a → HasAccount (xs ++ ys) a
   has_account_right a [] ys h = h
@@ -58,8 +72,11 @@ module _ {E : Type 0} where
   has_its_number a (x ∷ xs) h = ⊎_elim (λ e. inl (ap (λ (y : Account E). y.number) e)) (λ t. inr (has_its_number a xs t)) h
 
   -- where a row of seats has a number, so have the accounts in which all of them are noted, or the last one has it
-  pub number_is_noted : (n : ℕ) (accounts : List (Account E)) (seats : List (SeatModel E)) (last : SeatModel E) → AllNoted accounts seats → Contains (map (λ (s : SeatModel E). s.number) (seats ++ last ∷ [])) n → (last.number ≡ n) ⊎ HasNumber n accounts
+  pub number_is_noted : (n : ℕ) (accounts : List (Account E)) (seats : List (SeatModel E)) (last : SeatModel E) →
+      AllNoted accounts seats → Contains (map (λ (s : SeatModel E). s.number) (seats ++ last ∷ [])) n →
+      (last.number ≡ n) ⊎ HasNumber n accounts
   number_is_noted n accounts [] last noted (zero, below, is) = inl is
   number_is_noted n accounts [] last noted (suc k, below, is) = absurd (omega arith)
-  number_is_noted n accounts (s ∷ ss) last noted (zero, below, is) = inr (subst (λ k. HasNumber k accounts) is (has_its_number (account_of s) accounts noted.0))
+  number_is_noted n accounts (s ∷ ss) last noted (zero, below, is) =
+      inr (subst (λ k. HasNumber k accounts) is (has_its_number (account_of s) accounts noted.0))
   number_is_noted n accounts (s ∷ ss) last noted (suc k, below, is) = number_is_noted n accounts ss last noted.1 (k, omega arith, is)

@@ -58,11 +58,14 @@ module _ {T E F : Type 0} where
     -- look: where the seat's ticket is served, it is called, and it gets the slot with a value, whose list it has then seen
     abbrev pub looked : Option F → ℕ → Step (Option T) → Me (Option T) (View E F) → ℕ → Me (Option T) (View E F) → Type 0
     looked fixed_part seats st m found m' = (t : ℕ) → m.0.phase ≡ Drawn t
-        → (found ≡ t → (x : T) × (m' ≡ (with_lists m.0 (Called t) (list x) m.0.account.own, (0, Some x) ∷ m.1)) × Gets fixed_part seats m.0 x) × (found ≢ t → m' ≡ m)
+        → (found ≡ t →
+        (x : T) × (m' ≡ (with_lists m.0 (Called t) (list x) m.0.account.own, (0, Some x) ∷ m.1)) × Gets fixed_part seats m.0 x) ×
+        (found ≢ t → m' ≡ m)
 
   -- publish the length of the list that is given: the seat has seen that list, and made its own entries there
   abbrev pub published : (E → Option ℕ) → List E → Step (Option T) → Me (Option T) (View E F) → ℕ → Me (Option T) (View E F) → Type 0
-  published maker given st m found m' = (t : ℕ) → m.0.phase ≡ Called t → m' ≡ (with_lists m.0 (Published t) given (made_by maker m.0.account.number given), m.1)
+  published maker given st m found m' =
+      (t : ℕ) → m.0.phase ≡ Called t → m' ≡ (with_lists m.0 (Published t) given (made_by maker m.0.account.number given), m.1)
 
 module _ {E F : Type 0} where
   -- the first seat after a split: its next number is one more

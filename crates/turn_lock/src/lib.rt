@@ -10,6 +10,3 @@ mod turns;
 pub use seat::TurnSeat;
 pub use standing::Standing;
 pub use turns::{Held, Turns};
-
-#[cfg(test)]
-mod tests;

@@ -21,7 +21,13 @@ impl<T: Standing> Model for TurnSeat<T> {
 
     ghost use Rattle.turn_lock.specs.Steps.{is_in_turn, IsBetweenCalls};
 
-    ghost view = { λ s. record { lock = s.place.table_id; number = s.place.me.0.account.number; seen = s.place.me.0.account.seen; own = s.place.me.0.account.own; holds_turn = is_in_turn s.place.me.0.phase } };
+    ghost view = { λ s. record {
+      lock = s.place.table_id;
+      number = s.place.me.0.account.number;
+      seen = s.place.me.0.account.seen;
+      own = s.place.me.0.account.own;
+      holds_turn = is_in_turn s.place.me.0.phase;
+    } };
 
     ghost invariant = { λ s. IsBetweenCalls s.place };
 }

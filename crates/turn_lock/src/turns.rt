@@ -51,7 +51,11 @@ impl<T: Standing> Model for Turns<T> {
 
     ghost Value = { LockModel T.Fixed };
 
-    ghost view = { λ l. record { id = l.table.shared.table_id; fixed = T.fixed l.table.shared.key.value.value; seats = l.table.shared.key.seats } };
+    ghost view = { λ l. record {
+      id = l.table.shared.table_id;
+      fixed = T.fixed l.table.shared.key.value.value;
+      seats = l.table.shared.key.seats;
+    } };
 
     ghost invariant = { λ l. (l.table.shared.table_id.words ≡ 3) × (l.table.shared.table_id.slots ≡ 1) × (1 ≤ l.table.shared.key.seats) };
 }
@@ -118,7 +122,11 @@ fn publish<T: Standing, J: Publishes<T::Entry>>(top: &Top<T>, place: &mut Place<
         × Continues T.maker place.old.me.0.account.number place.old.me.0.account.seen (T.list value.now) }
     ensures table { place.new.table_id ≡ place.old.table_id }
     ensures list { (t : ℕ) → place.old.me.0.phase ≡ Called t → place.new.me
-        ≡ (with_lists place.old.me.0 (Published t) (T.list value.now) (made_by T.maker place.old.me.0.account.number (T.list value.now)), place.old.me.1) }
+        ≡ (
+          with_lists place.old.me.0 (Published t) (T.list value.now)
+              (made_by T.maker place.old.me.0.account.number (T.list value.now)),
+          place.old.me.1,
+        ) }
 {
     top.store::<Publish<T, J>>(place, LENGTH, value.length());
 }

@@ -6,6 +6,3 @@ mod worker;
 
 pub use desk::{Desk, Offered, Probe};
 pub use worker::drive;
-
-#[cfg(test)]
-mod tests;

@@ -8,7 +8,8 @@ loop-done-preserved g c = record {
   within = omega (arith, c.in_ok-count.ensures.within, length-drop c.loop-done.done c.args.bytes.now, c.loop-done.invariant.within);
   taken =
       c.in_ok-count.ensures.ok
-      ∙ ap (λ (l : List ℕ). with_more (take c.in_ok-count.count l) (g.K.Sink.written c.loop-done.sink)) (slice_rest c.args.bytes.now c.loop-done.done)
+      ∙ ap (λ (l : List ℕ). with_more (take c.in_ok-count.count l) (g.K.Sink.written c.loop-done.sink))
+      (slice_rest c.args.bytes.now c.loop-done.done)
       ∙ ap (with_more (take c.in_ok-count.count (drop c.loop-done.done c.args.bytes.now))) c.loop-done.invariant.taken
       ∙ with_more-next c.args.bytes.now c.loop-done.done c.in_ok-count.count (g.K.Sink.written c.args.sink.now);
   never_fewer = omega (arith, c.loop-done.invariant.never_fewer, c.write.ensures.never_fewer);

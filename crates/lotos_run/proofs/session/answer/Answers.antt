@@ -7,5 +7,7 @@ use Rattle.lotos_run.proofs.session.answer.Goals as goal
 pub returns-clause-plain : goal.returns-clause-plain
 returns-clause-plain c =
     λ plain.
-    plain_more _ (events_of c.push-2.new.self) (event_of c.in_ok-settled.settled.entry) c.in_ok-push-2.ensures.ok c.in_ok-settled.ensures.plain
-    (plain_more (events_of c.args.log.now) (events_of c.push.new.self) _ c.in_ok-push.ensures.ok (c.new-fields.ensures ∙ c.new.ensures.items) plain)
+    plain_more _ (events_of c.push-2.new.self) (event_of c.in_ok-settled.settled.entry) c.in_ok-push-2.ensures.ok
+    c.in_ok-settled.ensures.plain
+    (plain_more (events_of c.args.log.now) (events_of c.push.new.self) _ c.in_ok-push.ensures.ok
+    (c.new-fields.ensures ∙ c.new.ensures.items) plain)

@@ -7,7 +7,9 @@ use Rattle.lotos_run.proofs.session.drive.Given as goal
 
 abbrev pub invariant-loop-gate : goal.invariant-loop-gate
 invariant-loop-gate l = record {
-  so_far : IsSessionSoFar (length l.gates) (behaviour_of l.fn.start) (take l.gate-index l.wishes) (events_of l.log) (behaviour_of l.from) l.number l.actions;
+  so_far :
+      IsSessionSoFar (length l.gates) (behaviour_of l.fn.start) (take l.gate-index l.wishes) (events_of l.log) (behaviour_of l.from)
+      l.number l.actions;
   plain : All IsPlain (events_of l.log);
   counted : l.number ≡ l.gate-index;
   fewer : l.actions ≤ l.gate-index;

@@ -10,6 +10,8 @@ put_lines-requires c = all_plain c.as_slice.result.now (events_of c.args.log.now
 
 pub returns : goal.returns
 returns c =
-    whole_trace c.args.gates.now (events_of c.args.log.now) (ending_of c.args.end.now) c.in_ok-out.out.items c.put_lines.new.out.items c.put_end.new.out.items c.in_ok-out.ensures.items
-    (c.in_ok-put_lines.ensures ∙ ap (λ (events : List Event). c.in_ok-out.out.items ++ flat_map (line (names_of c.args.gates.now)) events) c.as_slice.ensures)
+    whole_trace c.args.gates.now (events_of c.args.log.now) (ending_of c.args.end.now) c.in_ok-out.out.items c.put_lines.new.out.items
+    c.put_end.new.out.items c.in_ok-out.ensures.items
+    (c.in_ok-put_lines.ensures
+    ∙ ap (λ (events : List Event). c.in_ok-out.out.items ++ flat_map (line (names_of c.args.gates.now)) events) c.as_slice.ensures)
     (c.in_ok-put_end.ensures c.args.gates.now)

@@ -8,4 +8,7 @@ pub returns : goal.returns
 returns c =
     let values : c.truncate.new.self.items ≡ take c.args.k (windows_of c.in_ok-windows.windows.items c.args.sort.0) = search rules in
     let many : c.len.result ≡ length (windows_of c.in_ok-windows.windows.items c.args.sort.0) = search rules in
-    record { window = window_of_closed (theory_of c.args.algebra.now) c.args.k c.args.sort.0 (windows_of c.in_ok-windows.windows.items) c.in_ok-windows.ensures.closed c.in_ok-windows.ensures.windows _ _ values many }
+    record {
+      window = window_of_closed (theory_of c.args.algebra.now) c.args.k c.args.sort.0 (windows_of c.in_ok-windows.windows.items)
+          c.in_ok-windows.ensures.closed c.in_ok-windows.ensures.windows _ _ values many;
+    }

@@ -8,4 +8,6 @@ abbrev pub decreases-missing_after : goal.decreases-missing_after
 decreases-missing_after l = length l.args.now
 
 abbrev pub invariant-loop-value : goal.invariant-loop-value
-invariant-loop-value l = Each (λ w. IsClosedFrom l.limit (windows_of l.windows) l.sort.0 (map sort_number l.rest) (l.front ++ w)) (take l.value-index l.value-items)
+invariant-loop-value l =
+    Each (λ w. IsClosedFrom l.limit (windows_of l.windows) l.sort.0 (map sort_number l.rest) (l.front ++ w))
+    (take l.value-index l.value-items)

@@ -1,0 +1,15 @@
+use Rattle.std.proofs.Common.{rules}
+use Rattle.token_cursor.proofs.Steps.{steps}
+use Rattle.data_parser.proofs.type_definition.formal_operations.Goals as goal
+
+pub returns-in_err-pass-clause-halts : goal.returns-in_err-pass-clause-halts
+returns-in_err-pass-clause-halts c = search (steps, rules)
+
+pub returns-in_err-repeated-clause-halts : goal.returns-in_err-repeated-clause-halts
+returns-in_err-repeated-clause-halts c = search (steps, rules)
+
+pub returns-in_ok-repeated-clause-read : goal.returns-in_ok-repeated-clause-read
+returns-in_ok-repeated-clause-read c = search (steps, rules)
+
+pub returns-else-at-clause-read : goal.returns-else-at-clause-read
+returns-else-at-clause-read c = search (steps, rules)

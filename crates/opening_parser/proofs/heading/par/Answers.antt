@@ -1,0 +1,26 @@
+use Rattle.std.proofs.Common.{arith, rules}
+use Rattle.token_cursor.proofs.Steps.{steps}
+use Rattle.opening_parser.proofs.Chosen.{par_halts}
+use Rattle.opening_parser.proofs.Openings.{par_leads}
+use Rattle.opening_parser.proofs.heading.par.Goals as goal
+
+pub returns-in_err-inner-clause-halts : goal.returns-in_err-inner-clause-halts
+returns-in_err-inner-clause-halts c = grind (arith, steps)
+
+pub returns-in_err-pass-clause-halts : goal.returns-in_err-pass-clause-halts
+returns-in_err-pass-clause-halts c = search (par_halts, steps, rules)
+
+pub returns-in_err-gate-clause-halts : goal.returns-in_err-gate-clause-halts
+returns-in_err-gate-clause-halts c = search (par_halts, steps, rules)
+
+pub returns-in_err-pass-2-clause-halts : goal.returns-in_err-pass-2-clause-halts
+returns-in_err-pass-2-clause-halts c = search (par_halts, steps, rules)
+
+pub returns-in_err-gates-clause-halts : goal.returns-in_err-gates-clause-halts
+returns-in_err-gates-clause-halts c = search (par_halts, steps, rules)
+
+pub returns-in_err-operator-clause-halts : goal.returns-in_err-operator-clause-halts
+returns-in_err-operator-clause-halts c = search (par_halts, steps, rules)
+
+pub returns-clause-read : goal.returns-clause-read
+returns-clause-read c = grind (arith, par_leads)

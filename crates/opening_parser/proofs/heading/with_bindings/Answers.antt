@@ -1,0 +1,20 @@
+use Rattle.std.proofs.Common.{arith, rules}
+use Rattle.token_cursor.proofs.Steps.{steps}
+use Rattle.opening_parser.proofs.Chosen.{let_halts}
+use Rattle.opening_parser.proofs.Openings.{let_leads}
+use Rattle.opening_parser.proofs.heading.with_bindings.Goals as goal
+
+pub returns-in_err-inner-clause-halts : goal.returns-in_err-inner-clause-halts
+returns-in_err-inner-clause-halts c = grind (arith, steps)
+
+pub returns-in_err-pass-clause-halts : goal.returns-in_err-pass-clause-halts
+returns-in_err-pass-clause-halts c = search (let_halts, steps, rules)
+
+pub returns-in_err-bindings-clause-halts : goal.returns-in_err-bindings-clause-halts
+returns-in_err-bindings-clause-halts c = search (let_halts, steps, rules)
+
+pub returns-in_err-pass-2-clause-halts : goal.returns-in_err-pass-2-clause-halts
+returns-in_err-pass-2-clause-halts c = search (let_halts, steps, rules)
+
+pub returns-clause-read : goal.returns-clause-read
+returns-clause-read c = grind (arith, let_leads)

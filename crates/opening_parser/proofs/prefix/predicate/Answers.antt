@@ -1,0 +1,15 @@
+use Rattle.std.proofs.Common.{rules}
+use Rattle.token_cursor.proofs.Steps.{steps}
+use Rattle.opening_parser.proofs.prefix.predicate.Goals as goal
+
+pub returns-in_err-pass-clause-halts : goal.returns-in_err-pass-clause-halts
+returns-in_err-pass-clause-halts c = search (steps, rules)
+
+pub returns-in_err-premiss-clause-halts : goal.returns-in_err-premiss-clause-halts
+returns-in_err-premiss-clause-halts c = search (steps, rules)
+
+pub returns-in_err-pass-2-clause-halts : goal.returns-in_err-pass-2-clause-halts
+returns-in_err-pass-2-clause-halts c = search (steps, rules)
+
+pub returns-clause-read : goal.returns-clause-read
+returns-clause-read c = search (steps, rules)
