@@ -3,7 +3,8 @@
 ghost use Rattle.std.specs.Prelude.{◌≡◌, box_value, IfOk};
 ghost use Rattle.lotos_ast.specs.Reads.{unkept, both, absent, present, left, node};
 ghost use Rattle.lotos_ast.specs.ListTrees.{behind, between};
-ghost use Rattle.lotos_ast.specs.BehaviourTrees.{behaviour_tree, disable_tree, parallel_tree, choice_tree, unary_tree, operator_tree, accepts_tree, atomic_tree};
+ghost use Rattle.lotos_ast.specs.BehaviourTrees.{behaviour_tree, disable_tree, parallel_tree, choice_tree, unary_tree};
+ghost use Rattle.lotos_ast.specs.BehaviourTrees.{operator_tree, accepts_tree, atomic_tree};
 
 use lotos_ast::behaviour::{
     Atom, Behaviour, Choice, Choosing, Composing, Disable, Disabling, Enabling, Operator, Parallel,

@@ -6,7 +6,8 @@ ghost use Rattle.lotos_ast.specs.Grammar.{conclusion, equation_body};
 ghost use Rattle.lotos_ast.specs.Begins.{mark_at, starts};
 ghost use Rattle.lotos_ast.specs.Reads.{Reads, both, node};
 ghost use Rattle.lotos_ast.specs.ExpressionTrees.{expr_tree, premiss_tree};
-ghost use Rattle.lotos_ast.specs.TypeTrees.{conclusion_tree, first_premiss_tree, equation_tree, equations_tree, equation_body_tree, optional_equation_part_tree};
+ghost use Rattle.lotos_ast.specs.TypeTrees.{conclusion_tree, first_premiss_tree, equation_tree, equations_tree};
+ghost use Rattle.lotos_ast.specs.TypeTrees.{equation_body_tree, optional_equation_part_tree};
 ghost use Rattle.lotos_ast.specs.Nesting.{nesting_of};
 ghost use Rattle.token_cursor.specs.Parsers.{Halts};
 

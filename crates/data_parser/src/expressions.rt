@@ -2,10 +2,12 @@
 
 ghost use Rattle.std.specs.Prelude.{◌≡◌, ◌≤◌, ◌<◌, IfOk, OnOk, IfErr, length, map};
 ghost use Rattle.lotos_ast.specs.declared.mark.Mark.{Mark};
-ghost use Rattle.lotos_ast.specs.Notation.{Syntax, quoted, optional, repeated, part, expression, infixes, simple, head, premiss, list, in_parentheses, ◌▸◌};
+ghost use Rattle.lotos_ast.specs.Notation.{Syntax, quoted, optional, repeated, part, expression, infixes, simple, head};
+ghost use Rattle.lotos_ast.specs.Notation.{premiss, list, in_parentheses, ◌▸◌};
 ghost use Rattle.lotos_ast.specs.Reads.{Reads, leaf};
 ghost use Rattle.lotos_ast.specs.ListTrees.{repeated_tree, list_tree, behind, between};
-ghost use Rattle.lotos_ast.specs.ExpressionTrees.{expr_tree, infix_tree, simple_tree, head_tree, infixes_tree, values_tree, optional_right_tree, premiss_tree};
+ghost use Rattle.lotos_ast.specs.ExpressionTrees.{expr_tree, infix_tree, simple_tree, head_tree, infixes_tree};
+ghost use Rattle.lotos_ast.specs.ExpressionTrees.{values_tree, optional_right_tree, premiss_tree};
 ghost use Rattle.lotos_ast.specs.Nesting.{nesting_of};
 ghost use Rattle.token_cursor.specs.Parsers.{Halts};
 

@@ -8,7 +8,9 @@ ghost use Rattle.lotos_ast.specs.Notation.{optional, repeated, quoted, loose_lis
 ghost use Rattle.lotos_ast.specs.Grammar.{formals, declared_items, pairs, type_body, sort_list, equation_body, operation_declaration};
 ghost use Rattle.lotos_ast.specs.Reads.{Reads, both, left, right, leaf, node};
 ghost use Rattle.lotos_ast.specs.ListTrees.{repeated_tree, behind};
-ghost use Rattle.lotos_ast.specs.TypeTrees.{formal_sorts_tree, formal_operations_tree, formal_equations_tree, formals_tree, declared_items_tree, sort_pairs_tree, operation_pairs_tree, pairs_tree, type_body_tree, type_def_tree};
+ghost use Rattle.lotos_ast.specs.TypeTrees.{formal_sorts_tree, formal_operations_tree, formal_equations_tree};
+ghost use Rattle.lotos_ast.specs.TypeTrees.{formals_tree, declared_items_tree, sort_pairs_tree, operation_pairs_tree};
+ghost use Rattle.lotos_ast.specs.TypeTrees.{pairs_tree, type_body_tree, type_def_tree};
 ghost use Rattle.lotos_ast.specs.Nesting.{nesting_of};
 ghost use Rattle.token_cursor.specs.Parsers.{Halts};
 

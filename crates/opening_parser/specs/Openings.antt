@@ -3,13 +3,17 @@ use Rattle.std.specs.Prelude.{List, [], ◌∷◌, map, box_value, ◌≡◌}
 use Rattle.lotos_ast.specs.declared.mark.Mark.{Mark}
 use Rattle.lotos_ast.specs.declared.place.Place.{Place}
 use Rattle.lotos_ast.specs.declared.token.Token.{Token}
-use Rattle.lotos_ast.specs.Notation.{Syntax, quoted, repeated, part, optional, placed, ◌▸◌, ◌∣◌, identifier, list, in_parentheses, unary, behaviour, offer, binding, gate_list, gate_choice, declaration, operator, exit_value}
+use Rattle.lotos_ast.specs.Notation.{Syntax, quoted, repeated, part, optional, placed, ◌▸◌, ◌∣◌, identifier, list}
+use Rattle.lotos_ast.specs.Notation.{in_parentheses, unary, behaviour, offer, binding, gate_list, gate_choice}
+use Rattle.lotos_ast.specs.Notation.{declaration, operator, exit_value}
 use Rattle.lotos_ast.specs.Grammar.{prefixed, predicate, arguments, choice_brackets}
 use Rattle.lotos_ast.specs.Nesting.{Nesting, in_bracket}
 use Rattle.lotos_ast.specs.Reads.{Tree, leaf, both, left, right, node, Reads}
 use Rattle.lotos_ast.specs.ListTrees.{list_tree, token_list_tree, behind}
 use Rattle.lotos_ast.specs.DeclarationTrees.{gate_list_tree}
-use Rattle.lotos_ast.specs.BehaviourTrees.{unary_tree, offers_tree, optional_predicate_tree, action_tree, predicate_tree, binding_tree, atomic_tree, choice_declarations_tree, choice_gates_tree, brackets_tree, operator_tree}
+use Rattle.lotos_ast.specs.BehaviourTrees.{unary_tree, offers_tree, optional_predicate_tree, action_tree}
+use Rattle.lotos_ast.specs.BehaviourTrees.{predicate_tree, binding_tree, atomic_tree, choice_declarations_tree}
+use Rattle.lotos_ast.specs.BehaviourTrees.{choice_gates_tree, brackets_tree, operator_tree}
 use Rattle.opening_parser.specs.declared.opening.Prefix.{Prefix}
 use Rattle.opening_parser.specs.declared.opening.Prefix.TheVariants.{Guard, Action}
 use Rattle.opening_parser.specs.declared.opening.Heading.{Heading}
@@ -30,13 +34,13 @@ heading_tree (Hide place gates) x = atomic_tree place (right (left (behind (both
 heading_tree (Let place bindings) x =
     atomic_tree place (right (right (left (behind (both (list_tree (map binding_tree bindings.items)) (behind x))))))
 heading_tree (Values place declarations brackets) x =
-    atomic_tree place (right (right
-    (right (left (behind (node declarations.place (choice_declarations_tree declarations.list.items (brackets_tree brackets x))))))))
+    atomic_tree place (right (right (right (left (behind
+    (node declarations.place (choice_declarations_tree declarations.list.items (brackets_tree brackets x))))))))
 heading_tree (Gates place choices brackets) x =
     atomic_tree place (right (right (right (left (behind (choice_gates_tree choices.items (brackets_tree brackets x)))))))
 heading_tree (Par place gate gates o) x =
-    atomic_tree place (right (right
-    (right (right (left (behind (both (leaf gate) (behind (both (gate_list_tree gates) (both (operator_tree o) x))))))))))
+    atomic_tree place (right (right (right (right (left (behind
+    (both (leaf gate) (behind (both (gate_list_tree gates) (both (operator_tree o) x))))))))))
 
 -- a left parenthesis, with the tree of what follows
 abbrev pub parenthesis_tree : Place → Tree → Tree
