@@ -1,0 +1,7 @@
+// Types that are made from themselves.
+#![tactic(auto)]
+
+pub mod cycle;
+pub mod ends;
+pub mod numbers;
+pub mod ways;
