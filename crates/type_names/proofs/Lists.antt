@@ -1,0 +1,30 @@
+-- Loops over lists: what one more element adds.
+use Rattle.std.proofs.Common.{ℕ, zero, suc, ◌≡◌, ◌<◌, ◌≤◌, ◌+◌, List, [], ◌∷◌, ◌++◌, length, map, take, get_or, arith, ap, subst, sym, ◌∙◌, refl, Bool, true, false, ◌||◌}
+use Rattle.std.specs.List.{list_any, position_or_len}
+use Rattle.std.proofs.lemmas.List.{take_more, map-append}
+
+pub take_next : {A : Type 0} (xs : List A) (i : ℕ) (x : A) → i < length xs → x ≡ get_or xs i x → take (i + 1) xs ≡ take i xs ++ x ∷ []
+take_next xs i x within at = take_more xs i x within ∙ ap (λ y. take i xs ++ y ∷ []) (sym at)
+
+-- an element passes a test
+pub any_at : {A B : Type 0} (p : B → Bool) (f : A → B) (xs : List A) (i : ℕ) (x : A) → i < length xs → x ≡ get_or xs i x → p (f x) ≡ true → true ≡ list_any p (map f xs)
+any_at p f [] i x within at passes = absurd (omega arith)
+any_at p f (y ∷ xs) zero x within at passes = rw (← at) (rw passes refl)
+any_at p f (y ∷ xs) (suc i) x within at passes = rw (← any_at p f xs i x (omega arith) at passes) (or_true (p (f y)))
+  where
+    or_true : (b : Bool) → true ≡ (b || true)
+    or_true true = refl
+    or_true false = refl
+
+-- no element passes a test
+pub none_is : {A : Type 0} (p : A → Bool) (xs : List A) (i : ℕ) → length xs ≤ i → ((k : ℕ) (d : A) → k < i → p (get_or xs k d) ≡ false) → length xs ≡ position_or_len p xs
+none_is p [] i past none = refl
+none_is p (x ∷ xs) zero past none = absurd (omega arith)
+none_is p (x ∷ xs) (suc i) past none =
+    let h : length xs ≡ position_or_len p xs = none_is p xs i (omega arith) (λ k d h. none (suc k) d (omega arith)) in
+    rw (none 0 x (omega arith)) (omega (arith, h))
+
+pub mapped_next : {A B C : Type 0} (f : B → C) (g : A → B) (now then : List C) (xs : List A) (i : ℕ) (x : A) → i < length xs → x ≡ get_or xs i x → now ≡ map f (map g (take i xs)) → then ≡ now ++ f (g x) ∷ [] → then ≡ map f (map g (take (i + 1) xs))
+mapped_next f g now then xs i x within at before more =
+    more ∙ ap (λ zs. zs ++ f (g x) ∷ []) before
+    ∙ sym (ap (λ zs. map f (map g zs)) (take_next xs i x within at) ∙ ap (map f) (map-append g (take i xs) (x ∷ [])) ∙ map-append f (map g (take i xs)) (g x ∷ []))
