@@ -1,16 +1,15 @@
 -- The contents of types: the sorts and operations that each type has (ISO 8807, ACT ONE).
-use Rattle.std.specs.Prelude.{Bool, not, List, [], ◌++◌, map}
+use Rattle.std.specs.Prelude.{not, List, [], ◌++◌, map}
 use Rattle.std.specs.List.{flat_map, filter, slice_index_or}
 use Rattle.lotos_ast.specs.declared.token.Token.{Token}
 use Rattle.lotos_ast.specs.declared.types.TypeDef.{TypeDef}
 use Rattle.lotos_ast.specs.declared.types.TypeDef.TheVariants.{Library, Definition}
 use Rattle.lotos_ast.specs.declared.types.TypeBody.{TypeBody}
 use Rattle.lotos_ast.specs.declared.types.TypeBody.TheVariants.{Declared, Renamed, Actualized}
-use Rattle.lotos_ast.specs.declared.types.Pairs.{Pairs}
 use Rattle.type_contents.specs.Lists.{listed}
 use Rattle.type_contents.specs.Items.{Item, item_of, is_in, union}
 use Rattle.type_contents.specs.Own.{own_items, own_formals}
-use Rattle.type_contents.specs.Images.{image, kept_image}
+use Rattle.type_contents.specs.Images.{Renaming, renaming_of, image, kept_image}
 use Rattle.type_contents.specs.Uses.{number_of}
 use Rattle.type_contents.specs.Rounds as rounds
 
@@ -33,19 +32,20 @@ abbrev pub formals_of : List TypeDef → List Content → Token → List Item
 formals_of types table name = (content_of types table name).formals
 
 -- what is copied where the formal items are replaced: the images of the others
-abbrev pub kept : Content → Pairs → List Item
-kept base pairs = map (kept_image base.formals pairs) (filter (λ x. not (is_in base.formals x)) base.items)
+abbrev pub kept : Content → Renaming → List Item
+kept base renaming = map (kept_image base.formals renaming) (filter (λ x. not (is_in base.formals x)) base.items)
 
--- all that a type has by how it is made: its own and what its imports have; the images of what it copies; or, where formal items are replaced, what the actual types have, and the images of what isn't formal. The image of a formal item is among what the actual types have
+-- all that a type has by how it is made: its own and what its imports have; the images of what it copies; or, where formal items are
+-- replaced, what the actual types have, and the images of what isn't formal. The image of a formal item is among what the actual types have
 abbrev pub items_by : List TypeDef → List Content → TypeBody → List Item
 items_by types table (Declared place imports formals sorts operations equations) = flat_map (items_of types table) (listed imports) ++ map item_of (own_items formals sorts operations)
-items_by types table (Renamed place source pairs) = map (image pairs) (items_of types table source)
-items_by types table (Actualized place source actuals pairs) = flat_map (items_of types table) actuals.items ++ kept (content_of types table source) pairs
+items_by types table (Renamed place source pairs) = map (image (renaming_of pairs)) (items_of types table source)
+items_by types table (Actualized place source actuals pairs) = flat_map (items_of types table) actuals.items ++ kept (content_of types table source) (renaming_of pairs)
 
 -- what is left open in it
 abbrev pub formals_by : List TypeDef → List Content → TypeBody → List Item
 formals_by types table (Declared place imports formals sorts operations equations) = flat_map (formals_of types table) (listed imports) ++ map item_of (own_formals formals)
-formals_by types table (Renamed place source pairs) = map (image pairs) (formals_of types table source)
+formals_by types table (Renamed place source pairs) = map (image (renaming_of pairs)) (formals_of types table source)
 formals_by types table (Actualized place source actuals pairs) = flat_map (formals_of types table) actuals.items
 
 abbrev pub made_from : List TypeDef → List Content → TypeDef → Content

@@ -1,5 +1,5 @@
 -- Formal types: those that declare something formal, or import or rename a formal type. They aren't part of the data.
-use Rattle.std.specs.Prelude.{ℕ, Bool, false, ◌||◌, not, List, length, Option, Some, None, ◌==◌}
+use Rattle.std.specs.Prelude.{Bool, false, ◌||◌, not, List, length, Option, Some, None, ◌==◌}
 use Rattle.std.specs.List.{list_any, slice_index_or}
 use Rattle.lotos_ast.specs.declared.token.Token.{Token}
 use Rattle.lotos_ast.specs.declared.types.TypeDef.{TypeDef}

@@ -1,65 +1,99 @@
--- Images of items under new names. What no pair names keeps its name, and so stays the same item.
+-- Images of items under new names. What has no new name keeps its own, and so stays the same item.
 use Rattle.std.specs.Prelude.{ℕ, Bool, ◌&&◌, List, [], map, Option, Some, None, option_map, unwrap_or, if◌then◌else◌}
 use Rattle.std.specs.List.{list_any, find}
 use Rattle.std.specs.Str.{bytes_eq}
-use Rattle.lotos_ast.specs.declared.token.Token.{Token}
 use Rattle.lotos_ast.specs.declared.types.Pairs.{Pairs}
 use Rattle.lotos_ast.specs.declared.types.SortPair.{SortPair}
 use Rattle.lotos_ast.specs.declared.types.OperationPair.{OperationPair}
+use Rattle.type_contents.specs.declared.item_kind.ItemKind.{ItemKind}
 use Rattle.type_contents.specs.Lists.{listed}
 use Rattle.type_contents.specs.Items.{Item, Described, small, is_same_kind, is_sort, has_same_name}
 use Rattle.type_contents.specs.Own.{name_of, kind_of}
 
--- the first pair that names the sort of this name
-abbrev pub sort_pair : List SortPair → List ℕ → Option SortPair
-sort_pair pairs name = find (λ p. bytes_eq (small p.old) name) pairs
+-- a new name for a sort
+pub record NewSort : Type 0 where
+  pub old : List ℕ
+  pub new : List ℕ
+  -- the new name as it is written
+  pub spelled : List ℕ
+
+-- a new name for operations
+pub record NewOperation : Type 0 where
+  pub old_kind : ItemKind
+  pub old : List ℕ
+  pub new_kind : ItemKind
+  pub new : List ℕ
+  pub spelled : List ℕ
+
+pub record Renaming : Type 0 where
+  pub sorts : List NewSort
+  pub operations : List NewOperation
+
+-- what pairs of names say
+
+abbrev pub new_sort : SortPair → NewSort
+new_sort p = record { old = small p.old; new = small p.new; spelled = p.new.text }
+
+abbrev pub new_operation : OperationPair → NewOperation
+new_operation p = record {
+  old_kind = kind_of p.old;
+  old = small (name_of p.old);
+  new_kind = kind_of p.new;
+  new = small (name_of p.new);
+  spelled = (name_of p.new).text;
+}
+
+abbrev pub renaming_of : Pairs → Renaming
+renaming_of pairs = record { sorts = map new_sort (listed pairs.sorts); operations = map new_operation (listed pairs.operations) }
+
+-- the first of the new names of a sort
+abbrev pub for_sort : List NewSort → List ℕ → Option NewSort
+for_sort news name = find (λ n. bytes_eq n.old name) news
 
 -- the image of a sort's name
-abbrev pub sort_image : List SortPair → List ℕ → List ℕ
-sort_image pairs name = unwrap_or (option_map (λ p. small p.new) (sort_pair pairs name)) name
+abbrev pub sort_image : List NewSort → List ℕ → List ℕ
+sort_image news name = unwrap_or (option_map (λ n. n.new) (for_sort news name)) name
 
--- whether a pair names the operation
-abbrev pub names_item : Item → OperationPair → Bool
-names_item x p = is_same_kind (kind_of p.old) x.kind && bytes_eq (small (name_of p.old)) x.name
+-- sorts have their new names, in an operation too; its own name stays
+abbrev pub sorts_renamed : List NewSort → Item → Item
+sorts_renamed news x = record { kind = x.kind; name = if is_sort x then sort_image news x.name else x.name; sorts = map (sort_image news) x.sorts }
 
--- the first pair that names the operation
-abbrev pub operation_pair : List OperationPair → Item → Option OperationPair
-operation_pair pairs x = find (names_item x) pairs
+-- whether the new name is for operations of this kind and name
+abbrev pub renames : Item → NewOperation → Bool
+renames x n = is_same_kind n.old_kind x.kind && bytes_eq n.old x.name
 
--- sorts have the new names that the pairs give, in an operation too; its own name stays
-abbrev pub sorts_renamed : List SortPair → Item → Item
-sorts_renamed pairs x = record { kind = x.kind; name = if is_sort x then sort_image pairs x.name else x.name; sorts = map (sort_image pairs) x.sorts }
+-- the first of the new names of an operation
+abbrev pub for_operation : List NewOperation → Item → Option NewOperation
+for_operation news x = find (renames x) news
 
--- the operation with the new name of a pair, if there is one
-abbrev pub named_by : Option OperationPair → Item → Item
+-- the operation with its new name, if it has one
+abbrev pub named_by : Option NewOperation → Item → Item
 named_by None x = x
-named_by (Some p) x = record { kind = kind_of p.new; name = small (name_of p.new); sorts = x.sorts }
+named_by (Some n) x = record { kind = n.new_kind; name = n.new; sorts = x.sorts }
 
-abbrev pub image_by : List SortPair → List OperationPair → Item → Item
-image_by sorts operations x = named_by (operation_pair operations x) (sorts_renamed sorts x)
-
--- the image of an item under pairs of names
-abbrev pub image : Pairs → Item → Item
-image pairs x = image_by (listed pairs.sorts) (listed pairs.operations) x
+-- the image of an item
+abbrev pub image : Renaming → Item → Item
+image renaming x = named_by (for_operation renaming.operations x) (sorts_renamed renaming.sorts x)
 
 -- whether a formal item has the kind and the name of this one
 abbrev pub has_formal_name : List Item → Item → Bool
-has_formal_name formals x = list_any (λ y. has_same_name y x) formals
+has_formal_name formals x = list_any (has_same_name x) formals
 
--- the pairs of operations that rename an item that isn't formal, where the formal ones are replaced: none where one of its name is formal, since then the pairs replace that one
-abbrev pub renaming_pairs : List Item → Pairs → Item → List OperationPair
-renaming_pairs formals pairs x = if has_formal_name formals x then [] else listed pairs.operations
+-- the new names of an item that isn't formal, where the formal ones are replaced. A new name of an operation that is formal with some
+-- sorts replaces that one alone; with other sorts it keeps its name
+abbrev pub kept_renaming : List Item → Renaming → Item → Renaming
+kept_renaming formals renaming x = if has_formal_name formals x then record { sorts = renaming.sorts; operations = [] } else renaming
 
 -- the image of an item that isn't formal, where the formal ones are replaced
-abbrev pub kept_image : List Item → Pairs → Item → Item
-kept_image formals pairs x = image_by (listed pairs.sorts) (renaming_pairs formals pairs x) x
+abbrev pub kept_image : List Item → Renaming → Item → Item
+kept_image formals renaming x = image (kept_renaming formals renaming x) x
 
--- the spelling of an image: that of the pair which renames it, or that of what is copied
-abbrev pub spelling : List SortPair → List OperationPair → Described → List ℕ
-spelling sorts operations d =
-    if is_sort d.item then unwrap_or (option_map (λ p. p.new.text) (sort_pair sorts d.item.name)) d.spelled
-    else unwrap_or (option_map (λ p. (name_of p.new).text) (operation_pair operations d.item)) d.spelled
+-- how the image of an item is written: as its new name, or as what is copied
+abbrev pub spelling : Renaming → Described → List ℕ
+spelling renaming d =
+    if is_sort d.item then unwrap_or (option_map (λ n. n.spelled) (for_sort renaming.sorts d.item.name)) d.spelled
+    else unwrap_or (option_map (λ n. n.spelled) (for_operation renaming.operations d.item)) d.spelled
 
 -- a copy has the mark and the place of what it copies
-abbrev pub described_image : List SortPair → List OperationPair → Described → Described
-described_image sorts operations d = record { item = image_by sorts operations d.item; spelled = spelling sorts operations d; marked = d.marked; place = d.place }
+abbrev pub described_image : Renaming → Described → Described
+described_image renaming d = record { item = image renaming d.item; spelled = spelling renaming d; marked = d.marked; place = d.place }

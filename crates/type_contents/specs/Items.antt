@@ -27,20 +27,20 @@ is_same_kind Prefix Prefix = true
 is_same_kind Infix Infix = true
 is_same_kind _ _ = false
 
--- whether two items are one
-abbrev pub is_same_item : Item → Item → Bool
-is_same_item a b = is_same_kind a.kind b.kind && bytes_eq a.name b.name && pointwise bytes_eq a.sorts b.sorts
-
 -- whether they have one kind and one name, whatever their sorts
 abbrev pub has_same_name : Item → Item → Bool
 has_same_name a b = is_same_kind a.kind b.kind && bytes_eq a.name b.name
+
+-- whether two items are one
+abbrev pub is_same_item : Item → Item → Bool
+is_same_item a b = has_same_name a b && pointwise bytes_eq a.sorts b.sorts
 
 abbrev pub is_sort : Item → Bool
 is_sort x = is_same_kind x.kind ItemKind.Sort
 
 -- whether the item is among these
 abbrev pub is_in : List Item → Item → Bool
-is_in all x = list_any (λ y. is_same_item y x) all
+is_in all x = list_any (is_same_item x) all
 
 -- the union of these items, each once
 abbrev pub union : List Item → List Item

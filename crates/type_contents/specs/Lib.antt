@@ -7,3 +7,4 @@ pub mod Numbering
 pub mod Own
 pub mod Rounds
 pub mod Uses
+pub mod Views

@@ -10,7 +10,7 @@ listed (Some all) = all.items
 
 -- these and one more, unless one that is the same is there
 abbrev pub with_one : {A : Type 0} → (A → A → Bool) → List A → A → List A
-with_one same all x = if list_any (λ y. same y x) all then all else all ++ x ∷ []
+with_one same all x = if list_any (same x) all then all else all ++ x ∷ []
 
 -- each once: the first stands for all that are the same
 abbrev pub each_once : {A : Type 0} → (A → A → Bool) → List A → List A

@@ -1,4 +1,8 @@
 // What each of a list of types has: its sorts and operations, and their numbers.
 #![tactic(auto)]
 
+pub mod images;
+pub mod item;
 pub mod item_kind;
+pub mod item_table;
+pub mod own;
