@@ -1,5 +1,5 @@
 -- Names that are declared twice.
-use Rattle.std.specs.Prelude.{List, [], ◌∷◌, ◌++◌, Bool, Option, Some, None, if◌then◌else◌}
+use Rattle.std.specs.Prelude.{List, [], ◌∷◌, ◌++◌, Option, Some, None, if◌then◌else◌}
 use Rattle.std.specs.List.{list_any, flat_map}
 use Rattle.std.specs.Str.{bytes_eq}
 use Rattle.lotos_ast.specs.declared.token.Token.{Token}
@@ -11,7 +11,6 @@ use Rattle.lotos_ast.specs.declared.types.TypeBody.{TypeBody}
 use Rattle.lotos_ast.specs.declared.types.TypeBody.TheVariants.{Declared, Renamed, Actualized}
 use Rattle.lotos_ast.specs.declared.types.EquationBody.{EquationBody}
 use Rattle.lotos_ast.specs.declared.types.EquationPart.{EquationPart}
-use Rattle.lotos_ast.specs.declared.types.SortEquations.{SortEquations}
 use Rattle.lotos_ast.specs.declared.types.ForAll.{ForAll}
 use Rattle.type_contents.specs.Items.{Described, small, is_same_item}
 use Rattle.type_contents.specs.Own.{own_items}

@@ -61,6 +61,7 @@ fn all_links(alloc: Global, types: &[TypeDef]) -> Result<Vec<Numbers>, Memory>
 }
 
 // Adds the name of the type of this number, if there is one.
+#[tactic(auto, using(crate::proofs::Lists::got, crate::proofs::Lists::past_end))]
 fn add_name_at<'a>(
     all: &mut Vec<&'a Token>,
     types: &'a [TypeDef],
@@ -68,9 +69,10 @@ fn add_name_at<'a>(
 ) -> Result<(), Memory>
     ensures { OnOk result (map (λ t. t.now) all.new.items ≡ map (λ t. t.now) all.old.items ++ name_at types.now number) }
 {
-    match types.get(number) {
-        None => Ok(()),
-        Some(definition) => add_type_name(all, definition),
+    if number < types.len() {
+        add_type_name(all, &types[number])
+    } else {
+        Ok(())
     }
 }
 
@@ -115,11 +117,7 @@ fn texts(alloc: Global, names: &[&Token]) -> Result<Vec<Name>, Memory>
 }
 
 // Refuses types of these names at the first of them, if there is one.
-fn add_refused(
-    alloc: Global,
-    names: &[&Token],
-    refusals: &mut Vec<Refusal>,
-) -> Result<(), Memory>
+fn add_refused(alloc: Global, names: &[&Token], refusals: &mut Vec<Refusal>) -> Result<(), Memory>
     ensures { OnOk result (refusals.new.items ≡ refusals.old.items ++ cycle_refused (map (λ t. t.now) names.now)) }
 {
     match names {
