@@ -1,6 +1,6 @@
 -- Pairs of a new name and an old one that can't be.
 use Rattle.std.specs.Prelude.{ℕ, Bool, ◌&&◌, ◌||◌, not, ◌==◌, List, [], ◌∷◌, ◌++◌, map, length, if◌then◌else◌}
-use Rattle.std.specs.List.{list_any, filter}
+use Rattle.std.specs.List.{list_any}
 use Rattle.std.specs.Str.{bytes_eq}
 use Rattle.lotos_ast.specs.declared.place.Place.{Place}
 use Rattle.lotos_ast.specs.declared.refusal.Refusal.{Refusal}
@@ -10,72 +10,70 @@ use Rattle.lotos_ast.specs.declared.types.SortPair.{SortPair}
 use Rattle.lotos_ast.specs.declared.types.OperationPair.{OperationPair}
 use Rattle.type_contents.specs.declared.item_kind.ItemKind.{ItemKind}
 use Rattle.type_contents.specs.Lists.{listed}
-use Rattle.type_contents.specs.Items.{Item, is_same_item, is_same_kind, is_in}
+use Rattle.type_contents.specs.Items.{is_same_item, is_same_kind, is_in}
 use Rattle.type_contents.specs.Own.{sort_item}
 use Rattle.type_contents.specs.Images.{NewSort, NewOperation, new_sort, new_operation, renames}
 use Rattle.type_names.specs.Refused.{refused, each_after}
-use Rattle.type_copies.specs.Copies.{Copy, kept_items, image_in, is_renamed_by}
+use Rattle.type_copies.specs.Copies.{Change, Copy, gets, gets_any}
 
 -- Sorts
 
--- the old sort isn't copied
-abbrev pub is_missing_sort : Copy → NewSort → Bool
-is_missing_sort copy n = not (is_in copy.items (sort_item n.old))
+-- the sort is copied
+abbrev pub has_sort : Copy → List ℕ → Bool
+has_sort copy name = list_any (λ c. is_same_item (sort_item name) c.item) copy.changes
 
-abbrev pub has_old_sort : NewSort → NewSort → Bool
-has_old_sort n m = bytes_eq m.old n.old
+abbrev pub has_old_sort : List ℕ → NewSort → Bool
+has_old_sort name m = bytes_eq m.old name
 
--- the old sort isn't replaced, so that it gets the new name
+-- the old sort gets the new name: it isn't replaced
 abbrev pub renames_sort : Copy → NewSort → Bool
 renames_sort copy n = not (is_in copy.replaced (sort_item n.old))
 
--- a sort gets the same new name by an earlier pair
-abbrev pub is_given_before : Copy → List NewSort → NewSort → Bool
-is_given_before copy before n = list_any (λ m. bytes_eq m.new n.new && renames_sort copy m) before
+-- a sort gets the same new name by another pair
+abbrev pub gives_same : Copy → NewSort → NewSort → Bool
+gives_same copy n m = bytes_eq m.new n.new && renames_sort copy m
 
 -- the new sort is copied, and no pair is for it
 abbrev pub is_kept_sort : Copy → NewSort → Bool
-is_kept_sort copy n = is_in copy.items (sort_item n.new) && not (list_any (λ m. bytes_eq m.old n.new) copy.renaming.sorts)
+is_kept_sort copy n = has_sort copy n.new && not (list_any (has_old_sort n.new) copy.renaming.sorts)
 
+-- a pair is bad with these before it: its old sort isn't copied, or has a pair before; or it gives its old sort a new name that another
+-- sort gets before, or that a sort without a pair has
 abbrev pub is_bad_sort : Copy → List NewSort → NewSort → Bool
 is_bad_sort copy before n =
-    is_missing_sort copy n || list_any (has_old_sort n) before
-    || (renames_sort copy n && (is_given_before copy before n || is_kept_sort copy n))
+    not (has_sort copy n.old) || list_any (has_old_sort n.old) before
+    || (renames_sort copy n && (list_any (gives_same copy n) before || is_kept_sort copy n))
 
 -- Operations
-
--- no operation of the old name is copied
-abbrev pub is_missing_operation : Copy → NewOperation → Bool
-is_missing_operation copy n = not (list_any (λ x. renames x n) copy.items)
 
 abbrev pub has_old_operation : NewOperation → NewOperation → Bool
 has_old_operation n m = is_same_kind m.old_kind n.old_kind && bytes_eq m.old n.old
 
--- the operations that get the new name
-abbrev pub renamed_by : Copy → NewOperation → List Item
-renamed_by copy n = filter (is_renamed_by copy (n ∷ [])) copy.items
+-- a name that stands between arguments is for an operation with another number of arguments than two
+abbrev pub is_misplaced : Copy → NewOperation → Change → Bool
+is_misplaced copy n c = is_same_kind n.new_kind ItemKind.Infix && not (length c.item.sorts == 3) && gets copy n c.item
 
--- an operation without two arguments gets a name that stands between arguments
-abbrev pub is_misplaced : Copy → NewOperation → Bool
-is_misplaced copy n = is_same_kind n.new_kind ItemKind.Infix && list_any (λ x. not (length x.sorts == 3)) (renamed_by copy n)
+-- an item gets a name by this pair or one before it, or gets other sorts and has no pair
+abbrev pub changes_before : Copy → List NewOperation → NewOperation → Change → Bool
+changes_before copy before n c =
+    gets copy n c.item || gets_any copy before c.item
+    || (not (gets_any copy copy.renaming.operations c.item) && not (is_same_item c.image c.item))
 
--- an item gets another name by this pair or an earlier one, or other sorts without a pair of its own
-abbrev pub changes_before : Copy → List NewOperation → NewOperation → Item → Bool
-changes_before copy before n y =
-    is_renamed_by copy (before ++ n ∷ []) y
-    || (not (is_renamed_by copy copy.renaming.operations y) && not (is_same_item (image_in copy y) y))
+-- another item that isn't replaced, and changes, becomes the same item
+abbrev pub is_clash : Copy → List NewOperation → NewOperation → Change → Change → Bool
+is_clash copy before n c d =
+    is_same_item c.image d.image && not (is_same_item c.item d.item) && not (is_in copy.replaced d.item) && changes_before copy before n d
 
--- another item that changes becomes the same as this one
-abbrev pub is_clash : Copy → List NewOperation → NewOperation → Item → Item → Bool
-is_clash copy before n x y = is_same_item (image_in copy x) (image_in copy y) && not (is_same_item x y) && changes_before copy before n y
+-- an operation that gets the new name becomes the same as another item
+abbrev pub has_clash : Copy → List NewOperation → NewOperation → Change → Bool
+has_clash copy before n c = gets copy n c.item && list_any (is_clash copy before n c) copy.changes
 
-abbrev pub has_clash : Copy → List NewOperation → NewOperation → Item → Bool
-has_clash copy before n x = list_any (is_clash copy before n x) (kept_items copy)
-
+-- a pair is bad with these before it: no operation of its old name is copied, or the old name has a pair before; or its new name can't
+-- stand with an operation that gets it, or makes two items one
 abbrev pub is_bad_operation : Copy → List NewOperation → NewOperation → Bool
 is_bad_operation copy before n =
-    is_missing_operation copy n || list_any (has_old_operation n) before
-    || is_misplaced copy n || list_any (has_clash copy before n) (renamed_by copy n)
+    not (list_any (λ c. renames c.item n) copy.changes) || list_any (has_old_operation n) before
+    || list_any (is_misplaced copy n) copy.changes || list_any (has_clash copy before n) copy.changes
 
 -- a bad pair is refused
 
