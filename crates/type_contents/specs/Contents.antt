@@ -1,6 +1,6 @@
 -- The contents of types: the sorts and operations that each type has (ISO 8807, ACT ONE).
-use Rattle.std.specs.Prelude.{not, List, [], ◌++◌, map}
-use Rattle.std.specs.List.{flat_map, filter, slice_index_or}
+use Rattle.std.specs.Prelude.{List, [], ◌∷◌, ◌++◌, map, if◌then◌else◌}
+use Rattle.std.specs.List.{flat_map, slice_index_or}
 use Rattle.lotos_ast.specs.declared.token.Token.{Token}
 use Rattle.lotos_ast.specs.declared.types.TypeDef.{TypeDef}
 use Rattle.lotos_ast.specs.declared.types.TypeDef.TheVariants.{Library, Definition}
@@ -31,9 +31,12 @@ items_of types table name = (content_of types table name).items
 abbrev pub formals_of : List TypeDef → List Content → Token → List Item
 formals_of types table name = (content_of types table name).formals
 
--- what is copied where the formal items are replaced: the images of the others
+-- what is kept of an item where the formal ones are replaced: its image, unless it is formal
+abbrev pub kept_one : List Item → Renaming → Item → List Item
+kept_one formals renaming x = if is_in formals x then [] else kept_image formals renaming x ∷ []
+
 abbrev pub kept : Content → Renaming → List Item
-kept base renaming = map (kept_image base.formals renaming) (filter (λ x. not (is_in base.formals x)) base.items)
+kept base renaming = flat_map (kept_one base.formals renaming) base.items
 
 -- all that a type has by how it is made: its own and what its imports have; the images of what it copies; or, where formal items are
 -- replaced, what the actual types have, and the images of what isn't formal. The image of a formal item is among what the actual types have

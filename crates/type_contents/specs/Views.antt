@@ -1,5 +1,5 @@
 -- What the definitions see of the values of the code.
-use Rattle.std.specs.Prelude.{ℕ, ◌<◌, List, [], map, string_bytes}
+use Rattle.std.specs.Prelude.{ℕ, ◌<◌, List, [], ◌++◌, Option, Some, None, Vec, map, string_bytes}
 use Rattle.std.specs.List.{slice_index_or, AllByRecursion}
 use Rattle.type_contents.specs.declared.item.Item.{Item}
 use Rattle.type_contents.specs.declared.own.Declared.{Declared}
@@ -9,6 +9,13 @@ use Rattle.type_contents.specs.declared.images.Renaming.{Renaming}
 use Rattle.type_contents.specs.Items as items
 use Rattle.type_contents.specs.Own.{sort_item}
 use Rattle.type_contents.specs.Images as images
+use Rattle.type_contents.specs.Uses.{number_of}
+use Rattle.type_contents.specs.Contents.{Content, no_content}
+use Rattle.type_contents.specs.declared.numbers.Numbers.{Numbers}
+use Rattle.type_contents.specs.declared.parts.Parts.{Parts}
+use Rattle.lotos_ast.specs.declared.token.Token.{Token}
+use Rattle.lotos_ast.specs.declared.types.TypeDef.{TypeDef}
+use Rattle.std.specs.declared.alloc.Global.{Global}
 
 abbrev pub item_of : Item → items.Item
 item_of x = record { kind = x.kind; name = string_bytes x.name; sorts = map (λ s. string_bytes s) x.sorts.items }
@@ -41,3 +48,40 @@ items_at table numbers = map (λ n. slice_index_or table n no_item) numbers
 -- whether numbers are less than this one
 abbrev pub AreWithin : ℕ → List ℕ → Type 0
 AreWithin bound numbers = AllByRecursion (λ n. n < bound) numbers
+
+-- what a type has, by numbers in a table
+
+abbrev pub content_at : List items.Item → Numbers → Content
+content_at table n = record { items = items_at table n.items.items; formals = items_at table n.formals.items }
+
+-- nothing where it isn't made yet
+abbrev pub made_at : List items.Item → Option Numbers → Content
+made_at table None = no_content
+made_at table (Some n) = content_at table n
+
+abbrev pub made_items : Option Numbers → List ℕ
+made_items None = []
+made_items (Some n) = n.items.items
+
+abbrev pub made_formals : Option Numbers → List ℕ
+made_formals None = []
+made_formals (Some n) = n.formals.items
+
+abbrev pub numbers_of_items : List TypeDef → List (Option Numbers) → Token → List ℕ
+numbers_of_items types made name = made_items (slice_index_or made (number_of types name) None)
+
+abbrev pub numbers_of_formals : List TypeDef → List (Option Numbers) → Token → List ℕ
+numbers_of_formals types made name = made_formals (slice_index_or made (number_of types name) None)
+
+abbrev pub IsMadeWithin : ℕ → Option Numbers → Type 0
+IsMadeWithin bound m = AreWithin bound (made_items m) × AreWithin bound (made_formals m)
+
+abbrev pub AreMadeWithin : ℕ → List (Option Numbers) → Type 0
+AreMadeWithin bound made = AllByRecursion (IsMadeWithin bound) made
+
+-- items of a table, and further items
+abbrev pub gathered : List items.Item → Vec ℕ Global → Vec Item Global → List items.Item
+gathered table numbers more = items_at table numbers.items ++ map item_of more.items
+
+abbrev pub ArePartsWithin : ℕ → Parts → Type 0
+ArePartsWithin bound p = AreWithin bound p.items.items × AreWithin bound p.formals.items

@@ -1,12 +1,13 @@
 // Images of items under new names.
 
-ghost use Rattle.std.specs.Prelude.{◌≡◌, IfOk, map, string_bytes, option_map, Some};
+ghost use Rattle.std.specs.Prelude.{◌≡◌, IfOk, length, map, string_bytes, option_map};
 ghost use Rattle.type_contents.specs.Images as images;
 ghost use Rattle.type_contents.specs.Lists.{listed};
-ghost use Rattle.type_contents.specs.Views.{item_of, new_sort_of, new_operation_of, renaming_view};
+ghost use Rattle.type_contents.specs.Views.{item_of, new_sort_of, new_operation_of, renaming_view, items_at, AreWithin};
 
 use crate::item::{Item, small};
 use crate::item_kind::ItemKind;
+use crate::item_table::ItemTable;
 use crate::own::{kind_of, name_of};
 use lotos_ast::token::Token;
 use lotos_ast::types::{OperationPair, Pairs, SortPair};
@@ -234,4 +235,35 @@ pub fn image(alloc: Global, renaming: &Renaming<'_>, item: &Item) -> Result<Item
         for_operation(&renaming.operations, item),
         sorts_renamed(alloc, &renaming.sorts, item)?,
     )
+}
+
+/// Whether a formal item has the kind and the name of this one. It takes no memory.
+pub fn has_formal_name(table: &ItemTable, formals: &[usize], item: &Item) -> bool
+    requires { AreWithin (length table.now) formals.now }
+    ensures { result ≡ images.has_formal_name (items_at table.now formals.now) (item_of item.now) }
+{
+    match formals {
+        [] => false,
+        [first, others @ ..] => {
+            item.has_same_name(table.item(*first)) || has_formal_name(table, others, item)
+        }
+    }
+}
+
+/// The image of an item that isn't formal, where the formal ones are replaced.
+pub fn kept_image(
+    alloc: Global,
+    table: &ItemTable,
+    formals: &[usize],
+    renaming: &Renaming<'_>,
+    item: &Item,
+) -> Result<Item, Memory>
+    requires { AreWithin (length table.now) formals.now }
+    ensures { IfOk result (λ x. item_of x ≡ images.kept_image (items_at table.now formals.now) (renaming_view renaming.now) (item_of item.now)) }
+{
+    if has_formal_name(table, formals, item) {
+        sorts_renamed(alloc, &renaming.sorts, item)
+    } else {
+        image(alloc, renaming, item)
+    }
 }

@@ -1,7 +1,10 @@
 // Items, each with a number.
 
-ghost use Rattle.std.specs.Prelude.{◌≡◌, List, Some, IfOk, length, take, map, ◌<◌, ◌≤◌, slice_get};
-ghost use Rattle.type_contents.specs.Views.{item_of, items_at, AreWithin};
+ghost use Rattle.std.specs.Prelude.{◌≡◌, List, Some, IfOk, length, take, map, ◌<◌, ◌≤◌, slice_get, slice_index_or, nat_eq};
+ghost use Rattle.std.specs.List.{list_any};
+ghost use Rattle.type_contents.specs.Lists.{each_once};
+ghost use Rattle.type_contents.specs.Items.{union, is_in};
+ghost use Rattle.type_contents.specs.Views.{item_of, items_at, no_item, AreWithin};
 
 use crate::item::Item;
 use indexmap::IndexSet;
@@ -49,5 +52,62 @@ impl ItemTable {
             all.push(self.number(item)?)?;
         }
         Ok(all)
+    }
+
+    /// How many items there are. It takes no memory.
+    pub fn len(&self) -> usize
+        ensures { result ≡ length self.now }
+    {
+        self.items.len()
+    }
+
+    /// The item of a number. It takes no memory.
+    pub fn item(&self, number: usize) -> &Item
+        requires { number < length self.now }
+        ensures { item_of result.now ≡ slice_index_or self.now number no_item }
+    {
+        &self.items.as_slice()[number]
+    }
+
+    /// The union of items, each once.
+    pub fn union(&self, alloc: Global, numbers: &[usize]) -> Result<Vec<usize>, Memory>
+        requires { AreWithin (length self.now) numbers.now }
+        ensures items { IfOk result (λ all. items_at self.now all.items ≡ union (items_at self.now numbers.now)) }
+        ensures within { IfOk result (λ all. AreWithin (length self.now) all.items) }
+    {
+        let _ = &self.items;
+        let all = each_once(alloc, numbers)?;
+        Ok(all)
+    }
+
+    /// Whether the item of a number is among others. It takes no memory.
+    pub fn is_in(&self, numbers: &[usize], number: usize) -> bool
+        requires within { AreWithin (length self.now) numbers.now }
+        requires number { number < length self.now }
+        ensures { result ≡ is_in (items_at self.now numbers.now) (slice_index_or self.now number no_item) }
+    {
+        let _ = &self.items;
+        is_among(numbers, number)
+    }
+}
+
+// Numbers, each once.
+fn each_once(alloc: Global, numbers: &[usize]) -> Result<Vec<usize>, Memory>
+    ensures { IfOk result (λ all. all.items ≡ each_once nat_eq numbers.now) }
+{
+    let mut found = IndexSet::new(alloc);
+    for number in numbers {
+        found.insert(*number)?;
+    }
+    Ok(Vec::from_slice(alloc, found.as_slice())?)
+}
+
+// Whether a number is among others.
+fn is_among(numbers: &[usize], number: usize) -> bool
+    ensures { result ≡ list_any (nat_eq number) numbers.now }
+{
+    match numbers {
+        [] => false,
+        [first, others @ ..] => number == *first || is_among(others, number),
     }
 }

@@ -5,4 +5,6 @@ pub mod images;
 pub mod item;
 pub mod item_kind;
 pub mod item_table;
+pub mod numbers;
 pub mod own;
+pub mod parts;
