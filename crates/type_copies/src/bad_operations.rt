@@ -54,11 +54,7 @@ fn is_misplaced(copy: &TypeCopy<'_>, new: &NewOperation<'_>, change: &Change<'_>
 }
 
 // Whether one of these does.
-fn is_any_misplaced(
-    copy: &TypeCopy<'_>,
-    new: &NewOperation<'_>,
-    changes: &[Change<'_>],
-) -> bool
+fn is_any_misplaced(copy: &TypeCopy<'_>, new: &NewOperation<'_>, changes: &[Change<'_>]) -> bool
     ensures { result ≡ list_any (bad.is_misplaced (copy_view copy.now) (new_operation_of new.now)) (map change_of changes.now) }
 {
     match changes {

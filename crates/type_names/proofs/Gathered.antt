@@ -27,3 +27,10 @@ refused_next f g h now then xs i x within at before more =
     more ∙ ap (λ z. z ++ f (g x)) before ∙ append_assoc h (flat_map f (map g (take i xs))) (f (g x))
     ∙ ap (λ z. h ++ z) (sym (ap (λ zs. flat_map f (map g zs)) (take_next xs i x within at) ∙ ap (flat_map f) (map-append g (take i xs) (x ∷ []))
     ∙ flat_map-append f (map g (take i xs)) (g x ∷ []) ∙ ap (λ z. flat_map f (map g (take i xs)) ++ z) (append-nil (f (g x)))))
+
+-- the same of the elements themselves
+pub each_after_more : {A : Type 0} (f : List A → A → List Refusal) (h now then : List Refusal) (xs : List A) (i : ℕ) (x : A) → i < length xs → x ≡ get_or xs i x → now ≡ h ++ each_after f [] (take i xs) → then ≡ now ++ f (take i xs) x → then ≡ h ++ each_after f [] (take (i + 1) xs)
+each_after_more f h now then xs i x within at before more =
+    more ∙ ap (λ z. z ++ f (take i xs) x) before ∙ append_assoc h (each_after f [] (take i xs)) (f (take i xs) x)
+    ∙ ap (λ z. h ++ z) (sym (ap (each_after f []) (take_next xs i x within at)
+    ∙ each_after_append f [] (take i xs) (x ∷ []) ∙ ap (λ z. each_after f [] (take i xs) ++ z) (append-nil (f (take i xs) x))))
