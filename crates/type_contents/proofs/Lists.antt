@@ -2,6 +2,7 @@
 use Rattle.std.proofs.Common.{◌≡◌, ◌∙◌, refl, sym, ap, subst, List, [], ◌∷◌, ◌++◌, ℕ, zero, suc, ◌+◌, ◌<◌, ◌≤◌, length, map, take, get_or, arith, Bool, false}
 use Rattle.std.specs.List.{position_or_len, flat_map, AllByRecursion}
 use Rattle.std.proofs.lemmas.List.{map-append, take_more, append-nil}
+use Rattle.std.proofs.Common.{append_assoc}
 use Rattle.std.proofs.lemmas.Grind.{flat_map-append}
 
 -- no element passes a test
@@ -37,3 +38,9 @@ pub joined_next : {A C : Type 0} (f : A → List C) (now then : List C) (xs : Li
 joined_next f now then xs i x within at before more =
     more ∙ ap (λ zs. zs ++ f x) before
     ∙ sym (ap (flat_map f) (take_next xs i x within at) ∙ flat_map-append f (take i xs) (x ∷ []) ∙ ap (λ z. flat_map f (take i xs) ++ z) (append-nil (f x)))
+
+-- one more element behind others
+pub appended_next : {A C : Type 0} (f : A → C) (h now then : List C) (xs : List A) (i : ℕ) (x : A) → i < length xs → x ≡ get_or xs i x → now ≡ h ++ map f (take i xs) → then ≡ now ++ f x ∷ [] → then ≡ h ++ map f (take (i + 1) xs)
+appended_next f h now then xs i x within at before more =
+    more ∙ ap (λ zs. zs ++ f x ∷ []) before ∙ append_assoc h (map f (take i xs)) (f x ∷ [])
+    ∙ ap (λ z. h ++ z) (sym (ap (map f) (take_next xs i x within at) ∙ map-append f (take i xs) (x ∷ [])))

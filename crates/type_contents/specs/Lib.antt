@@ -6,5 +6,6 @@ pub mod Lists
 pub mod Numbering
 pub mod Own
 pub mod Rounds
+pub mod Settled
 pub mod Uses
 pub mod Views

@@ -1,5 +1,5 @@
 -- What the definitions see of the values of the code.
-use Rattle.std.specs.Prelude.{ℕ, ◌<◌, List, [], ◌++◌, Option, Some, None, Vec, map, string_bytes}
+use Rattle.std.specs.Prelude.{ℕ, ◌<◌, List, [], ◌++◌, Option, Some, None, option_map, Vec, map, string_bytes}
 use Rattle.std.specs.List.{slice_index_or, AllByRecursion}
 use Rattle.type_contents.specs.declared.item.Item.{Item}
 use Rattle.type_contents.specs.declared.own.Declared.{Declared}
@@ -10,7 +10,8 @@ use Rattle.type_contents.specs.Items as items
 use Rattle.type_contents.specs.Own.{sort_item}
 use Rattle.type_contents.specs.Images as images
 use Rattle.type_contents.specs.Uses.{number_of}
-use Rattle.type_contents.specs.Contents.{Content, no_content}
+use Rattle.type_contents.specs.Contents.{Content, no_content, made_from}
+use Rattle.type_contents.specs.Settled.{IsSettled}
 use Rattle.type_contents.specs.declared.numbers.Numbers.{Numbers}
 use Rattle.type_contents.specs.declared.parts.Parts.{Parts}
 use Rattle.lotos_ast.specs.declared.token.Token.{Token}
@@ -85,3 +86,7 @@ gathered table numbers more = items_at table numbers.items ++ map item_of more.i
 
 abbrev pub ArePartsWithin : ℕ → Parts → Type 0
 ArePartsWithin bound p = AreWithin bound p.items.items × AreWithin bound p.formals.items
+
+-- what has been made is what each round from the n-th on makes
+abbrev pub AreSettled : List TypeDef → List items.Item → List (Option Numbers) → ℕ → Type 0
+AreSettled types table made n = IsSettled no_content (made_from types) types (map (option_map (content_at table)) made) n

@@ -1,6 +1,6 @@
 // Items, each with a number.
 
-ghost use Rattle.std.specs.Prelude.{◌≡◌, List, Some, IfOk, length, take, map, ◌<◌, ◌≤◌, slice_get, slice_index_or, nat_eq};
+ghost use Rattle.std.specs.Prelude.{◌≡◌, List, [], Some, IfOk, length, take, map, ◌<◌, ◌≤◌, slice_get, slice_index_or, nat_eq};
 ghost use Rattle.std.specs.List.{list_any};
 ghost use Rattle.type_contents.specs.Lists.{each_once};
 ghost use Rattle.type_contents.specs.Items.{union, is_in};
@@ -32,6 +32,15 @@ impl Model for ItemTable {
 }
 
 impl ItemTable {
+    /// No items. It takes no memory.
+    pub fn new(alloc: Global) -> ItemTable
+        ensures { result ≡ [] }
+    {
+        ItemTable {
+            items: IndexSet::new(alloc),
+        }
+    }
+
     /// The number of an item, which comes last where it isn't there.
     fn number(&mut self, item: Item) -> Result<usize, Memory>
         ensures kept { take (length self.old) self.new ≡ self.old }

@@ -1,6 +1,7 @@
 // What each of a list of types has: its sorts and operations, and their numbers.
 #![tactic(auto)]
 
+pub mod contents;
 pub mod images;
 pub mod item;
 pub mod item_kind;
@@ -8,3 +9,4 @@ pub mod item_table;
 pub mod numbers;
 pub mod own;
 pub mod parts;
+pub mod schedule;
