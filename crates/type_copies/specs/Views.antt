@@ -16,7 +16,7 @@ abbrev pub change_of : Change → copies.Change
 change_of c = record { item = item_at c.item; image = item_of c.image }
 
 abbrev pub copy_view : TypeCopy → copies.Copy
-copy_view c = record { changes = map change_of c.changes.items; replaced = map item_at c.replaced.items; renaming = renaming_view c.renaming.now }
+copy_view c = record { changes = map change_of c.changes.items; replaced = map item_at c.replaced.items; renaming = renaming_view c.renaming }
 
 abbrev pub declared_at : Bor Declared → items.Described
 declared_at d = described_of d.now

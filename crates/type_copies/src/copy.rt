@@ -11,6 +11,7 @@ ghost use Rattle.type_contents.specs.Views.{item_of, items_at, no_item, AreWithi
 ghost use Rattle.type_copies.specs.Copies as copies;
 ghost use Rattle.type_copies.specs.Views.{item_at, change_of, copy_view};
 
+use lotos_ast::types::Pairs;
 use spec_core::memory::Memory;
 use std::alloc::Global;
 use type_contents::images::{NewOperation, Renaming, kept_image};
@@ -35,7 +36,7 @@ pub struct TypeCopy<'a> {
     /// Those that are replaced by items of other types, and so get no new name.
     pub replaced: Vec<&'a Item>,
     /// The new names.
-    pub renaming: &'a Renaming<'a>,
+    pub renaming: Renaming<'a>,
 }
 
 /// Items by their numbers in a table.
@@ -92,20 +93,21 @@ fn changes<'a>(
     Ok(all)
 }
 
-/// A copy of these items, of which some are replaced, under new names.
+/// A copy of these items, of which some are replaced, under the new names that pairs give.
 pub fn copy_of<'a>(
     alloc: Global,
     table: &'a ItemTable,
     items: &[usize],
     replaced: &[usize],
-    renaming: &'a Renaming<'a>,
+    pairs: &'a Pairs,
 ) -> Result<TypeCopy<'a>, Memory>
     requires items { AreWithin (length table.now) items.now }
     requires replaced { AreWithin (length table.now) replaced.now }
-    ensures { IfOk result (λ c. copy_view c ≡ copies.copy (items_at table.now items.now) (items_at table.now replaced.now) (renaming_view renaming.now)) }
+    ensures { IfOk result (λ c. copy_view c ≡ copies.copy (items_at table.now items.now) (items_at table.now replaced.now) (images.renaming_of pairs.now)) }
 {
+    let renaming = Renaming::of(alloc, pairs)?;
     Ok(TypeCopy {
-        changes: changes(alloc, table, replaced, renaming, items)?,
+        changes: changes(alloc, table, replaced, &renaming, items)?,
         replaced: items_at(alloc, table, replaced)?,
         renaming,
     })
