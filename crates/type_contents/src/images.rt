@@ -49,8 +49,8 @@ pub struct Renaming<'a> {
     pub operations: Vec<NewOperation<'a>>,
 }
 
-// What a pair of sorts says.
-fn new_sort<'a>(alloc: Global, pair: &'a SortPair) -> Result<NewSort<'a>, Memory>
+/// What a pair of sorts says.
+pub fn new_sort<'a>(alloc: Global, pair: &'a SortPair) -> Result<NewSort<'a>, Memory>
     ensures { IfOk result (λ n. new_sort_of n ≡ images.new_sort pair.now) }
 {
     Ok(NewSort {
@@ -71,8 +71,8 @@ fn new_sorts<'a>(alloc: Global, pairs: &'a [SortPair]) -> Result<Vec<NewSort<'a>
     Ok(all)
 }
 
-// What a pair of operations says.
-fn new_operation<'a>(alloc: Global, pair: &'a OperationPair) -> Result<NewOperation<'a>, Memory>
+/// What a pair of operations says.
+pub fn new_operation<'a>(alloc: Global, pair: &'a OperationPair) -> Result<NewOperation<'a>, Memory>
     ensures { IfOk result (λ n. new_operation_of n ≡ images.new_operation pair.now) }
 {
     Ok(NewOperation {
