@@ -99,3 +99,14 @@ within_both t u ns ms e h k = within_joined (length u) ns ms (within_more (lengt
 -- what was made before the table grew
 pub made_before : (t u : List Item) (ns : List ℕ) (xs : List Item) → take (length t) u ≡ t → AreWithin (length t) ns → items_at t ns ≡ xs → items_at u ns ≡ xs
 made_before t u ns xs e h f = items_stay t u ns e h ∙ f
+
+-- of a type by its number
+
+pub items_numbered : (t : List Item) (made : List (Option Numbers)) (k : ℕ) → items_at t (made_items (slice_index_or made k None)) ≡ (slice_index_or (map (made_at t) made) k no_content).items
+items_numbered t made k = items_of_one t (slice_index_or made k None) ∙ ap (λ c. c.items) (sym (made_read t made k))
+
+pub formals_numbered : (t : List Item) (made : List (Option Numbers)) (k : ℕ) → items_at t (made_formals (slice_index_or made k None)) ≡ (slice_index_or (map (made_at t) made) k no_content).formals
+formals_numbered t made k = formals_of_one t (slice_index_or made k None) ∙ ap (λ c. c.formals) (sym (made_read t made k))
+
+pub numbered_within : (bound : ℕ) (made : List (Option Numbers)) (k : ℕ) → AreMadeWithin bound made → IsMadeWithin bound (slice_index_or made k None)
+numbered_within bound made k h = within_read bound made k h

@@ -5,10 +5,10 @@ ghost use Rattle.std.specs.List.{list_all};
 ghost use Rattle.type_contents.specs.Uses.{links};
 ghost use Rattle.type_contents.specs.Settled.{are_ready};
 ghost use Rattle.type_contents.specs.Contents as contents;
-ghost use Rattle.type_contents.specs.Views.{made_at, AreMadeWithin, AreSettled};
+ghost use Rattle.type_contents.specs.Views.{items_at, AreWithin, made_at, AreMadeWithin, AreSettled};
 
 use crate::item_table::ItemTable;
-use crate::numbers::Numbers;
+use crate::numbers::{Numbers, made_formals, made_items};
 use crate::parts::made_from;
 use crate::schedule::{Links, are_all_found, links_of, next_ready};
 use lotos_ast::types::TypeDef;
@@ -33,6 +33,31 @@ impl Model for Contents {
     ghost view = { λ c. map (made_at c.table) c.made.items };
 
     ghost invariant = { λ c. AreMadeWithin (length c.table) c.made.items };
+}
+
+/// What one type has: numbers in a table of items.
+pub struct TypeContent<'c> {
+    /// The items of all types.
+    pub table: &'c ItemTable,
+    /// All that it has, each once.
+    pub items: &'c [usize],
+    /// What is left open in it, each once.
+    pub formals: &'c [usize],
+}
+
+impl Contents {
+    /// What the type of this number has; nothing where there is no such type. It takes no memory.
+    pub fn of_type(&self, number: usize) -> TypeContent<'_>
+        ensures items { items_at result.table.now result.items.now ≡ (slice_index_or self.now number contents.no_content).items }
+        ensures formals { items_at result.table.now result.formals.now ≡ (slice_index_or self.now number contents.no_content).formals }
+        ensures within { AreWithin (length result.table.now) result.items.now × AreWithin (length result.table.now) result.formals.now }
+    {
+        TypeContent {
+            table: &self.table,
+            items: made_items(&self.made, number),
+            formals: made_formals(&self.made, number),
+        }
+    }
 }
 
 // Nothing for each type.

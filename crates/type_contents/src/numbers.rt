@@ -55,8 +55,8 @@ pub fn number_of(types: &[TypeDef], name: &Token) -> usize
     types.len()
 }
 
-// The numbers of all that a type has; none where it isn't made yet.
-fn made_items(made: &[Option<Numbers>], number: usize) -> &[usize]
+/// The numbers of all that a type has; none where it isn't made yet. It takes no memory.
+pub fn made_items(made: &[Option<Numbers>], number: usize) -> &[usize]
     ensures { result.now ≡ made_items (slice_index_or made.now number None) }
 {
     if number < made.len() {
@@ -69,8 +69,8 @@ fn made_items(made: &[Option<Numbers>], number: usize) -> &[usize]
     }
 }
 
-// The numbers of what is left open in a type; none where it isn't made yet.
-fn made_formals(made: &[Option<Numbers>], number: usize) -> &[usize]
+/// The numbers of what is left open in a type; none where it isn't made yet. It takes no memory.
+pub fn made_formals(made: &[Option<Numbers>], number: usize) -> &[usize]
     ensures { result.now ≡ made_formals (slice_index_or made.now number None) }
 {
     if number < made.len() {
