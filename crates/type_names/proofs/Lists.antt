@@ -1,6 +1,6 @@
 -- Loops over lists: what one more element adds.
 use Rattle.std.proofs.Common.{ℕ, zero, suc, ◌≡◌, ◌<◌, ◌≤◌, ◌+◌, List, [], ◌∷◌, ◌++◌, length, map, take, get_or, arith, ap, sym, ◌∙◌, refl, Bool, true, false, ◌||◌, Some, None}
-use Rattle.std.specs.List.{list_any, position_or_len, slice_get}
+use Rattle.std.specs.List.{list_any, slice_get}
 use Rattle.std.proofs.lemmas.List.{take_more, map-append}
 use Rattle.std.proofs.lemmas.Option.{slice_get_read, slice_get_past}
 
@@ -16,14 +16,6 @@ any_at p f (y ∷ xs) (suc i) x within at passes = rw (← any_at p f xs i x (om
     or_true : (b : Bool) → true ≡ (b || true)
     or_true true = refl
     or_true false = refl
-
--- no element passes a test
-pub none_is : {A : Type 0} (p : A → Bool) (xs : List A) (i : ℕ) → length xs ≤ i → ((k : ℕ) (d : A) → k < i → p (get_or xs k d) ≡ false) → length xs ≡ position_or_len p xs
-none_is p [] i past none = refl
-none_is p (x ∷ xs) zero past none = absurd (omega arith)
-none_is p (x ∷ xs) (suc i) past none =
-    let h : length xs ≡ position_or_len p xs = none_is p xs i (omega arith) (λ k d h. none (suc k) d (omega arith)) in
-    rw (none 0 x (omega arith)) (omega (arith, h))
 
 pub mapped_next : {A B C : Type 0} (f : B → C) (g : A → B) (now then : List C) (xs : List A) (i : ℕ) (x : A) → i < length xs → x ≡ get_or xs i x → now ≡ map f (map g (take i xs)) → then ≡ now ++ f (g x) ∷ [] → then ≡ map f (map g (take (i + 1) xs))
 mapped_next f g now then xs i x within at before more =

@@ -6,7 +6,6 @@ ghost use Rattle.type_contents.specs.Uses.{number_of, links};
 ghost use Rattle.type_names.specs.TypeCycles.{name_at, cycle_refused, names_on, cycle_refusals};
 
 use crate::names::{add_type_name, add_uses};
-use crate::unknown::is_called;
 use lotos_ast::names::Names;
 use lotos_ast::refusal::{Refusal, RefusalKind};
 use lotos_ast::token::Token;
@@ -14,20 +13,9 @@ use lotos_ast::types::TypeDef;
 use spec_core::memory::Memory;
 use spec_core::name::Name;
 use std::alloc::Global;
+use type_contents::numbers::number_of;
 use type_cycles::cycle::first_cycle;
 use type_cycles::numbers::Numbers;
-
-// The number of the first type of this name; their number where there is none.
-fn number_of(types: &[TypeDef], name: &Token) -> usize
-    ensures { result ≡ number_of types.now name.now }
-{
-    for (number, definition) in types.iter().enumerate() {
-        if is_called(definition, name) {
-            return number;
-        }
-    }
-    types.len()
-}
 
 // The numbers of the types of these names.
 fn numbers_of(alloc: Global, types: &[TypeDef], names: &[&Token]) -> Result<Numbers, Memory>

@@ -7,13 +7,14 @@ ghost use Rattle.type_contents.specs.Items.{small};
 ghost use Rattle.type_names.specs.Refused.{each_after};
 ghost use Rattle.type_names.specs.DuplicateNames.{name_twice, names_twice, types_twice};
 
-use crate::names::{is_same_name, type_names};
+use crate::names::type_names;
 use crate::refused::refused;
 use lotos_ast::refusal::{Refusal, RefusalKind};
 use lotos_ast::token::Token;
 use lotos_ast::types::TypeDef;
 use spec_core::memory::Memory;
 use std::alloc::Global;
+use type_contents::numbers::is_same_name;
 
 // Whether one of these names is this one.
 fn is_among(before: &[&Token], name: &Token) -> bool

@@ -2,9 +2,7 @@
 
 ghost use Rattle.std.specs.Prelude.{◌≡◌, ◌++◌, ◌∷◌, [], IfOk, OnOk, map};
 ghost use Rattle.std.specs.List.{flat_map};
-ghost use Rattle.std.specs.Str.{bytes_eq};
-ghost use Rattle.type_contents.specs.Items.{small};
-ghost use Rattle.type_contents.specs.Uses.{is_called, uses, uses_by};
+ghost use Rattle.type_contents.specs.Uses.{uses, uses_by};
 ghost use Rattle.type_names.specs.TypeCycles.{type_name};
 ghost use Rattle.type_names.specs.UnknownTypes.{library_names};
 
@@ -12,13 +10,6 @@ use lotos_ast::token::Token;
 use lotos_ast::types::{TypeBody, TypeDef};
 use spec_core::memory::Memory;
 use std::alloc::Global;
-
-/// Whether two names are one: they are equal but for the case of their letters. It takes no memory.
-pub fn is_same_name(one: &Token, other: &Token) -> bool
-    ensures { result ≡ bytes_eq (small one.now) (small other.now) }
-{
-    one.text.as_str().eq_ignore_ascii_case(other.text.as_str())
-}
 
 /// Adds references to names.
 pub fn add_names<'a>(all: &mut Vec<&'a Token>, names: &'a [Token]) -> Result<(), Memory>

@@ -6,27 +6,14 @@ ghost use Rattle.type_contents.specs.Items.{small};
 ghost use Rattle.type_contents.specs.Uses.{is_called};
 ghost use Rattle.type_names.specs.UnknownTypes.{unknown_type, is_library_type, unknown_library, unknown_types};
 
-use crate::names::{all_library_names, all_uses, is_same_name};
+use crate::names::{all_library_names, all_uses};
 use crate::refused::refused;
 use lotos_ast::refusal::{Refusal, RefusalKind};
 use lotos_ast::token::Token;
 use lotos_ast::types::TypeDef;
 use spec_core::memory::Memory;
 use std::alloc::Global;
-
-/// Whether a type has this name. It takes no memory.
-pub fn is_called(definition: &TypeDef, name: &Token) -> bool
-    ensures { result ≡ is_called (small name.now) definition.now }
-{
-    match definition {
-        TypeDef::Library { place: _, names: _ } => false,
-        TypeDef::Definition {
-            place: _,
-            name: own,
-            body: _,
-        } => is_same_name(own, name),
-    }
-}
+use type_contents::numbers::{is_called, is_same_name};
 
 // Whether one of the types has this name.
 fn is_type(types: &[TypeDef], name: &Token) -> bool

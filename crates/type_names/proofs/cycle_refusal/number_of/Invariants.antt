@@ -1,8 +1,0 @@
-use Rattle.std.proofs.Common.{◌≡◌, ℕ, ◌<◌, get_or, false}
-use Rattle.lotos_ast.specs.declared.types.TypeDef.{TypeDef}
-use Rattle.type_contents.specs.Items.{small}
-use Rattle.type_contents.specs.Uses.{is_called}
-use Rattle.type_names.proofs.cycle_refusal.number_of.Given as goal
-
-abbrev pub invariant-loop-number : goal.invariant-loop-number
-invariant-loop-number l = (k : ℕ) (d : TypeDef) → k < l.number → is_called (small l.name) (get_or l.types k d) ≡ false
