@@ -1,5 +1,5 @@
 -- Formal items that no item of the actual types replaces.
-use Rattle.std.specs.Prelude.{ℕ, List, [], ◌∷◌, ◌++◌, option_map, unwrap_or, if◌then◌else◌, codes}
+use Rattle.std.specs.Prelude.{◌||◌, not, ℕ, List, [], ◌∷◌, ◌++◌, option_map, unwrap_or, if◌then◌else◌, codes}
 use Rattle.std.specs.List.{find, flat_map}
 use Rattle.std.specs.Str.{bytes_eq}
 use Rattle.lotos_ast.specs.declared.place.Place.{Place}
@@ -21,12 +21,12 @@ pair_place place pairs x =
 abbrev pub written : Described → List ℕ
 written d = if is_same_kind d.item.kind ItemKind.Infix then codes "_" ++ d.spelled ++ codes "_" else d.spelled
 
--- a formal item whose image isn't an item of the actual types is refused, at its pair or else at this place
-abbrev pub bad_actual : Place → Pairs → List Item → Described → List Refusal
-bad_actual place pairs actual d =
-    if is_in actual (image (renaming_of pairs) d.item) then []
+-- an item that is formal, and whose image isn't an item of the actual types, is refused, at its pair or else at this place
+abbrev pub bad_actual : Place → Pairs → List Item → List Item → Described → List Refusal
+bad_actual place pairs formals actual d =
+    if not (is_in formals d.item) || is_in actual (image (renaming_of pairs) d.item) then []
     else record { kind = RefusalKind.BadActual; place = pair_place place pairs d.item; names = written d ∷ [] } ∷ []
 
--- of these formal items
-abbrev pub bad_actuals : Place → Pairs → List Item → List Described → List Refusal
-bad_actuals place pairs actual formals = flat_map (bad_actual place pairs actual) formals
+-- in the order of these items
+abbrev pub bad_actuals : Place → Pairs → List Item → List Item → List Described → List Refusal
+bad_actuals place pairs formals actual all = flat_map (bad_actual place pairs formals actual) all

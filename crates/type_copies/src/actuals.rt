@@ -1,6 +1,6 @@
 // Refusals of formal items that no item of the actual types replaces.
 
-ghost use Rattle.std.specs.Prelude.{◌≡◌, ◌++◌, ◌∷◌, [], IfOk, OnOk, map, option_map, unwrap_or};
+ghost use Rattle.std.specs.Prelude.{◌≡◌, ◌++◌, ◌∷◌, ◌||◌, not, [], IfOk, OnOk, map, option_map, unwrap_or};
 ghost use Rattle.std.specs.List.{find, flat_map};
 ghost use Rattle.std.specs.Str.{bytes_eq};
 ghost use Rattle.type_contents.specs.Items.{small};
@@ -9,7 +9,7 @@ ghost use Rattle.type_contents.specs.Images as images;
 ghost use Rattle.type_contents.specs.Views.{item_of, described_of, renaming_view};
 ghost use Rattle.lotos_ast.specs.declared.refusal.RefusalKind.TheVariants.{BadActual};
 ghost use Rattle.type_copies.specs.BadActuals.{pair_place, written, bad_actual, bad_actuals};
-ghost use Rattle.type_copies.specs.Views.{item_at, declared_at};
+ghost use Rattle.type_copies.specs.Views.{item_at};
 
 use crate::copy::{is_in, renames};
 use lotos_ast::names::Names;
@@ -128,45 +128,56 @@ fn image_under(alloc: Global, pairs: &Pairs, item: &Item) -> Result<Item, Memory
     image(alloc, &renaming, item)
 }
 
-// Whether the image of an item is an item of the actual types.
-fn is_fitted(alloc: Global, pairs: &Pairs, actual: &[&Item], item: &Item) -> Result<bool, Memory>
-    ensures { IfOk result (λ is_fitted. is_fitted ≡ items.is_in (map item_at actual.now) (images.image (images.renaming_of pairs.now) (item_of item.now))) }
+// Whether an item isn't formal, or its image is an item of the actual types.
+fn is_fitted(
+    alloc: Global,
+    pairs: &Pairs,
+    formals: &[&Item],
+    actual: &[&Item],
+    item: &Item,
+) -> Result<bool, Memory>
+    ensures { IfOk result (λ is_fitted. is_fitted ≡ (not (items.is_in (map item_at formals.now) (item_of item.now)) || items.is_in (map item_at actual.now) (images.image (images.renaming_of pairs.now) (item_of item.now)))) }
 {
+    if !is_in(formals, item) {
+        return Ok(true);
+    }
     let replacement = image_under(alloc, pairs, item)?;
     Ok(is_in(actual, &replacement))
 }
 
-// Refuses a formal item whose image isn't an item of the actual types.
+// Refuses an item that is formal, and whose image isn't an item of the actual types.
 fn add_bad_actual(
     alloc: Global,
     place: Place,
     pairs: &Pairs,
+    formals: &[&Item],
     actual: &[&Item],
-    formal: &Declared<'_>,
+    declared: &Declared<'_>,
     refusals: &mut Vec<Refusal>,
 ) -> Result<(), Memory>
-    ensures { OnOk result (refusals.new.items ≡ refusals.old.items ++ bad_actual place pairs.now (map item_at actual.now) (described_of formal.now)) }
+    ensures { OnOk result (refusals.new.items ≡ refusals.old.items ++ bad_actual place pairs.now (map item_at formals.now) (map item_at actual.now) (described_of declared.now)) }
 {
-    if is_fitted(alloc, pairs, actual, &formal.item)? {
+    if is_fitted(alloc, pairs, formals, actual, &declared.item)? {
         Ok(())
     } else {
-        add_refused(alloc, place, pairs, formal, refusals)
+        add_refused(alloc, place, pairs, declared, refusals)
     }
 }
 
-/// Refuses those of the formal items whose images aren't items of the actual types, each at its pair or else at this place.
+/// Refuses those of all items that are formal, and whose images aren't items of the actual types, each at its pair or else at this place.
 pub fn add_bad_actuals(
     alloc: Global,
     place: Place,
     pairs: &Pairs,
+    formals: &[&Item],
     actual: &[&Item],
-    formals: &[&Declared<'_>],
+    all: &[Declared<'_>],
     refusals: &mut Vec<Refusal>,
 ) -> Result<(), Memory>
-    ensures { OnOk result (refusals.new.items ≡ refusals.old.items ++ bad_actuals place pairs.now (map item_at actual.now) (map declared_at formals.now)) }
+    ensures { OnOk result (refusals.new.items ≡ refusals.old.items ++ bad_actuals place pairs.now (map item_at formals.now) (map item_at actual.now) (map described_of all.now)) }
 {
-    for formal in formals {
-        add_bad_actual(alloc, place, pairs, actual, formal, refusals)?;
+    for declared in all {
+        add_bad_actual(alloc, place, pairs, formals, actual, declared, refusals)?;
     }
     Ok(())
 }
