@@ -1,5 +1,5 @@
 -- The first number of a range for which something is there.
-use Rattle.std.proofs.Common.{ℕ, zero, suc, ◌≡◌, ◌<◌, ◌≤◌, ◌+◌, ◌⊎◌, inl, inr, List, [], ◌∷◌, ◌++◌, length, map, arith, ap, sym, ◌∙◌, refl, Option, Some, None, true, false, below_more}
+use Rattle.std.proofs.Common.{ℕ, zero, suc, ◌≡◌, ◌<◌, ◌≤◌, ◌+◌, ◌⊎◌, inl, inr, List, [], ◌∷◌, ◌++◌, map, arith, ap, sym, ◌∙◌, refl, Option, Some, None, true, false, below_more}
 use Rattle.std.specs.Prelude.{is_some}
 use Rattle.std.specs.List.{range_with_len, Contains}
 use Rattle.std.specs.Option.{option_or}

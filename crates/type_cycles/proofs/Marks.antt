@@ -1,5 +1,5 @@
 -- Marks of types that end.
-use Rattle.std.proofs.Common.{ℕ, ◌≡◌, ◌≢◌, ◌<◌, ◌≤◌, ◌⊎◌, inl, inr, List, [], length, get_or, set, replicate, arith, ap, subst, sym, ◌∙◌, refl, Bool, true, false}
+use Rattle.std.proofs.Common.{ℕ, ◌≡◌, ◌≢◌, ◌<◌, ◌≤◌, ◌⊎◌, inl, inr, List, [], length, get_or, set, replicate, arith, ap, subst, sym, ◌∙◌, Bool, true, false}
 use Rattle.std.specs.List.{Contains}
 use Rattle.std.proofs.lemmas.List.{get_or_past, get_or-replicate, length-set, length-replicate, get_or-set_other}
 use Rattle.type_cycles.specs.Ends.{Ends, ends, is_marked, MarksEnds}

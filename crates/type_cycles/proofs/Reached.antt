@@ -1,9 +1,10 @@
 -- Ways between types.
-use Rattle.std.proofs.Common.{ℕ, zero, suc, ◌≡◌, ◌<◌, ◌≤◌, ◌+◌, List, [], ◌∷◌, length, map, get_or, arith, ap, sym, ◌∙◌, refl, Option, Some, None, Bool, true, false, nat_eq, ◌⊎◌, inl, inr, subst, eqb-eq}
+use Rattle.std.proofs.Common.{ℕ, zero, suc, ◌≡◌, ◌<◌, ◌≤◌, ◌+◌, List, [], ◌∷◌, length, map, arith, ap, sym, ◌∙◌, refl, Option, Some, None, Bool, true, false, nat_eq, ◌⊎◌, inl, inr, subst}
 use Rattle.std.specs.Prelude.{option_map, if◌then◌else◌, ◌==◌}
 use Rattle.std.specs.List.{range_with_len, slice_index_or, Contains}
 use Rattle.std.proofs.lemmas.List.FromFn.{get_or-map-range_with_len, length-map-range_with_len}
 use Rattle.std.proofs.lemmas.List.{get_or_past}
+use Rattle.std.proofs.lemmas.Grind.{common_steps}
 use Rattle.type_cycles.specs.Cycles.{first_some, way_from, ways_to, cycle_of}
 use Rattle.type_cycles.specs.Ends.{Ends, ends}
 use Rattle.type_cycles.proofs.Firsts.{first_is_none, first_of_none, found_in}
@@ -15,6 +16,9 @@ data Reaches (links : List (List ℕ)) : ℕ → ℕ → ℕ → Type 0 where
 
 within_or_past : (k n : ℕ) → (k < n) ⊎ (n ≤ k)
 within_or_past k n = grind arith
+
+same_number : (a b : ℕ) → nat_eq a b ≡ true → a ≡ b
+same_number a b h = grind (arith, common_steps)
 
 none_some : {B : Type 0} (b : B) → None ≡ Some b → ⊥
 none_some b e = cc
@@ -53,7 +57,7 @@ way_reaches : (links : List (List ℕ)) (to n k : ℕ) (way : List ℕ) → slic
 way_reaches links to zero k way e = by_test (k == to) refl (table_at (λ k. if k == to then Some [] else None) (length links) k way e)
   where
     by_test : (b : Bool) → (k == to) ≡ b → (if b then Some [] else None) ≡ Some way → Reaches links zero k to
-    by_test true t h = subst (λ z. Reaches links zero k z) (eqb-eq k to t) here
+    by_test true t h = subst (λ z. Reaches links zero k z) (same_number k to t) here
     by_test false t h = absurd (cc)
 way_reaches links to (suc n) k way e = by_first (λ j w at. way_reaches links to n j w at) (first_some (λ j. slice_index_or (ways_to links to n) j None) (slice_index_or links k [])) refl (table_at (λ k. way_from (ways_to links to n) k (slice_index_or links k [])) (length links) k way e)
   where

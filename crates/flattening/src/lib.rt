@@ -1,0 +1,5 @@
+// Types are flattened: what each of them has, and why a list of types is refused.
+#![tactic(auto)]
+
+pub mod copies;
+pub mod refusals;

@@ -1,0 +1,46 @@
+-- Loops over lists.
+use Rattle.std.proofs.Common.{◌≡◌, ◌∙◌, refl, sym, ap, subst, List, [], ◌∷◌, ◌++◌, ℕ, zero, suc, ◌+◌, ◌<◌, ◌≤◌, length, map, take, get_or, arith, Bool, false}
+use Rattle.std.specs.List.{position_or_len, flat_map, AllByRecursion}
+use Rattle.std.proofs.lemmas.List.{map-append, take_more, append-nil}
+use Rattle.std.proofs.Common.{append_assoc}
+use Rattle.std.proofs.lemmas.Grind.{flat_map-append}
+
+-- no element passes a test
+pub none_is : {A : Type 0} (p : A → Bool) (xs : List A) (i : ℕ) → length xs ≤ i → ((k : ℕ) (d : A) → k < i → p (get_or xs k d) ≡ false) → length xs ≡ position_or_len p xs
+none_is p [] i past none = refl
+none_is p (x ∷ xs) zero past none = absurd (omega (arith, past))
+none_is p (x ∷ xs) (suc i) past none =
+    let h : length xs ≡ position_or_len p xs = none_is p xs i (omega (arith, past)) (λ k d h. none (suc k) d (omega (arith, h))) in
+    rw (none 0 x (omega arith)) (omega (arith, h))
+
+pub take_next : {A : Type 0} (xs : List A) (i : ℕ) (x : A) → i < length xs → x ≡ get_or xs i x → take (i + 1) xs ≡ take i xs ++ x ∷ []
+take_next xs i x within at = take_more xs i x within ∙ ap (λ y. take i xs ++ y ∷ []) (sym at)
+
+-- one more element, through two functions
+pub mapped_next : {A B C : Type 0} (f : B → C) (g : A → B) (now then : List C) (xs : List A) (i : ℕ) (x : A) → i < length xs → x ≡ get_or xs i x → now ≡ map f (map g (take i xs)) → then ≡ now ++ f (g x) ∷ [] → then ≡ map f (map g (take (i + 1) xs))
+mapped_next f g now then xs i x within at before more =
+    more ∙ ap (λ zs. zs ++ f (g x) ∷ []) before
+    ∙ sym (ap (λ zs. map f (map g zs)) (take_next xs i x within at) ∙ ap (map f) (map-append g (take i xs) (x ∷ [])) ∙ map-append f (map g (take i xs)) (g x ∷ []))
+
+-- what one more element gives, through a function
+pub gathered_next : {A B C : Type 0} (f : B → List C) (g : A → B) (now then : List C) (xs : List A) (i : ℕ) (x : A) → i < length xs → x ≡ get_or xs i x → now ≡ flat_map f (map g (take i xs)) → then ≡ now ++ f (g x) → then ≡ flat_map f (map g (take (i + 1) xs))
+gathered_next f g now then xs i x within at before more =
+    more ∙ ap (λ zs. zs ++ f (g x)) before
+    ∙ sym (ap (λ zs. flat_map f (map g zs)) (take_next xs i x within at) ∙ ap (flat_map f) (map-append g (take i xs) (x ∷ []))
+    ∙ flat_map-append f (map g (take i xs)) (g x ∷ []) ∙ ap (λ z. flat_map f (map g (take i xs)) ++ z) (append-nil (f (g x))))
+
+pub all_at : {A : Type 0} (P : A → Type 0) (xs : List A) (i : ℕ) (x : A) → AllByRecursion P xs → i < length xs → x ≡ get_or xs i x → P x
+all_at P [] i x h within at = absurd (omega (arith, within))
+all_at P (y ∷ ys) zero x h within at = subst P (sym at) h.0
+all_at P (y ∷ ys) (suc i) x h within at = all_at P ys i x h.1 (omega (arith, within)) at
+
+pub joined_next : {A C : Type 0} (f : A → List C) (now then : List C) (xs : List A) (i : ℕ) (x : A) → i < length xs → x ≡ get_or xs i x → now ≡ flat_map f (take i xs) → then ≡ now ++ f x → then ≡ flat_map f (take (i + 1) xs)
+joined_next f now then xs i x within at before more =
+    more ∙ ap (λ zs. zs ++ f x) before
+    ∙ sym (ap (flat_map f) (take_next xs i x within at) ∙ flat_map-append f (take i xs) (x ∷ []) ∙ ap (λ z. flat_map f (take i xs) ++ z) (append-nil (f x)))
+
+-- one more element behind others
+pub appended_next : {A C : Type 0} (f : A → C) (h now then : List C) (xs : List A) (i : ℕ) (x : A) → i < length xs → x ≡ get_or xs i x → now ≡ h ++ map f (take i xs) → then ≡ now ++ f x ∷ [] → then ≡ h ++ map f (take (i + 1) xs)
+appended_next f h now then xs i x within at before more =
+    more ∙ ap (λ zs. zs ++ f x ∷ []) before ∙ append_assoc h (map f (take i xs)) (f x ∷ [])
+    ∙ ap (λ z. h ++ z) (sym (ap (map f) (take_next xs i x within at) ∙ map-append f (take i xs) (x ∷ [])))

@@ -1,0 +1,11 @@
+pub mod Contents
+pub mod FormalTypes
+pub mod Images
+pub mod Items
+pub mod Lists
+pub mod Numbering
+pub mod Own
+pub mod Rounds
+pub mod Settled
+pub mod Uses
+pub mod Views

@@ -1,0 +1,12 @@
+// What each of a list of types has: its sorts and operations, and their numbers.
+#![tactic(auto)]
+
+pub mod contents;
+pub mod images;
+pub mod item;
+pub mod item_kind;
+pub mod item_table;
+pub mod numbers;
+pub mod own;
+pub mod parts;
+pub mod schedule;

@@ -1,0 +1,9 @@
+use Rattle.std.proofs.Common.{Bor, map}
+use Rattle.lotos_ast.specs.declared.token.Token.{Token}
+use Rattle.type_names.proofs.Gathered.{refused_next}
+use Rattle.type_copies.specs.UnknownSorts.{unknown_sort}
+use Rattle.type_copies.specs.Views.{item_at}
+use Rattle.type_copies.proofs.sorts.add_each_unknown.Goals as goal
+
+pub loop-name-preserved : goal.loop-name-preserved
+loop-name-preserved c = refused_next (unknown_sort (map item_at c.args.items.now)) (λ (t : Bor Token). t.now) _ _ _ c.args.names.now c.loop-name.name-index _ c.loop-name-test.true c.name-item.is c.loop-name.invariant c.in_ok-add_unknown_sort.ensures

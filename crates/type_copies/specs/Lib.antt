@@ -1,0 +1,5 @@
+pub mod BadActuals
+pub mod BadRenamings
+pub mod Copies
+pub mod UnknownSorts
+pub mod Views

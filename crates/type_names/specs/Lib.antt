@@ -1,0 +1,4 @@
+pub mod DuplicateNames
+pub mod Refused
+pub mod TypeCycles
+pub mod UnknownTypes
