@@ -30,13 +30,13 @@ heading_tree (Hide place gates) x = atomic_tree place (right (left (behind (both
 heading_tree (Let place bindings) x =
     atomic_tree place (right (right (left (behind (both (list_tree (map binding_tree bindings.items)) (behind x))))))
 heading_tree (Values place declarations brackets) x =
-    atomic_tree place (right (right
-    (right (left (behind (node declarations.place (choice_declarations_tree declarations.list.items (brackets_tree brackets x))))))))
+    atomic_tree place (right (right (right (left (behind
+    (node declarations.place (choice_declarations_tree declarations.list.items (brackets_tree brackets x))))))))
 heading_tree (Gates place choices brackets) x =
     atomic_tree place (right (right (right (left (behind (choice_gates_tree choices.items (brackets_tree brackets x)))))))
 heading_tree (Par place gate gates o) x =
-    atomic_tree place (right (right
-    (right (right (left (behind (both (leaf gate) (behind (both (gate_list_tree gates) (both (operator_tree o) x))))))))))
+    atomic_tree place (right (right (right (right (left (behind
+    (both (leaf gate) (behind (both (gate_list_tree gates) (both (operator_tree o) x))))))))))
 
 -- a left parenthesis, with the tree of what follows
 abbrev pub parenthesis_tree : Place → Tree → Tree
