@@ -64,7 +64,7 @@ fn judge(alloc: Global, all: &[TypeDef]) -> Result<String, Memory> {
 }
 
 // What comes of a text behind so many types of the library.
-fn outcome(alloc: Global, libraries: u8, text: &str) -> Result<String, Memory> {
+pub fn outcome(alloc: Global, libraries: u8, text: &str) -> Result<String, Memory> {
     let mut all = Vec::new(alloc);
     if libraries > 0 && !add_types(alloc, &mut all, boolean(), true)? {
         return Ok(String::from_str(alloc, "Boolean isn't read")?);
