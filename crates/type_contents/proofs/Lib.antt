@@ -4,5 +4,6 @@ pub mod Looks
 pub mod Made
 pub mod Schedules
 pub mod Settled
+pub mod Standings
 pub mod Tables
 pub mod Unions

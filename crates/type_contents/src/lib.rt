@@ -10,3 +10,4 @@ pub mod numbers;
 pub mod own;
 pub mod parts;
 pub mod schedule;
+pub mod standing;
