@@ -39,8 +39,11 @@ new_operation_of n = record {
   spelled = n.spelled.now.text;
 }
 
+abbrev pub renaming_by : List NewSort → List NewOperation → images.Renaming
+renaming_by sorts operations = record { sorts = map new_sort_of sorts; operations = map new_operation_of operations }
+
 abbrev pub renaming_view : Renaming → images.Renaming
-renaming_view r = record { sorts = map new_sort_of r.sorts.items; operations = map new_operation_of r.operations.items }
+renaming_view r = renaming_by r.sorts.items r.operations.items
 
 abbrev pub no_item : items.Item
 no_item = sort_item []

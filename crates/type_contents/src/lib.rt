@@ -2,6 +2,7 @@
 #![tactic(auto)]
 
 pub mod contents;
+pub mod described;
 pub mod images;
 pub mod item;
 pub mod item_kind;
