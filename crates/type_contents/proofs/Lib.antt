@@ -1,3 +1,5 @@
+pub mod Copies
+pub mod Folds
 pub mod Keys
 pub mod Lists
 pub mod Looks

@@ -15,6 +15,7 @@ use Rattle.type_contents.specs.Settled.{IsSettled}
 use Rattle.type_contents.specs.FormalTypes.{is_formal_from}
 use Rattle.type_contents.specs.Numbering.{parts_from}
 use Rattle.type_contents.specs.declared.standing.Standing.{Standing}
+use Rattle.type_contents.specs.declared.order.Brought.{Brought}
 use Rattle.type_contents.specs.declared.numbers.Numbers.{Numbers}
 use Rattle.type_contents.specs.declared.parts.Parts.{Parts}
 use Rattle.lotos_ast.specs.declared.token.Token.{Token}
@@ -110,3 +111,8 @@ parts_at (Some s) = s.parts.items
 -- what has been found is what each round from the n-th on makes
 abbrev pub AreStandingsSettled : List TypeDef → List (Option Standing) → ℕ → Type 0
 AreStandingsSettled types found n = IsSettled false (is_formal_from types) types (map (option_map (λ s. s.formal)) found) n × IsSettled [] (parts_from types) types (map (option_map (λ s. s.parts.items)) found) n
+
+-- what types bring in, as far as it is found
+abbrev pub brought_at : Option Brought → List items.Described
+brought_at None = []
+brought_at (Some b) = map described_of b.all.items

@@ -81,8 +81,8 @@ fn formal_at(found: &[Option<Standing>], number: usize) -> bool
     }
 }
 
-// Of what the type of a number is made, as far as it is found.
-fn parts_at(found: &[Option<Standing>], number: usize) -> &[usize]
+/// Of what the type of a number is made, as far as it is found. It takes no memory.
+pub fn parts_at(found: &[Option<Standing>], number: usize) -> &[usize]
     ensures { result.now ≡ slice_index_or (map parts_at found.now) number [] }
 {
     if number < found.len() {
