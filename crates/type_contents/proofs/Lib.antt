@@ -1,3 +1,4 @@
+pub mod Broughts
 pub mod Copies
 pub mod Folds
 pub mod Keys

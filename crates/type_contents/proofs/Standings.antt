@@ -20,7 +20,7 @@ use Rattle.type_contents.proofs.Schedules.{ready_through, set_through, each_thro
 
 -- they depend on those of which a type is made
 
-abbrev AgreeOn : {A : Type 0} → A → List A → List A → List ℕ → Type 0
+abbrev pub AgreeOn : {A : Type 0} → A → List A → List A → List ℕ → Type 0
 AgreeOn nothing t u used = AllByRecursion (λ j. slice_index_or t j nothing ≡ slice_index_or u j nothing) used
 
 one_formal : (types : List TypeDef) (t u : List Bool) (names : List Token) → AgreeOn false t u (map (number_of types) names) → list_any (is_formal_in types t) names ≡ list_any (is_formal_in types u) names
@@ -55,21 +55,21 @@ known_parts [] = refl
 known_parts (None ∷ xs) = ap (λ z. [] ∷ z) (known_parts xs)
 known_parts (Some s ∷ xs) = ap (λ z. s.parts.items ∷ z) (known_parts xs)
 
-one_more : {A : Type 0} (nothing : A) (make : List A → TypeDef → A) (view : Standing → A) (types : List TypeDef)
-    → ((d : TypeDef) (t u : List A) → AgreeOn nothing t u (links types d) → make t d ≡ make u d)
-    → (found : List (Option Standing)) (n k : ℕ) (one : Standing) (d : TypeDef) → length found ≡ length types → k < length types → d ≡ get_or types k d → view one ≡ make (known nothing (map (option_map view) found)) d
-    → are_ready found (slice_index_or (map (links types) types) k []) ≡ true → IsSettled nothing make types (map (option_map view) found) n → IsSettled nothing make types (map (option_map view) (set found k (Some one))) (suc n)
-one_more nothing make view types looks found n k one d same less at is ready settled =
+pub one_more : {S A : Type 0} (nothing : A) (make : List A → TypeDef → A) (view : S → A) (used : TypeDef → List ℕ) (types : List TypeDef)
+    → ((d : TypeDef) (t u : List A) → AgreeOn nothing t u (used d) → make t d ≡ make u d)
+    → (found : List (Option S)) (n k : ℕ) (one : S) (d : TypeDef) → length found ≡ length types → k < length types → d ≡ get_or types k d → view one ≡ make (known nothing (map (option_map view) found)) d
+    → are_ready found (slice_index_or (map used types) k []) ≡ true → IsSettled nothing make types (map (option_map view) found) n → IsSettled nothing make types (map (option_map view) (set found k (Some one))) (suc n)
+one_more nothing make view used types looks found n k one d same less at is ready settled =
     subst (λ f. IsSettled nothing make types f (suc n)) (sym (set_through view found k one))
-    (settle_one nothing make types (map (option_map view) found) n k d (view one) (links types d) (looks d) settled (length-map found (option_map view) ∙ same) less at
-    (ready_through view found (links types d) ∙ ap (are_ready found) (sym (get_or-map (links types) types k d [] less ∙ ap (links types) (sym at))) ∙ ready) is)
+    (settle_one nothing make types (map (option_map view) found) n k d (view one) (used d) (looks d) settled (length-map found (option_map view) ∙ same) less at
+    (ready_through view found (used d) ∙ ap (are_ready found) (sym (get_or-map used types k d [] less ∙ ap used (sym at))) ∙ ready) is)
 
 pub one_stands : (types : List TypeDef) (found : List (Option Standing)) (n k : ℕ) (one : Standing) (d : TypeDef) → length found ≡ length types → k < length types → d ≡ get_or types k d
     → one.formal ≡ is_formal_from types (map formal_at found) d → one.parts.items ≡ parts_from types (map parts_at found) d
     → are_ready found (slice_index_or (map (links types) types) k []) ≡ true → AreStandingsSettled types found n → AreStandingsSettled types (set found k (Some one)) (suc n)
 one_stands types found n k one d same less at formal parts ready settled = (
-  one_more false (is_formal_from types) (λ s. s.formal) types (formal_agree types) found n k one d same less at (formal ∙ ap (λ z. is_formal_from types z d) (sym (known_formal found))) ready settled.0,
-  one_more [] (parts_from types) (λ s. s.parts.items) types (parts_agree types) found n k one d same less at (parts ∙ ap (λ z. parts_from types z d) (sym (known_parts found))) ready settled.1,
+  one_more false (is_formal_from types) (λ s. s.formal) (links types) types (formal_agree types) found n k one d same less at (formal ∙ ap (λ z. is_formal_from types z d) (sym (known_formal found))) ready settled.0,
+  one_more [] (parts_from types) (λ s. s.parts.items) (links types) types (parts_agree types) found n k one d same less at (parts ∙ ap (λ z. parts_from types z d) (sym (known_parts found))) ready settled.1,
 )
 
 pub all_formal : (types : List TypeDef) (found : List (Option Standing)) (n : ℕ) → AreStandingsSettled types found n → n ≤ length types → length found ≡ length types → list_all is_some found ≡ true → map formal_at found ≡ formal_types types
@@ -85,12 +85,12 @@ all_parts types found n settled le same each =
 no_some : {A : Type 0} (x : A) → None ≡ Some x → ⊥
 no_some x e = cc
 
-nothing_read : {A : Type 0} (types : List TypeDef) (f : Standing → A) (k : ℕ) → slice_index_or (map (option_map f) (map (λ _. None) types)) k None ≡ None
+nothing_read : {S A : Type 0} (types : List TypeDef) (f : S → A) (k : ℕ) → slice_index_or (map (option_map f) (map (λ _. None) types)) k None ≡ None
 nothing_read [] f k = refl
 nothing_read (d ∷ ds) f zero = refl
 nothing_read (d ∷ ds) f (suc k) = nothing_read ds f k
 
-none_at : {A : Type 0} (nothing : A) (make : List A → TypeDef → A) (view : Standing → A) (types : List TypeDef) (found : List (Option Standing)) → found ≡ map (λ _. None) types → IsSettled nothing make types (map (option_map view) found) 0
+pub none_at : {S A : Type 0} (nothing : A) (make : List A → TypeDef → A) (view : S → A) (types : List TypeDef) (found : List (Option S)) → found ≡ map (λ _. None) types → IsSettled nothing make types (map (option_map view) found) 0
 none_at nothing make view types found is k x at m le = absurd (no_some x (sym (nothing_read types view k) ∙ sym (ap (λ z. slice_index_or (map (option_map view) z) k None) is) ∙ at))
 
 pub none_stand : (types : List TypeDef) (found : List (Option Standing)) → found ≡ map (λ _. None) types → AreStandingsSettled types found 0

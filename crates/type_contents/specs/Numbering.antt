@@ -58,6 +58,17 @@ abbrev pub brings : List TypeDef → List (List Described) → TypeDef → List 
 brings types brought (Library place names) = []
 brings types brought (Definition place name body) = brings_by types brought body
 
+-- the numbers of the types on which it depends what a type brings in
+
+abbrev pub needs_by : List TypeDef → TypeBody → List ℕ
+needs_by types (Declared place imports formals sorts operations equations) = []
+needs_by types (Renamed place source pairs) = itself_and_parts types source
+needs_by types (Actualized place source actuals pairs) = itself_and_parts types source
+
+abbrev pub needs : List TypeDef → TypeDef → List ℕ
+needs types (Library place names) = []
+needs types (Definition place name body) = needs_by types body
+
 -- of each type what it brings in
 abbrev pub brought : List TypeDef → List (List Described)
 brought types = rounds.table [] (brings types) types

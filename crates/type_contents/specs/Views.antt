@@ -13,7 +13,7 @@ use Rattle.type_contents.specs.Uses.{number_of}
 use Rattle.type_contents.specs.Contents.{Content, no_content, made_from}
 use Rattle.type_contents.specs.Settled.{IsSettled}
 use Rattle.type_contents.specs.FormalTypes.{is_formal_from}
-use Rattle.type_contents.specs.Numbering.{parts_from}
+use Rattle.type_contents.specs.Numbering.{parts_from, brings}
 use Rattle.type_contents.specs.declared.standing.Standing.{Standing}
 use Rattle.type_contents.specs.declared.order.Brought.{Brought}
 use Rattle.type_contents.specs.declared.numbers.Numbers.{Numbers}
@@ -113,6 +113,12 @@ abbrev pub AreStandingsSettled : List TypeDef → List (Option Standing) → ℕ
 AreStandingsSettled types found n = IsSettled false (is_formal_from types) types (map (option_map (λ s. s.formal)) found) n × IsSettled [] (parts_from types) types (map (option_map (λ s. s.parts.items)) found) n
 
 -- what types bring in, as far as it is found
+abbrev pub brought_of : Brought → List items.Described
+brought_of b = map described_of b.all.items
+
 abbrev pub brought_at : Option Brought → List items.Described
 brought_at None = []
-brought_at (Some b) = map described_of b.all.items
+brought_at (Some b) = brought_of b
+
+abbrev pub IsBroughtSettled : List TypeDef → List (Option Brought) → ℕ → Type 0
+IsBroughtSettled types found n = IsSettled [] (brings types) types (map (option_map brought_of) found) n

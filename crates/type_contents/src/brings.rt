@@ -187,8 +187,8 @@ fn brings_by<'a>(
     }
 }
 
-// What a type brings in.
-fn brings<'a>(
+/// What a type brings in, where others bring in what is found.
+pub fn brings_of<'a>(
     alloc: Global,
     types: &'a [TypeDef],
     made: &Contents,

@@ -2,6 +2,7 @@
 #![tactic(auto)]
 
 pub mod brings;
+pub mod brought;
 pub mod contents;
 pub mod described;
 pub mod images;
