@@ -33,3 +33,16 @@ pub ranged_next : {A B : Type 0} (w : B → A → B) (f : ℕ → List A) (a now
 ranged_next w f a now next k before more =
     rw add-one (more ∙ ap (λ z. fold w z (f k)) before ∙ sym (fold-append w a (flat_map f (range_with_len 0 k)) (f k))
     ∙ ap (fold w a) (sym (ap (flat_map f) (range_more 0 k ∙ ap (λ z. range_with_len 0 k ++ z ∷ []) (zero_plus k)) ∙ flat_map-append f (range_with_len 0 k) (k ∷ []) ∙ ap (λ z. flat_map f (range_with_len 0 k) ++ z) (append-nil (f k)))))
+
+-- one more element
+pub folded_next : {A B C : Type 0} (w : B → A → B) (g : C → A) (a now next : B) (xs : List C) (i : ℕ) (x : C) → i < length xs → x ≡ get_or xs i x → now ≡ fold w a (map g (take i xs)) → next ≡ w now (g x) → next ≡ fold w a (map g (take (i + 1) xs))
+folded_next w g a now next xs i x within at before more =
+    more ∙ ap (λ z. w z (g x)) before ∙ sym (fold-append w a (map g (take i xs)) (g x ∷ []))
+    ∙ ap (fold w a) (sym (ap (map g) (take_next xs i x within at) ∙ map-append g (take i xs) (x ∷ [])))
+
+-- the elements of one more list
+pub lists_next : {A B C : Type 0} (w : B → A → B) (g : C → List A) (a now next : B) (xs : List C) (i : ℕ) (x : C) → i < length xs → x ≡ get_or xs i x → now ≡ fold w a (flat_map (λ l. l) (map g (take i xs))) → next ≡ fold w now (g x) → next ≡ fold w a (flat_map (λ l. l) (map g (take (i + 1) xs)))
+lists_next w g a now next xs i x within at before more =
+    more ∙ ap (λ z. fold w z (g x)) before ∙ sym (fold-append w a (flat_map (λ l. l) (map g (take i xs))) (g x))
+    ∙ ap (fold w a) (sym (ap (λ zs. flat_map (λ l. l) (map g zs)) (take_next xs i x within at) ∙ ap (flat_map (λ l. l)) (map-append g (take i xs) (x ∷ []))
+    ∙ flat_map-append (λ l. l) (map g (take i xs)) (g x ∷ []) ∙ ap (λ z. flat_map (λ l. l) (map g (take i xs)) ++ z) (append-nil (g x))))

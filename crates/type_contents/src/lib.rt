@@ -5,6 +5,7 @@ pub mod brings;
 pub mod brought;
 pub mod contents;
 pub mod described;
+pub mod flat;
 pub mod images;
 pub mod item;
 pub mod item_kind;
