@@ -1,1 +1,3 @@
+pub mod Flattens
 pub mod Refusals
+pub mod Views

@@ -4,7 +4,8 @@ ghost use Rattle.std.specs.Prelude.{◌≡◌, ◌++◌, ◌<◌, [], IfOk, OnOk
 ghost use Rattle.std.specs.List.{flat_map};
 ghost use Rattle.type_contents.specs.Images.{renaming_of};
 ghost use Rattle.type_contents.specs.Contents.{items_of, formals_of};
-ghost use Rattle.type_contents.specs.Views.{items_at, described_of, AreWithin};
+ghost use Rattle.type_contents.specs.Views.{items_at, AreWithin};
+ghost use Rattle.flattening.specs.Views.{all_of};
 ghost use Rattle.type_copies.specs.Copies.{copy};
 ghost use Rattle.type_copies.specs.BadRenamings.{bad_pairs};
 ghost use Rattle.type_copies.specs.BadActuals.{bad_actuals};
@@ -18,10 +19,10 @@ use lotos_ast::types::{Pairs, TypeBody, TypeDef};
 use spec_core::memory::Memory;
 use std::alloc::Global;
 use type_contents::contents::Contents;
+use type_contents::flat::FlatTypes;
 use type_contents::item::Item;
 use type_contents::item_table::ItemTable;
 use type_contents::numbers::number_of;
-use type_contents::own::Declared;
 use type_copies::actuals::add_bad_actuals;
 use type_copies::bad_pairs::add_bad_pairs;
 use type_copies::copy::{copy_of, items_at};
@@ -116,55 +117,68 @@ fn add_bad_actualized(
 }
 
 // Refuses the formal items of a type that no item of the actual types replaces.
+#[tactic(auto, using(crate::proofs::Judged::both_bad))]
 fn add_unfitted(
     alloc: Global,
     types: &[TypeDef],
-    contents: &Contents,
-    all: &[Declared<'_>],
+    flat: &FlatTypes<'_>,
     place: Place,
     source: &Token,
     actuals: &[Token],
     pairs: &Pairs,
     refusals: &mut Vec<Refusal>,
 ) -> Result<(), Memory>
-    ensures { OnOk result (refusals.new.items ≡ refusals.old.items ++ bad_actuals place pairs.now (formals_of types.now contents.now source.now) (flat_map (items_of types.now contents.now) actuals.now) (map described_of all.now)) }
+    ensures { OnOk result (refusals.new.items ≡ refusals.old.items ++ bad_actuals place pairs.now (formals_of types.now flat.now.contents source.now) (flat_map (items_of types.now flat.now.contents) actuals.now) (all_of flat.now)) }
 {
-    let formals = formals_of(alloc, types, contents, source)?;
-    let actual = items_of_all(alloc, types, contents, actuals)?;
-    add_bad_actuals(alloc, place, pairs, &formals, &actual, all, refusals)
+    let formals = formals_of(alloc, types, &flat.contents, source)?;
+    let actual = items_of_all(alloc, types, &flat.contents, actuals)?;
+    add_bad_actuals(
+        alloc,
+        place,
+        pairs,
+        &formals,
+        &actual,
+        &flat.sorts,
+        refusals,
+    )?;
+    add_bad_actuals(
+        alloc,
+        place,
+        pairs,
+        &formals,
+        &actual,
+        &flat.operations,
+        refusals,
+    )
 }
 
 // Refuses what can't be of a copy whose formal items are replaced.
 fn add_bad_actualization(
     alloc: Global,
     types: &[TypeDef],
-    contents: &Contents,
-    all: &[Declared<'_>],
+    flat: &FlatTypes<'_>,
     place: Place,
     source: &Token,
     actuals: &[Token],
     pairs: &Pairs,
     refusals: &mut Vec<Refusal>,
 ) -> Result<(), Memory>
-    ensures { OnOk result (refusals.new.items ≡ refusals.old.items ++ bad_actualization types.now contents.now (map described_of all.now) place source.now actuals.now pairs.now) }
+    ensures { OnOk result (refusals.new.items ≡ refusals.old.items ++ bad_actualization types.now flat.now.contents (all_of flat.now) place source.now actuals.now pairs.now) }
 {
-    add_bad_actualized(alloc, types, contents, source, pairs, refusals)?;
-    add_unfitted(
-        alloc, types, contents, all, place, source, actuals, pairs, refusals,
-    )
+    add_bad_actualized(alloc, types, &flat.contents, source, pairs, refusals)?;
+    add_unfitted(alloc, types, flat, place, source, actuals, pairs, refusals)
 }
 
 // Refuses what can't be of a copy with this body.
 fn add_bad_copy_by(
     alloc: Global,
     types: &[TypeDef],
-    contents: &Contents,
-    all: &[Declared<'_>],
+    flat: &FlatTypes<'_>,
     place: Place,
     body: &TypeBody,
     refusals: &mut Vec<Refusal>,
 ) -> Result<(), Memory>
-    ensures { OnOk result (refusals.new.items ≡ refusals.old.items ++ bad_copy_by types.now contents.now (map described_of all.now) place body.now) }
+    ensures { OnOk result (refusals.new.items ≡ refusals.old.items ++ bad_copy_by types.now flat.now.contents (all_of flat.now) place body.now) }
 {
     match body {
         TypeBody::Declared {
@@ -179,15 +193,13 @@ fn add_bad_copy_by(
             place: _,
             source,
             pairs,
-        } => add_bad_renamed(alloc, types, contents, source, pairs, refusals),
+        } => add_bad_renamed(alloc, types, &flat.contents, source, pairs, refusals),
         TypeBody::Actualized {
             place: _,
             source,
             actuals,
             pairs,
-        } => add_bad_actualization(
-            alloc, types, contents, all, place, source, actuals, pairs, refusals,
-        ),
+        } => add_bad_actualization(alloc, types, flat, place, source, actuals, pairs, refusals),
     }
 }
 
@@ -195,12 +207,11 @@ fn add_bad_copy_by(
 fn add_bad_copy(
     alloc: Global,
     types: &[TypeDef],
-    contents: &Contents,
-    all: &[Declared<'_>],
+    flat: &FlatTypes<'_>,
     definition: &TypeDef,
     refusals: &mut Vec<Refusal>,
 ) -> Result<(), Memory>
-    ensures { OnOk result (refusals.new.items ≡ refusals.old.items ++ bad_copy types.now contents.now (map described_of all.now) definition.now) }
+    ensures { OnOk result (refusals.new.items ≡ refusals.old.items ++ bad_copy types.now flat.now.contents (all_of flat.now) definition.now) }
 {
     match definition {
         TypeDef::Library { place: _, names: _ } => Ok(()),
@@ -208,22 +219,21 @@ fn add_bad_copy(
             place: _,
             name,
             body,
-        } => add_bad_copy_by(alloc, types, contents, all, name.place, body, refusals),
+        } => add_bad_copy_by(alloc, types, flat, name.place, body, refusals),
     }
 }
 
-/// Refuses what can't be of the copies among types, where these are all items in their order.
+/// Refuses what can't be of the copies among types, whose contents these are.
 pub fn add_bad_copies(
     alloc: Global,
     types: &[TypeDef],
-    contents: &Contents,
-    all: &[Declared<'_>],
+    flat: &FlatTypes<'_>,
     refusals: &mut Vec<Refusal>,
 ) -> Result<(), Memory>
-    ensures { OnOk result (refusals.new.items ≡ refusals.old.items ++ flat_map (bad_copy types.now contents.now (map described_of all.now)) types.now) }
+    ensures { OnOk result (refusals.new.items ≡ refusals.old.items ++ flat_map (bad_copy types.now flat.now.contents (all_of flat.now)) types.now) }
 {
     for definition in types {
-        add_bad_copy(alloc, types, contents, all, definition, refusals)?;
+        add_bad_copy(alloc, types, flat, definition, refusals)?;
     }
     Ok(())
 }

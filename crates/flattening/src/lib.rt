@@ -2,4 +2,5 @@
 #![tactic(auto)]
 
 pub mod copies;
+pub mod flatten;
 pub mod refusals;

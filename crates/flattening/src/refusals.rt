@@ -1,10 +1,10 @@
 // What is refused of a list of types.
 
-ghost use Rattle.std.specs.Prelude.{◌≡◌, ◌++◌, ◌<◌, IfOk, OnOk, length, map, slice_index_or};
+ghost use Rattle.std.specs.Prelude.{◌≡◌, ◌++◌, ◌<◌, IfOk, OnOk, length, slice_index_or};
 ghost use Rattle.type_contents.specs.Contents.{no_content};
-ghost use Rattle.type_contents.specs.Views.{described_of};
 ghost use Rattle.type_copies.specs.UnknownSorts.{unknown_sorts};
 ghost use Rattle.flattening.specs.Refusals.{sort_refusals, refusals_by};
+ghost use Rattle.flattening.specs.Views.{all_of};
 
 use crate::copies::add_bad_copies;
 use lotos_ast::refusal::Refusal;
@@ -12,7 +12,7 @@ use lotos_ast::types::TypeDef;
 use spec_core::memory::Memory;
 use std::alloc::Global;
 use type_contents::contents::Contents;
-use type_contents::own::Declared;
+use type_contents::flat::FlatTypes;
 use type_copies::copy::items_at;
 use type_copies::sorts::add_unknown_sorts;
 use type_names::cycle_refusal::add_cycle;
@@ -50,21 +50,20 @@ fn add_sorts(
     Ok(())
 }
 
-/// What is refused of types with these contents, where these are all items in their order.
+/// What is refused of types that come to this.
 pub fn refusals(
     alloc: Global,
     types: &[TypeDef],
-    contents: &Contents,
-    all: &[Declared<'_>],
+    flat: &FlatTypes<'_>,
 ) -> Result<Vec<Refusal>, Memory>
-    requires { length contents.now ≡ length types.now }
-    ensures { IfOk result (λ found. found.items ≡ refusals_by types.now contents.now (map described_of all.now)) }
+    requires { length flat.now.contents ≡ length types.now }
+    ensures { IfOk result (λ found. found.items ≡ refusals_by types.now flat.now.contents (all_of flat.now)) }
 {
     let mut found = Vec::new(alloc);
     add_unknown_types(alloc, types, &mut found)?;
     add_cycle(alloc, types, &mut found)?;
-    add_sorts(alloc, types, contents, &mut found)?;
+    add_sorts(alloc, types, &flat.contents, &mut found)?;
     add_duplicate_names(alloc, types, &mut found)?;
-    add_bad_copies(alloc, types, contents, all, &mut found)?;
+    add_bad_copies(alloc, types, flat, &mut found)?;
     Ok(found)
 }

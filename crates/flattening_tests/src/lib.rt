@@ -6,6 +6,8 @@ mod copies;
 #[cfg(test)]
 mod cycles;
 #[cfg(test)]
+mod long_chains;
+#[cfg(test)]
 mod names;
 #[cfg(test)]
 mod outcome;

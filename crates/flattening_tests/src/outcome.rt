@@ -5,17 +5,18 @@ use crate::cycles::{CYCLES, DIAMONDS};
 use crate::names::{DUPLICATES, UNKNOWN_SORTS, UNKNOWN_TYPES, VARIABLES};
 use crate::whole_texts::WHOLE_TEXTS;
 use data_parser::types;
-use flattening::refusals::refusals;
+use flattening::flatten::flatten;
 use library_text::{boolean, natural};
-use lotos_ast::first_refusal::first_refusal;
-use lotos_ast::refusal::Refusal;
+use lotos_ast::refusal::{FrontFault, Refusal};
 use lotos_ast::types::TypeDef;
 use lotos_lexer::tokens;
 use spec_core::memory::Memory;
 use std::alloc::Global;
 use std::process::Abort;
 use std::test::Fail;
-use type_contents::contents::contents_of;
+use type_contents::flat::FlatTypes;
+use type_contents::own::Declared;
+use type_copies::copy::{is_in, items_at};
 
 // Adds the types of a text, in line 0 where it is of the library. Whether the text is read.
 fn add_types(
@@ -54,17 +55,44 @@ fn spell(alloc: Global, refusal: &Refusal) -> Result<String, Memory> {
     Ok(text)
 }
 
+// Whether an item is part of the data: a type that isn't formal has it.
+fn is_data(alloc: Global, flat: &FlatTypes<'_>, declared: &Declared<'_>) -> Result<bool, Memory> {
+    for (number, formal) in flat.formal.iter().enumerate() {
+        let content = flat.contents.of_type(number);
+        let items = items_at(alloc, content.table, content.items)?;
+        if !*formal && is_in(&items, &declared.item) {
+            return Ok(true);
+        }
+    }
+    Ok(false)
+}
+
+// How many of these are part of the data.
+fn count(alloc: Global, flat: &FlatTypes<'_>, all: &[Declared<'_>]) -> Result<u64, Memory> {
+    let mut found: u64 = 0;
+    for declared in all {
+        if is_data(alloc, flat, declared)? {
+            found = found.saturating_add(1);
+        }
+    }
+    Ok(found)
+}
+
 // The refusal of types, or how many sorts and operations the data has.
 fn judge(alloc: Global, all: &[TypeDef]) -> Result<String, Memory> {
-    let contents = contents_of(alloc, all)?;
-    match first_refusal(refusals(alloc, all, &contents, &[])?) {
-        None => Ok(String::from_str(alloc, "accepted")?),
-        Some(refusal) => spell(alloc, &refusal),
+    match flatten(alloc, all) {
+        Ok(flat) => {
+            let sorts = count(alloc, &flat, &flat.sorts)?;
+            let operations = count(alloc, &flat, &flat.operations)?;
+            Ok(format!(in alloc; "sorts {sorts} operations {operations}")?)
+        }
+        Err(FrontFault::Refused(refusal)) => spell(alloc, &refusal),
+        Err(FrontFault::Memory) => Err(Memory),
     }
 }
 
 // What comes of a text behind so many types of the library.
-fn outcome(alloc: Global, libraries: u8, text: &str) -> Result<String, Memory> {
+pub fn outcome(alloc: Global, libraries: u8, text: &str) -> Result<String, Memory> {
     let mut all = Vec::new(alloc);
     if libraries > 0 && !add_types(alloc, &mut all, boolean(), true)? {
         return Ok(String::from_str(alloc, "Boolean isn't read")?);

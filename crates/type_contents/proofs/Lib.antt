@@ -1,8 +1,12 @@
+pub mod Broughts
+pub mod Copies
+pub mod Folds
 pub mod Keys
 pub mod Lists
 pub mod Looks
 pub mod Made
 pub mod Schedules
 pub mod Settled
+pub mod Standings
 pub mod Tables
 pub mod Unions

@@ -1,6 +1,6 @@
 -- Loops over lists.
-use Rattle.std.proofs.Common.{◌≡◌, ◌∙◌, refl, sym, ap, subst, List, [], ◌∷◌, ◌++◌, ℕ, zero, suc, ◌+◌, ◌<◌, ◌≤◌, length, map, take, get_or, arith, Bool, false}
-use Rattle.std.specs.List.{position_or_len, flat_map, AllByRecursion}
+use Rattle.std.proofs.Common.{◌≡◌, ◌∙◌, refl, sym, ap, subst, List, [], ◌∷◌, ◌++◌, ℕ, zero, suc, ◌+◌, ◌-◌, ◌<◌, ◌≤◌, length, map, take, drop, get_or, ◌||◌, arith, Bool, false}
+use Rattle.std.specs.List.{position_or_len, flat_map, list_any, AllByRecursion}
 use Rattle.std.proofs.lemmas.List.{map-append, take_more, append-nil}
 use Rattle.std.proofs.Common.{append_assoc}
 use Rattle.std.proofs.lemmas.Grind.{flat_map-append}
@@ -44,3 +44,15 @@ pub appended_next : {A C : Type 0} (f : A → C) (h now then : List C) (xs : Lis
 appended_next f h now then xs i x within at before more =
     more ∙ ap (λ zs. zs ++ f x ∷ []) before ∙ append_assoc h (map f (take i xs)) (f x ∷ [])
     ∙ ap (λ z. h ++ z) (sym (ap (map f) (take_next xs i x within at) ∙ map-append f (take i xs) (x ∷ [])))
+
+-- the first doesn't pass a test
+
+take_all : {A : Type 0} (xs : List A) (i : ℕ) → length xs ≤ i → take i xs ≡ xs
+take_all [] zero h = refl
+take_all [] (suc i) h = refl
+take_all (x ∷ xs) zero h = absurd (omega (arith, h))
+take_all (x ∷ xs) (suc i) h = ap (λ zs. x ∷ zs) (take_all xs i (omega (arith, h)))
+
+pub any_rest : {A : Type 0} (p : A → Bool) (xs : List A) (x : A) (r : Bool) → 1 ≤ length xs → x ≡ get_or xs 0 x → p x ≡ false → r ≡ list_any p (take (length xs - 1) (drop 1 xs)) → r ≡ list_any p xs
+any_rest p [] x r some at h more = absurd (omega (arith, some))
+any_rest p (y ∷ ys) x r some at h more = more ∙ ap (list_any p) (take_all ys (length (y ∷ ys) - 1) (omega arith)) ∙ sym (ap (λ z. z || list_any p ys) (ap p (sym at) ∙ h))

@@ -7,10 +7,11 @@ use Rattle.lotos_ast.specs.declared.types.TypeDef.TheVariants.{Library, Definiti
 use Rattle.lotos_ast.specs.declared.types.TypeBody.{TypeBody}
 use Rattle.lotos_ast.specs.declared.types.TypeBody.TheVariants.{Declared, Renamed, Actualized}
 use Rattle.lotos_ast.specs.declared.types.Formals.{Formals}
+use Rattle.lotos_ast.specs.declared.types.OperationDecl.{OperationDecl}
 use Rattle.lotos_ast.specs.declared.types.EquationBody.{EquationBody}
 use Rattle.lotos_ast.specs.declared.types.SortEquations.{SortEquations}
 use Rattle.type_contents.specs.Lists.{listed}
-use Rattle.type_contents.specs.Own.{own_formals}
+use Rattle.type_contents.specs.Own.{sort_names}
 use Rattle.type_contents.specs.Uses.{number_of}
 use Rattle.type_contents.specs.Rounds as rounds
 
@@ -21,9 +22,12 @@ abbrev pub has_equations : Option EquationBody → Bool
 has_equations None = false
 has_equations (Some body) = list_any is_filled body.parts.items
 
+abbrev pub is_declaring : OperationDecl → Bool
+is_declaring d = not (length d.names.items == 0)
+
 -- it has a formal sort, a formal operation or a formal equation
 abbrev pub declares_formals : Formals → Bool
-declares_formals formals = not (length (own_formals formals) == 0) || has_equations formals.equations
+declares_formals formals = not (length (sort_names formals.sorts) == 0) || list_any is_declaring (listed formals.operations) || has_equations formals.equations
 
 abbrev pub is_formal_in : List TypeDef → List Bool → Token → Bool
 is_formal_in types table name = slice_index_or table (number_of types name) false

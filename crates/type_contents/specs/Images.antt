@@ -89,10 +89,15 @@ abbrev pub kept_image : List Item → Renaming → Item → Item
 kept_image formals renaming x = image (kept_renaming formals renaming x) x
 
 -- how the image of an item is written: as its new name, or as what is copied
+
+abbrev pub spelling_of_sort : List NewSort → Described → List ℕ
+spelling_of_sort news d = unwrap_or (option_map (λ n. n.spelled) (for_sort news d.item.name)) d.spelled
+
+abbrev pub spelling_of_operation : List NewOperation → Described → List ℕ
+spelling_of_operation news d = unwrap_or (option_map (λ n. n.spelled) (for_operation news d.item)) d.spelled
+
 abbrev pub spelling : Renaming → Described → List ℕ
-spelling renaming d =
-    if is_sort d.item then unwrap_or (option_map (λ n. n.spelled) (for_sort renaming.sorts d.item.name)) d.spelled
-    else unwrap_or (option_map (λ n. n.spelled) (for_operation renaming.operations d.item)) d.spelled
+spelling renaming d = if is_sort d.item then spelling_of_sort renaming.sorts d else spelling_of_operation renaming.operations d
 
 -- a copy has the mark and the place of what it copies
 abbrev pub described_image : Renaming → Described → Described

@@ -59,6 +59,9 @@ pub record Described : Type 0 where
 abbrev pub item_of : Described → Item
 item_of d = d.item
 
+abbrev pub is_same_described : Described → Described → Bool
+is_same_described d e = is_same_item d.item e.item
+
 -- each item once: the first description stands
 abbrev pub firsts : List Described → List Described
-firsts all = each_once (λ d e. is_same_item d.item e.item) all
+firsts all = each_once is_same_described all

@@ -29,12 +29,16 @@ brought_by brought among content k = if list_any (nat_eq k) among then filter (�
 
 -- a content in order, where each type brings in what the table says: the order of the list of types, and for each type that in which
 -- it brings in its own
-abbrev pub in_order : List (List Described) → List ℕ → List Item → List Described
-in_order brought among content = firsts (flat_map (brought_by brought among content) (range_with_len 0 (length brought)))
+abbrev pub in_order : ℕ → List (List Described) → List ℕ → List Item → List Described
+in_order count brought among content = firsts (flat_map (brought_by brought among content) (range_with_len 0 count))
+
+-- the numbers of a type and of all of which it is made
+abbrev pub itself_and_parts : List TypeDef → Token → List ℕ
+itself_and_parts types name = number_of types name ∷ slice_index_or (parts types) (number_of types name) []
 
 -- the content of the type of this name in order
 abbrev pub source_in_order : List TypeDef → List (List Described) → Token → List Described
-source_in_order types brought source = in_order brought (number_of types source ∷ slice_index_or (parts types) (number_of types source) []) (items_of types (contents types) source)
+source_in_order types brought source = in_order (length types) brought (itself_and_parts types source) (items_of types (contents types) source)
 
 -- the image of an item, where it is another item
 abbrev pub new_image : (Described → Described) → Described → List Described
@@ -53,6 +57,17 @@ brings_by types brought (Actualized place source actuals pairs) = flat_map (new_
 abbrev pub brings : List TypeDef → List (List Described) → TypeDef → List Described
 brings types brought (Library place names) = []
 brings types brought (Definition place name body) = brings_by types brought body
+
+-- the numbers of the types on which it depends what a type brings in
+
+abbrev pub needs_by : List TypeDef → TypeBody → List ℕ
+needs_by types (Declared place imports formals sorts operations equations) = []
+needs_by types (Renamed place source pairs) = itself_and_parts types source
+needs_by types (Actualized place source actuals pairs) = itself_and_parts types source
+
+abbrev pub needs : List TypeDef → TypeDef → List ℕ
+needs types (Library place names) = []
+needs types (Definition place name body) = needs_by types body
 
 -- of each type what it brings in
 abbrev pub brought : List TypeDef → List (List Described)

@@ -1,5 +1,5 @@
 -- What the definitions see of the values of the code.
-use Rattle.std.specs.Prelude.{ℕ, ◌<◌, List, [], ◌++◌, Option, Some, None, option_map, Vec, map, string_bytes}
+use Rattle.std.specs.Prelude.{ℕ, ◌<◌, Bool, false, List, [], ◌++◌, Option, Some, None, option_map, Vec, map, string_bytes}
 use Rattle.std.specs.List.{slice_index_or, AllByRecursion}
 use Rattle.type_contents.specs.declared.item.Item.{Item}
 use Rattle.type_contents.specs.declared.own.Declared.{Declared}
@@ -12,6 +12,10 @@ use Rattle.type_contents.specs.Images as images
 use Rattle.type_contents.specs.Uses.{number_of}
 use Rattle.type_contents.specs.Contents.{Content, no_content, made_from}
 use Rattle.type_contents.specs.Settled.{IsSettled}
+use Rattle.type_contents.specs.FormalTypes.{is_formal_from}
+use Rattle.type_contents.specs.Numbering.{parts_from, brings}
+use Rattle.type_contents.specs.declared.standing.Standing.{Standing}
+use Rattle.type_contents.specs.declared.order.Brought.{Brought}
 use Rattle.type_contents.specs.declared.numbers.Numbers.{Numbers}
 use Rattle.type_contents.specs.declared.parts.Parts.{Parts}
 use Rattle.lotos_ast.specs.declared.token.Token.{Token}
@@ -36,8 +40,11 @@ new_operation_of n = record {
   spelled = n.spelled.now.text;
 }
 
+abbrev pub renaming_by : List NewSort → List NewOperation → images.Renaming
+renaming_by sorts operations = record { sorts = map new_sort_of sorts; operations = map new_operation_of operations }
+
 abbrev pub renaming_view : Renaming → images.Renaming
-renaming_view r = record { sorts = map new_sort_of r.sorts.items; operations = map new_operation_of r.operations.items }
+renaming_view r = renaming_by r.sorts.items r.operations.items
 
 abbrev pub no_item : items.Item
 no_item = sort_item []
@@ -90,3 +97,28 @@ ArePartsWithin bound p = AreWithin bound p.items.items × AreWithin bound p.form
 -- what has been made is what each round from the n-th on makes
 abbrev pub AreSettled : List TypeDef → List items.Item → List (Option Numbers) → ℕ → Type 0
 AreSettled types table made n = IsSettled no_content (made_from types) types (map (option_map (content_at table)) made) n
+
+-- how types stand, as far as it is found
+
+abbrev pub formal_at : Option Standing → Bool
+formal_at None = false
+formal_at (Some s) = s.formal
+
+abbrev pub parts_at : Option Standing → List ℕ
+parts_at None = []
+parts_at (Some s) = s.parts.items
+
+-- what has been found is what each round from the n-th on makes
+abbrev pub AreStandingsSettled : List TypeDef → List (Option Standing) → ℕ → Type 0
+AreStandingsSettled types found n = IsSettled false (is_formal_from types) types (map (option_map (λ s. s.formal)) found) n × IsSettled [] (parts_from types) types (map (option_map (λ s. s.parts.items)) found) n
+
+-- what types bring in, as far as it is found
+abbrev pub brought_of : Brought → List items.Described
+brought_of b = map described_of b.all.items
+
+abbrev pub brought_at : Option Brought → List items.Described
+brought_at None = []
+brought_at (Some b) = brought_of b
+
+abbrev pub IsBroughtSettled : List TypeDef → List (Option Brought) → ℕ → Type 0
+IsBroughtSettled types found n = IsSettled [] (brings types) types (map (option_map brought_of) found) n

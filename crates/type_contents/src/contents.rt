@@ -36,7 +36,7 @@ impl Model for Contents {
 }
 
 /// What one type has: numbers in a table of items.
-#[derive(Drop)]
+#[derive(Clone, Copy)]
 pub struct TypeContent<'c> {
     /// The items of all types.
     pub table: &'c ItemTable,

@@ -3,7 +3,7 @@
 ghost use Rattle.std.specs.Prelude.{◌≡◌, IfOk, length, map, string_bytes, option_map};
 ghost use Rattle.type_contents.specs.Images as images;
 ghost use Rattle.type_contents.specs.Lists.{listed};
-ghost use Rattle.type_contents.specs.Views.{item_of, new_sort_of, new_operation_of, renaming_view, items_at, AreWithin};
+ghost use Rattle.type_contents.specs.Views.{item_of, new_sort_of, new_operation_of, renaming_by, renaming_view, items_at, AreWithin};
 
 use crate::item::{Item, small};
 use crate::item_kind::ItemKind;
@@ -130,8 +130,8 @@ impl<'a> Renaming<'a> {
     }
 }
 
-// The first of the new names of a sort.
-fn for_sort<'n, 'a>(news: &'n [NewSort<'a>], name: &str) -> Option<&'n NewSort<'a>>
+/// The first of the new names of a sort. It takes no memory.
+pub fn for_sort<'n, 'a>(news: &'n [NewSort<'a>], name: &str) -> Option<&'n NewSort<'a>>
     ensures { option_map (λ n. new_sort_of n.now) result ≡ images.for_sort (map new_sort_of news.now) name.now }
 {
     match news {
@@ -185,8 +185,11 @@ fn renames(new: &NewOperation<'_>, item: &Item) -> bool
     new.old_kind.is_same(item.kind) && new.old.as_str() == item.name.as_str()
 }
 
-// The first of the new names of an operation.
-fn for_operation<'n, 'a>(news: &'n [NewOperation<'a>], item: &Item) -> Option<&'n NewOperation<'a>>
+/// The first of the new names of an operation. It takes no memory.
+pub fn for_operation<'n, 'a>(
+    news: &'n [NewOperation<'a>],
+    item: &Item,
+) -> Option<&'n NewOperation<'a>>
     ensures { option_map (λ n. new_operation_of n.now) result ≡ images.for_operation (map new_operation_of news.now) (item_of item.now) }
 {
     match news {
@@ -226,15 +229,27 @@ fn named_by(alloc: Global, found: Option<&NewOperation<'_>>, renamed: Item) -> R
     }
 }
 
+/// The image of an item under these new names.
+pub fn image_by(
+    alloc: Global,
+    sorts: &[NewSort<'_>],
+    operations: &[NewOperation<'_>],
+    item: &Item,
+) -> Result<Item, Memory>
+    ensures { IfOk result (λ x. item_of x ≡ images.image (renaming_by sorts.now operations.now) (item_of item.now)) }
+{
+    named_by(
+        alloc,
+        for_operation(operations, item),
+        sorts_renamed(alloc, sorts, item)?,
+    )
+}
+
 /// The image of an item.
 pub fn image(alloc: Global, renaming: &Renaming<'_>, item: &Item) -> Result<Item, Memory>
     ensures { IfOk result (λ x. item_of x ≡ images.image (renaming_view renaming.now) (item_of item.now)) }
 {
-    named_by(
-        alloc,
-        for_operation(&renaming.operations, item),
-        sorts_renamed(alloc, &renaming.sorts, item)?,
-    )
+    image_by(alloc, &renaming.sorts, &renaming.operations, item)
 }
 
 /// Whether a formal item has the kind and the name of this one. It takes no memory.

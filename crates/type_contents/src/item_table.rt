@@ -100,8 +100,8 @@ impl ItemTable {
     }
 }
 
-// Numbers, each once.
-fn each_once(alloc: Global, numbers: &[usize]) -> Result<Vec<usize>, Memory>
+/// Numbers, each once.
+pub fn each_once(alloc: Global, numbers: &[usize]) -> Result<Vec<usize>, Memory>
     ensures { IfOk result (λ all. all.items ≡ each_once nat_eq numbers.now) }
 {
     let mut found = IndexSet::new(alloc);
@@ -111,8 +111,8 @@ fn each_once(alloc: Global, numbers: &[usize]) -> Result<Vec<usize>, Memory>
     Ok(Vec::from_slice(alloc, found.as_slice())?)
 }
 
-// Whether a number is among others.
-fn is_among(numbers: &[usize], number: usize) -> bool
+/// Whether a number is among others. It takes no memory.
+pub fn is_among(numbers: &[usize], number: usize) -> bool
     ensures { result ≡ list_any (nat_eq number) numbers.now }
 {
     match numbers {
