@@ -11,7 +11,7 @@ use Rattle.type_contents.specs.Rounds.{rounds}
 use Rattle.type_contents.specs.Contents.{contents, no_content, made_from}
 use Rattle.type_contents.specs.Numbering.{all_sorts}
 use Rattle.type_contents.specs.Views.{described_of}
-use Rattle.type_contents.specs.declared.flat.FlatTypes.{FlatTypes}
+use Rattle.type_contents.specs.declared.flat.FlatData.{FlatData}
 use Rattle.type_copies.specs.BadActuals.{bad_actual, bad_actuals}
 use Rattle.flattening.specs.Flattens.{Flattens}
 use Rattle.flattening.specs.Refusals.{refusals_by, refusals_of}
@@ -21,10 +21,10 @@ length_rounds : {D A : Type 0} (nothing : A) (make : List A → D → A) (all : 
 length_rounds nothing make all zero = length-map all (λ _. nothing)
 length_rounds nothing make all (suc n) = length-map all (make (rounds nothing make all n))
 
-pub as_many : (types : List TypeDef) (flat : FlatTypes) → Flattens types flat → length flat.contents ≡ length types
+pub as_many : (types : List TypeDef) (flat : FlatData) → Flattens types flat → length flat.contents ≡ length types
 as_many types flat h = ap length h.contents ∙ length_rounds no_content (made_from types) types (length types)
 
-pub judged : (types : List TypeDef) (flat : FlatTypes) → Flattens types flat → refusals_by types flat.contents (all_of flat) ≡ refusals_of types
+pub judged : (types : List TypeDef) (flat : FlatData) → Flattens types flat → refusals_by types flat.contents (all_of flat) ≡ refusals_of types
 judged types flat h =
     ap (λ t. refusals_by types t (all_of flat)) h.contents
     ∙ ap (refusals_by types (contents types)) (ap (λ s. s ++ map described_of flat.operations.items) h.sorts ∙ ap (λ o. all_sorts types ++ o) h.operations)

@@ -49,7 +49,8 @@ sort_refusals types table = flat_map (λ e. unknown_sorts e.1.items e.0) (zip ty
 -- of each condition in the order of its number
 abbrev pub refusals_by : List TypeDef → List Content → List Described → List Refusal
 refusals_by types table all =
-    unknown_types types ++ cycle_refusals types ++ sort_refusals types table ++ duplicate_names types ++ flat_map (bad_copy types table all) types
+    unknown_types types ++ cycle_refusals types ++ sort_refusals types table ++ duplicate_names types
+    ++ flat_map (bad_copy types table all) types
 
 abbrev pub refusals_of : List TypeDef → List Refusal
 refusals_of types = refusals_by types (contents types) (all_sorts types ++ all_operations types)

@@ -19,7 +19,7 @@ use lotos_ast::types::{Pairs, TypeBody, TypeDef};
 use spec_core::memory::Memory;
 use std::alloc::Global;
 use type_contents::contents::Contents;
-use type_contents::flat::FlatTypes;
+use type_contents::flat::FlatData;
 use type_contents::item::Item;
 use type_contents::item_table::ItemTable;
 use type_contents::numbers::number_of;
@@ -109,7 +109,9 @@ fn add_bad_actualized(
     pairs: &Pairs,
     refusals: &mut Vec<Refusal>,
 ) -> Result<(), Memory>
-    ensures { OnOk result (refusals.new.items ≡ refusals.old.items ++ bad_pairs (copy (items_of types.now contents.now source.now) (formals_of types.now contents.now source.now) (renaming_of pairs.now)) pairs.now) }
+    ensures { OnOk result (refusals.new.items ≡ refusals.old.items ++ bad_pairs
+        (copy (items_of types.now contents.now source.now) (formals_of types.now contents.now source.now) (renaming_of pairs.now))
+        pairs.now) }
 {
     let content = contents.of_type(number_of(types, source));
     let copy = copy_of(alloc, content.table, content.items, content.formals, pairs)?;
@@ -121,14 +123,16 @@ fn add_bad_actualized(
 fn add_unfitted(
     alloc: Global,
     types: &[TypeDef],
-    flat: &FlatTypes<'_>,
+    flat: &FlatData<'_>,
     place: Place,
     source: &Token,
     actuals: &[Token],
     pairs: &Pairs,
     refusals: &mut Vec<Refusal>,
 ) -> Result<(), Memory>
-    ensures { OnOk result (refusals.new.items ≡ refusals.old.items ++ bad_actuals place pairs.now (formals_of types.now flat.now.contents source.now) (flat_map (items_of types.now flat.now.contents) actuals.now) (all_of flat.now)) }
+    ensures { OnOk result (refusals.new.items ≡ refusals.old.items ++ bad_actuals place pairs.now
+        (formals_of types.now flat.now.contents source.now) (flat_map (items_of types.now flat.now.contents) actuals.now)
+        (all_of flat.now)) }
 {
     let formals = formals_of(alloc, types, &flat.contents, source)?;
     let actual = items_of_all(alloc, types, &flat.contents, actuals)?;
@@ -156,14 +160,15 @@ fn add_unfitted(
 fn add_bad_actualization(
     alloc: Global,
     types: &[TypeDef],
-    flat: &FlatTypes<'_>,
+    flat: &FlatData<'_>,
     place: Place,
     source: &Token,
     actuals: &[Token],
     pairs: &Pairs,
     refusals: &mut Vec<Refusal>,
 ) -> Result<(), Memory>
-    ensures { OnOk result (refusals.new.items ≡ refusals.old.items ++ bad_actualization types.now flat.now.contents (all_of flat.now) place source.now actuals.now pairs.now) }
+    ensures { OnOk result (refusals.new.items ≡ refusals.old.items ++ bad_actualization types.now flat.now.contents (all_of flat.now)
+        place source.now actuals.now pairs.now) }
 {
     add_bad_actualized(alloc, types, &flat.contents, source, pairs, refusals)?;
     add_unfitted(alloc, types, flat, place, source, actuals, pairs, refusals)
@@ -173,12 +178,13 @@ fn add_bad_actualization(
 fn add_bad_copy_by(
     alloc: Global,
     types: &[TypeDef],
-    flat: &FlatTypes<'_>,
+    flat: &FlatData<'_>,
     place: Place,
     body: &TypeBody,
     refusals: &mut Vec<Refusal>,
 ) -> Result<(), Memory>
-    ensures { OnOk result (refusals.new.items ≡ refusals.old.items ++ bad_copy_by types.now flat.now.contents (all_of flat.now) place body.now) }
+    ensures { OnOk result (refusals.new.items ≡ refusals.old.items ++ bad_copy_by types.now flat.now.contents (all_of flat.now) place
+        body.now) }
 {
     match body {
         TypeBody::Declared {
@@ -207,11 +213,12 @@ fn add_bad_copy_by(
 fn add_bad_copy(
     alloc: Global,
     types: &[TypeDef],
-    flat: &FlatTypes<'_>,
+    flat: &FlatData<'_>,
     definition: &TypeDef,
     refusals: &mut Vec<Refusal>,
 ) -> Result<(), Memory>
-    ensures { OnOk result (refusals.new.items ≡ refusals.old.items ++ bad_copy types.now flat.now.contents (all_of flat.now) definition.now) }
+    ensures { OnOk result (refusals.new.items ≡ refusals.old.items ++ bad_copy types.now flat.now.contents (all_of flat.now)
+        definition.now) }
 {
     match definition {
         TypeDef::Library { place: _, names: _ } => Ok(()),
@@ -227,10 +234,11 @@ fn add_bad_copy(
 pub fn add_bad_copies(
     alloc: Global,
     types: &[TypeDef],
-    flat: &FlatTypes<'_>,
+    flat: &FlatData<'_>,
     refusals: &mut Vec<Refusal>,
 ) -> Result<(), Memory>
-    ensures { OnOk result (refusals.new.items ≡ refusals.old.items ++ flat_map (bad_copy types.now flat.now.contents (all_of flat.now)) types.now) }
+    ensures { OnOk result (refusals.new.items ≡ refusals.old.items ++ flat_map (bad_copy types.now flat.now.contents (all_of flat.now))
+        types.now) }
 {
     for definition in types {
         add_bad_copy(alloc, types, flat, definition, refusals)?;

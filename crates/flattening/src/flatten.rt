@@ -12,14 +12,14 @@ use lotos_ast::refusal::{FrontFault, Refusal};
 use lotos_ast::types::TypeDef;
 use spec_core::memory::Memory;
 use std::alloc::Global;
-use type_contents::flat::{FlatTypes, flat_of};
+use type_contents::flat::{FlatData, flat_of};
 
 // The first of what is refused of types that come to this.
 #[tactic(auto, using(crate::proofs::Judged::as_many, crate::proofs::Judged::judged))]
 fn first_refused(
     alloc: Global,
     types: &[TypeDef],
-    flat: &FlatTypes<'_>,
+    flat: &FlatData<'_>,
 ) -> Result<Option<Refusal>, Memory>
     requires { Flattens types.now flat.now }
     ensures first { IfOk result (λ first. first ≡ first_refusal (refusals_of types.now)) }
@@ -31,7 +31,7 @@ fn first_refused(
 
 /// What types come to, or the first of what is refused of them: at the earliest place, with the smallest number there, and among formal
 /// items at one place the first by number. An unknown type has nothing.
-pub fn flatten<'a>(alloc: Global, types: &'a [TypeDef]) -> Result<FlatTypes<'a>, FrontFault>
+pub fn flatten<'a>(alloc: Global, types: &'a [TypeDef]) -> Result<FlatData<'a>, FrontFault>
     ensures flat { IfOk result (λ flat. Flattens types.now flat) }
     ensures accepted { OnOk result (refusals_of types.now ≡ []) }
     ensures refused { IfRefused result (λ refusal. first_refusal (refusals_of types.now) ≡ Some refusal) }

@@ -12,7 +12,7 @@ use lotos_ast::types::TypeDef;
 use spec_core::memory::Memory;
 use std::alloc::Global;
 use type_contents::contents::Contents;
-use type_contents::flat::FlatTypes;
+use type_contents::flat::FlatData;
 use type_copies::copy::items_at;
 use type_copies::sorts::add_unknown_sorts;
 use type_names::cycle_refusal::add_cycle;
@@ -27,7 +27,8 @@ fn add_sorts_of(
     definition: &TypeDef,
     refusals: &mut Vec<Refusal>,
 ) -> Result<(), Memory>
-    ensures { OnOk result (refusals.new.items ≡ refusals.old.items ++ unknown_sorts (slice_index_or contents.now number no_content).items definition.now) }
+    ensures { OnOk result (refusals.new.items ≡ refusals.old.items ++ unknown_sorts
+        (slice_index_or contents.now number no_content).items definition.now) }
 {
     let content = contents.of_type(number);
     let items = items_at(alloc, content.table, content.items)?;
@@ -54,7 +55,7 @@ fn add_sorts(
 pub fn refusals(
     alloc: Global,
     types: &[TypeDef],
-    flat: &FlatTypes<'_>,
+    flat: &FlatData<'_>,
 ) -> Result<Vec<Refusal>, Memory>
     requires { length flat.now.contents ≡ length types.now }
     ensures { IfOk result (λ found. found.items ≡ refusals_by types.now flat.now.contents (all_of flat.now)) }

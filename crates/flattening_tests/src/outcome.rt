@@ -14,7 +14,7 @@ use spec_core::memory::Memory;
 use std::alloc::Global;
 use std::process::Abort;
 use std::test::Fail;
-use type_contents::flat::FlatTypes;
+use type_contents::flat::FlatData;
 use type_contents::own::Declared;
 use type_copies::copy::{is_in, items_at};
 
@@ -56,7 +56,7 @@ fn spell(alloc: Global, refusal: &Refusal) -> Result<String, Memory> {
 }
 
 // Whether an item is part of the data: a type that isn't formal has it.
-fn is_data(alloc: Global, flat: &FlatTypes<'_>, declared: &Declared<'_>) -> Result<bool, Memory> {
+fn is_data(alloc: Global, flat: &FlatData<'_>, declared: &Declared<'_>) -> Result<bool, Memory> {
     for (number, formal) in flat.formal.iter().enumerate() {
         let content = flat.contents.of_type(number);
         let items = items_at(alloc, content.table, content.items)?;
@@ -68,7 +68,7 @@ fn is_data(alloc: Global, flat: &FlatTypes<'_>, declared: &Declared<'_>) -> Resu
 }
 
 // How many of these are part of the data.
-fn count(alloc: Global, flat: &FlatTypes<'_>, all: &[Declared<'_>]) -> Result<u64, Memory> {
+fn count(alloc: Global, flat: &FlatData<'_>, all: &[Declared<'_>]) -> Result<u64, Memory> {
     let mut found: u64 = 0;
     for declared in all {
         if is_data(alloc, flat, declared)? {

@@ -22,7 +22,9 @@ use std::alloc::Global;
 
 /// What a list of types comes to.
 #[derive(Drop)]
-pub struct FlatTypes<'a> {
+pub struct FlatData<'a> {
+    /// The types themselves: how each is made, and its own equations, which aren't read yet.
+    pub types: &'a [TypeDef],
     /// The sorts of all types, in the order of their numbers.
     pub sorts: Vec<Declared<'a>>,
     /// The operations of all types, in the order of their numbers.
@@ -39,7 +41,8 @@ fn add_firsts<'a>(
     all: &mut Vec<Declared<'a>>,
     entries: &[Declared<'a>],
 ) -> Result<(), Memory>
-    ensures { OnOk result (map described_of all.new.items ≡ fold (with_one is_same_described) (map described_of all.old.items) (map described_of entries.now)) }
+    ensures { OnOk result (map described_of all.new.items ≡ fold (with_one is_same_described) (map described_of all.old.items)
+        (map described_of entries.now)) }
 {
     for one in entries {
         add_first(alloc, all, one)?;
@@ -53,7 +56,8 @@ fn add_brought<'a>(
     all: &mut Vec<Declared<'a>>,
     brought: &Option<Brought<'a>>,
 ) -> Result<(), Memory>
-    ensures { OnOk result (map described_of all.new.items ≡ fold (with_one is_same_described) (map described_of all.old.items) (brought_at brought.now)) }
+    ensures { OnOk result (map described_of all.new.items ≡ fold (with_one is_same_described) (map described_of all.old.items)
+        (brought_at brought.now)) }
 {
     match brought {
         None => Ok(()),
@@ -88,7 +92,8 @@ fn by_kind<'a>(
     all: Vec<Declared<'a>>,
 ) -> Result<(Vec<Declared<'a>>, Vec<Declared<'a>>), Memory>
     ensures sorts { IfOk result (λ r. map described_of r.0.items ≡ filter (λ d. is_sort d.item) (map described_of all.entry.items)) }
-    ensures operations { IfOk result (λ r. map described_of r.1.items ≡ filter (λ d. not (is_sort d.item)) (map described_of all.entry.items)) }
+    ensures operations { IfOk result (λ r. map described_of r.1.items ≡ filter (λ d. not (is_sort d.item))
+        (map described_of all.entry.items)) }
 {
     let mut sorts = Vec::new(alloc);
     let mut operations = Vec::new(alloc);
@@ -117,7 +122,8 @@ fn formal_types(alloc: Global, standings: &[Option<Standing>]) -> Result<Vec<boo
 }
 
 /// What a list of types comes to, whatever is refused of it. An unknown type has nothing.
-pub fn flat_of<'a>(alloc: Global, types: &'a [TypeDef]) -> Result<FlatTypes<'a>, Memory>
+pub fn flat_of<'a>(alloc: Global, types: &'a [TypeDef]) -> Result<FlatData<'a>, Memory>
+    ensures types { IfOk result (λ flat. flat.types.now ≡ types.now) }
     ensures sorts { IfOk result (λ flat. map described_of flat.sorts.items ≡ numbering.all_sorts types.now) }
     ensures operations { IfOk result (λ flat. map described_of flat.operations.items ≡ numbering.all_operations types.now) }
     ensures contents { IfOk result (λ flat. flat.contents ≡ contents.contents types.now) }
@@ -128,7 +134,8 @@ pub fn flat_of<'a>(alloc: Global, types: &'a [TypeDef]) -> Result<FlatTypes<'a>,
     let brought = all_brought(alloc, types, &contents, &standings)?;
     let (sorts, operations) = by_kind(alloc, all_items(alloc, &brought)?)?;
     let formal = formal_types(alloc, &standings)?;
-    Ok(FlatTypes {
+    Ok(FlatData {
+        types,
         sorts,
         operations,
         contents,
