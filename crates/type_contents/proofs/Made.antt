@@ -2,14 +2,20 @@
 use Rattle.std.proofs.Common.{◌≡◌, ◌∙◌, refl, sym, ap, List, [], ◌∷◌, ◌++◌, ℕ, zero, suc, ◌≤◌, length, map, take, Option, None, Some, get_or}
 use Rattle.std.specs.List.{flat_map, slice_index_or}
 use Rattle.std.proofs.lemmas.List.{map-append}
-use Rattle.lotos_ast.specs.declared.token.Token.{Token}
 use Rattle.lotos_ast.specs.declared.types.TypeDef.{TypeDef}
 use Rattle.type_contents.specs.declared.numbers.Numbers.{Numbers}
-use Rattle.type_contents.specs.Items.{Item}
-use Rattle.type_contents.specs.Uses.{number_of}
-use Rattle.type_contents.specs.Contents.{no_content, items_of, formals_of, kept_one}
-use Rattle.type_contents.specs.Images.{Renaming}
-use Rattle.type_contents.specs.Views.{items_at, no_item, AreWithin, made_at, made_items, made_formals, numbers_of_items, numbers_of_formals, IsMadeWithin, AreMadeWithin}
+use Rattle.type_contents.specs.Items.{Item, item_of, union}
+use Rattle.type_contents.specs.Linked.{items_at_number, formals_at_number, items_linked, formals_linked, made_linked}
+use Rattle.type_contents.specs.Own.{own_items, own_formals}
+use Rattle.type_contents.specs.Lists.{listed}
+use Rattle.std.proofs.lemmas.List.Folds.{flat_map-map}
+use Rattle.lotos_ast.specs.declared.types.TypeDef.TheVariants.{Library, Definition}
+use Rattle.lotos_ast.specs.declared.types.TypeBody.{TypeBody}
+use Rattle.lotos_ast.specs.declared.types.TypeBody.TheVariants.{Declared, Renamed, Actualized}
+use Rattle.type_contents.specs.Uses.{number_of, uses_by, links}
+use Rattle.type_contents.specs.Contents.{Content, no_content, content_of, kept_one, kept, items_by, formals_by, made_from}
+use Rattle.type_contents.specs.Images.{Renaming, renaming_of}
+use Rattle.type_contents.specs.Views.{items_at, no_item, AreWithin, made_at, made_items, made_formals, item_numbers, formal_numbers, IsMadeWithin, AreMadeWithin}
 use Rattle.type_contents.proofs.Tables.{within_joined, within_more, grown_length, items_stay}
 
 items_of_one : (t : List Item) (m : Option Numbers) → items_at t (made_items m) ≡ (made_at t m).items
@@ -25,22 +31,22 @@ made_read t [] k = refl
 made_read t (m ∷ ms) zero = refl
 made_read t (m ∷ ms) (suc k) = made_read t ms k
 
-pub items_named : (types : List TypeDef) (t : List Item) (made : List (Option Numbers)) (name : Token) → items_at t (numbers_of_items types made name) ≡ items_of types (map (made_at t) made) name
-items_named types t made name = items_of_one t (slice_index_or made (number_of types name) None) ∙ ap (λ c. c.items) (sym (made_read t made (number_of types name)))
+pub items_numbered : (t : List Item) (made : List (Option Numbers)) (k : ℕ) → items_at t (item_numbers made k) ≡ items_at_number (map (made_at t) made) k
+items_numbered t made k = items_of_one t (slice_index_or made k None) ∙ ap (λ c. c.items) (sym (made_read t made k))
 
-pub formals_named : (types : List TypeDef) (t : List Item) (made : List (Option Numbers)) (name : Token) → items_at t (numbers_of_formals types made name) ≡ formals_of types (map (made_at t) made) name
-formals_named types t made name = formals_of_one t (slice_index_or made (number_of types name) None) ∙ ap (λ c. c.formals) (sym (made_read t made (number_of types name)))
+pub formals_numbered : (t : List Item) (made : List (Option Numbers)) (k : ℕ) → items_at t (formal_numbers made k) ≡ formals_at_number (map (made_at t) made) k
+formals_numbered t made k = formals_of_one t (slice_index_or made k None) ∙ ap (λ c. c.formals) (sym (made_read t made k))
 
--- through a list of names
-all_named : (t : List Item) (f : Token → List ℕ) (g : Token → List Item) → ((x : Token) → items_at t (f x) ≡ g x) → (names : List Token) → items_at t (flat_map f names) ≡ flat_map g names
-all_named t f g each [] = refl
-all_named t f g each (x ∷ xs) = map-append (λ k. get_or t k no_item) (f x) (flat_map f xs) ∙ ap (λ z. z ++ items_at t (flat_map f xs)) (each x) ∙ ap (λ z. g x ++ z) (all_named t f g each xs)
+-- through a list of numbers
+all_numbered : (t : List Item) (f : ℕ → List ℕ) (g : ℕ → List Item) → ((k : ℕ) → items_at t (f k) ≡ g k) → (ks : List ℕ) → items_at t (flat_map f ks) ≡ flat_map g ks
+all_numbered t f g each [] = refl
+all_numbered t f g each (x ∷ xs) = map-append (λ k. get_or t k no_item) (f x) (flat_map f xs) ∙ ap (λ z. z ++ items_at t (flat_map f xs)) (each x) ∙ ap (λ z. g x ++ z) (all_numbered t f g each xs)
 
-pub all_items_named : (types : List TypeDef) (t : List Item) (made : List (Option Numbers)) (names : List Token) → items_at t (flat_map (numbers_of_items types made) names) ≡ flat_map (items_of types (map (made_at t) made)) names
-all_items_named types t made names = all_named t (numbers_of_items types made) (items_of types (map (made_at t) made)) (items_named types t made) names
+pub all_items_numbered : (t : List Item) (made : List (Option Numbers)) (ks : List ℕ) → items_at t (flat_map (item_numbers made) ks) ≡ flat_map (items_at_number (map (made_at t) made)) ks
+all_items_numbered t made ks = all_numbered t (item_numbers made) (items_at_number (map (made_at t) made)) (items_numbered t made) ks
 
-pub all_formals_named : (types : List TypeDef) (t : List Item) (made : List (Option Numbers)) (names : List Token) → items_at t (flat_map (numbers_of_formals types made) names) ≡ flat_map (formals_of types (map (made_at t) made)) names
-all_formals_named types t made names = all_named t (numbers_of_formals types made) (formals_of types (map (made_at t) made)) (formals_named types t made) names
+pub all_formals_numbered : (t : List Item) (made : List (Option Numbers)) (ks : List ℕ) → items_at t (flat_map (formal_numbers made) ks) ≡ flat_map (formals_at_number (map (made_at t) made)) ks
+all_formals_numbered t made ks = all_numbered t (formal_numbers made) (formals_at_number (map (made_at t) made)) (formals_numbered t made) ks
 
 -- all numbers are in the table
 
@@ -49,21 +55,21 @@ within_read bound [] k h = (tt, tt)
 within_read bound (m ∷ ms) zero h = h.0
 within_read bound (m ∷ ms) (suc k) h = within_read bound ms k h.1
 
-pub items_within : (types : List TypeDef) (bound : ℕ) (made : List (Option Numbers)) (name : Token) → AreMadeWithin bound made → AreWithin bound (numbers_of_items types made name)
-items_within types bound made name h = let p : IsMadeWithin bound (slice_index_or made (number_of types name) None) = within_read bound made (number_of types name) h in p.0
+pub items_within : (bound : ℕ) (made : List (Option Numbers)) (k : ℕ) → AreMadeWithin bound made → AreWithin bound (item_numbers made k)
+items_within bound made k h = let p : IsMadeWithin bound (slice_index_or made k None) = within_read bound made k h in p.0
 
-pub formals_within : (types : List TypeDef) (bound : ℕ) (made : List (Option Numbers)) (name : Token) → AreMadeWithin bound made → AreWithin bound (numbers_of_formals types made name)
-formals_within types bound made name h = let p : IsMadeWithin bound (slice_index_or made (number_of types name) None) = within_read bound made (number_of types name) h in p.1
+pub formals_within : (bound : ℕ) (made : List (Option Numbers)) (k : ℕ) → AreMadeWithin bound made → AreWithin bound (formal_numbers made k)
+formals_within bound made k h = let p : IsMadeWithin bound (slice_index_or made k None) = within_read bound made k h in p.1
 
-all_within : (bound : ℕ) (f : Token → List ℕ) → ((x : Token) → AreWithin bound (f x)) → (names : List Token) → AreWithin bound (flat_map f names)
+all_within : (bound : ℕ) (f : ℕ → List ℕ) → ((k : ℕ) → AreWithin bound (f k)) → (ks : List ℕ) → AreWithin bound (flat_map f ks)
 all_within bound f each [] = tt
 all_within bound f each (x ∷ xs) = within_joined bound (f x) (flat_map f xs) (each x) (all_within bound f each xs)
 
-pub all_items_within : (types : List TypeDef) (bound : ℕ) (made : List (Option Numbers)) (names : List Token) → AreMadeWithin bound made → AreWithin bound (flat_map (numbers_of_items types made) names)
-all_items_within types bound made names h = all_within bound (numbers_of_items types made) (λ x. items_within types bound made x h) names
+pub all_items_within : (bound : ℕ) (made : List (Option Numbers)) (ks : List ℕ) → AreMadeWithin bound made → AreWithin bound (flat_map (item_numbers made) ks)
+all_items_within bound made ks h = all_within bound (item_numbers made) (λ k. items_within bound made k h) ks
 
-pub all_formals_within : (types : List TypeDef) (bound : ℕ) (made : List (Option Numbers)) (names : List Token) → AreMadeWithin bound made → AreWithin bound (flat_map (numbers_of_formals types made) names)
-all_formals_within types bound made names h = all_within bound (numbers_of_formals types made) (λ x. formals_within types bound made x h) names
+pub all_formals_within : (bound : ℕ) (made : List (Option Numbers)) (ks : List ℕ) → AreMadeWithin bound made → AreWithin bound (flat_map (formal_numbers made) ks)
+all_formals_within bound made ks h = all_within bound (formal_numbers made) (λ k. formals_within bound made k h) ks
 
 -- a table that grows keeps what stands for it
 
@@ -100,13 +106,24 @@ within_both t u ns ms e h k = within_joined (length u) ns ms (within_more (lengt
 pub made_before : (t u : List Item) (ns : List ℕ) (xs : List Item) → take (length t) u ≡ t → AreWithin (length t) ns → items_at t ns ≡ xs → items_at u ns ≡ xs
 made_before t u ns xs e h f = items_stay t u ns e h ∙ f
 
--- of a type by its number
-
-pub items_numbered : (t : List Item) (made : List (Option Numbers)) (k : ℕ) → items_at t (made_items (slice_index_or made k None)) ≡ (slice_index_or (map (made_at t) made) k no_content).items
-items_numbered t made k = items_of_one t (slice_index_or made k None) ∙ ap (λ c. c.items) (sym (made_read t made k))
-
-pub formals_numbered : (t : List Item) (made : List (Option Numbers)) (k : ℕ) → items_at t (made_formals (slice_index_or made k None)) ≡ (slice_index_or (map (made_at t) made) k no_content).formals
-formals_numbered t made k = formals_of_one t (slice_index_or made k None) ∙ ap (λ c. c.formals) (sym (made_read t made k))
-
 pub numbered_within : (bound : ℕ) (made : List (Option Numbers)) (k : ℕ) → AreMadeWithin bound made → IsMadeWithin bound (slice_index_or made k None)
 numbered_within bound made k h = within_read bound made k h
+
+-- by numbers and by names
+
+items_by_names : (types : List TypeDef) (t : List Content) (body : TypeBody) → items_linked t (map (number_of types) (uses_by body)) body ≡ items_by types t body
+items_by_names types t (Declared place imports formals sorts operations equations) = ap (λ z. z ++ map item_of (own_items formals sorts operations)) (flat_map-map (items_at_number t) (number_of types) (listed imports))
+items_by_names types t (Renamed place source pairs) = refl
+items_by_names types t (Actualized place source actuals pairs) = ap (λ z. z ++ kept (content_of types t source) (renaming_of pairs)) (flat_map-map (items_at_number t) (number_of types) actuals.items)
+
+formals_by_names : (types : List TypeDef) (t : List Content) (body : TypeBody) → formals_linked t (map (number_of types) (uses_by body)) body ≡ formals_by types t body
+formals_by_names types t (Declared place imports formals sorts operations equations) = ap (λ z. z ++ map item_of (own_formals formals)) (flat_map-map (formals_at_number t) (number_of types) (listed imports))
+formals_by_names types t (Renamed place source pairs) = refl
+formals_by_names types t (Actualized place source actuals pairs) = flat_map-map (formals_at_number t) (number_of types) actuals.items
+
+pub made_by_names : (types : List TypeDef) (t : List Content) (linked : List ℕ) (d : TypeDef) → linked ≡ links types d → made_linked t linked d ≡ made_from types t d
+made_by_names types t linked (Library place names) e = refl
+made_by_names types t linked (Definition place name body) e =
+    ap (λ z. made_linked t z (Definition place name body)) e
+    ∙ ap (λ z. record { items = union z; formals = union (formals_linked t (map (number_of types) (uses_by body)) body) }) (items_by_names types t body)
+    ∙ ap (λ z. record { items = union (items_by types t body); formals = union z }) (formals_by_names types t body)

@@ -41,19 +41,26 @@ kept base renaming = flat_map (kept_one base.formals renaming) base.items
 -- all that a type has by how it is made: its own and what its imports have; the images of what it copies; or, where formal items are
 -- replaced, what the actual types have, and the images of what isn't formal. The image of a formal item is among what the actual types have
 abbrev pub items_by : List TypeDef → List Content → TypeBody → List Item
-items_by types table (Declared place imports formals sorts operations equations) = flat_map (items_of types table) (listed imports) ++ map item_of (own_items formals sorts operations)
+items_by types table (Declared place imports formals sorts operations equations) = flat_map (items_of types table) (listed imports)
+    ++ map item_of (own_items formals sorts operations)
 items_by types table (Renamed place source pairs) = map (image (renaming_of pairs)) (items_of types table source)
-items_by types table (Actualized place source actuals pairs) = flat_map (items_of types table) actuals.items ++ kept (content_of types table source) (renaming_of pairs)
+items_by types table (Actualized place source actuals pairs) = flat_map (items_of types table) actuals.items
+    ++ kept (content_of types table source) (renaming_of pairs)
 
 -- what is left open in it
 abbrev pub formals_by : List TypeDef → List Content → TypeBody → List Item
-formals_by types table (Declared place imports formals sorts operations equations) = flat_map (formals_of types table) (listed imports) ++ map item_of (own_formals formals)
+formals_by types table (Declared place imports formals sorts operations equations) = flat_map (formals_of types table) (listed imports)
+    ++ map item_of (own_formals formals)
 formals_by types table (Renamed place source pairs) = map (image (renaming_of pairs)) (formals_of types table source)
 formals_by types table (Actualized place source actuals pairs) = flat_map (formals_of types table) actuals.items
 
 abbrev pub made_from : List TypeDef → List Content → TypeDef → Content
 made_from types table (Library place names) = no_content
-made_from types table (Definition place name body) = record { items = union (items_by types table body); formals = union (formals_by types table body) }
+made_from types table (Definition place name body) = record {
+  items = union (items_by types table body);
+  formals =
+      union (formals_by types table body);
+}
 
 -- the content of each type
 abbrev pub contents : List TypeDef → List Content

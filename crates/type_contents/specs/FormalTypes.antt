@@ -27,13 +27,15 @@ is_declaring d = not (length d.names.items == 0)
 
 -- it has a formal sort, a formal operation or a formal equation
 abbrev pub declares_formals : Formals → Bool
-declares_formals formals = not (length (sort_names formals.sorts) == 0) || list_any is_declaring (listed formals.operations) || has_equations formals.equations
+declares_formals formals = not (length (sort_names formals.sorts) == 0) || list_any is_declaring (listed formals.operations)
+    || has_equations formals.equations
 
 abbrev pub is_formal_in : List TypeDef → List Bool → Token → Bool
 is_formal_in types table name = slice_index_or table (number_of types name) false
 
 abbrev pub is_formal_by : List TypeDef → List Bool → TypeBody → Bool
-is_formal_by types table (Declared place imports formals sorts operations equations) = declares_formals formals || list_any (is_formal_in types table) (listed imports)
+is_formal_by types table (Declared place imports formals sorts operations equations) = declares_formals formals
+    || list_any (is_formal_in types table) (listed imports)
 is_formal_by types table (Renamed place source pairs) = is_formal_in types table source
 is_formal_by types table (Actualized place source actuals pairs) = false
 

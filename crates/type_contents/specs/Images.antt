@@ -56,7 +56,12 @@ sort_image news name = unwrap_or (option_map (λ n. n.new) (for_sort news name))
 
 -- sorts have their new names, in an operation too; its own name stays
 abbrev pub sorts_renamed : List NewSort → Item → Item
-sorts_renamed news x = record { kind = x.kind; name = if is_sort x then sort_image news x.name else x.name; sorts = map (sort_image news) x.sorts }
+sorts_renamed news x = record {
+  kind = x.kind;
+  name = if is_sort x then sort_image news x.name else x.name;
+  sorts =
+      map (sort_image news) x.sorts;
+}
 
 -- whether the new name is for operations of this kind and name
 abbrev pub renames : Item → NewOperation → Bool

@@ -2,6 +2,7 @@ pub mod Contents
 pub mod FormalTypes
 pub mod Images
 pub mod Items
+pub mod Linked
 pub mod Lists
 pub mod Numbering
 pub mod Own

@@ -25,7 +25,8 @@ parts types = rounds.table [] (parts_from types) types
 
 -- what one of the types brings into a content: if it is one of these, what it brings in, as far as the content has it
 abbrev pub brought_by : List (List Described) → List ℕ → List Item → ℕ → List Described
-brought_by brought among content k = if list_any (nat_eq k) among then filter (λ d. is_in content d.item) (slice_index_or brought k []) else []
+brought_by brought among content k = if list_any (nat_eq k) among then filter (λ d. is_in content d.item) (slice_index_or brought k [])
+    else []
 
 -- a content in order, where each type brings in what the table says: the order of the list of types, and for each type that in which
 -- it brings in its own
@@ -38,7 +39,8 @@ itself_and_parts types name = number_of types name ∷ slice_index_or (parts typ
 
 -- the content of the type of this name in order
 abbrev pub source_in_order : List TypeDef → List (List Described) → Token → List Described
-source_in_order types brought source = in_order (length types) brought (itself_and_parts types source) (items_of types (contents types) source)
+source_in_order types brought source = in_order (length types) brought (itself_and_parts types source)
+    (items_of types (contents types) source)
 
 -- the image of an item, where it is another item
 abbrev pub new_image : (Described → Described) → Described → List Described
@@ -51,8 +53,10 @@ new_kept formals renaming d = if is_in formals d.item then [] else new_image (de
 -- what a type brings in: what it declares, or the new items of a copy
 abbrev pub brings_by : List TypeDef → List (List Described) → TypeBody → List Described
 brings_by types brought (Declared place imports formals sorts operations equations) = own_items formals sorts operations
-brings_by types brought (Renamed place source pairs) = flat_map (new_image (described_image (renaming_of pairs))) (source_in_order types brought source)
-brings_by types brought (Actualized place source actuals pairs) = flat_map (new_kept (formals_of types (contents types) source) (renaming_of pairs)) (source_in_order types brought source)
+brings_by types brought (Renamed place source pairs) = flat_map (new_image (described_image (renaming_of pairs)))
+    (source_in_order types brought source)
+brings_by types brought (Actualized place source actuals pairs) = flat_map
+    (new_kept (formals_of types (contents types) source) (renaming_of pairs)) (source_in_order types brought source)
 
 abbrev pub brings : List TypeDef → List (List Described) → TypeDef → List Described
 brings types brought (Library place names) = []

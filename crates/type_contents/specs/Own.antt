@@ -30,7 +30,12 @@ declared_sort t = record { item = sort_item (small t); spelled = t.text; marked 
 
 -- one of the operations of a declaration
 abbrev pub operation_item : OperationDecl → DeclaredName → Item
-operation_item d n = record { kind = kind_of n.name; name = small (name_of n.name); sorts = map small (listed d.arguments) ++ small d.result ∷ [] }
+operation_item d n = record {
+  kind = kind_of n.name;
+  name = small (name_of n.name);
+  sorts = map small (listed d.arguments)
+      ++ small d.result ∷ [];
+}
 
 abbrev pub declared_operation : OperationDecl → DeclaredName → Described
 declared_operation d n = record { item = operation_item d n; spelled = (name_of n.name).text; marked = is_some n.mark; place = n.place }
@@ -62,4 +67,5 @@ own_formals formals = formal_sorts formals ++ formal_operations formals
 
 -- all that is declared, in the order of declaration: what is left open first, among sorts and among operations
 abbrev pub own_items : Formals → Option SortPart → Option OperationPart → List Described
-own_items formals sorts operations = formal_sorts formals ++ map declared_sort (part_sort_names sorts) ++ formal_operations formals ++ flat_map declared_operations (part_operations operations)
+own_items formals sorts operations = formal_sorts formals ++ map declared_sort (part_sort_names sorts) ++ formal_operations formals
+    ++ flat_map declared_operations (part_operations operations)

@@ -16,4 +16,5 @@ known nothing found = map (λ x. unwrap_or x nothing) found
 
 -- what has been found is what each round from the n-th on makes
 abbrev pub IsSettled : {D A : Type 0} → A → (List A → D → A) → List D → List (Option A) → ℕ → Type 0
-IsSettled {D} {A} nothing make all found n = (k : ℕ) (x : A) → slice_index_or found k None ≡ Some x → (m : ℕ) → n ≤ m → slice_index_or (rounds.rounds nothing make all m) k nothing ≡ x
+IsSettled {D} {A} nothing make all found n = (k : ℕ) (x : A) → slice_index_or found k None ≡ Some x → (m : ℕ) → n ≤ m
+    → slice_index_or (rounds.rounds nothing make all m) k nothing ≡ x

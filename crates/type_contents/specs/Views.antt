@@ -9,7 +9,6 @@ use Rattle.type_contents.specs.declared.images.Renaming.{Renaming}
 use Rattle.type_contents.specs.Items as items
 use Rattle.type_contents.specs.Own.{sort_item}
 use Rattle.type_contents.specs.Images as images
-use Rattle.type_contents.specs.Uses.{number_of}
 use Rattle.type_contents.specs.Contents.{Content, no_content, made_from}
 use Rattle.type_contents.specs.Settled.{IsSettled}
 use Rattle.type_contents.specs.FormalTypes.{is_formal_from}
@@ -18,7 +17,6 @@ use Rattle.type_contents.specs.declared.standing.Standing.{Standing}
 use Rattle.type_contents.specs.declared.order.Brought.{Brought}
 use Rattle.type_contents.specs.declared.numbers.Numbers.{Numbers}
 use Rattle.type_contents.specs.declared.parts.Parts.{Parts}
-use Rattle.lotos_ast.specs.declared.token.Token.{Token}
 use Rattle.lotos_ast.specs.declared.types.TypeDef.{TypeDef}
 use Rattle.std.specs.declared.alloc.Global.{Global}
 
@@ -75,11 +73,12 @@ abbrev pub made_formals : Option Numbers → List ℕ
 made_formals None = []
 made_formals (Some n) = n.formals.items
 
-abbrev pub numbers_of_items : List TypeDef → List (Option Numbers) → Token → List ℕ
-numbers_of_items types made name = made_items (slice_index_or made (number_of types name) None)
+-- of the type of a number
+abbrev pub item_numbers : List (Option Numbers) → ℕ → List ℕ
+item_numbers made k = made_items (slice_index_or made k None)
 
-abbrev pub numbers_of_formals : List TypeDef → List (Option Numbers) → Token → List ℕ
-numbers_of_formals types made name = made_formals (slice_index_or made (number_of types name) None)
+abbrev pub formal_numbers : List (Option Numbers) → ℕ → List ℕ
+formal_numbers made k = made_formals (slice_index_or made k None)
 
 abbrev pub IsMadeWithin : ℕ → Option Numbers → Type 0
 IsMadeWithin bound m = AreWithin bound (made_items m) × AreWithin bound (made_formals m)
@@ -110,7 +109,8 @@ parts_at (Some s) = s.parts.items
 
 -- what has been found is what each round from the n-th on makes
 abbrev pub AreStandingsSettled : List TypeDef → List (Option Standing) → ℕ → Type 0
-AreStandingsSettled types found n = IsSettled false (is_formal_from types) types (map (option_map (λ s. s.formal)) found) n × IsSettled [] (parts_from types) types (map (option_map (λ s. s.parts.items)) found) n
+AreStandingsSettled types found n = IsSettled false (is_formal_from types) types (map (option_map (λ s. s.formal)) found) n
+    × IsSettled [] (parts_from types) types (map (option_map (λ s. s.parts.items)) found) n
 
 -- what types bring in, as far as it is found
 abbrev pub brought_of : Brought → List items.Described

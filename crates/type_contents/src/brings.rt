@@ -30,7 +30,8 @@ fn add_new_image<'a>(
     operations: &[NewOperation<'a>],
     one: &Declared<'a>,
 ) -> Result<(), Memory>
-    ensures { OnOk result (map described_of all.new.items ≡ map described_of all.old.items ++ numbering.new_image (images.described_image (renaming_by sorts.now operations.now)) (described_of one.now)) }
+    ensures { OnOk result (map described_of all.new.items ≡ map described_of all.old.items
+        ++ numbering.new_image (images.described_image (renaming_by sorts.now operations.now)) (described_of one.now)) }
 {
     let image = described_image(alloc, sorts, operations, one)?;
     if image.item.is_same(&one.item) {
@@ -46,7 +47,8 @@ fn new_images<'a>(
     renaming: &Renaming<'a>,
     entries: &[Declared<'a>],
 ) -> Result<Vec<Declared<'a>>, Memory>
-    ensures { IfOk result (λ all. map described_of all.items ≡ flat_map (numbering.new_image (images.described_image (renaming_view renaming.now))) (map described_of entries.now)) }
+    ensures { IfOk result (λ all. map described_of all.items ≡ flat_map (numbering.new_image
+        (images.described_image (renaming_view renaming.now))) (map described_of entries.now)) }
 {
     let mut all = Vec::new(alloc);
     for one in entries {
@@ -63,7 +65,8 @@ fn kept_operations<'r, 'a>(
     one: &Declared<'a>,
 ) -> &'r [NewOperation<'a>]
     requires { AreWithin (length table.now) formals.now }
-    ensures { renaming_by renaming.now.sorts.items result.now ≡ images.kept_renaming (items_at table.now formals.now) (renaming_view renaming.now) (described_of one.now).item }
+    ensures { renaming_by renaming.now.sorts.items result.now ≡ images.kept_renaming (items_at table.now formals.now)
+        (renaming_view renaming.now) (described_of one.now).item }
 {
     if has_formal_name(table, formals, &one.item) {
         &[]
@@ -82,7 +85,8 @@ fn add_new_kept<'a>(
     one: &Declared<'a>,
 ) -> Result<(), Memory>
     requires { AreWithin (length table.now) formals.now }
-    ensures { OnOk result (map described_of all.new.items ≡ map described_of all.old.items ++ numbering.new_kept (items_at table.now formals.now) (renaming_view renaming.now) (described_of one.now)) }
+    ensures { OnOk result (map described_of all.new.items ≡ map described_of all.old.items
+        ++ numbering.new_kept (items_at table.now formals.now) (renaming_view renaming.now) (described_of one.now)) }
 {
     if has_item(table, formals, &one.item) {
         return Ok(());
@@ -101,7 +105,8 @@ fn new_kept<'a>(
     entries: &[Declared<'a>],
 ) -> Result<Vec<Declared<'a>>, Memory>
     requires { AreWithin (length table.now) formals.now }
-    ensures { IfOk result (λ all. map described_of all.items ≡ flat_map (numbering.new_kept (items_at table.now formals.now) (renaming_view renaming.now)) (map described_of entries.now)) }
+    ensures { IfOk result (λ all. map described_of all.items ≡ flat_map (numbering.new_kept (items_at table.now formals.now)
+        (renaming_view renaming.now)) (map described_of entries.now)) }
 {
     let mut all = Vec::new(alloc);
     for one in entries {
@@ -122,7 +127,9 @@ fn renamed_brings<'a>(
 ) -> Result<Vec<Declared<'a>>, Memory>
     requires made { made.now ≡ contents.contents types.now }
     requires parts { map parts_at standings.now ≡ numbering.parts types.now }
-    ensures { IfOk result (λ all. map described_of all.items ≡ flat_map (numbering.new_image (images.described_image (images.renaming_of pairs.now))) (numbering.source_in_order types.now (map brought_at found.now) source.now)) }
+    ensures { IfOk result (λ all. map described_of all.items ≡ flat_map (numbering.new_image
+        (images.described_image (images.renaming_of pairs.now))) (numbering.source_in_order types.now (map brought_at found.now)
+        source.now)) }
 {
     let entries = source_in_order(alloc, types, made, standings, found, source)?;
     let renaming = Renaming::of(alloc, pairs)?;
@@ -142,7 +149,9 @@ fn actualized_brings<'a>(
 ) -> Result<Vec<Declared<'a>>, Memory>
     requires made { made.now ≡ contents.contents types.now }
     requires parts { map parts_at standings.now ≡ numbering.parts types.now }
-    ensures { IfOk result (λ all. map described_of all.items ≡ flat_map (numbering.new_kept (contents.formals_of types.now (contents.contents types.now) source.now) (images.renaming_of pairs.now)) (numbering.source_in_order types.now (map brought_at found.now) source.now)) }
+    ensures { IfOk result (λ all. map described_of all.items ≡ flat_map (numbering.new_kept
+        (contents.formals_of types.now (contents.contents types.now) source.now) (images.renaming_of pairs.now))
+        (numbering.source_in_order types.now (map brought_at found.now) source.now)) }
 {
     let entries = source_in_order(alloc, types, made, standings, found, source)?;
     let renaming = Renaming::of(alloc, pairs)?;

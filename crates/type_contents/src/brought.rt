@@ -112,7 +112,8 @@ fn bring_one<'a>(
     requires length { length found.old.items ≡ length types.now }
     requires number { number < length types.now }
     ensures length { OnOk result (length found.new.items ≡ length types.now) }
-    ensures settled { OnOk result ((n : ℕ) → are_ready found.old.items (slice_index_or (map (numbering.needs types.now) types.now) number []) ≡ true → IsBroughtSettled types.now found.old.items n → IsBroughtSettled types.now found.new.items (suc n)) }
+    ensures settled { OnOk result ((n : ℕ) → are_ready found.old.items (slice_index_or (map (numbering.needs types.now) types.now)
+        number []) ≡ true → IsBroughtSettled types.now found.old.items n → IsBroughtSettled types.now found.new.items (suc n)) }
 {
     let all = brings_of(alloc, types, made, standings, found, &types[number])?;
     found[number] = Some(Brought { all });

@@ -1,6 +1,7 @@
 // What each of a list of types has.
 
-ghost use Rattle.std.specs.Prelude.{◌≡◌, ◌<◌, ◌≤◌, ℕ, List, [], suc, true, IfOk, OnOk, IsTrue, None, is_some, length, map, take, slice_index_or};
+ghost use Rattle.std.specs.Prelude.{◌≡◌, ◌<◌, ◌≤◌, ℕ, List, [], suc, true, IfOk, OnOk, IsTrue, None, is_some, length};
+ghost use Rattle.std.specs.Prelude.{map, take, slice_index_or};
 ghost use Rattle.std.specs.List.{list_all};
 ghost use Rattle.type_contents.specs.Uses.{links};
 ghost use Rattle.type_contents.specs.Settled.{are_ready};
@@ -76,18 +77,21 @@ fn nothing_made(alloc: Global, types: &[TypeDef]) -> Result<Vec<Option<Numbers>>
 fn make_one(
     alloc: Global,
     types: &[TypeDef],
+    linked: &[Links],
     table: &mut ItemTable,
     made: &mut Vec<Option<Numbers>>,
     number: usize,
 ) -> Result<(), Memory>
+    requires linked { map (λ l. l.numbers.items) linked.now ≡ map (links types.now) types.now }
     requires within { AreMadeWithin (length table.old) made.old.items }
     requires length { length made.old.items ≡ length types.now }
     requires number { number < length types.now }
     ensures within { OnOk result (AreMadeWithin (length table.new) made.new.items) }
     ensures length { OnOk result (length made.new.items ≡ length types.now) }
-    ensures settled { OnOk result ((n : ℕ) → are_ready made.old.items (slice_index_or (map (links types.now) types.now) number []) ≡ true → AreSettled types.now table.old made.old.items n → AreSettled types.now table.new made.new.items (suc n)) }
+    ensures settled { OnOk result ((n : ℕ) → are_ready made.old.items (slice_index_or (map (links types.now) types.now) number [])
+        ≡ true → AreSettled types.now table.old made.old.items n → AreSettled types.now table.new made.new.items (suc n)) }
 {
-    let numbers = made_from(alloc, types, table, made, &types[number])?;
+    let numbers = made_from(alloc, table, made, &types[number], &linked[number].numbers)?;
     made[number] = Some(numbers);
     Ok(())
 }
@@ -96,17 +100,19 @@ fn make_one(
 fn made_once(
     alloc: Global,
     types: &[TypeDef],
+    linked: &[Links],
     table: &mut ItemTable,
 ) -> Result<Vec<Option<Numbers>>, Memory>
+    requires { map (λ l. l.numbers.items) linked.now ≡ map (links types.now) types.now }
     ensures within { IfOk result (λ made. AreMadeWithin (length table.new) made.items) }
-    ensures contents { IfOk result (λ made. list_all is_some made.items ≡ true → map (made_at table.new) made.items ≡ contents.contents types.now) }
+    ensures contents { IfOk result (λ made. list_all is_some made.items ≡ true → map (made_at table.new) made.items
+        ≡ contents.contents types.now) }
 {
-    let links = links_of(alloc, types)?;
     let mut made = nothing_made(alloc, types)?;
     for _made in 0..types.len() {
-        match next_ready(&made, &links) {
+        match next_ready(&made, linked) {
             None => return Ok(made),
-            Some(number) => make_one(alloc, types, table, &mut made, number)?,
+            Some(number) => make_one(alloc, types, linked, table, &mut made, number)?,
         }
     }
     Ok(made)
@@ -116,17 +122,20 @@ fn made_once(
 fn next_round(
     alloc: Global,
     types: &[TypeDef],
+    linked: &[Links],
     table: &mut ItemTable,
     made: &[Option<Numbers>],
 ) -> Result<Vec<Option<Numbers>>, Memory>
-    requires { AreMadeWithin (length table.old) made.now }
+    requires linked { map (λ l. l.numbers.items) linked.now ≡ map (links types.now) types.now }
+    requires within { AreMadeWithin (length table.old) made.now }
     ensures kept { take (length table.old) table.new ≡ table.old }
     ensures within { IfOk result (λ next. AreMadeWithin (length table.new) next.items) }
-    ensures contents { IfOk result (λ next. map (made_at table.new) next.items ≡ map (contents.made_from types.now (map (made_at table.old) made.now)) types.now) }
+    ensures contents { IfOk result (λ next. map (made_at table.new) next.items
+        ≡ map (contents.made_from types.now (map (made_at table.old) made.now)) types.now) }
 {
     let mut next = Vec::new(alloc);
-    for definition in types {
-        next.push(Some(made_from(alloc, types, table, made, definition)?))?;
+    for (i, definition) in types.iter().enumerate() {
+        next.push(Some(made_from(alloc, table, made, definition, &linked[i].numbers)?))?;
     }
     Ok(next)
 }
@@ -135,14 +144,16 @@ fn next_round(
 fn made_by_rounds(
     alloc: Global,
     types: &[TypeDef],
+    linked: &[Links],
     table: &mut ItemTable,
 ) -> Result<Vec<Option<Numbers>>, Memory>
+    requires { map (λ l. l.numbers.items) linked.now ≡ map (links types.now) types.now }
     ensures within { IfOk result (λ made. AreMadeWithin (length table.new) made.items) }
     ensures contents { IfOk result (λ made. map (made_at table.new) made.items ≡ contents.contents types.now) }
 {
     let mut made = nothing_made(alloc, types)?;
     for _round in 0..types.len() {
-        made = next_round(alloc, types, table, &made)?;
+        made = next_round(alloc, types, linked, table, &made)?;
     }
     Ok(made)
 }
@@ -152,10 +163,11 @@ pub fn contents_of(alloc: Global, types: &[TypeDef]) -> Result<Contents, Memory>
     ensures { IfOk result (λ c. c ≡ contents.contents types.now) }
 {
     let mut table = ItemTable::new(alloc);
-    let once = made_once(alloc, types, &mut table)?;
+    let linked = links_of(alloc, types)?;
+    let once = made_once(alloc, types, &linked, &mut table)?;
     if are_all_found(&once) {
         return Ok(Contents { table, made: once });
     }
-    let made = made_by_rounds(alloc, types, &mut table)?;
+    let made = made_by_rounds(alloc, types, &linked, &mut table)?;
     Ok(Contents { table, made })
 }

@@ -66,7 +66,8 @@ pub fn add_first<'a>(
     all: &mut Vec<Declared<'a>>,
     one: &Declared<'a>,
 ) -> Result<(), Memory>
-    ensures { OnOk result (map described_of all.new.items ≡ with_one is_same_described (map described_of all.old.items) (described_of one.now)) }
+    ensures { OnOk result (map described_of all.new.items ≡ with_one is_same_described (map described_of all.old.items)
+        (described_of one.now)) }
 {
     if is_described(all, one) {
         return Ok(());
@@ -117,7 +118,8 @@ pub fn described_image<'a>(
     operations: &[NewOperation<'a>],
     one: &Declared<'a>,
 ) -> Result<Declared<'a>, Memory>
-    ensures { IfOk result (λ d. described_of d ≡ images.described_image (views.renaming_by sorts.now operations.now) (described_of one.now)) }
+    ensures { IfOk result (λ d. described_of d ≡ images.described_image (views.renaming_by sorts.now operations.now)
+        (described_of one.now)) }
 {
     Ok(Declared {
         item: image_by(alloc, sorts, operations, &one.item)?,

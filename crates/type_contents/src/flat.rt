@@ -121,6 +121,32 @@ fn formal_types(alloc: Global, standings: &[Option<Standing>]) -> Result<Vec<boo
     Ok(all)
 }
 
+/// What a list of types comes to whose contents are made.
+pub fn flat_from<'a>(
+    alloc: Global,
+    types: &'a [TypeDef],
+    made: Contents,
+) -> Result<FlatData<'a>, Memory>
+    requires { made ≡ contents.contents types.now }
+    ensures types { IfOk result (λ flat. flat.types.now ≡ types.now) }
+    ensures sorts { IfOk result (λ flat. map described_of flat.sorts.items ≡ numbering.all_sorts types.now) }
+    ensures operations { IfOk result (λ flat. map described_of flat.operations.items ≡ numbering.all_operations types.now) }
+    ensures contents { IfOk result (λ flat. flat.contents ≡ contents.contents types.now) }
+    ensures formal { IfOk result (λ flat. flat.formal.items ≡ formal.formal_types types.now) }
+{
+    let standings = standings_of(alloc, types)?;
+    let brought = all_brought(alloc, types, &made, &standings)?;
+    let (sorts, operations) = by_kind(alloc, all_items(alloc, &brought)?)?;
+    let formal = formal_types(alloc, &standings)?;
+    Ok(FlatData {
+        types,
+        sorts,
+        operations,
+        contents: made,
+        formal,
+    })
+}
+
 /// What a list of types comes to, whatever is refused of it. An unknown type has nothing.
 pub fn flat_of<'a>(alloc: Global, types: &'a [TypeDef]) -> Result<FlatData<'a>, Memory>
     ensures types { IfOk result (λ flat. flat.types.now ≡ types.now) }
@@ -129,16 +155,6 @@ pub fn flat_of<'a>(alloc: Global, types: &'a [TypeDef]) -> Result<FlatData<'a>, 
     ensures contents { IfOk result (λ flat. flat.contents ≡ contents.contents types.now) }
     ensures formal { IfOk result (λ flat. flat.formal.items ≡ formal.formal_types types.now) }
 {
-    let contents = contents_of(alloc, types)?;
-    let standings = standings_of(alloc, types)?;
-    let brought = all_brought(alloc, types, &contents, &standings)?;
-    let (sorts, operations) = by_kind(alloc, all_items(alloc, &brought)?)?;
-    let formal = formal_types(alloc, &standings)?;
-    Ok(FlatData {
-        types,
-        sorts,
-        operations,
-        contents,
-        formal,
-    })
+    let made = contents_of(alloc, types)?;
+    flat_from(alloc, types, made)
 }

@@ -158,7 +158,8 @@ fn sort_image(alloc: Global, news: &[NewSort<'_>], name: &str) -> Result<String,
 
 // The images of sorts.
 fn sort_images(alloc: Global, news: &[NewSort<'_>], names: &[String]) -> Result<Vec<String>, Memory>
-    ensures { IfOk result (λ all. map (λ s. string_bytes s) all.items ≡ map (images.sort_image (map new_sort_of news.now)) (map (λ s. string_bytes s) names.now)) }
+    ensures { IfOk result (λ all. map (λ s. string_bytes s) all.items ≡ map (images.sort_image (map new_sort_of news.now))
+        (map (λ s. string_bytes s) names.now)) }
 {
     let mut all = Vec::new(alloc);
     for name in names {
@@ -274,7 +275,8 @@ pub fn kept_image(
     item: &Item,
 ) -> Result<Item, Memory>
     requires { AreWithin (length table.now) formals.now }
-    ensures { IfOk result (λ x. item_of x ≡ images.kept_image (items_at table.now formals.now) (renaming_view renaming.now) (item_of item.now)) }
+    ensures { IfOk result (λ x. item_of x ≡ images.kept_image (items_at table.now formals.now) (renaming_view renaming.now)
+        (item_of item.now)) }
 {
     if has_formal_name(table, formals, item) {
         sorts_renamed(alloc, &renaming.sorts, item)

@@ -5,7 +5,7 @@ ghost use Rattle.std.specs.List.{flat_map};
 ghost use Rattle.std.specs.Str.{bytes_eq};
 ghost use Rattle.type_contents.specs.Items.{small};
 ghost use Rattle.type_contents.specs.Uses.{is_called, number_of};
-ghost use Rattle.type_contents.specs.Views.{made_items, made_formals, numbers_of_items, numbers_of_formals};
+ghost use Rattle.type_contents.specs.Views.{made_items, made_formals, item_numbers, formal_numbers};
 
 use lotos_ast::token::Token;
 use lotos_ast::types::TypeDef;
@@ -83,48 +83,32 @@ pub fn made_formals(made: &[Option<Numbers>], number: usize) -> &[usize]
     }
 }
 
-/// The numbers of all that the type of this name has; none where it isn't made yet. It takes no memory.
-pub fn items_of<'m>(types: &[TypeDef], made: &'m [Option<Numbers>], name: &Token) -> &'m [usize]
-    ensures { result.now ≡ numbers_of_items types.now made.now name.now }
-{
-    made_items(made, number_of(types, name))
-}
-
-/// The numbers of what is left open in the type of this name; none where it isn't made yet. It takes no memory.
-pub fn formals_of<'m>(types: &[TypeDef], made: &'m [Option<Numbers>], name: &Token) -> &'m [usize]
-    ensures { result.now ≡ numbers_of_formals types.now made.now name.now }
-{
-    made_formals(made, number_of(types, name))
-}
-
-/// The numbers of all that the types of these names have.
+/// The numbers of all that the types of these numbers have.
 pub fn items_of_all(
     alloc: Global,
-    types: &[TypeDef],
     made: &[Option<Numbers>],
-    names: &[Token],
+    linked: &[usize],
 ) -> Result<Vec<usize>, Memory>
-    ensures { IfOk result (λ all. all.items ≡ flat_map (numbers_of_items types.now made.now) names.now) }
+    ensures { IfOk result (λ all. all.items ≡ flat_map (item_numbers made.now) linked.now) }
 {
     let mut all = Vec::new(alloc);
-    for name in names {
-        all.extend_from_slice(items_of(types, made, name))?;
+    for number in linked {
+        all.extend_from_slice(made_items(made, *number))?;
     }
     Ok(all)
 }
 
-/// The numbers of what is left open in the types of these names.
+/// The numbers of what is left open in the types of these numbers.
 pub fn formals_of_all(
     alloc: Global,
-    types: &[TypeDef],
     made: &[Option<Numbers>],
-    names: &[Token],
+    linked: &[usize],
 ) -> Result<Vec<usize>, Memory>
-    ensures { IfOk result (λ all. all.items ≡ flat_map (numbers_of_formals types.now made.now) names.now) }
+    ensures { IfOk result (λ all. all.items ≡ flat_map (formal_numbers made.now) linked.now) }
 {
     let mut all = Vec::new(alloc);
-    for name in names {
-        all.extend_from_slice(formals_of(types, made, name))?;
+    for number in linked {
+        all.extend_from_slice(made_formals(made, *number))?;
     }
     Ok(all)
 }

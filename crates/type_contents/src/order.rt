@@ -50,7 +50,8 @@ fn add_one<'a>(
     one: &Declared<'a>,
 ) -> Result<(), Memory>
     requires { AreWithin (length table.now) items.now }
-    ensures { OnOk result (map described_of all.new.items ≡ (if is_in (items_at table.now items.now) (described_of one.now).item then with_one is_same_described (map described_of all.old.items) (described_of one.now) else map described_of all.old.items)) }
+    ensures { OnOk result (map described_of all.new.items ≡ (if is_in (items_at table.now items.now) (described_of one.now).item then
+        with_one is_same_described (map described_of all.old.items) (described_of one.now) else map described_of all.old.items)) }
 {
     if has_item(table, items, &one.item) {
         add_first(alloc, all, one)
@@ -68,7 +69,8 @@ fn add_all<'a>(
     entries: &[Declared<'a>],
 ) -> Result<(), Memory>
     requires { AreWithin (length table.now) items.now }
-    ensures { OnOk result (map described_of all.new.items ≡ fold (with_one is_same_described) (map described_of all.old.items) (filter (λ d. is_in (items_at table.now items.now) d.item) (map described_of entries.now))) }
+    ensures { OnOk result (map described_of all.new.items ≡ fold (with_one is_same_described) (map described_of all.old.items)
+        (filter (λ d. is_in (items_at table.now items.now) d.item) (map described_of entries.now))) }
 {
     for one in entries {
         add_one(alloc, all, table, items, one)?;
@@ -101,7 +103,8 @@ fn add_brought<'a>(
     number: usize,
 ) -> Result<(), Memory>
     requires { AreWithin (length table.now) items.now }
-    ensures { OnOk result (map described_of all.new.items ≡ fold (with_one is_same_described) (map described_of all.old.items) (numbering.brought_by (map brought_at found.now) among.now (items_at table.now items.now) number)) }
+    ensures { OnOk result (map described_of all.new.items ≡ fold (with_one is_same_described) (map described_of all.old.items)
+        (numbering.brought_by (map brought_at found.now) among.now (items_at table.now items.now) number)) }
 {
     if is_among(among, number) {
         add_all(alloc, all, table, items, brought_at(found, number))
@@ -120,7 +123,8 @@ fn in_order<'a>(
     among: &[usize],
 ) -> Result<Vec<Declared<'a>>, Memory>
     requires { AreWithin (length table.now) items.now }
-    ensures { IfOk result (λ all. map described_of all.items ≡ numbering.in_order count (map brought_at found.now) among.now (items_at table.now items.now)) }
+    ensures { IfOk result (λ all. map described_of all.items ≡ numbering.in_order count (map brought_at found.now) among.now
+        (items_at table.now items.now)) }
 {
     let mut all = Vec::new(alloc);
     for number in 0..count {

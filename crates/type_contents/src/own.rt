@@ -92,7 +92,8 @@ fn add_names(alloc: Global, all: &mut Vec<String>, names: &[Token]) -> Result<()
 
 // The sorts of an operation: those of its arguments, and then that of its result.
 fn sorts_of(alloc: Global, declaration: &OperationDecl) -> Result<Vec<String>, Memory>
-    ensures { IfOk result (λ all. map (λ s. string_bytes s) all.items ≡ map small (listed declaration.now.arguments) ++ small declaration.now.result ∷ []) }
+    ensures { IfOk result (λ all. map (λ s. string_bytes s) all.items ≡ map small (listed declaration.now.arguments)
+        ++ small declaration.now.result ∷ []) }
 {
     let mut all = Vec::new(alloc);
     if let Some(arguments) = &declaration.arguments {
@@ -142,7 +143,8 @@ fn add_operations<'a>(
     all: &mut Vec<Declared<'a>>,
     declarations: &'a [OperationDecl],
 ) -> Result<(), Memory>
-    ensures { OnOk result (map described_of all.new.items ≡ map described_of all.old.items ++ flat_map own.declared_operations declarations.now) }
+    ensures { OnOk result (map described_of all.new.items ≡ map described_of all.old.items
+        ++ flat_map own.declared_operations declarations.now) }
 {
     for declaration in declarations {
         add_declaration(alloc, all, declaration)?;

@@ -1,20 +1,20 @@
 // What contents are put together from.
 
-ghost use Rattle.std.specs.Prelude.{◌≡◌, ◌++◌, ◌<◌, Some, IfOk, OnOk, length, map, take, slice_index_or};
+ghost use Rattle.std.specs.Prelude.{◌≡◌, ◌++◌, ◌<◌, Some, IfOk, OnOk, drop, length, map, take, slice_index_or};
 ghost use Rattle.std.specs.List.{flat_map};
-ghost use Rattle.type_contents.specs.Lists.{listed};
+ghost use Rattle.type_contents.specs.Linked as by_number;
 ghost use Rattle.type_contents.specs.Items as items;
 ghost use Rattle.type_contents.specs.Images as images;
 ghost use Rattle.type_contents.specs.Own as own;
 ghost use Rattle.type_contents.specs.Contents as contents;
-ghost use Rattle.type_contents.specs.Views.{item_of, described_of, renaming_view, items_at, no_item, AreWithin, content_at, made_at, IsMadeWithin, AreMadeWithin, ArePartsWithin, gathered};
+ghost use Rattle.type_contents.specs.Views.{item_of, described_of, renaming_view, items_at, no_item, AreWithin};
+ghost use Rattle.type_contents.specs.Views.{content_at, made_at, IsMadeWithin, AreMadeWithin, ArePartsWithin, gathered};
 
 use crate::images::{Renaming, image, kept_image};
 use crate::item::Item;
 use crate::item_table::ItemTable;
-use crate::numbers::{Numbers, formals_of, formals_of_all, items_of, items_of_all};
+use crate::numbers::{Numbers, formals_of_all, items_of_all, made_formals, made_items};
 use crate::own::{Declared, own_formals, own_items};
-use lotos_ast::token::Token;
 use lotos_ast::types::{Formals, OperationPart, Pairs, SortPart, TypeBody, TypeDef};
 use spec_core::memory::Memory;
 use std::alloc::Global;
@@ -51,7 +51,8 @@ fn images(
     numbers: &[usize],
 ) -> Result<Vec<Item>, Memory>
     requires { AreWithin (length table.now) numbers.now }
-    ensures { IfOk result (λ all. map item_of all.items ≡ map (images.image (renaming_view renaming.now)) (items_at table.now numbers.now)) }
+    ensures { IfOk result (λ all. map item_of all.items ≡ map (images.image (renaming_view renaming.now))
+        (items_at table.now numbers.now)) }
 {
     let mut all = Vec::new(alloc);
     for number in numbers {
@@ -71,7 +72,8 @@ fn add_kept(
 ) -> Result<(), Memory>
     requires formals { AreWithin (length table.now) formals.now }
     requires number { number < length table.now }
-    ensures { OnOk result (map item_of all.new.items ≡ map item_of all.old.items ++ contents.kept_one (items_at table.now formals.now) (renaming_view renaming.now) (slice_index_or table.now number no_item)) }
+    ensures { OnOk result (map item_of all.new.items ≡ map item_of all.old.items ++ contents.kept_one (items_at table.now formals.now)
+        (renaming_view renaming.now) (slice_index_or table.now number no_item)) }
 {
     if table.is_in(formals, number) {
         return Ok(());
@@ -90,7 +92,8 @@ fn kept(
 ) -> Result<Vec<Item>, Memory>
     requires numbers { AreWithin (length table.now) numbers.now }
     requires formals { AreWithin (length table.now) formals.now }
-    ensures { IfOk result (λ all. map item_of all.items ≡ flat_map (contents.kept_one (items_at table.now formals.now) (renaming_view renaming.now)) (items_at table.now numbers.now)) }
+    ensures { IfOk result (λ all. map item_of all.items ≡ flat_map (contents.kept_one (items_at table.now formals.now)
+        (renaming_view renaming.now)) (items_at table.now numbers.now)) }
 {
     let mut all = Vec::new(alloc);
     for number in numbers {
@@ -102,24 +105,27 @@ fn kept(
 // What a type has that is made by what it imports and what it declares.
 fn declared_parts(
     alloc: Global,
-    types: &[TypeDef],
     table: &ItemTable,
     made: &[Option<Numbers>],
-    imports: &[Token],
+    linked: &[usize],
     formals: &Formals,
     sorts: &Option<SortPart>,
     operations: &Option<OperationPart>,
 ) -> Result<Parts, Memory>
     requires { AreMadeWithin (length table.now) made.now }
-    ensures items { IfOk result (λ p. gathered table.now p.items p.more_items ≡ flat_map (contents.items_of types.now (map (made_at table.now) made.now)) imports.now ++ map items.item_of (own.own_items formals.now sorts.now operations.now)) }
-    ensures formals { IfOk result (λ p. gathered table.now p.formals p.more_formals ≡ flat_map (contents.formals_of types.now (map (made_at table.now) made.now)) imports.now ++ map items.item_of (own.own_formals formals.now)) }
+    ensures items { IfOk result (λ p. gathered table.now p.items p.more_items ≡ flat_map
+        (by_number.items_at_number (map (made_at table.now) made.now)) linked.now ++ map items.item_of
+        (own.own_items formals.now sorts.now operations.now)) }
+    ensures formals { IfOk result (λ p. gathered table.now p.formals p.more_formals
+        ≡ flat_map (by_number.formals_at_number (map (made_at table.now) made.now)) linked.now
+        ++ map items.item_of (own.own_formals formals.now)) }
     ensures within { IfOk result (ArePartsWithin (length table.now)) }
 {
     let _ = table.len();
     Ok(Parts {
-        items: items_of_all(alloc, types, made, imports)?,
+        items: items_of_all(alloc, made, linked)?,
         more_items: items_declared(alloc, own_items(alloc, formals, sorts, operations)?)?,
-        formals: formals_of_all(alloc, types, made, imports)?,
+        formals: formals_of_all(alloc, made, linked)?,
         more_formals: items_declared(alloc, own_formals(alloc, formals)?)?,
     })
 }
@@ -127,104 +133,117 @@ fn declared_parts(
 // What a copy with new names has.
 fn renamed_parts(
     alloc: Global,
-    types: &[TypeDef],
     table: &ItemTable,
     made: &[Option<Numbers>],
-    source: &Token,
+    source: usize,
     pairs: &Pairs,
 ) -> Result<Parts, Memory>
     requires { AreMadeWithin (length table.now) made.now }
-    ensures items { IfOk result (λ p. gathered table.now p.items p.more_items ≡ map (images.image (images.renaming_of pairs.now)) (contents.items_of types.now (map (made_at table.now) made.now) source.now)) }
-    ensures formals { IfOk result (λ p. gathered table.now p.formals p.more_formals ≡ map (images.image (images.renaming_of pairs.now)) (contents.formals_of types.now (map (made_at table.now) made.now) source.now)) }
+    ensures items { IfOk result (λ p. gathered table.now p.items p.more_items ≡ map (images.image (images.renaming_of pairs.now))
+        (by_number.items_at_number (map (made_at table.now) made.now) source)) }
+    ensures formals { IfOk result (λ p. gathered table.now p.formals p.more_formals
+        ≡ map (images.image (images.renaming_of pairs.now)) (by_number.formals_at_number (map (made_at table.now) made.now) source)) }
     ensures within { IfOk result (ArePartsWithin (length table.now)) }
 {
     let renaming = Renaming::of(alloc, pairs)?;
     Ok(Parts {
         items: Vec::new(alloc),
-        more_items: images(alloc, table, &renaming, items_of(types, made, source))?,
+        more_items: images(alloc, table, &renaming, made_items(made, source))?,
         formals: Vec::new(alloc),
-        more_formals: images(alloc, table, &renaming, formals_of(types, made, source))?,
+        more_formals: images(alloc, table, &renaming, made_formals(made, source))?,
     })
 }
 
 // What a copy has whose formal items are replaced.
 fn actualized_parts(
     alloc: Global,
-    types: &[TypeDef],
     table: &ItemTable,
     made: &[Option<Numbers>],
-    source: &Token,
-    actuals: &[Token],
+    source: usize,
+    actuals: &[usize],
     pairs: &Pairs,
 ) -> Result<Parts, Memory>
     requires { AreMadeWithin (length table.now) made.now }
-    ensures items { IfOk result (λ p. gathered table.now p.items p.more_items ≡ flat_map (contents.items_of types.now (map (made_at table.now) made.now)) actuals.now ++ contents.kept (contents.content_of types.now (map (made_at table.now) made.now) source.now) (images.renaming_of pairs.now)) }
-    ensures formals { IfOk result (λ p. gathered table.now p.formals p.more_formals ≡ flat_map (contents.formals_of types.now (map (made_at table.now) made.now)) actuals.now) }
+    ensures items { IfOk result (λ p. gathered table.now p.items p.more_items ≡ flat_map
+        (by_number.items_at_number (map (made_at table.now) made.now)) actuals.now ++ contents.kept
+        (slice_index_or (map (made_at table.now) made.now) source contents.no_content) (images.renaming_of pairs.now)) }
+    ensures formals { IfOk result (λ p. gathered table.now p.formals p.more_formals
+        ≡ flat_map (by_number.formals_at_number (map (made_at table.now) made.now)) actuals.now) }
     ensures within { IfOk result (ArePartsWithin (length table.now)) }
 {
     let renaming = Renaming::of(alloc, pairs)?;
-    let copied = items_of(types, made, source);
-    let open = formals_of(types, made, source);
+    let copied = made_items(made, source);
+    let open = made_formals(made, source);
     Ok(Parts {
-        items: items_of_all(alloc, types, made, actuals)?,
+        items: items_of_all(alloc, made, actuals)?,
         more_items: kept(alloc, table, copied, open, &renaming)?,
-        formals: formals_of_all(alloc, types, made, actuals)?,
+        formals: formals_of_all(alloc, made, actuals)?,
         more_formals: Vec::new(alloc),
     })
 }
 
-// The imports of a type.
-fn imports_of(imports: &Option<Vec<Token>>) -> &[Token]
-    ensures { result.now ≡ listed imports.now }
+// The source of a copy: the first of the types of which it is made.
+fn source_of(linked: &[usize]) -> usize
+    ensures { result ≡ by_number.source_of linked.now }
 {
-    match imports {
-        None => &[],
-        Some(all) => all,
+    match linked {
+        [] => 0,
+        [first, ..] => *first,
+    }
+}
+
+// The actual types of a copy: the others of which it is made.
+fn actuals_of(linked: &[usize]) -> &[usize]
+    ensures { result.now ≡ drop 1 linked.now }
+{
+    match linked {
+        [] => &[],
+        [_, others @ ..] => others,
     }
 }
 
 // What a type has by how it is made.
 fn parts_of(
     alloc: Global,
-    types: &[TypeDef],
     table: &ItemTable,
     made: &[Option<Numbers>],
     body: &TypeBody,
+    linked: &[usize],
 ) -> Result<Parts, Memory>
     requires { AreMadeWithin (length table.now) made.now }
-    ensures items { IfOk result (λ p. gathered table.now p.items p.more_items ≡ contents.items_by types.now (map (made_at table.now) made.now) body.now) }
-    ensures formals { IfOk result (λ p. gathered table.now p.formals p.more_formals ≡ contents.formals_by types.now (map (made_at table.now) made.now) body.now) }
+    ensures items { IfOk result (λ p. gathered table.now p.items p.more_items ≡ by_number.items_linked
+        (map (made_at table.now) made.now) linked.now body.now) }
+    ensures formals { IfOk result (λ p. gathered table.now p.formals p.more_formals
+        ≡ by_number.formals_linked (map (made_at table.now) made.now) linked.now body.now) }
     ensures within { IfOk result (ArePartsWithin (length table.now)) }
 {
     match body {
         TypeBody::Declared {
             place: _,
-            imports,
+            imports: _,
             formals,
             sorts,
             operations,
             equations: _,
-        } => declared_parts(
-            alloc,
-            types,
-            table,
-            made,
-            imports_of(imports),
-            formals,
-            sorts,
-            operations,
-        ),
+        } => declared_parts(alloc, table, made, linked, formals, sorts, operations),
         TypeBody::Renamed {
             place: _,
-            source,
+            source: _,
             pairs,
-        } => renamed_parts(alloc, types, table, made, source, pairs),
+        } => renamed_parts(alloc, table, made, source_of(linked), pairs),
         TypeBody::Actualized {
             place: _,
-            source,
-            actuals,
+            source: _,
+            actuals: _,
             pairs,
-        } => actualized_parts(alloc, types, table, made, source, actuals, pairs),
+        } => actualized_parts(
+            alloc,
+            table,
+            made,
+            source_of(linked),
+            actuals_of(linked),
+            pairs,
+        ),
     }
 }
 
@@ -252,7 +271,8 @@ fn put_together(alloc: Global, table: &mut ItemTable, parts: Parts) -> Result<Nu
     requires { ArePartsWithin (length table.old) parts }
     ensures kept { take (length table.old) table.new ≡ table.old }
     ensures items { IfOk result (λ n. items_at table.new n.items.items ≡ items.union (gathered table.old parts.items parts.more_items)) }
-    ensures formals { IfOk result (λ n. items_at table.new n.formals.items ≡ items.union (gathered table.old parts.formals parts.more_formals)) }
+    ensures formals { IfOk result (λ n. items_at table.new n.formals.items ≡ items.union
+        (gathered table.old parts.formals parts.more_formals)) }
     ensures within { IfOk result (λ n. IsMadeWithin (length table.new) (Some n)) }
 {
     let items = united(alloc, table, parts.items, parts.more_items)?;
@@ -263,32 +283,35 @@ fn put_together(alloc: Global, table: &mut ItemTable, parts: Parts) -> Result<Nu
 // What a type has by how it is made, each item once.
 fn made_by(
     alloc: Global,
-    types: &[TypeDef],
     table: &mut ItemTable,
     made: &[Option<Numbers>],
     body: &TypeBody,
+    linked: &[usize],
 ) -> Result<Numbers, Memory>
     requires { AreMadeWithin (length table.old) made.now }
     ensures kept { take (length table.old) table.new ≡ table.old }
-    ensures items { IfOk result (λ n. items_at table.new n.items.items ≡ items.union (contents.items_by types.now (map (made_at table.old) made.now) body.now)) }
-    ensures formals { IfOk result (λ n. items_at table.new n.formals.items ≡ items.union (contents.formals_by types.now (map (made_at table.old) made.now) body.now)) }
+    ensures items { IfOk result (λ n. items_at table.new n.items.items ≡ items.union
+        (by_number.items_linked (map (made_at table.old) made.now) linked.now body.now)) }
+    ensures formals { IfOk result (λ n. items_at table.new n.formals.items ≡ items.union
+        (by_number.formals_linked (map (made_at table.old) made.now) linked.now body.now)) }
     ensures within { IfOk result (λ n. IsMadeWithin (length table.new) (Some n)) }
 {
-    let parts = parts_of(alloc, types, table, made, body)?;
+    let parts = parts_of(alloc, table, made, body, linked)?;
     put_together(alloc, table, parts)
 }
 
-/// What a type has, where each that it is made from has what is made of it.
+/// What a type has that is made of the types of these numbers, where each of those has what is made of it.
 pub fn made_from(
     alloc: Global,
-    types: &[TypeDef],
     table: &mut ItemTable,
     made: &[Option<Numbers>],
     definition: &TypeDef,
+    linked: &[usize],
 ) -> Result<Numbers, Memory>
     requires { AreMadeWithin (length table.old) made.now }
     ensures kept { take (length table.old) table.new ≡ table.old }
-    ensures content { IfOk result (λ n. content_at table.new n ≡ contents.made_from types.now (map (made_at table.old) made.now) definition.now) }
+    ensures content { IfOk result (λ n. content_at table.new n ≡ by_number.made_linked (map (made_at table.old) made.now) linked.now
+        definition.now) }
     ensures within { IfOk result (λ n. IsMadeWithin (length table.new) (Some n)) }
 {
     match definition {
@@ -300,6 +323,6 @@ pub fn made_from(
             place: _,
             name: _,
             body,
-        } => made_by(alloc, types, table, made, body),
+        } => made_by(alloc, table, made, body, linked),
     }
 }

@@ -112,7 +112,8 @@ fn are_ready<T>(found: &[Option<T>], used: &[usize]) -> bool
 /// The first that isn't there yet and can be made, as all that it is made from are there.
 pub fn next_ready<T>(found: &[Option<T>], links: &[Links]) -> Option<usize>
     requires { length links.now ≡ length found.now }
-    ensures { IfSome result (λ k. (k < length found.now) × (are_ready found.now (slice_index_or (map (λ l. l.numbers.items) links.now) k []) ≡ true)) }
+    ensures { IfSome result (λ k. (k < length found.now) × (are_ready found.now
+        (slice_index_or (map (λ l. l.numbers.items) links.now) k []) ≡ true)) }
 {
     for (i, one) in found.iter().enumerate() {
         if one.is_none() && are_ready(found, &links[i].numbers) {

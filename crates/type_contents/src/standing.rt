@@ -1,6 +1,7 @@
 // Of which types each is made, and which types are formal.
 
-ghost use Rattle.std.specs.Prelude.{◌≡◌, ◌<◌, ◌∷◌, ◌++◌, ℕ, [], suc, true, false, not, ◌==◌, IfOk, OnOk, None, is_some, length, map, slice_index_or, nat_eq};
+ghost use Rattle.std.specs.Prelude.{◌≡◌, ◌<◌, ◌∷◌, ◌++◌, ℕ, [], suc, true, false, not, ◌==◌, IfOk, OnOk, None, is_some};
+ghost use Rattle.std.specs.Prelude.{length, map, slice_index_or, nat_eq};
 ghost use Rattle.std.specs.List.{list_all, list_any, flat_map};
 ghost use Rattle.type_contents.specs.Lists.{listed, each_once};
 ghost use Rattle.type_contents.specs.Own.{sort_names};
@@ -180,7 +181,8 @@ fn parts_from(
     found: &[Option<Standing>],
     links: &[usize],
 ) -> Result<Vec<usize>, Memory>
-    ensures { IfOk result (λ all. all.items ≡ each_once nat_eq (flat_map (λ k. k ∷ slice_index_or (map parts_at found.now) k []) links.now)) }
+    ensures { IfOk result (λ all. all.items ≡ each_once nat_eq (flat_map (λ k. k ∷ slice_index_or (map parts_at found.now) k [])
+        links.now)) }
 {
     let mut all = Vec::new(alloc);
     for number in links {
@@ -230,7 +232,8 @@ fn stand_one(
     requires length { length found.old.items ≡ length types.now }
     requires number { number < length types.now }
     ensures length { OnOk result (length found.new.items ≡ length types.now) }
-    ensures settled { OnOk result ((n : ℕ) → are_ready found.old.items (slice_index_or (map (links types.now) types.now) number []) ≡ true → AreStandingsSettled types.now found.old.items n → AreStandingsSettled types.now found.new.items (suc n)) }
+    ensures settled { OnOk result ((n : ℕ) → are_ready found.old.items (slice_index_or (map (links types.now) types.now) number [])
+        ≡ true → AreStandingsSettled types.now found.old.items n → AreStandingsSettled types.now found.new.items (suc n)) }
 {
     let standing = standing_from(alloc, types, found, &types[number], &linked[number].numbers)?;
     found[number] = Some(standing);
@@ -244,7 +247,8 @@ fn standings_once(
     linked: &[Links],
 ) -> Result<Vec<Option<Standing>>, Memory>
     requires { map (λ l. l.numbers.items) linked.now ≡ map (links types.now) types.now }
-    ensures formal { IfOk result (λ found. list_all is_some found.items ≡ true → map formal_at found.items ≡ formal.formal_types types.now) }
+    ensures formal { IfOk result (λ found. list_all is_some found.items ≡ true → map formal_at found.items
+        ≡ formal.formal_types types.now) }
     ensures parts { IfOk result (λ found. list_all is_some found.items ≡ true → map parts_at found.items ≡ numbering.parts types.now) }
 {
     let mut found = nothing_found(alloc, types)?;
@@ -265,8 +269,10 @@ fn next_standings(
     found: &[Option<Standing>],
 ) -> Result<Vec<Option<Standing>>, Memory>
     requires { map (λ l. l.numbers.items) linked.now ≡ map (links types.now) types.now }
-    ensures formal { IfOk result (λ next. map formal_at next.items ≡ map (formal.is_formal_from types.now (map formal_at found.now)) types.now) }
-    ensures parts { IfOk result (λ next. map parts_at next.items ≡ map (numbering.parts_from types.now (map parts_at found.now)) types.now) }
+    ensures formal { IfOk result (λ next. map formal_at next.items ≡ map (formal.is_formal_from types.now (map formal_at found.now))
+        types.now) }
+    ensures parts { IfOk result (λ next. map parts_at next.items ≡ map (numbering.parts_from types.now (map parts_at found.now))
+        types.now) }
 {
     let mut next = Vec::new(alloc);
     for (i, definition) in types.iter().enumerate() {

@@ -5,7 +5,6 @@ use Rattle.type_contents.specs.Uses.{links}
 use Rattle.type_contents.proofs.Schedules.{all_made, none_settled, none_within}
 use Rattle.std.proofs.lemmas.List.{length-map}
 use Rattle.std.specs.List.{slice_index_or}
-use Rattle.type_contents.specs.declared.schedule.Links.{Links}
 use Rattle.type_contents.proofs.contents.made_once.Goals as goal
 
 pub loop-made-init : goal.loop-made-init
@@ -27,8 +26,7 @@ loop-made-preserved c = record {
   length = c.in_ok-make_one-in-Some.ensures.length;
   settled = rw add-one (c.in_ok-make_one-in-Some.ensures.settled c.loop-made._made
       (ap (λ z. are_ready z (slice_index_or (map (links c.args.types.now) c.args.types.now) c.in-Some.number [])) (sym c.deref.ensures.value)
-      ∙ ap (λ z. are_ready c.deref.result.now (slice_index_or z c.in-Some.number [])) (sym c.in_ok-links.ensures)
-      ∙ ap (λ z. are_ready c.deref.result.now (slice_index_or (map (λ (l : Links). l.numbers.items) z) c.in-Some.number [])) (sym c.deref-in-loop-made.ensures.value)
+      ∙ ap (λ z. are_ready c.deref.result.now (slice_index_or z c.in-Some.number [])) (sym c.requires)
       ∙ c.in-Some.ensures.1)
       c.loop-made.invariant.settled);
 }

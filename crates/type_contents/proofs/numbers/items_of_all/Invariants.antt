@@ -1,7 +1,7 @@
 use Rattle.std.proofs.Common.{◌≡◌, take}
 use Rattle.std.specs.List.{flat_map}
-use Rattle.type_contents.specs.Views.{numbers_of_items}
+use Rattle.type_contents.specs.Views.{item_numbers}
 use Rattle.type_contents.proofs.numbers.items_of_all.Given as goal
 
-abbrev pub invariant-loop-name : goal.invariant-loop-name
-invariant-loop-name l = l.all.items ≡ flat_map (numbers_of_items l.types l.made) (take l.name-index l.names)
+abbrev pub invariant-loop-number : goal.invariant-loop-number
+invariant-loop-number l = l.all.items ≡ flat_map (item_numbers l.made) (take l.number-index l.linked)
