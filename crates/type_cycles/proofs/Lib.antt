@@ -1,3 +1,4 @@
 pub mod Firsts
-pub mod Reached
 pub mod Marks
+pub mod Reached
+pub mod Reaching

@@ -10,7 +10,7 @@ use Rattle.type_cycles.specs.Ends.{Ends, ends}
 use Rattle.type_cycles.proofs.Firsts.{first_is_none, first_of_none, found_in}
 
 -- a way from one type to another in so many steps
-data Reaches (links : List (List ℕ)) : ℕ → ℕ → ℕ → Type 0 where
+pub data Reaches (links : List (List ℕ)) : ℕ → ℕ → ℕ → Type 0 where
   here : {k : ℕ} → Reaches links zero k k
   there : {n k j to : ℕ} → Contains (slice_index_or links k []) j → Reaches links n j to → Reaches links (suc n) k to
 
@@ -75,14 +75,18 @@ extended (there k r) h = there k (extended r h)
 not_back : {links : List (List ℕ)} {k : ℕ} → Ends links k → (n : ℕ) → Reaches links (suc n) k k → ⊥
 not_back (ends f) n (there {j = j} h r) = not_back (f j h) n (extended r h)
 
--- a type that ends is on no cycle
-pub no_cycle_of : (links : List (List ℕ)) (k : ℕ) → Ends links k → cycle_of links k ≡ None
-no_cycle_of links k h = first_is_none (λ n. slice_index_or (ways_to links k n) k None) 1 (length links) (λ n from within. by_way n from (slice_index_or (ways_to links k n) k None) refl)
+-- a type is on no cycle where no way leads back to it
+pub no_cycle_unless : (links : List (List ℕ)) (k : ℕ) → ((n : ℕ) → Reaches links (suc n) k k → ⊥) → cycle_of links k ≡ None
+no_cycle_unless links k none = first_is_none (λ n. slice_index_or (ways_to links k n) k None) 1 (length links) (λ n from within. by_way n from (slice_index_or (ways_to links k n) k None) refl)
   where
     by_way : (n : ℕ) → 1 ≤ n → (o : Option (List ℕ)) → slice_index_or (ways_to links k n) k None ≡ o → slice_index_or (ways_to links k n) k None ≡ None
     by_way n from None e = e
     by_way zero from (Some way) e = absurd (omega arith)
-    by_way (suc n) from (Some way) e = absurd (not_back h n (way_reaches links k (suc n) k way e))
+    by_way (suc n) from (Some way) e = absurd (none n (way_reaches links k (suc n) k way e))
+
+-- a type that ends is on no cycle
+pub no_cycle_of : (links : List (List ℕ)) (k : ℕ) → Ends links k → cycle_of links k ≡ None
+no_cycle_of links k h = no_cycle_unless links k (not_back h)
 
 -- a type is on no cycle where it has no way back in so many steps, and no type has one in one step more
 pub none_by : (links : List (List ℕ)) (to n : ℕ) → ((m : ℕ) → 1 ≤ m → m ≤ n → slice_index_or (ways_to links to m) to None ≡ None) → ((k : ℕ) → slice_index_or (ways_to links to (n + 1)) k None ≡ None) → cycle_of links to ≡ None

@@ -1,2 +1,3 @@
+pub mod Closed
 pub mod Cycles
 pub mod Ends

@@ -4,4 +4,5 @@
 pub mod cycle;
 pub mod ends;
 pub mod numbers;
+pub mod reach;
 pub mod ways;
