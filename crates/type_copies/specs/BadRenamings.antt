@@ -88,4 +88,5 @@ bad_operation_pair copy before p = bad_pair (is_bad_operation copy (map new_oper
 
 -- of the pairs that make the renaming of the copy
 abbrev pub bad_pairs : Copy → Pairs → List Refusal
-bad_pairs copy pairs = each_after (bad_sort_pair copy) [] (listed pairs.sorts) ++ each_after (bad_operation_pair copy) [] (listed pairs.operations)
+bad_pairs copy pairs = each_after (bad_sort_pair copy) [] (listed pairs.sorts) ++ each_after (bad_operation_pair copy) []
+    (listed pairs.operations)

@@ -19,7 +19,8 @@ abbrev pub operation_sorts : OperationDecl → List Token
 operation_sorts d = listed d.arguments ++ d.result ∷ []
 
 abbrev pub sorts_by : TypeBody → List Token
-sorts_by (Declared place imports formals sorts operations equations) = flat_map operation_sorts (listed formals.operations) ++ flat_map operation_sorts (part_operations operations)
+sorts_by (Declared place imports formals sorts operations equations) = flat_map operation_sorts (listed formals.operations)
+    ++ flat_map operation_sorts (part_operations operations)
 sorts_by (Renamed place source pairs) = []
 sorts_by (Actualized place source actuals pairs) = []
 

@@ -15,4 +15,9 @@ abbrev pub change_of : Change → copies.Change
 change_of c = record { item = item_at c.item; image = item_of c.image }
 
 abbrev pub copy_view : TypeCopy → copies.Copy
-copy_view c = record { changes = map change_of c.changes.items; replaced = map item_at c.replaced.items; renaming = renaming_view c.renaming }
+copy_view c = record {
+  changes = map change_of c.changes.items;
+  replaced = map item_at c.replaced.items;
+  renaming =
+      renaming_view c.renaming;
+}

@@ -63,7 +63,8 @@ fn operation_place(
     item: &Item,
     place: Place,
 ) -> Result<Place, Memory>
-    ensures { IfOk result (λ p. p ≡ unwrap_or (option_map (λ p. p.place) (find (λ p. images.renames (item_of item.now) (images.new_operation p)) pairs.now)) place) }
+    ensures { IfOk result (λ p. p ≡ unwrap_or (option_map (λ p. p.place)
+        (find (λ p. images.renames (item_of item.now) (images.new_operation p)) pairs.now)) place) }
 {
     match pairs {
         [] => Ok(place),
@@ -110,7 +111,12 @@ fn add_refused(
     formal: &Declared<'_>,
     refusals: &mut Vec<Refusal>,
 ) -> Result<(), Memory>
-    ensures { OnOk result (refusals.new.items ≡ refusals.old.items ++ record { kind = BadActual; place = pair_place place pairs.now (described_of formal.now).item; names = written (described_of formal.now) ∷ [] } ∷ []) }
+    ensures { OnOk result (refusals.new.items ≡ refusals.old.items ++ record {
+      kind = BadActual;
+      place =
+          pair_place place pairs.now (described_of formal.now).item;
+      names = written (described_of formal.now) ∷ [];
+    } ∷ []) }
 {
     refusals.push(Refusal {
         kind: RefusalKind::BadActual,
@@ -136,7 +142,8 @@ fn is_fitted(
     actual: &[&Item],
     item: &Item,
 ) -> Result<bool, Memory>
-    ensures { IfOk result (λ is_fitted. is_fitted ≡ (not (items.is_in (map item_at formals.now) (item_of item.now)) || items.is_in (map item_at actual.now) (images.image (images.renaming_of pairs.now) (item_of item.now)))) }
+    ensures { IfOk result (λ is_fitted. is_fitted ≡ (not (items.is_in (map item_at formals.now) (item_of item.now))
+        || items.is_in (map item_at actual.now) (images.image (images.renaming_of pairs.now) (item_of item.now)))) }
 {
     if !is_in(formals, item) {
         return Ok(true);
@@ -155,7 +162,8 @@ fn add_bad_actual(
     declared: &Declared<'_>,
     refusals: &mut Vec<Refusal>,
 ) -> Result<(), Memory>
-    ensures { OnOk result (refusals.new.items ≡ refusals.old.items ++ bad_actual place pairs.now (map item_at formals.now) (map item_at actual.now) (described_of declared.now)) }
+    ensures { OnOk result (refusals.new.items ≡ refusals.old.items ++ bad_actual place pairs.now (map item_at formals.now)
+        (map item_at actual.now) (described_of declared.now)) }
 {
     if is_fitted(alloc, pairs, formals, actual, &declared.item)? {
         Ok(())
@@ -174,7 +182,8 @@ pub fn add_bad_actuals(
     all: &[Declared<'_>],
     refusals: &mut Vec<Refusal>,
 ) -> Result<(), Memory>
-    ensures { OnOk result (refusals.new.items ≡ refusals.old.items ++ bad_actuals place pairs.now (map item_at formals.now) (map item_at actual.now) (map described_of all.now)) }
+    ensures { OnOk result (refusals.new.items ≡ refusals.old.items ++ bad_actuals place pairs.now (map item_at formals.now)
+        (map item_at actual.now) (map described_of all.now)) }
 {
     for declared in all {
         add_bad_actual(alloc, place, pairs, formals, actual, declared, refusals)?;

@@ -67,7 +67,8 @@ fn is_any_misplaced(copy: &TypeCopy<'_>, new: &NewOperation<'_>, changes: &[Chan
 
 // Whether an item gets other sorts and has no pair.
 fn changes_by_sorts(copy: &TypeCopy<'_>, change: &Change<'_>) -> bool
-    ensures { result ≡ (not (gets_any (copy_view copy.now) (copy_view copy.now).renaming.operations (change_of change.now).item) && not (is_same_item (change_of change.now).image (change_of change.now).item)) }
+    ensures { result ≡ (not (gets_any (copy_view copy.now) (copy_view copy.now).renaming.operations (change_of change.now).item)
+        && not (is_same_item (change_of change.now).image (change_of change.now).item)) }
 {
     !gets_any(copy, &copy.renaming.operations, change.item) && !change.image.is_same(change.item)
 }
@@ -79,7 +80,8 @@ fn changes_before(
     new: &NewOperation<'_>,
     change: &Change<'_>,
 ) -> bool
-    ensures { result ≡ bad.changes_before (copy_view copy.now) (map new_operation_of before.now) (new_operation_of new.now) (change_of change.now) }
+    ensures { result ≡ bad.changes_before (copy_view copy.now) (map new_operation_of before.now) (new_operation_of new.now)
+        (change_of change.now) }
 {
     copy.gets(new, change.item)
         || gets_any(copy, before, change.item)
@@ -94,7 +96,8 @@ fn is_clash(
     change: &Change<'_>,
     other: &Change<'_>,
 ) -> bool
-    ensures { result ≡ bad.is_clash (copy_view copy.now) (map new_operation_of before.now) (new_operation_of new.now) (change_of change.now) (change_of other.now) }
+    ensures { result ≡ bad.is_clash (copy_view copy.now) (map new_operation_of before.now) (new_operation_of new.now)
+        (change_of change.now) (change_of other.now) }
 {
     change.image.is_same(&other.image)
         && !change.item.is_same(other.item)
@@ -110,7 +113,8 @@ fn is_any_clash(
     change: &Change<'_>,
     others: &[Change<'_>],
 ) -> bool
-    ensures { result ≡ list_any (bad.is_clash (copy_view copy.now) (map new_operation_of before.now) (new_operation_of new.now) (change_of change.now)) (map change_of others.now) }
+    ensures { result ≡ list_any (bad.is_clash (copy_view copy.now) (map new_operation_of before.now) (new_operation_of new.now)
+        (change_of change.now)) (map change_of others.now) }
 {
     match others {
         [] => false,
@@ -128,7 +132,8 @@ fn has_clash(
     new: &NewOperation<'_>,
     change: &Change<'_>,
 ) -> bool
-    ensures { result ≡ bad.has_clash (copy_view copy.now) (map new_operation_of before.now) (new_operation_of new.now) (change_of change.now) }
+    ensures { result ≡ bad.has_clash (copy_view copy.now) (map new_operation_of before.now) (new_operation_of new.now)
+        (change_of change.now) }
 {
     copy.gets(new, change.item) && is_any_clash(copy, before, new, change, &copy.changes)
 }
@@ -140,7 +145,8 @@ fn has_any_clash(
     new: &NewOperation<'_>,
     changes: &[Change<'_>],
 ) -> bool
-    ensures { result ≡ list_any (bad.has_clash (copy_view copy.now) (map new_operation_of before.now) (new_operation_of new.now)) (map change_of changes.now) }
+    ensures { result ≡ list_any (bad.has_clash (copy_view copy.now) (map new_operation_of before.now) (new_operation_of new.now))
+        (map change_of changes.now) }
 {
     match changes {
         [] => false,

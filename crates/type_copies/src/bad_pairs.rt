@@ -61,7 +61,8 @@ fn add_bad_operations(
     pairs: &[OperationPair],
     refusals: &mut Vec<Refusal>,
 ) -> Result<(), Memory>
-    ensures { OnOk result (refusals.new.items ≡ refusals.old.items ++ each_after (bad.bad_operation_pair (copy_view copy.now)) [] pairs.now) }
+    ensures { OnOk result (refusals.new.items ≡ refusals.old.items ++ each_after (bad.bad_operation_pair (copy_view copy.now)) []
+        pairs.now) }
 {
     let mut before = Vec::new(alloc);
     for pair in pairs {

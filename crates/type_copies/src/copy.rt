@@ -65,7 +65,8 @@ fn changed<'a>(
 ) -> Result<Change<'a>, Memory>
     requires replaced { AreWithin (length table.now) replaced.now }
     requires number { number < length table.now }
-    ensures { IfOk result (λ c. change_of c ≡ copies.change_in (items_at table.now replaced.now) (renaming_view renaming.now) (slice_index_or table.now number no_item)) }
+    ensures { IfOk result (λ c. change_of c ≡ copies.change_in (items_at table.now replaced.now) (renaming_view renaming.now)
+        (slice_index_or table.now number no_item)) }
 {
     let item = table.item(number);
     Ok(Change {
@@ -84,7 +85,8 @@ fn changes<'a>(
 ) -> Result<Vec<Change<'a>>, Memory>
     requires replaced { AreWithin (length table.now) replaced.now }
     requires numbers { AreWithin (length table.now) numbers.now }
-    ensures { IfOk result (λ all. map change_of all.items ≡ map (copies.change_in (items_at table.now replaced.now) (renaming_view renaming.now)) (items_at table.now numbers.now)) }
+    ensures { IfOk result (λ all. map change_of all.items ≡ map (copies.change_in (items_at table.now replaced.now)
+        (renaming_view renaming.now)) (items_at table.now numbers.now)) }
 {
     let mut all = Vec::new(alloc);
     for number in numbers {
@@ -103,7 +105,8 @@ pub fn copy_of<'a>(
 ) -> Result<TypeCopy<'a>, Memory>
     requires items { AreWithin (length table.now) items.now }
     requires replaced { AreWithin (length table.now) replaced.now }
-    ensures { IfOk result (λ c. copy_view c ≡ copies.copy (items_at table.now items.now) (items_at table.now replaced.now) (images.renaming_of pairs.now)) }
+    ensures { IfOk result (λ c. copy_view c ≡ copies.copy (items_at table.now items.now) (items_at table.now replaced.now)
+        (images.renaming_of pairs.now)) }
 {
     let renaming = Renaming::of(alloc, pairs)?;
     Ok(TypeCopy {

@@ -110,7 +110,8 @@ fn add_each_unknown(
     names: &[&Token],
     refusals: &mut Vec<Refusal>,
 ) -> Result<(), Memory>
-    ensures { OnOk result (refusals.new.items ≡ refusals.old.items ++ flat_map (unknown_sort (map item_at items.now)) (map (λ t. t.now) names.now)) }
+    ensures { OnOk result (refusals.new.items ≡ refusals.old.items ++ flat_map (unknown_sort (map item_at items.now))
+        (map (λ t. t.now) names.now)) }
 {
     for name in names {
         add_unknown_sort(alloc, items, name, refusals)?;

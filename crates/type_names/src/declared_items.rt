@@ -95,7 +95,8 @@ fn add_item_twice(
     declared: &Declared<'_>,
     refusals: &mut Vec<Refusal>,
 ) -> Result<(), Memory>
-    ensures { OnOk result (refusals.new.items ≡ refusals.old.items ++ item_twice (map described_of before.now) (described_of declared.now)) }
+    ensures { OnOk result (refusals.new.items ≡ refusals.old.items ++ item_twice (map described_of before.now)
+        (described_of declared.now)) }
 {
     if is_among(before, declared) {
         refusals.push(refused(alloc, RefusalKind::DuplicateName, declared.place))?;

@@ -2,7 +2,8 @@
 
 ghost use Rattle.std.specs.Prelude.{◌≡◌, ◌++◌, OnOk, IfOk, map};
 ghost use Rattle.std.specs.List.{flat_map};
-ghost use Rattle.type_names.specs.DuplicateNames.{lists_of, lists_if_there, part_lists, lists_by, lists_in, variables_twice, duplicate_names};
+ghost use Rattle.type_names.specs.DuplicateNames.{lists_of, lists_if_there, part_lists, lists_by, lists_in};
+ghost use Rattle.type_names.specs.DuplicateNames.{variables_twice, duplicate_names};
 
 use crate::declared_items::add_items_twice;
 use crate::duplicates::{add_names_twice, add_types_twice};
@@ -29,7 +30,8 @@ fn add_lists_of_parts<'a>(
     all: &mut Vec<&'a ForAll>,
     parts: &'a [SortEquations],
 ) -> Result<(), Memory>
-    ensures { OnOk result (map (λ f. f.now) all.new.items ≡ map (λ f. f.now) all.old.items ++ flat_map (λ part. part.variables.items) parts.now) }
+    ensures { OnOk result (map (λ f. f.now) all.new.items ≡ map (λ f. f.now) all.old.items
+        ++ flat_map (λ part. part.variables.items) parts.now) }
 {
     for part in parts {
         add_lists(all, &part.variables)?;
