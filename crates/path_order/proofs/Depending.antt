@@ -1,13 +1,14 @@
 -- What stands in equations, and what depends on what.
-use Rattle.std.proofs.Common.{ℕ, zero, suc, ◌≡◌, ◌<◌, List, [], ◌∷◌, Bool, length, map, get_or, refl, subst, ap, arith, inl, inr, ◌⊎◌}
+use Rattle.std.proofs.Common.{ℕ, zero, suc, ◌≡◌, ◌<◌, ◌≤◌, List, [], ◌∷◌, Bool, length, map, take, get_or, refl, subst, ap, arith, inl, inr, ◌⊎◌}
 use Rattle.std.specs.List.{slice_get}
+use Rattle.spec_core.specs.declared.equation.Equation.{Equation}
 use Rattle.spec_core.specs.Sorts.{OnSome}
 use Rattle.spec_core.specs.Lists.{Each, OneOf, IsOneOf}
 use Rattle.spec_core.specs.Terms.{TermTree, TermTrees, variable, apply, no_terms, and_term}
-use Rattle.spec_core.specs.Theories.{Premise, premise, Theory, ConditionalEquation, Heads}
+use Rattle.spec_core.specs.Theories.{Premise, premise, Theory, ConditionalEquation, Heads, equation_of}
 use Rattle.spec_core.specs.Order.{HasOperation, AnyHasOperation, PremisesHaveOperation, DependsOn, itself, onward}
 use Rattle.number_sets.specs.Members.{IsIn}
-use Rattle.path_order.specs.Below.{HasMember, AnyHasMember, PremisesHaveMember, EquationHasMember, IsClosedAt, AllDepend}
+use Rattle.path_order.specs.Below.{HasMember, AnyHasMember, PremisesHaveMember, EquationHasMember, IsClosedAt, AllDepend, HeadIsBelow}
 
 module _ (set : List Bool) where
   mutual
@@ -91,3 +92,17 @@ on_at {A = A} f P xs ys i x same within at h = subst (λ zs. OnSome (slice_get (
     go [] i w e = absurd (omega arith)
     go (y ∷ ys) zero w e = subst (λ z. P (f z)) e h
     go (y ∷ ys) (suc i) w e = go ys i (omega arith) e
+
+-- where all operations that head equations are below a bound
+pub within : (bound f : ℕ) (es : List ConditionalEquation) → Each (HeadIsBelow bound) es → OneOf (Heads f) es → f < bound
+within bound f [] all o = absurd o
+within bound f (e ∷ es) all (inl h) = all.0 f h
+within bound f (e ∷ es) all (inr o) = within bound f es all.1 o
+
+pub raised : (low high : ℕ) (es : List Equation) (i : ℕ) → low ≤ high →
+    Each (λ e. HeadIsBelow low (equation_of e)) (take i es) → Each (λ e. HeadIsBelow high (equation_of e)) (take i es)
+raised low high es i le all = go (take i es) all
+  where
+    go : (es : List Equation) → Each (λ e. HeadIsBelow low (equation_of e)) es → Each (λ e. HeadIsBelow high (equation_of e)) es
+    go [] all = tt
+    go (e ∷ es) all = ((λ f h. let k = all.0 f h in omega (arith, k, le)), go es all.1)

@@ -1,10 +1,9 @@
 -- The order by a set of operations is the path order.
-use Rattle.std.proofs.Common.{ℕ, zero, suc, true, false, IsTrue, ◌≡◌, ◌<◌, ◌↔◌, List, [], ◌∷◌, Bool, length, refl, sym, subst, arith, inl, inr, ◌⊎◌, ◌∙◌}
-use Rattle.std.specs.List.{slice_get, slice_index_or}
-use Rattle.spec_core.specs.Lists.{Each, OneOf, IsOneOf}
+use Rattle.std.proofs.Common.{ℕ, true, false, IsTrue, ◌≡◌, ◌↔◌, List, Bool, refl, sym, subst, inl, inr, ◌⊎◌, ◌∙◌}
+use Rattle.std.specs.List.{slice_index_or}
+use Rattle.spec_core.specs.Lists.{Each, IsOneOf}
 use Rattle.spec_core.specs.Terms.{TermTree, TermTrees, variable, apply, no_terms, and_term}
 use Rattle.spec_core.specs.Theories.{Theory, ConditionalEquation, Heads}
-use Rattle.spec_core.specs.Sorts.{FitsData, EquationFits, OnSome, HasSort}
 use Rattle.spec_core.specs.Constructors.{IsConstructor}
 use Rattle.spec_core.specs.Order.{IsSmaller, HasOperation, AnyHasOperation, PremisesHaveOperation, DependsOn, itself, onward, IsAbove, IsLevel, IsBelow, AreBelow, Decreases}
 use Rattle.number_sets.specs.Members.{IsIn}
@@ -22,23 +21,6 @@ is_or_not false = inr (λ h. cc)
 
 in_or_not : (set : List Bool) (g : ℕ) → Tells (IsIn g set)
 in_or_not set g = is_or_not (slice_index_or set g false)
-
-pub each_one : {A : Type 0} (P : A → Type 0) (x : A) (xs : List A) → Each P xs → OneOf (λ y. x ≡ y) xs → P x
-each_one P x [] h o = absurd o
-each_one P x (y ∷ ys) h (inl e) = subst P (sym e) h.0
-each_one P x (y ∷ ys) h (inr o) = each_one P x ys h.1 o
-
-within : {A : Type 0} (xs : List A) (i : ℕ) (P : A → Type 0) → OnSome (slice_get xs i) P → i < length xs
-within [] i P h = absurd h
-within (x ∷ xs) zero P h = omega arith
-within (x ∷ xs) (suc i) P h = let k = within xs i P h in omega (arith, k)
-
--- the operation of a left side is declared
-pub head_declared : (theory : Theory) (e : ConditionalEquation) (f : ℕ) (ps : TermTrees) → FitsData theory → IsOneOf e theory.equations → e.left ≡ apply f ps → f < length theory.operations
-head_declared theory e f ps fits o l =
-    let s = (each_one (EquationFits theory) e theory.equations fits.equations o).sides in
-    let h : HasSort theory (slice_get e.sorts) (apply f ps) s.0 = subst (λ t. HasSort theory (slice_get e.sorts) t s.0) l s.1 in
-    within theory.operations f _ h
 
 module _ (theory : Theory) (set : List Bool) (f : ℕ) (exact : (g : ℕ) → IsIn g set ↔ DependsOn theory g f) (ps : TermTrees) where
   by_head : (g : ℕ) (ts : TermTrees) → DependsOn theory f g → Tells (IsIn g set) →

@@ -1,5 +1,5 @@
 -- The path order as it is decided: by the set of the operations that depend on a left side's.
-use Rattle.std.specs.Prelude.{ℕ, ◌⊎◌, List, [], ◌∷◌, Bool}
+use Rattle.std.specs.Prelude.{ℕ, ◌<◌, ◌⊎◌, List, [], ◌∷◌, Bool}
 use Rattle.spec_core.specs.Terms.{TermTree, TermTrees, variable, apply, no_terms, and_term}
 use Rattle.spec_core.specs.Theories.{Premise, premise, Theory, ConditionalEquation, Heads}
 use Rattle.spec_core.specs.Constructors.{IsConstructor}
@@ -38,6 +38,10 @@ abbrev mutual
 -- an equation that has an operation of the set has its own operation there
 abbrev pub IsClosedAt : List Bool → ConditionalEquation → Type 0
 IsClosedAt set e = (h : ℕ) → Heads h e → EquationHasMember set e → IsIn h set
+
+-- the operation that heads the equation, if one does, has a number below the bound
+abbrev pub HeadIsBelow : ℕ → ConditionalEquation → Type 0
+HeadIsBelow bound e = (f : ℕ) → Heads f e → f < bound
 
 -- each operation of the set depends on f
 abbrev pub AllDepend : Theory → List Bool → ℕ → Type 0

@@ -5,7 +5,6 @@ ghost use Rattle.lotos_ast.specs.Refusals.{IfRefused};
 ghost use Rattle.path_order.specs.Decrease.{IsAnswerOf, IsFirstRefusal, refusal_naming};
 ghost use Rattle.spec_core.specs.Lists.{IsOneOf};
 ghost use Rattle.spec_core.specs.Order.{IsDecreasing};
-ghost use Rattle.spec_core.specs.Sorts.{FitsData};
 ghost use Rattle.spec_core.specs.Terms.{term_of};
 ghost use Rattle.spec_core.specs.Theories.{theory_of, equation_of};
 
@@ -25,7 +24,6 @@ use std::alloc::Global;
 /// Whether the data are decreasing: each side of an equation is below its left side in the path order. If they aren't, the refusal
 /// 20 NotDecreasing of the first equation with a side that isn't below, by place and then by number, which names the first such side.
 pub fn check_decrease(alloc: Global, algebra: &DataSpec) -> Result<(), FrontFault>
-    requires fits { FitsData (theory_of algebra.now) }
     ensures decreasing { IfOk result (λ _. IsDecreasing (theory_of algebra.now)) }
     ensures refused { IfRefused result (IsFirstRefusal (theory_of algebra.now)) }
     ensures not_decreasing { IfRefused result (λ _. IsDecreasing (theory_of algebra.now) → ⊥) }
@@ -48,7 +46,6 @@ fn refusal_of(
     algebra: &DataSpec,
     equation: &Equation,
 ) -> Result<Option<Refusal>, Memory>
-    requires fits { FitsData (theory_of algebra.now) }
     requires listed { IsOneOf (equation_of equation.now) (theory_of algebra.now).equations }
     ensures { IfOk result (IsAnswerOf (theory_of algebra.now) (equation_of equation.now)) }
 {

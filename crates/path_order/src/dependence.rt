@@ -1,9 +1,9 @@
 // Which operations depend on one.
 
-ghost use Rattle.std.specs.Prelude.{ℕ, ◌≡◌, ◌↔◌, ◌<◌, ◌⊎◌, IfOk, IsTrue, false, length, map};
+ghost use Rattle.std.specs.Prelude.{ℕ, ◌≡◌, ◌↔◌, ◌<◌, ◌⊎◌, IfOk, IsTrue, false, map};
 ghost use Rattle.number_sets.specs.Members.{IsIn};
-ghost use Rattle.path_order.specs.Below.{HasMember, AnyHasMember, PremisesHaveMember, EquationHasMember, IsClosedAt, AllDepend};
-ghost use Rattle.spec_core.specs.Lists.{Each};
+ghost use Rattle.path_order.specs.Below.{HasMember, AnyHasMember, PremisesHaveMember, EquationHasMember, IsClosedAt, AllDepend, HeadIsBelow};
+ghost use Rattle.spec_core.specs.Lists.{Each, OneOf};
 ghost use Rattle.spec_core.specs.Order.{DependsOn};
 ghost use Rattle.spec_core.specs.Terms.{term_of, terms};
 ghost use Rattle.spec_core.specs.Theories.{Heads, theory_of, premise_of, equation_of};
@@ -98,12 +98,37 @@ fn spread(algebra: &DataSpec, set: &mut NumberSet) -> bool
     changed
 }
 
-/// The operations that depend on one: those that mention it in their equations, those that mention these, and so on, and itself.
+// One more than the number of the operation that heads an equation; 0 where none does.
+fn head_bound(equation: &Equation) -> usize
+    ensures { (f : ℕ) → Heads f (equation_of equation.now) → f < result }
+{
+    match &equation.left {
+        Term::Var(_) => 0,
+        Term::App(op, _) => op.0 as usize + 1,
+    }
+}
+
+// One more than the largest number of an operation that heads an equation.
+fn heads_bound(algebra: &DataSpec) -> usize
+    ensures { Each (HeadIsBelow result) (theory_of algebra.now).equations }
+{
+    let mut bound = 0;
+    for equation in &algebra.equations {
+        let needed = head_bound(equation);
+        if bound < needed {
+            bound = needed;
+        }
+    }
+    bound
+}
+
+/// The operations that depend on one that heads an equation: those that mention it in their equations, those that mention these, and
+/// so on, and itself.
 pub fn depending_on(alloc: Global, algebra: &DataSpec, op: Op) -> Result<NumberSet, Memory>
-    requires declared { op.0 < length (theory_of algebra.now).operations }
+    requires heads { OneOf (Heads op.0) (theory_of algebra.now).equations }
     ensures exact { IfOk result (λ set. (g : ℕ) → IsIn g set ↔ DependsOn (theory_of algebra.now) g op.0) }
 {
-    let mut set = NumberSet::new(alloc, algebra.signature.ops.len())?;
+    let mut set = NumberSet::new(alloc, heads_bound(algebra))?;
     set.add(op.0);
     for _round in 0..u64::MAX {
         if !spread(algebra, &mut set) {

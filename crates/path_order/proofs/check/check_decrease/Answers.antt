@@ -10,10 +10,11 @@ use Rattle.path_order.proofs.check.check_decrease.Goals.{in-Some+in_ok-push, in_
 pub loop-equation-init : goal.loop-equation-init
 loop-equation-init c = subst (AreRefusals (theory_of c.args.algebra.now) []) (sym c.new-refusals.ensures.items) none
 
-pub refusal_of-requires-clause-listed : goal.refusal_of-requires-clause-listed
-refusal_of-requires-clause-listed c =
-    one_of_at equation_of c.args.algebra.now.equations.items c.deref-equation-items.result.now c.loop-equation.equation-index c.equation-item.result
-    c.deref-equation-items.ensures.value c.loop-equation-test.true c.equation-item.is
+pub refusal_of-requires : goal.refusal_of-requires
+refusal_of-requires c = record {
+  listed = one_of_at equation_of c.args.algebra.now.equations.items c.deref-equation-items.result.now c.loop-equation.equation-index c.equation-item.result
+      c.deref-equation-items.ensures.value c.loop-equation-test.true c.equation-item.is;
+}
 
 pub loop-equation-preserved : goal.loop-equation-preserved
 loop-equation-preserved c =

@@ -2,17 +2,18 @@ use Rattle.std.proofs.Common.{rules, ◌≡◌, map, subst}
 use Rattle.spec_core.specs.declared.term.Term.TheFolds.{the_lemmas}
 use Rattle.spec_core.specs.Lists.{Each}
 use Rattle.spec_core.specs.Terms.{apply, terms, term_of}
-use Rattle.spec_core.specs.Theories.{theory_of, equation_of}
+use Rattle.spec_core.specs.Theories.{Heads, theory_of, equation_of}
 use Rattle.path_order.specs.Below.{IsBelowBy}
 use Rattle.path_order.specs.Decrease.{IsFirstNot, sides}
-use Rattle.path_order.proofs.Ordering.{head_declared, decreasing_by, first_by}
+use Rattle.path_order.proofs.Ordering.{decreasing_by, first_by}
+use Rattle.path_order.proofs.Depending.{at_one_of}
 use Rattle.path_order.proofs.check.refusal_of.Goals as goal
 
 pub depending_on-requires : goal.depending_on-requires
 depending_on-requires c =
     let ps = terms (map term_of c.in-App.args.items) in
     let k : term_of c.args.equation.now.left ≡ apply c.in-App.op.0 ps = search (rules, the_lemmas) in
-    record { declared = head_declared (theory_of c.args.algebra.now) (equation_of c.args.equation.now) c.in-App.op.0 ps c.requires.fits c.requires.listed k }
+    record { heads = at_one_of (Heads c.in-App.op.0) (equation_of c.args.equation.now) (theory_of c.args.algebra.now).equations c.requires.listed (ps, k) }
 
 pub returns-in-None : goal.returns-in-None
 returns-in-None c =

@@ -1,13 +1,14 @@
-use Rattle.std.proofs.Common.{rules, ◌≡◌, sym, ◌∙◌, ◌<◌, length, subst, inl, inr}
-use Rattle.std.proofs.lemmas.List.{length-map}
-use Rattle.spec_core.specs.Theories.{theory_of, operation_of}
+use Rattle.std.proofs.Common.{rules, ◌≡◌, sym, ◌<◌, length, subst, inl, inr}
+use Rattle.spec_core.specs.Theories.{theory_of}
 use Rattle.spec_core.specs.Order.{DependsOn, itself}
-use Rattle.path_order.proofs.Depending.{has_all}
+use Rattle.path_order.proofs.Depending.{has_all, within}
 use Rattle.path_order.proofs.dependence.depending_on.Goals as goal
 
 pub loop-round-init : goal.loop-round-init
 loop-round-init c = record {
-  start = let n : length c.in_ok-set.set ≡ length c.args.algebra.now.signature.ops.items = search rules in c.add.ensures.added (subst (λ n. c.args.op.0 < n) (length-map c.args.algebra.now.signature.ops.items operation_of ∙ sym n) c.requires.declared);
+  start = let n : length c.in_ok-set.set ≡ c.heads_bound.result = search rules in
+      c.add.ensures.added (subst (λ n. c.args.op.0 < n) (sym n)
+      (within c.heads_bound.result c.args.op.0 (theory_of c.args.algebra.now).equations c.heads_bound.ensures c.requires.heads));
   sound = λ g h. elim (c.add.ensures.only g h) [ inl i ↦ absurd (c.in_ok-set.ensures.empty g i) | inr e ↦ subst (λ k. DependsOn (theory_of c.args.algebra.now) k c.args.op.0) (sym e) (itself c.args.op.0) ];
 }
 
