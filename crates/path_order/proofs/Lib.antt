@@ -1,0 +1,7 @@
+pub mod Asked
+pub mod Depending
+pub mod Ordering
+pub mod Refusing
+pub mod Smaller
+pub mod TermLists
+pub mod Walks

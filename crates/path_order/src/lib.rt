@@ -1,0 +1,10 @@
+// Whether each equation's sides are below its left side in the path order.
+#![tactic(auto)]
+
+mod below;
+mod check;
+mod dependence;
+mod inside;
+mod sides;
+
+pub use check::check_decrease;
