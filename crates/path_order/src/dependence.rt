@@ -2,7 +2,8 @@
 
 ghost use Rattle.std.specs.Prelude.{ℕ, ◌≡◌, ◌↔◌, ◌<◌, ◌⊎◌, IfOk, IsTrue, false, map};
 ghost use Rattle.number_sets.specs.Members.{IsIn};
-ghost use Rattle.path_order.specs.Below.{HasMember, AnyHasMember, PremisesHaveMember, EquationHasMember, IsClosedAt, AllDepend, HeadIsBelow};
+ghost use Rattle.path_order.specs.Below.{HasMember, AnyHasMember, PremisesHaveMember, EquationHasMember, IsClosedAt};
+ghost use Rattle.path_order.specs.Below.{AllDepend, HeadIsBelow};
 ghost use Rattle.spec_core.specs.Lists.{Each, OneOf};
 ghost use Rattle.spec_core.specs.Order.{DependsOn};
 ghost use Rattle.spec_core.specs.Terms.{term_of, terms};
