@@ -1,6 +1,5 @@
 -- The refusals of the equations of data.
 use Rattle.std.proofs.Common.{ℕ, zero, suc, ◌≡◌, ◌<◌, ◌≤◌, ◌+◌, List, [], ◌∷◌, ◌++◌, Option, None, Some, length, map, take, get_or, add-one, refl, sym, subst, arith, ◌∙◌, ap}
-use Rattle.std.proofs.lemmas.List.{append-nil}
 use Rattle.lotos_ast.specs.declared.refusal.Refusal.{Refusal}
 use Rattle.lotos_ast.specs.FirstRefusals.{first_refusal}
 use Rattle.spec_core.specs.declared.equation.Equation.{Equation}
@@ -8,17 +7,13 @@ use Rattle.spec_core.specs.Lists.{Each}
 use Rattle.spec_core.specs.Order.{IsBelow, IsDecreasing}
 use Rattle.spec_core.specs.Theories.{Theory, ConditionalEquation, equation_of}
 use Rattle.spec_core.proofs.Lists.{all_taken}
-use Rattle.path_order.specs.Decrease.{IsDecreasingAt, IsRefusalOf, IsAnswerOf, AreRefusals, IsFirstRefusal, none, decreasing, refused, sides}
+use Rattle.path_order.specs.Decrease.{IsDecreasingAt, IsRefusalOf, IsAnswerOf, IsAdded, listed, AreRefusals, IsFirstRefusal, none, decreasing, refused, sides}
 use Rattle.path_order.proofs.Asked.{not_each, sides_below}
-
-abbrev pub answered : Option Refusal → List Refusal
-answered None = []
-answered (Some r) = r ∷ []
 
 module _ (theory : Theory) where
   answers_suc : (xs : List Equation) (i : ℕ) (x : Equation) (rs : List Refusal) (answer : Option Refusal) →
       i < length xs → x ≡ get_or xs i x → AreRefusals theory (map equation_of (take i xs)) rs →
-      IsAnswerOf theory (equation_of x) answer → AreRefusals theory (map equation_of (take (suc i) xs)) (rs ++ answered answer)
+      IsAnswerOf theory (equation_of x) answer → AreRefusals theory (map equation_of (take (suc i) xs)) (rs ++ listed answer)
   answers_suc [] i x rs answer w a h k = absurd (omega arith)
   answers_suc (y ∷ xs) zero x [] None w a none k = decreasing (subst (λ z. IsAnswerOf theory (equation_of z) None) a k) none
   answers_suc (y ∷ xs) zero x [] (Some r) w a none k = refused (subst (λ z. IsAnswerOf theory (equation_of z) (Some r)) a k) none
@@ -26,16 +21,11 @@ module _ (theory : Theory) where
   answers_suc (y ∷ xs) (suc i) x rs answer w a (decreasing d h) k = decreasing d (answers_suc xs i x rs answer (omega arith) a h k)
   answers_suc (y ∷ xs) (suc i) x (r ∷ rs) answer w a (refused d h) k = refused d (answers_suc xs i x rs answer (omega arith) a h k)
 
-  pub answers_next : (xs : List Equation) (i : ℕ) (x : Equation) (rs : List Refusal) (answer : Option Refusal) →
-      i < length xs → x ≡ get_or xs i x → AreRefusals theory (map equation_of (take i xs)) rs →
-      IsAnswerOf theory (equation_of x) answer → AreRefusals theory (map equation_of (take (i + 1) xs)) (rs ++ answered answer)
-  answers_next xs i x rs answer w a h k = rw add-one (answers_suc xs i x rs answer w a h k)
-
-  pub no_answer_next : (xs : List Equation) (i : ℕ) (x : Equation) (rs : List Refusal) → i < length xs → x ≡ get_or xs i x →
-      AreRefusals theory (map equation_of (take i xs)) rs → IsDecreasingAt theory (equation_of x) →
-      AreRefusals theory (map equation_of (take (i + 1) xs)) rs
-  no_answer_next xs i x rs w a h k =
-      subst (AreRefusals theory (map equation_of (take (i + 1) xs))) (append-nil rs) (answers_next xs i x rs None w a h k)
+  pub added_next : (xs : List Equation) (i : ℕ) (x : Equation) (old new : List Refusal) → i < length xs → x ≡ get_or xs i x →
+      AreRefusals theory (map equation_of (take i xs)) old → IsAdded theory (equation_of x) old new →
+      AreRefusals theory (map equation_of (take (i + 1) xs)) new
+  added_next xs i x old new w a h (answer, k, e) =
+      subst (AreRefusals theory (map equation_of (take (i + 1) xs))) (sym e) (rw add-one (answers_suc xs i x old answer w a h k))
 
   pub answers_end : (xs : List Equation) (i : ℕ) (rs : List Refusal) →
       length xs ≤ i → AreRefusals theory (map equation_of (take i xs)) rs → AreRefusals theory (map equation_of xs) rs

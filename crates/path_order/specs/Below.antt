@@ -1,5 +1,5 @@
 -- The path order as it is decided: by the set of the operations that depend on a left side's.
-use Rattle.std.specs.Prelude.{ℕ, ◌<◌, ◌⊎◌, List, [], ◌∷◌, Bool}
+use Rattle.std.specs.Prelude.{ℕ, ◌<◌, ◌↔◌, ◌⊎◌, List, [], ◌∷◌, Bool}
 use Rattle.spec_core.specs.Terms.{TermTree, TermTrees, variable, apply, no_terms, and_term}
 use Rattle.spec_core.specs.Theories.{Premise, premise, Theory, ConditionalEquation, Heads}
 use Rattle.spec_core.specs.Constructors.{IsConstructor}
@@ -46,3 +46,7 @@ HeadIsBelow bound e = (f : ℕ) → Heads f e → f < bound
 -- each operation of the set depends on f
 abbrev pub AllDepend : Theory → List Bool → ℕ → Type 0
 AllDepend theory set f = (g : ℕ) → IsIn g set → DependsOn theory g f
+
+-- the set has just the operations that depend on f
+abbrev pub AreDependents : Theory → ℕ → List Bool → Type 0
+AreDependents theory f set = (g : ℕ) → IsIn g set ↔ DependsOn theory g f

@@ -47,6 +47,15 @@ abbrev pub IsAnswerOf : Theory → ConditionalEquation → Option Refusal → Ty
 IsAnswerOf theory e None = IsDecreasingAt theory e
 IsAnswerOf theory e (Some r) = IsRefusalOf theory e r
 
+-- a refusal, or nothing, as a list
+abbrev pub listed : Option Refusal → List Refusal
+listed None = []
+listed (Some r) = r ∷ []
+
+-- what is answered of an equation was added to a list of refusals
+abbrev pub IsAdded : Theory → ConditionalEquation → List Refusal → List Refusal → Type 0
+IsAdded theory e old new = (answer : Option Refusal) × IsAnswerOf theory e answer × (new ≡ old ++ listed answer)
+
 -- the refusals of equations, in their order: one for each that isn't decreasing
 pub data AreRefusals (theory : Theory) : List ConditionalEquation → List Refusal → Type 0 where
   none : AreRefusals theory [] []

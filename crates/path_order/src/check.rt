@@ -1,14 +1,15 @@
 // The check that all equations are decreasing.
 
-ghost use Rattle.std.specs.Prelude.{◌≡◌, IfOk};
+ghost use Rattle.std.specs.Prelude.{◌≡◌, IfOk, IfSome, OnOk};
 ghost use Rattle.lotos_ast.specs.Refusals.{IfRefused};
-ghost use Rattle.path_order.specs.Decrease.{IsAnswerOf, IsFirstRefusal, refusal_naming};
+ghost use Rattle.path_order.specs.Decrease.{IsAdded, IsFirstRefusal, refusal_naming};
+ghost use Rattle.path_order.specs.Below.{AreDependents};
 ghost use Rattle.spec_core.specs.Lists.{IsOneOf};
 ghost use Rattle.spec_core.specs.Order.{IsDecreasing};
 ghost use Rattle.spec_core.specs.Terms.{term_of};
 ghost use Rattle.spec_core.specs.Theories.{theory_of, equation_of};
 
-use crate::dependence::depending_on;
+use crate::dependence::{Dependents, dependents_of};
 use crate::sides::first_not_below;
 use lotos_ast::first_refusal::first_refusal;
 use lotos_ast::names::Names;
@@ -29,10 +30,9 @@ pub fn check_decrease(alloc: Global, algebra: &DataSpec) -> Result<(), FrontFaul
     ensures not_decreasing { IfRefused result (λ _. IsDecreasing (theory_of algebra.now) → ⊥) }
 {
     let mut refusals = Vec::new(alloc);
+    let mut last = None;
     for equation in &algebra.equations {
-        if let Some(refusal) = refusal_of(alloc, algebra, equation)? {
-            refusals.push(refusal)?;
-        }
+        last = add_refusal(alloc, algebra, equation, last, &mut refusals)?;
     }
     match first_refusal(refusals) {
         Some(refusal) => Err(FrontFault::Refused(refusal)),
@@ -40,22 +40,29 @@ pub fn check_decrease(alloc: Global, algebra: &DataSpec) -> Result<(), FrontFaul
     }
 }
 
-// The refusal of an equation, if it isn't decreasing.
-fn refusal_of(
+// Adds the refusal of an equation, if it isn't decreasing; the operations that depend on its own, for the next equation.
+fn add_refusal(
     alloc: Global,
     algebra: &DataSpec,
     equation: &Equation,
-) -> Result<Option<Refusal>, Memory>
+    last: Option<Dependents>,
+    refusals: &mut Vec<Refusal>,
+) -> Result<Option<Dependents>, Memory>
     requires listed { IsOneOf (equation_of equation.now) (theory_of algebra.now).equations }
-    ensures { IfOk result (IsAnswerOf (theory_of algebra.now) (equation_of equation.now)) }
+    requires last { IfSome last (λ d. AreDependents (theory_of algebra.now) d.op.0 d.set) }
+    ensures last { IfOk result (λ found. IfSome found (λ d. AreDependents (theory_of algebra.now) d.op.0 d.set)) }
+    ensures added { OnOk result (IsAdded (theory_of algebra.now) (equation_of equation.now) refusals.old.items refusals.new.items) }
 {
     match &equation.left {
-        Term::Var(_) => Ok(None),
+        Term::Var(_) => Ok(last),
         Term::App(op, args) => {
-            let level = depending_on(alloc, algebra, *op)?;
-            match first_not_below(equation, algebra, &level, args) {
-                None => Ok(None),
-                Some(side) => Ok(Some(not_decreasing(alloc, algebra, equation, side)?)),
+            let level = dependents_of(alloc, algebra, *op, last)?;
+            match first_not_below(equation, algebra, &level.set, args) {
+                None => Ok(Some(level)),
+                Some(side) => {
+                    refusals.push(not_decreasing(alloc, algebra, equation, side)?)?;
+                    Ok(Some(level))
+                }
             }
         }
     }

@@ -1,11 +1,10 @@
 // Which operations depend on one.
 
-ghost use Rattle.std.specs.Prelude.{ℕ, ◌≡◌, ◌↔◌, ◌<◌, ◌⊎◌, IfOk, IsTrue, false, map};
+ghost use Rattle.std.specs.Prelude.{ℕ, ◌≡◌, ◌↔◌, ◌<◌, ◌⊎◌, IfOk, IfSome, IsTrue, false, map};
 ghost use Rattle.number_sets.specs.Members.{IsIn};
 ghost use Rattle.path_order.specs.Below.{HasMember, AnyHasMember, PremisesHaveMember, EquationHasMember, IsClosedAt};
-ghost use Rattle.path_order.specs.Below.{AllDepend, HeadIsBelow};
+ghost use Rattle.path_order.specs.Below.{AllDepend, HeadIsBelow, AreDependents};
 ghost use Rattle.spec_core.specs.Lists.{Each, OneOf};
-ghost use Rattle.spec_core.specs.Order.{DependsOn};
 ghost use Rattle.spec_core.specs.Terms.{term_of, terms};
 ghost use Rattle.spec_core.specs.Theories.{Heads, theory_of, premise_of, equation_of};
 
@@ -123,11 +122,11 @@ fn heads_bound(algebra: &DataSpec) -> usize
     bound
 }
 
-/// The operations that depend on one that heads an equation: those that mention it in their equations, those that mention these, and
-/// so on, and itself.
-pub fn depending_on(alloc: Global, algebra: &DataSpec, op: Op) -> Result<NumberSet, Memory>
+// The operations that depend on one that heads an equation: those that mention it in their equations, those that mention these, and
+// so on, and itself.
+fn depending_on(alloc: Global, algebra: &DataSpec, op: Op) -> Result<NumberSet, Memory>
     requires heads { OneOf (Heads op.0) (theory_of algebra.now).equations }
-    ensures exact { IfOk result (λ set. (g : ℕ) → IsIn g set ↔ DependsOn (theory_of algebra.now) g op.0) }
+    ensures exact { IfOk result (AreDependents (theory_of algebra.now) op.0) }
 {
     let mut set = NumberSet::new(alloc, heads_bound(algebra))?;
     set.add(op.0);
@@ -137,4 +136,32 @@ pub fn depending_on(alloc: Global, algebra: &DataSpec, op: Op) -> Result<NumberS
         }
     }
     Err(Memory)
+}
+
+/// An operation with the set of those that depend on it.
+#[derive(Drop)]
+pub struct Dependents {
+    pub op: Op,
+    pub set: NumberSet,
+}
+
+/// The operations that depend on one that heads an equation. Those that were found last are given again where they are the same.
+pub fn dependents_of(
+    alloc: Global,
+    algebra: &DataSpec,
+    op: Op,
+    last: Option<Dependents>,
+) -> Result<Dependents, Memory>
+    requires heads { OneOf (Heads op.0) (theory_of algebra.now).equations }
+    requires last { IfSome last (λ d. AreDependents (theory_of algebra.now) d.op.0 d.set) }
+    ensures same { IfOk result (λ d. d.op ≡ op) }
+    ensures exact { IfOk result (λ d. AreDependents (theory_of algebra.now) op.0 d.set) }
+{
+    if let Some(known) = last {
+        if known.op.0 == op.0 {
+            return Ok(known);
+        }
+    }
+    let set = depending_on(alloc, algebra, op)?;
+    Ok(Dependents { op, set })
 }

@@ -1,0 +1,9 @@
+// Tests of the checks of equations, worked out by hand from docs/LANGUAGE.md.
+#![tactic(auto)]
+
+#[cfg(test)]
+mod data;
+#[cfg(test)]
+mod decreasing;
+#[cfg(test)]
+mod sets;
