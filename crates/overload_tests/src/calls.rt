@@ -1,9 +1,11 @@
 // The call on a text, and its answer as text.
 
 use data_parser::expression;
+use lotos_ast::expression::Expr;
 use lotos_ast::refusal::{FrontFault, Refusal};
 use lotos_lexer::tokens;
-use sort_overloads::resolution::resolve;
+use sort_overloads::name_index::NameIndex;
+use sort_overloads::resolution::{TypedTerm, resolve, resolve_with_index};
 use sort_overloads::scope::Scope;
 use spec_core::items::Sort;
 use spec_core::memory::Memory;
@@ -44,6 +46,17 @@ fn answer_text(
     }
 }
 
+// The expression that a text spells.
+fn expression_of(alloc: Global, text: &str) -> Option<Expr> {
+    let Ok(all) = tokens(alloc, text.as_bytes()) else {
+        return None;
+    };
+    match expression(alloc, &all, 0) {
+        Ok((expr, _)) => Some(expr),
+        Err(_) => None,
+    }
+}
+
 /// What reading an expression comes to: the text of its term, or the refusal.
 pub fn read(
     alloc: Global,
@@ -51,14 +64,41 @@ pub fn read(
     text: &str,
     wanted: Option<Sort>,
 ) -> Result<String, Memory> {
-    let Ok(all) = tokens(alloc, text.as_bytes()) else {
-        return Ok(String::from_str(alloc, "no tokens")?);
-    };
-    let Ok((expr, _)) = expression(alloc, &all, 0) else {
+    let Some(expr) = expression_of(alloc, text) else {
         return Ok(String::from_str(alloc, "no expression")?);
     };
     if scope.signature.ops.len() >= 4_294_967_296 || scope.vars.len() >= 4_294_967_296 {
         return Err(Memory);
     }
     answer_text(alloc, scope, resolve(alloc, &expr, scope, wanted))
+}
+
+/// What reading two expressions by one index comes to, as for one each.
+pub fn read_two(
+    alloc: Global,
+    scope: &Scope,
+    texts: (&str, &str),
+) -> Result<(String, String), Memory> {
+    let (Some(one), Some(other)) = (expression_of(alloc, texts.0), expression_of(alloc, texts.1))
+    else {
+        return Err(Memory);
+    };
+    if scope.signature.ops.len() >= 4_294_967_296 || scope.vars.len() >= 4_294_967_296 {
+        return Err(Memory);
+    }
+    let index = NameIndex::new(alloc, &scope.signature.ops)?;
+    let first = term_alone(resolve_with_index(alloc, &one, scope, &index, None));
+    let second = term_alone(resolve_with_index(alloc, &other, scope, &index, None));
+    Ok((
+        answer_text(alloc, scope, first)?,
+        answer_text(alloc, scope, second)?,
+    ))
+}
+
+// The answer without the sort.
+fn term_alone(answer: Result<TypedTerm, FrontFault>) -> Result<Term, FrontFault> {
+    match answer {
+        Ok(resolved) => Ok(resolved.term),
+        Err(fault) => Err(fault),
+    }
 }

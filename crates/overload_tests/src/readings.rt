@@ -1,6 +1,6 @@
 // Expressions with their readings.
 
-use crate::calls::read;
+use crate::calls::{read, read_two};
 use crate::scopes::{OPERATIONS, SORTS, scope};
 use spec_core::items::Sort;
 use spec_core::memory::Memory;
@@ -113,5 +113,14 @@ fn all_orders_of_overloads_are_tried(rt: HostRuntime) -> Result<(), Fail> {
         found.as_str(),
         "14 1:1 f(a of A,a of C) | f(a of A,a of B)"
     );
+    Ok(())
+}
+
+#[test]
+fn two_expressions_by_one_index(rt: HostRuntime) -> Result<(), Fail> {
+    let scope = scope(rt.alloc(), &SORTS, &OPERATIONS, &[("x", 0)])?;
+    let (one, other) = read_two(rt.alloc(), &scope, ("F(x) of nat", "x + y"))?;
+    assert_eq!(rt; one.as_str(), "f(x) of Nat");
+    assert_eq!(rt; other.as_str(), "12 1:5");
     Ok(())
 }

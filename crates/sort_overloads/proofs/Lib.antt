@@ -5,6 +5,7 @@ pub mod Decided
 pub mod InOrder
 pub mod Law
 pub mod Loops
+pub mod Numbered
 pub mod Members
 pub mod Two
 pub mod Listings

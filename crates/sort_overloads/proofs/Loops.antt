@@ -10,7 +10,7 @@ use Rattle.std.specs.Prelude.{Vec}
 use Rattle.std.specs.declared.alloc.Global.{Global}
 use Rattle.sort_overloads.proofs.Two.{those_join, two_more, two_twice, argument_lists-same, all-stand-themselves}
 
-taken : {A : Type 0} (xs : List A) (i : ℕ) (d : A) → i < length xs → take (suc i) xs ≡ take i xs ++ (get_or xs i d ∷ [])
+pub taken : {A : Type 0} (xs : List A) (i : ℕ) (d : A) → i < length xs → take (suc i) xs ≡ take i xs ++ (get_or xs i d ∷ [])
 taken [] i d within = absurd (omega arith)
 taken (x ∷ xs) zero d within = refl
 taken (x ∷ xs) (suc i) d within = ap (λ ys. x ∷ ys) (taken xs i d (omega arith))

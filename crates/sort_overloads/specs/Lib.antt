@@ -1,4 +1,5 @@
 pub mod Expressions
+pub mod Indexes
 pub mod Listed
 pub mod Overloads
 pub mod Picks

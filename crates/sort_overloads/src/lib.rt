@@ -2,6 +2,7 @@
 #![tactic(auto)]
 
 mod combine;
+pub mod name_index;
 mod names;
 mod operations;
 mod readings;

@@ -2,10 +2,12 @@
 
 ghost use Rattle.std.specs.Prelude.{◌≡◌, ◌<◌, ◌^◌, ◌∷◌, [], None, Some, IfOk, map, length, vec_len, if◌then◌else◌};
 ghost use Rattle.spec_core.specs.Theories.{operations_of};
+ghost use Rattle.sort_overloads.specs.Indexes.{IsIndexOf};
 ghost use Rattle.sort_overloads.specs.Listed.{StandsFor, is_same_name, last_variable, name_readings, of_operations};
 ghost use Rattle.sort_overloads.specs.Tables.{reading_of, found_of};
 ghost use Rattle.sort_overloads.specs.Views.{declared_of};
 
+use crate::name_index::NameIndex;
 use crate::operations::operation_readings;
 use crate::scope::{Scope, Variable};
 use crate::table::{Reading, Root};
@@ -15,8 +17,14 @@ use spec_core::name::Name;
 use std::alloc::Global;
 
 /// The variable of this name, or else the constants.
-pub fn named_readings(alloc: Global, scope: &Scope, name: &str) -> Result<Vec<Reading>, Memory>
+pub fn named_readings(
+    alloc: Global,
+    scope: &Scope,
+    index: &NameIndex,
+    name: &str,
+) -> Result<Vec<Reading>, Memory>
     requires few { vec_len scope.now.signature.ops < 2 ^ 32 }
+    requires index { IsIndexOf index.now (operations_of scope.now.signature) }
     requires few_variables { vec_len scope.now.vars < 2 ^ 32 }
     ensures stands { IfOk result (λ all. StandsFor
         (name_readings (last_variable name.now None 0 (map declared_of scope.now.vars.items))
@@ -24,7 +32,7 @@ pub fn named_readings(alloc: Global, scope: &Scope, name: &str) -> Result<Vec<Re
         (map (reading_of []) all.items)) }
 {
     match find_variable(&scope.vars, name) {
-        None => operation_readings(alloc, &scope.signature, name, &[]),
+        None => operation_readings(alloc, &scope.signature, index, name, &[]),
         Some((variable, sort)) => only_variable(alloc, variable, sort),
     }
 }

@@ -2,10 +2,12 @@
 
 ghost use Rattle.std.specs.Prelude.{◌≡◌, ◌<◌, ◌^◌, ◌++◌, List, IfOk, OnOk, map, vec_len};
 ghost use Rattle.spec_core.specs.Theories.{operation_of, operations_of};
+ghost use Rattle.sort_overloads.specs.Indexes.{IsIndexOf};
 ghost use Rattle.sort_overloads.specs.Listed.{Typed, StandsFor, application, of_operation, of_operations};
 ghost use Rattle.sort_overloads.specs.Tables.{table_of, reading_of, list_of};
 
 use crate::combine::first_lists;
+use crate::name_index::NameIndex;
 use crate::table::{Pick, Reading, Root, Table};
 use spec_core::items::{Op, Sort};
 use spec_core::memory::Memory;
@@ -16,20 +18,22 @@ use std::alloc::Global;
 pub fn operation_readings(
     alloc: Global,
     signature: &Signature,
+    index: &NameIndex,
     spelled: &str,
     arguments: &[Table],
 ) -> Result<Vec<Reading>, Memory>
-    requires few { vec_len signature.now.ops < 2 ^ 32 }
+    requires index { IsIndexOf index.now (operations_of signature.now) }
     ensures stands { IfOk result (λ all.
         StandsFor (of_operations spelled.now (map table_of arguments.now) 0 (operations_of signature.now))
         (map (reading_of (map table_of arguments.now)) all.items)) }
 {
     let mut all = Vec::new(alloc);
-    for (i, declaration) in signature.ops.iter().enumerate() {
+    for number in index.numbers(alloc, spelled)? {
+        let declaration = &signature.ops[*number as usize];
         add_operation(
             alloc,
             &mut all,
-            Op(i as u32),
+            Op(*number),
             declaration,
             spelled,
             arguments,

@@ -4,12 +4,14 @@ ghost use Rattle.std.specs.Prelude.{◌≡◌, ◌<◌, ◌^◌, ◌++◌, ◌�
 ghost use Rattle.spec_core.specs.Theories.{operations_of};
 ghost use Rattle.lotos_ast.specs.ExpressionTrees.{expr_tree, infix_tree, simple_tree, head_tree};
 ghost use Rattle.sort_overloads.specs.Expressions.{Expression, infix_application, expression, simple_expression, head_expression, between};
+ghost use Rattle.sort_overloads.specs.Indexes.{IsIndexOf};
 ghost use Rattle.sort_overloads.specs.Readings.{spelling};
 ghost use Rattle.sort_overloads.specs.Listed.{StandsFor, readings, is_name_of, those, last_variable, name_readings, of_operations};
 ghost use Rattle.sort_overloads.specs.Tables.{table_of};
 ghost use Rattle.sort_overloads.specs.Views.{context_of, declared_of};
 ghost use Rattle.std.specs.List.{slice_get};
 
+use crate::name_index::NameIndex;
 use crate::names::named_readings;
 use crate::operations::operation_readings;
 use crate::scope::Scope;
@@ -22,14 +24,20 @@ use std::alloc::Global;
 
 /// A table of the readings of an expression.
 #[cycle(readings)]
-pub fn expression_readings(alloc: Global, scope: &Scope, expr: &Expr) -> Result<Table, Memory>
+pub fn expression_readings(
+    alloc: Global,
+    scope: &Scope,
+    index: &NameIndex,
+    expr: &Expr,
+) -> Result<Table, Memory>
     requires few { vec_len scope.now.signature.ops < 2 ^ 32 }
+    requires index { IsIndexOf index.now (operations_of scope.now.signature) }
     requires few_variables { vec_len scope.now.vars < 2 ^ 32 }
     ensures stands { IfOk result (λ all. StandsFor (readings (context_of scope.now) (expression (expr_tree expr.now))) (table_of all)) }
 {
-    let mut all = simple_readings(alloc, scope, &expr.first)?;
+    let mut all = simple_readings(alloc, scope, index, &expr.first)?;
     for operation in &expr.rest {
-        all = infix_readings(alloc, scope, operation, all)?;
+        all = infix_readings(alloc, scope, index, operation, all)?;
     }
     Ok(all)
 }
@@ -39,31 +47,39 @@ pub fn expression_readings(alloc: Global, scope: &Scope, expr: &Expr) -> Result<
 fn infix_readings(
     alloc: Global,
     scope: &Scope,
+    index: &NameIndex,
     operation: &Infix,
     left: Table,
 ) -> Result<Table, Memory>
     requires few { vec_len scope.now.signature.ops < 2 ^ 32 }
+    requires index { IsIndexOf index.now (operations_of scope.now.signature) }
     requires few_variables { vec_len scope.now.vars < 2 ^ 32 }
     ensures stands { IfOk result (λ all. (e : Expression) → StandsFor (readings (context_of scope.now) e) (table_of left) →
         StandsFor
         (readings (context_of scope.now) (infix_application operation.now.name e (simple_expression (simple_tree operation.now.right))))
         (table_of all)) }
 {
-    let right = simple_readings(alloc, scope, &operation.right)?;
+    let right = simple_readings(alloc, scope, index, &operation.right)?;
     let spelled = infix_spelling(alloc, operation.name.text.as_str())?;
     let arguments = vec![in alloc; left, right]?;
-    applied(alloc, scope, spelled.as_str(), arguments)
+    applied(alloc, scope, index, spelled.as_str(), arguments)
 }
 
 // A table of the readings of an operand.
 #[cycle(readings)]
-fn simple_readings(alloc: Global, scope: &Scope, simple: &Simple) -> Result<Table, Memory>
+fn simple_readings(
+    alloc: Global,
+    scope: &Scope,
+    index: &NameIndex,
+    simple: &Simple,
+) -> Result<Table, Memory>
     requires few { vec_len scope.now.signature.ops < 2 ^ 32 }
+    requires index { IsIndexOf index.now (operations_of scope.now.signature) }
     requires few_variables { vec_len scope.now.vars < 2 ^ 32 }
     ensures stands { IfOk result (λ all.
         StandsFor (readings (context_of scope.now) (simple_expression (simple_tree simple.now))) (table_of all)) }
 {
-    let mut all = head_readings(alloc, scope, &simple.head)?;
+    let mut all = head_readings(alloc, scope, index, &simple.head)?;
     for sort in &simple.sorts {
         all = of_named_sort(alloc, &scope.signature.sorts, sort.text.as_str(), all)?;
     }
@@ -72,8 +88,14 @@ fn simple_readings(alloc: Global, scope: &Scope, simple: &Simple) -> Result<Tabl
 
 // A table of the readings of an operand without the sorts that are said of it.
 #[cycle(readings)]
-fn head_readings(alloc: Global, scope: &Scope, head: &Head) -> Result<Table, Memory>
+fn head_readings(
+    alloc: Global,
+    scope: &Scope,
+    index: &NameIndex,
+    head: &Head,
+) -> Result<Table, Memory>
     requires few { vec_len scope.now.signature.ops < 2 ^ 32 }
+    requires index { IsIndexOf index.now (operations_of scope.now.signature) }
     requires few_variables { vec_len scope.now.vars < 2 ^ 32 }
     ensures stands { IfOk result (λ all.
         StandsFor (readings (context_of scope.now) (head_expression (head_tree head.now))) (table_of all)) }
@@ -84,29 +106,30 @@ fn head_readings(alloc: Global, scope: &Scope, head: &Head) -> Result<Table, Mem
             name,
             arguments,
         } => match arguments {
-            None => named(alloc, scope, name.text.as_str()),
+            None => named(alloc, scope, index, name.text.as_str()),
             Some(arguments) => {
                 let mut tables = Vec::new(alloc);
                 for argument in arguments {
-                    tables.push(expression_readings(alloc, scope, argument)?)?;
+                    tables.push(expression_readings(alloc, scope, index, argument)?)?;
                 }
-                applied(alloc, scope, name.text.as_str(), tables)
+                applied(alloc, scope, index, name.text.as_str(), tables)
             }
         },
-        Head::Grouped { place: _, inner } => expression_readings(alloc, scope, inner),
+        Head::Grouped { place: _, inner } => expression_readings(alloc, scope, index, inner),
     }
 }
 
 // A table of the readings of a name alone.
-fn named(alloc: Global, scope: &Scope, name: &str) -> Result<Table, Memory>
+fn named(alloc: Global, scope: &Scope, index: &NameIndex, name: &str) -> Result<Table, Memory>
     requires few { vec_len scope.now.signature.ops < 2 ^ 32 }
+    requires index { IsIndexOf index.now (operations_of scope.now.signature) }
     requires few_variables { vec_len scope.now.vars < 2 ^ 32 }
     ensures stands { IfOk result (λ all. StandsFor
         (name_readings (last_variable name.now None 0 (map declared_of scope.now.vars.items))
         (of_operations name.now [] 0 (operations_of scope.now.signature)))
         (table_of all)) }
 {
-    let readings = named_readings(alloc, scope, name)?;
+    let readings = named_readings(alloc, scope, index, name)?;
     Ok(Table::new(readings, Vec::new(alloc)))
 }
 
@@ -114,15 +137,17 @@ fn named(alloc: Global, scope: &Scope, name: &str) -> Result<Table, Memory>
 fn applied(
     alloc: Global,
     scope: &Scope,
+    index: &NameIndex,
     spelled: &str,
     arguments: Vec<Table>,
 ) -> Result<Table, Memory>
     requires few { vec_len scope.now.signature.ops < 2 ^ 32 }
+    requires index { IsIndexOf index.now (operations_of scope.now.signature) }
     ensures stands { IfOk result (λ all. StandsFor
         (of_operations spelled.now (map table_of arguments.items) 0 (operations_of scope.now.signature))
         (table_of all)) }
 {
-    let readings = operation_readings(alloc, &scope.signature, spelled, &arguments)?;
+    let readings = operation_readings(alloc, &scope.signature, index, spelled, &arguments)?;
     Ok(Table::new(readings, arguments))
 }
 

@@ -7,13 +7,16 @@ ghost use Rattle.lotos_ast.specs.declared.refusal.FrontFault.TheVariants.{Refuse
 ghost use Rattle.lotos_ast.specs.declared.refusal.RefusalKind.TheVariants.{NoReading, Ambiguous};
 ghost use Rattle.lotos_ast.specs.Refusals.{IfRefused, OnRefusal};
 ghost use Rattle.spec_core.specs.Terms.{term_of};
+ghost use Rattle.spec_core.specs.Theories.{operations_of};
 ghost use Rattle.sort_overloads.specs.Expressions.{expression};
+ghost use Rattle.sort_overloads.specs.Indexes.{IsIndexOf};
 ghost use Rattle.sort_overloads.specs.Overloads.{IsOnlyReading};
 ghost use Rattle.sort_overloads.specs.Picks.{IsOneReading, IsPickRefusal};
 ghost use Rattle.sort_overloads.specs.Refused.{unknowns, refused, text_in, IsOverloadRefusal, IsExpressionRefusal};
 ghost use Rattle.sort_overloads.specs.Tables.{table_of, no_reading_there, IsWantedAs};
 ghost use Rattle.sort_overloads.specs.Views.{context_of};
 
+use crate::name_index::NameIndex;
 use crate::readings::expression_readings;
 use crate::scope::{Scope, Variable};
 use crate::selection::{Wanted, selected};
@@ -77,11 +80,32 @@ pub fn resolve_with_sort(
     ensures refused { IfRefused result (λ r.
         IsExpressionRefusal (context_of scope.now) (expression (expr_tree expr.now)) wanted (tree_place (expr_tree expr.now)) r) }
 {
+    let index = NameIndex::new(alloc, &scope.signature.ops)?;
+    resolve_with_index(alloc, expr, scope, &index, wanted)
+}
+
+/// The same, with an index of the operations that the caller keeps, for many expressions over one signature.
+pub fn resolve_with_index(
+    alloc: Global,
+    expr: &Expr,
+    scope: &Scope,
+    index: &NameIndex,
+    wanted: Option<Sort>,
+) -> Result<TypedTerm, FrontFault>
+    requires few { vec_len scope.now.signature.ops < 2 ^ 32 }
+    requires index { IsIndexOf index.now (operations_of scope.now.signature) }
+    requires few_variables { vec_len scope.now.vars < 2 ^ 32 }
+    ensures known { IfOk result (λ t. unknowns (context_of scope.now) (expression (expr_tree expr.now)) ≡ []) }
+    ensures read { IfOk result (λ t.
+        IsOnlyReading (context_of scope.now) (expression (expr_tree expr.now)) wanted (term_of t.term) t.sort.0) }
+    ensures refused { IfRefused result (λ r.
+        IsExpressionRefusal (context_of scope.now) (expression (expr_tree expr.now)) wanted (tree_place (expr_tree expr.now)) r) }
+{
     let mut refusals = Vec::new(alloc);
-    add_unknowns(alloc, scope, expr, &mut refusals)?;
+    add_unknowns(alloc, scope, index, expr, &mut refusals)?;
     match first_refusal(refusals) {
         Some(refusal) => Err(FrontFault::Refused(refusal)),
-        None => resolve_known(alloc, expr, scope, wanted),
+        None => resolve_known(alloc, expr, scope, index, wanted),
     }
 }
 
@@ -90,16 +114,18 @@ fn resolve_known(
     alloc: Global,
     expr: &Expr,
     scope: &Scope,
+    index: &NameIndex,
     wanted: Option<Sort>,
 ) -> Result<TypedTerm, FrontFault>
     requires few { vec_len scope.now.signature.ops < 2 ^ 32 }
+    requires index { IsIndexOf index.now (operations_of scope.now.signature) }
     requires few_variables { vec_len scope.now.vars < 2 ^ 32 }
     ensures read { IfOk result (λ t.
         IsOnlyReading (context_of scope.now) (expression (expr_tree expr.now)) wanted (term_of t.term) t.sort.0) }
     ensures refused { IfRefused result (λ r.
         IsOverloadRefusal (context_of scope.now) (expression (expr_tree expr.now)) wanted (tree_place (expr_tree expr.now)) r) }
 {
-    let all = expression_readings(alloc, scope, expr)?;
+    let all = expression_readings(alloc, scope, index, expr)?;
     let fitting = selected(alloc, &wanted_of(wanted), all)?;
     only_reading(alloc, scope, expr.place, &fitting)
 }

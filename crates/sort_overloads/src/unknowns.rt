@@ -1,15 +1,17 @@
 // The names and sorts of an expression that aren't known.
 
-ghost use Rattle.std.specs.Prelude.{◌≡◌, ◌++◌, ◌∷◌, [], IfOk, OnOk, map, Bool, if◌then◌else◌, ◌||◌};
+ghost use Rattle.std.specs.Prelude.{◌≡◌, ◌++◌, ◌∷◌, [], List, IfOk, OnOk, map, Bool, if◌then◌else◌, ◌||◌};
 ghost use Rattle.std.specs.List.{list_any};
 ghost use Rattle.lotos_ast.specs.ExpressionTrees.{expr_tree, simple_tree, head_tree};
-ghost use Rattle.spec_core.specs.Theories.{operation_of};
+ghost use Rattle.spec_core.specs.Theories.{Operation, operations_of};
 ghost use Rattle.sort_overloads.specs.Expressions.{expression, simple_expression, head_expression, between};
+ghost use Rattle.sort_overloads.specs.Indexes.{IsIndexOf};
 ghost use Rattle.sort_overloads.specs.Listed.{is_same_name};
 ghost use Rattle.sort_overloads.specs.Readings.{spelling};
-ghost use Rattle.sort_overloads.specs.Refused.{is_known, is_sort_known, unknown_name, unknown_sort, unknowns, refused};
+ghost use Rattle.sort_overloads.specs.Refused.{is_called, is_known, is_sort_known, unknown_name, unknown_sort, unknowns, refused};
 ghost use Rattle.sort_overloads.specs.Views.{context_of, declared_of};
 
+use crate::name_index::NameIndex;
 use crate::names::has_name;
 use crate::readings::infix_spelling;
 use crate::scope::{Scope, Variable};
@@ -20,7 +22,6 @@ use lotos_ast::refusal::{Refusal, RefusalKind};
 use lotos_ast::token::Token;
 use spec_core::memory::Memory;
 use spec_core::name::Name;
-use spec_core::signature::OpDecl;
 use std::alloc::Global;
 
 /// Adds a refusal for each name or sort of an expression that isn't known.
@@ -28,16 +29,18 @@ use std::alloc::Global;
 pub fn add_unknowns(
     alloc: Global,
     scope: &Scope,
+    index: &NameIndex,
     expr: &Expr,
     refusals: &mut Vec<Refusal>,
 ) -> Result<(), Memory>
+    requires index { IsIndexOf index.now (operations_of scope.now.signature) }
     ensures added { OnOk result (refusals.new.items
         ≡ refusals.old.items ++ unknowns (context_of scope.now) (expression (expr_tree expr.now))) }
 {
-    add_unknowns_of_operand(alloc, scope, &expr.first, refusals)?;
+    add_unknowns_of_operand(alloc, scope, index, &expr.first, refusals)?;
     for operation in &expr.rest {
-        add_unknown_name(alloc, scope, &operation.name, refusals)?;
-        add_unknowns_of_operand(alloc, scope, &operation.right, refusals)?;
+        add_unknown_name(alloc, scope, index, &operation.name, refusals)?;
+        add_unknowns_of_operand(alloc, scope, index, &operation.right, refusals)?;
     }
     Ok(())
 }
@@ -47,13 +50,15 @@ pub fn add_unknowns(
 fn add_unknowns_of_operand(
     alloc: Global,
     scope: &Scope,
+    index: &NameIndex,
     simple: &Simple,
     refusals: &mut Vec<Refusal>,
 ) -> Result<(), Memory>
+    requires index { IsIndexOf index.now (operations_of scope.now.signature) }
     ensures added { OnOk result (refusals.new.items
         ≡ refusals.old.items ++ unknowns (context_of scope.now) (simple_expression (simple_tree simple.now))) }
 {
-    add_unknowns_of_head(alloc, scope, &simple.head, refusals)?;
+    add_unknowns_of_head(alloc, scope, index, &simple.head, refusals)?;
     for sort in &simple.sorts {
         add_unknown_sort(alloc, scope, sort, refusals)?;
     }
@@ -65,9 +70,11 @@ fn add_unknowns_of_operand(
 fn add_unknowns_of_head(
     alloc: Global,
     scope: &Scope,
+    index: &NameIndex,
     head: &Head,
     refusals: &mut Vec<Refusal>,
 ) -> Result<(), Memory>
+    requires index { IsIndexOf index.now (operations_of scope.now.signature) }
     ensures added { OnOk result (refusals.new.items
         ≡ refusals.old.items ++ unknowns (context_of scope.now) (head_expression (head_tree head.now))) }
 {
@@ -77,18 +84,18 @@ fn add_unknowns_of_head(
             name,
             arguments,
         } => {
-            add_unknown_name(alloc, scope, name, refusals)?;
+            add_unknown_name(alloc, scope, index, name, refusals)?;
             match arguments {
                 None => Ok(()),
                 Some(arguments) => {
                     for argument in arguments {
-                        add_unknowns(alloc, scope, argument, refusals)?;
+                        add_unknowns(alloc, scope, index, argument, refusals)?;
                     }
                     Ok(())
                 }
             }
         }
-        Head::Grouped { place: _, inner } => add_unknowns(alloc, scope, inner, refusals),
+        Head::Grouped { place: _, inner } => add_unknowns(alloc, scope, index, inner, refusals),
     }
 }
 
@@ -96,12 +103,14 @@ fn add_unknowns_of_head(
 fn add_unknown_name(
     alloc: Global,
     scope: &Scope,
+    index: &NameIndex,
     name: &Token,
     refusals: &mut Vec<Refusal>,
 ) -> Result<(), Memory>
+    requires index { IsIndexOf index.now (operations_of scope.now.signature) }
     ensures added { OnOk result (refusals.new.items ≡ refusals.old.items ++ unknown_name (context_of scope.now) name.now) }
 {
-    let known = is_known(alloc, scope, name.text.as_str())?;
+    let known = is_known(alloc, scope, index, name.text.as_str())?;
     add_unless(alloc, known, RefusalKind::UnknownName, name.place, refusals)
 }
 
@@ -140,14 +149,23 @@ fn add_unless(
 }
 
 // Whether a variable or an operation has the name.
-fn is_known(alloc: Global, scope: &Scope, name: &str) -> Result<bool, Memory>
+fn is_known(alloc: Global, scope: &Scope, index: &NameIndex, name: &str) -> Result<bool, Memory>
+    requires index { IsIndexOf index.now (operations_of scope.now.signature) }
     ensures { IfOk result (λ known. known ≡ is_known (context_of scope.now) name.now) }
 {
+    let operation = has_operation(alloc, index, name)?;
+    Ok(has_variable(&scope.vars, name) || operation)
+}
+
+// Whether an operation has the name, before its arguments or between two.
+fn has_operation(alloc: Global, index: &NameIndex, name: &str) -> Result<bool, Memory>
+    ensures { IfOk result (λ known. (operations : List Operation) → IsIndexOf index.now operations →
+        known ≡ list_any (is_called name.now) operations) }
+{
     let spelled = infix_spelling(alloc, name)?;
-    Ok(
-        has_variable(&scope.vars, name)
-            || has_operation(&scope.signature.ops, name, spelled.as_str()),
-    )
+    let before = index.has(alloc, name)?;
+    let between = index.has(alloc, spelled.as_str())?;
+    Ok(before || between)
 }
 
 // Whether a variable has the name.
@@ -160,27 +178,6 @@ fn has_variable(variables: &[Variable], name: &str) -> bool
         }
     }
     false
-}
-
-// Whether an operation has one of these names.
-fn has_operation(operations: &[OpDecl], name: &str, spelled: &str) -> bool
-    ensures { result
-        ≡ list_any (λ d. is_same_name d.name name.now || is_same_name d.name spelled.now) (map operation_of operations.now) }
-{
-    for operation in operations {
-        if has_either_name(operation, name, spelled) {
-            return true;
-        }
-    }
-    false
-}
-
-// Whether the operation has one of these names.
-fn has_either_name(operation: &OpDecl, name: &str, spelled: &str) -> bool
-    ensures { result
-        ≡ (is_same_name (operation_of operation.now).name name.now || is_same_name (operation_of operation.now).name spelled.now) }
-{
-    has_name(&operation.name, name) || has_name(&operation.name, spelled)
 }
 
 // Whether a sort has the name.

@@ -1,23 +1,36 @@
-use Rattle.std.proofs.Common.{◌≤◌, length, map, sym, subst}
-use Rattle.spec_core.specs.Theories.{operation_of}
-use Rattle.sort_overloads.specs.Listed.{StandsFor, of_operations}
+use Rattle.std.proofs.Common.{arith, map, ◌∙◌, ap, sym, subst}
+use Rattle.std.specs.List.{flat_map}
+use Rattle.spec_core.specs.Theories.{operation_of, operations_of}
+use Rattle.sort_overloads.specs.Listed.{StandsFor}
 use Rattle.sort_overloads.specs.Tables.{table_of, reading_of}
-use Rattle.sort_overloads.proofs.ByOperations.{of_operations-next}
-use Rattle.sort_overloads.proofs.Loops.{moved-within, moved-at, taken-all}
+use Rattle.sort_overloads.proofs.Loops.{taken-all}
+use Rattle.sort_overloads.proofs.Numbered.{of_number, number-within, by-numbers-next, all-by-numbers}
 use Rattle.sort_overloads.proofs.operations.operation_readings.Goals as goal
 
-pub loop-i-preserved : goal.loop-i-preserved
-loop-i-preserved c =
+pub index-declaration-requires : goal.index-declaration-requires
+index-declaration-requires c =
+    let r = number-within operation_of c.args.spelled.now c.args.signature.now.ops.items c.in_ok-number-items.number-items.now c.loop-number.number-index
+    (c.in_ok-number-items.ensures.numbers ∙ c.requires.index c.args.spelled.now) c.loop-number-test.true in
+    grind (arith, r)
+
+pub loop-number-preserved : goal.loop-number-preserved
+loop-number-preserved c =
     let tables = map table_of c.args.arguments.now in
-    let e = of_operations-next operation_of c.args.spelled.now tables c.args.signature.now.ops.items c.loop-i.i c.declaration-item.result
-    (moved-within _ _ _ c.deref-declaration-items.ensures.value c.loop-i-test.true) (moved-at _ _ _ _ c.deref-declaration-items.ensures.value c.declaration-item.is) in
-    subst (λ z. StandsFor z (map (reading_of tables) c.add_operation.new.all.items)) (sym e) (c.in_ok-add_operation.ensures _ c.loop-i.invariant)
+    let name = c.args.spelled.now in
+    let operations = c.args.signature.now.ops.items in
+    let numbers = c.in_ok-number-items.number-items.now in
+    let within = number-within operation_of name operations numbers c.loop-number.number-index (c.in_ok-number-items.ensures.numbers ∙ c.requires.index name) c.loop-number-test.true in
+    let e = by-numbers-next operation_of name tables operations numbers c.loop-number.number-index c.index-declaration.result.now c.loop-number-test.true within c.index-declaration.ensures in
+    subst (λ z. StandsFor z (map (reading_of tables) c.add_operation.new.all.items)) (sym e) (c.in_ok-add_operation.ensures _ c.loop-number.invariant)
 
 pub returns : goal.returns
 returns c =
     let tables = map table_of c.args.arguments.now in
-    let all = c.args.signature.now.ops.items in
-    let ended : length all ≤ c.loop-i.i = subst (λ z. length z ≤ c.loop-i.i) c.deref-declaration-items.ensures.value c.loop-i-test.false in
+    let operations = operations_of c.args.signature.now in
+    let name = c.args.spelled.now in
     record {
-      stands = subst (λ z. StandsFor (of_operations c.args.spelled.now tables 0 (map operation_of z)) (map (reading_of tables) c.loop-i.all.items)) (taken-all all c.loop-i.i ended) c.loop-i.invariant;
+      stands = subst (λ z. StandsFor z (map (reading_of tables) c.loop-number.all.items))
+          (ap (flat_map (of_number name tables operations)) (taken-all c.in_ok-number-items.number-items.now c.loop-number.number-index c.loop-number-test.false ∙ c.in_ok-number-items.ensures.numbers ∙ c.requires.index name)
+          ∙ all-by-numbers name tables operations)
+          c.loop-number.invariant;
     }

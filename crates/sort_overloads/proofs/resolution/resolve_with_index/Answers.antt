@@ -5,7 +5,7 @@ use Rattle.sort_overloads.specs.Expressions.{expression}
 use Rattle.sort_overloads.specs.Refused.{unknowns, unknown, known}
 use Rattle.sort_overloads.specs.Views.{context_of}
 use Rattle.sort_overloads.proofs.Decided.{if_refused_implied}
-use Rattle.sort_overloads.proofs.resolution.resolve_with_sort.Goals as goal
+use Rattle.sort_overloads.proofs.resolution.resolve_with_index.Goals as goal
 
 pub returns-in-Some-clause-refused : goal.returns-in-Some-clause-refused
 returns-in-Some-clause-refused c =
