@@ -86,10 +86,16 @@ fn equation(alloc: Global, scope: &Scope, stated: &Stated) -> Result<Equation, M
         names.push(name(alloc, text)?)?;
     }
     let mut premises = Vec::new(alloc);
-    let mut sides = stated.1;
-    while let [one, other, rest @ ..] = sides {
-        premises.push((term(alloc, scope, one)?, term(alloc, scope, other)?))?;
-        sides = rest;
+    let mut half = None;
+    for text in stated.1 {
+        let side = term(alloc, scope, text)?;
+        half = match half {
+            None => Some(side),
+            Some(one) => {
+                premises.push((one, side))?;
+                None
+            }
+        };
     }
     let Some((left, right)) = premises.pop() else {
         return Err(Memory);
