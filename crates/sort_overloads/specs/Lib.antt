@@ -1,5 +1,6 @@
 pub mod Expressions
 pub mod Indexes
+pub mod Judged
 pub mod Listed
 pub mod Overloads
 pub mod Picks

@@ -2,6 +2,7 @@
 #![tactic(auto)]
 
 mod combine;
+pub mod judging;
 pub mod name_index;
 mod names;
 mod operations;
@@ -10,4 +11,4 @@ pub mod resolution;
 pub mod scope;
 mod selection;
 mod table;
-mod unknowns;
+pub mod unknowns;

@@ -109,8 +109,8 @@ pub fn resolve_with_index(
     }
 }
 
-// The one reading of an expression whose names are known, of the wanted sort if there is one.
-fn resolve_known(
+/// The one reading of an expression whose names are known, of the wanted sort if there is one.
+pub fn resolve_known(
     alloc: Global,
     expr: &Expr,
     scope: &Scope,

@@ -1,0 +1,4 @@
+// Premises and equations: what they stand for.
+#![tactic(auto)]
+
+pub mod equality;
