@@ -1,6 +1,7 @@
 // The call on a text, and its answer as text.
 
 use data_parser::expression;
+use equation_readings::equality::judge_equality;
 use lotos_ast::expression::Expr;
 use lotos_ast::refusal::{FrontFault, Refusal};
 use lotos_lexer::tokens;
@@ -101,4 +102,35 @@ fn term_alone(answer: Result<TypedTerm, FrontFault>) -> Result<Term, FrontFault>
         Ok(resolved) => Ok(resolved.term),
         Err(fault) => Err(fault),
     }
+}
+
+/// What reading two expressions that are to be equal comes to: the texts of their terms, or all refusals, joined by `; `.
+pub fn read_equality(alloc: Global, scope: &Scope, texts: (&str, &str)) -> Result<String, Memory> {
+    let (Some(one), Some(other)) = (expression_of(alloc, texts.0), expression_of(alloc, texts.1))
+    else {
+        return Err(Memory);
+    };
+    if scope.signature.ops.len() >= 4_294_967_296 || scope.vars.len() >= 4_294_967_296 {
+        return Err(Memory);
+    }
+    let index = NameIndex::new(alloc, &scope.signature.ops)?;
+    let mut refusals = Vec::new(alloc);
+    let mut text = String::new(alloc);
+    if let Some((left, right)) = judge_equality(
+        alloc,
+        &one,
+        &other,
+        scope,
+        &index,
+        &mut refusals,
+    )? {
+        text.push_str(answer_text(alloc, scope, Ok(left))?.as_str())?;
+        text.push_str(" = ")?;
+        text.push_str(answer_text(alloc, scope, Ok(right))?.as_str())?;
+    }
+    for refusal in &refusals {
+        text.push_str(refusal_text(alloc, refusal)?.as_str())?;
+        text.push_str("; ")?;
+    }
+    Ok(text)
 }

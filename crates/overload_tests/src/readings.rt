@@ -1,6 +1,6 @@
 // Expressions with their readings.
 
-use crate::calls::{read, read_two};
+use crate::calls::{read, read_equality, read_two};
 use crate::scopes::{OPERATIONS, SORTS, scope};
 use spec_core::items::Sort;
 use spec_core::memory::Memory;
@@ -122,5 +122,27 @@ fn two_expressions_by_one_index(rt: HostRuntime) -> Result<(), Fail> {
     let (one, other) = read_two(rt.alloc(), &scope, ("F(x) of nat", "x + y"))?;
     assert_eq!(rt; one.as_str(), "f(x) of Nat");
     assert_eq!(rt; other.as_str(), "12 1:5");
+    Ok(())
+}
+
+// The sides of equalities and what they come to, where x is of Nat.
+const EQUALITIES: [(&str, &str, &str); 8] = [
+    ("x", "0", "x = 0 of Nat"),
+    ("0 of Z", "0", "0 of Z = 0 of Z"),
+    ("0", "0 of Z", "14 1:1 0 of Nat | 0 of Z; "),
+    ("x", "true", "13 1:1; "),
+    ("0", "true", "14 1:1 0 of Nat | 0 of Z; "),
+    ("0", "y", "14 1:1 0 of Nat | 0 of Z; 12 1:1; "),
+    ("y of Nope", "z", "12 1:1; 8 1:6; 12 1:1; "),
+    ("x", "y + y", "12 1:1; 12 1:5; "),
+];
+
+#[test]
+fn the_right_side_has_the_sort_of_the_left_one(rt: HostRuntime) -> Result<(), Fail> {
+    let scope = scope(rt.alloc(), &SORTS, &OPERATIONS, &[("x", 0)])?;
+    for (left, right, outcome) in &EQUALITIES {
+        let found = read_equality(rt.alloc(), &scope, (left, right))?;
+        assert_eq!(rt; found.as_str(), *outcome, "at {left} = {right}");
+    }
     Ok(())
 }
