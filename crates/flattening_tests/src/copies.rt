@@ -147,14 +147,12 @@ pub const OPERATION_PAIRS: [(u8, &str, &str); 16] = [
 pub const ACTUALS: [(u8, &str, &str); 17] = [
     (
         0,
-        "type F is formalsorts E formalopns e : -> E endtype\ntype A is sorts N opns z : -> N endtype\ntype T is F actualizedby A using
-            sortnames N for E opnnames z for e endtype",
+        "type F is formalsorts E formalopns e : -> E endtype\ntype A is sorts N opns z : -> N endtype\ntype T is F actualizedby A using sortnames N for E opnnames z for e endtype",
         "sorts 1 operations 1",
     ),
     (
         0,
-        "type F is formalsorts E formalopns e : -> E endtype\ntype A is sorts N opns z : -> N endtype\ntype T is F actualizedby A using
-            sortnames M for E endtype",
+        "type F is formalsorts E formalopns e : -> E endtype\ntype A is sorts N opns z : -> N endtype\ntype T is F actualizedby A using sortnames M for E endtype",
         "11 3:6 e",
     ),
     (
@@ -174,20 +172,17 @@ pub const ACTUALS: [(u8, &str, &str); 17] = [
     ),
     (
         0,
-        "type F is formalsorts E endtype\ntype A is sorts N endtype\ntype B is A renamedby sortnames E for N endtype\ntype T is F
-            actualizedby B using endtype",
+        "type F is formalsorts E endtype\ntype A is sorts N endtype\ntype B is A renamedby sortnames E for N endtype\ntype T is F actualizedby B using endtype",
         "sorts 2 operations 0",
     ),
     (
         0,
-        "type F is formalsorts E formalopns e : E -> E endtype\ntype A is sorts N opns z : -> N endtype\ntype T is F actualizedby A
-            using sortnames N for E opnnames z for e endtype",
+        "type F is formalsorts E formalopns e : E -> E endtype\ntype A is sorts N opns z : -> N endtype\ntype T is F actualizedby A using sortnames N for E opnnames z for e endtype",
         "11 3:61 e",
     ),
     (
         0,
-        "type F is formalsorts E formalopns _e_ : E, E -> E endtype\ntype A is sorts N endtype\ntype T is F actualizedby A using
-            sortnames N for E endtype",
+        "type F is formalsorts E formalopns _e_ : E, E -> E endtype\ntype A is sorts N endtype\ntype T is F actualizedby A using sortnames N for E endtype",
         "11 3:6 _e_",
     ),
     (
@@ -197,21 +192,17 @@ pub const ACTUALS: [(u8, &str, &str); 17] = [
     ),
     (
         0,
-        "type F is formalsorts E, G formalopns e : -> E endtype\ntype A is sorts N endtype\ntype T is F actualizedby A using sortnames
-            N for E endtype",
+        "type F is formalsorts E, G formalopns e : -> E endtype\ntype A is sorts N endtype\ntype T is F actualizedby A using sortnames N for E endtype",
         "11 3:6 G",
     ),
     (
         0,
-        "type F is formalsorts E sorts L opns nil : -> L cons : E, L -> L endtype\ntype A is sorts N opns z : -> N endtype\ntype T is F
-            actualizedby A using sortnames N for E endtype",
+        "type F is formalsorts E sorts L opns nil : -> L cons : E, L -> L endtype\ntype A is sorts N opns z : -> N endtype\ntype T is F actualizedby A using sortnames N for E endtype",
         "sorts 2 operations 3",
     ),
     (
         0,
-        "type F is formalsorts E sorts L opns nil : -> L cons : E, L -> L endtype\ntype A is sorts N opns z : -> N endtype\ntype B is
-            sorts M opns y : -> M endtype\ntype T is F actualizedby A using sortnames N for E NL for L endtype\ntype U is F
-            actualizedby B using sortnames M for E ML for L endtype",
+        "type F is formalsorts E sorts L opns nil : -> L cons : E, L -> L endtype\ntype A is sorts N opns z : -> N endtype\ntype B is sorts M opns y : -> M endtype\ntype T is F actualizedby A using sortnames N for E NL for L endtype\ntype U is F actualizedby B using sortnames M for E ML for L endtype",
         "sorts 4 operations 6",
     ),
     (
@@ -221,20 +212,17 @@ pub const ACTUALS: [(u8, &str, &str); 17] = [
     ),
     (
         0,
-        "type F is formalsorts E, G endtype\ntype A is sorts N, M endtype\ntype T is F actualizedby A using sortnames N for E N for G
-            endtype",
+        "type F is formalsorts E, G endtype\ntype A is sorts N, M endtype\ntype T is F actualizedby A using sortnames N for E N for G endtype",
         "sorts 2 operations 0",
     ),
     (
         0,
-        "type F is formalsorts E, G endtype\ntype A is sorts N, M endtype\ntype T is F actualizedby A using sortnames N for E N for G M
-            for E endtype",
+        "type F is formalsorts E, G endtype\ntype A is sorts N, M endtype\ntype T is F actualizedby A using sortnames N for E N for G M for E endtype",
         "10 3:60",
     ),
     (
         0,
-        "type F is formalsorts E sorts L endtype\ntype A is sorts N endtype\ntype T is F actualizedby A using sortnames N for E E for L
-            endtype",
+        "type F is formalsorts E sorts L endtype\ntype A is sorts N endtype\ntype T is F actualizedby A using sortnames N for E E for L endtype",
         "sorts 2 operations 0",
     ),
     (

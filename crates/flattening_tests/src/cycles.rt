@@ -72,8 +72,7 @@ pub const DIAMONDS: [(u8, &str, &str); 4] = [
     ),
     (
         0,
-        "type P is sorts A endtype type Q is P renamedby sortnames B for A endtype type R is P renamedby sortnames B for A endtype type
-            S is Q, R endtype",
+        "type P is sorts A endtype type Q is P renamedby sortnames B for A endtype type R is P renamedby sortnames B for A endtype type S is Q, R endtype",
         "sorts 2 operations 0",
     ),
 ];
