@@ -25,7 +25,7 @@ none_some b e = cc
 
 -- tables by numbers, past their ends too
 
-table_at : {A : Type 0} (f : ℕ → Option A) (n k : ℕ) (a : A) → slice_index_or (map f (range_with_len 0 n)) k None ≡ Some a → f k ≡ Some a
+pub table_at : {A : Type 0} (f : ℕ → Option A) (n k : ℕ) (a : A) → slice_index_or (map f (range_with_len 0 n)) k None ≡ Some a → f k ≡ Some a
 table_at f n k a e = elim (within_or_past k n) [
   | inl h ↦ sym (get_or-map-range_with_len f 0 n k k None h (omega arith)) ∙ e
   | inr h ↦ absurd (none_some a (sym (get_or_past (map f (range_with_len 0 n)) k None (omega (arith, length-map-range_with_len f 0 n, h))) ∙ e))
@@ -53,7 +53,7 @@ no_more_ways links to n (suc m) within none = by_end (λ h. no_more_ways links t
     by_end earlier (inr h) = table_of_none (λ k. way_from (ways_to links to m) k (slice_index_or links k [])) (length links)
         (λ k. ap (option_map (λ w. k ∷ w)) (first_of_none (λ j. slice_index_or (ways_to links to m) j None) (earlier h) (slice_index_or links k [])))
 
-way_reaches : (links : List (List ℕ)) (to n k : ℕ) (way : List ℕ) → slice_index_or (ways_to links to n) k None ≡ Some way → Reaches links n k to
+pub way_reaches : (links : List (List ℕ)) (to n k : ℕ) (way : List ℕ) → slice_index_or (ways_to links to n) k None ≡ Some way → Reaches links n k to
 way_reaches links to zero k way e = by_test (k == to) refl (table_at (λ k. if k == to then Some [] else None) (length links) k way e)
   where
     by_test : (b : Bool) → (k == to) ≡ b → (if b then Some [] else None) ≡ Some way → Reaches links zero k to

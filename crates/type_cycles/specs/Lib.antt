@@ -1,3 +1,4 @@
 pub mod Closed
 pub mod Cycles
 pub mod Ends
+pub mod MadeFrom

@@ -3,6 +3,7 @@
 
 pub mod cycle;
 pub mod ends;
+pub mod laws;
 pub mod numbers;
 pub mod reach;
 pub mod ways;

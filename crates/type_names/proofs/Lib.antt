@@ -1,2 +1,4 @@
+mod Acyclic
 pub mod Lists
 pub mod Gathered
+mod Rounds

@@ -1,3 +1,4 @@
+pub mod Acyclic
 pub mod DuplicateNames
 pub mod Refused
 pub mod TypeCycles

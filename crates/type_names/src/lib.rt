@@ -4,6 +4,7 @@
 pub mod cycle_refusal;
 pub mod declared_items;
 pub mod duplicates;
+pub mod laws;
 pub mod names;
 pub mod refused;
 pub mod unknown;
