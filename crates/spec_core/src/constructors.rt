@@ -35,8 +35,8 @@ fn heads_none(algebra: &DataSpec, op: Op) -> bool
     true
 }
 
-// Whether the equation's left side is the operation over some terms.
-fn heads(equation: &Equation, op: Op) -> bool
+/// Whether the equation's left side is the operation over some terms. It takes no memory.
+pub fn heads(equation: &Equation, op: Op) -> bool
     ensures { IsTrue result ↔ Heads op.0 (equation_of equation.now) }
 {
     match &equation.left {
