@@ -1,9 +1,8 @@
 // The constant that a premise gives a term.
 
-ghost use Rattle.std.specs.Prelude.{ℕ, ◌≡◌, IfNone, IfSome};
+ghost use Rattle.std.specs.Prelude.{ℕ, ◌≡◌, ◌<◌, ◌^◌, IfNone, IfSome, length};
 ghost use Rattle.premise_constants.specs.Given.{GivesByForm, GivesToCandidates, candidate, under};
 ghost use Rattle.spec_core.specs.Orthogonality.{Gives, DeniesTerm};
-ghost use Rattle.spec_core.specs.Sorts.{FitsData};
 ghost use Rattle.spec_core.specs.Terms.{apply, and_term, no_terms, constant, term_of};
 ghost use Rattle.spec_core.specs.Theories.{Theory, premise_of, theory_of};
 
@@ -42,7 +41,7 @@ fn operation_over(whole: &Term, argument: &Term) -> Option<Op>
 
 // The library's `false`, where the premise says that its `not` over the term is its `true`.
 fn denied(algebra: &DataSpec, premise: &(Term, Term), term: &Term) -> Option<Op>
-    requires fits { FitsData (theory_of algebra.now) }
+    requires few { length (theory_of algebra.now).operations < 2 ^ 32 }
     ensures found { IfSome result (λ c. DeniesTerm (theory_of algebra.now) (premise_of premise.now) (term_of term.now) c.0) }
     ensures none { IfNone result ((c : ℕ) → DeniesTerm (theory_of algebra.now) (premise_of premise.now) (term_of term.now) c → ⊥) }
 {
@@ -69,7 +68,7 @@ fn equal_constant(one: &Term, other: &Term, term: &Term) -> Option<Op>
 
 // The constant that a premise gives a term by its form, constructor or not.
 fn constant_by_form(algebra: &DataSpec, premise: &(Term, Term), term: &Term) -> Option<Op>
-    requires fits { FitsData (theory_of algebra.now) }
+    requires few { length (theory_of algebra.now).operations < 2 ^ 32 }
     ensures found { IfSome result (λ c. GivesByForm (theory_of algebra.now) (premise_of premise.now) (term_of term.now) c.0) }
     ensures none { IfNone result ((c : ℕ) → GivesByForm (theory_of algebra.now) (premise_of premise.now) (term_of term.now) c → ⊥) }
 {
@@ -84,7 +83,7 @@ fn constant_by_form(algebra: &DataSpec, premise: &(Term, Term), term: &Term) -> 
 
 /// The constant constructor that a premise gives a term; it gives a term at most one. It takes no memory.
 pub fn constant_given(algebra: &DataSpec, premise: &(Term, Term), term: &Term) -> Option<Op>
-    requires fits { FitsData (theory_of algebra.now) }
+    requires few { length (theory_of algebra.now).operations < 2 ^ 32 }
     ensures given { IfSome result (λ c. Gives (theory_of algebra.now) (premise_of premise.now) (term_of term.now) c.0) }
     ensures only { IfSome result
         (λ c. (d : ℕ) → Gives (theory_of algebra.now) (premise_of premise.now) (term_of term.now) d → d ≡ c.0) }

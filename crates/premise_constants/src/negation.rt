@@ -1,10 +1,9 @@
 // The library's `not`, with the constants `true` and `false`.
 
-ghost use Rattle.std.specs.Prelude.{ℕ, ◌≡◌, ◌↔◌, IfNone, IfSome, IsTrue};
+ghost use Rattle.std.specs.Prelude.{ℕ, ◌≡◌, ◌↔◌, ◌<◌, ◌^◌, IfNone, IfSome, IsTrue, length};
 ghost use Rattle.premise_constants.specs.Library.{IsRule, IsRuleIfHeaded};
 ghost use Rattle.spec_core.specs.Lists.{Each, OneOf};
 ghost use Rattle.spec_core.specs.Orthogonality.{IsNegation};
-ghost use Rattle.spec_core.specs.Sorts.{FitsData};
 ghost use Rattle.spec_core.specs.Theories.{theory_of};
 
 use crate::library::{is_named, is_of_library};
@@ -60,7 +59,7 @@ fn is_negation(algebra: &DataSpec, op: Op, yes: Op, no: Op) -> bool
 
 /// The library's `false`, where these are its `not` and its `true`. It takes no memory.
 pub fn false_of(algebra: &DataSpec, op: Op, yes: Op) -> Option<Op>
-    requires fits { FitsData (theory_of algebra.now) }
+    requires few { length (theory_of algebra.now).operations < 2 ^ 32 }
     ensures found { IfSome result (λ no. IsNegation (theory_of algebra.now) op.0 yes.0 no.0) }
     ensures none { IfNone result ((no : ℕ) → IsNegation (theory_of algebra.now) op.0 yes.0 no → ⊥) }
 {
