@@ -20,7 +20,8 @@ IsCoveredOperation theory f d =
 abbrev pub AreRows : Theory → ℕ → List ConditionalEquation → List TermTrees → Type 0
 AreRows theory f [] rows = rows ≡ []
 AreRows theory f (e ∷ es) rows =
-    ((r : TermTrees) × (e.left ≡ apply f r) × HasFullGroup theory e × ((rest : List TermTrees) × (rows ≡ r ∷ rest) × AreRows theory f es rest)) ⊎
+    ((r : TermTrees) × (e.left ≡ apply f r) × HasFullGroup theory e ×
+    ((rest : List TermTrees) × (rows ≡ r ∷ rest) × AreRows theory f es rest)) ⊎
     (((r : TermTrees) → e.left ≡ apply f r → HasFullGroup theory e → ⊥) × AreRows theory f es rows)
 
 -- the uncovered pattern of an operation: the operation is no constructor, its argument sorts have values, and from different variables

@@ -68,7 +68,8 @@ fn is_full_by(
     requires some { 0 < longest }
     requires sorted { HasSomeSort (theory_of algebra.now) (slice_get (map sort_number vars.now)) (term_of term.now) }
     ensures { IfOk result (λ full.
-        IsTrue full ↔ IsFullBy (theory_of algebra.now) (slice_get (map sort_number vars.now)) (map premises_at lists.now) (term_of term.now)) }
+        IsTrue full ↔ IsFullBy (theory_of algebra.now) (slice_get (map sort_number vars.now)) (map premises_at lists.now)
+        (term_of term.now)) }
 {
     match head_sort(term, algebra, vars) {
         None => Ok(false),

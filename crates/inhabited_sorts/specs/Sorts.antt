@@ -30,4 +30,5 @@ IsDeclaredAt theory c args result = OnSome (slice_get theory.operations c) (λ d
 
 -- if the operation is a constructor over sorts of the set, its result sort is in the set
 abbrev pub IsClosedAt : Theory → List Bool → ℕ → Type 0
-IsClosedAt theory set c = (d : Operation) → slice_get theory.operations c ≡ Some d → IsConstructor theory c → AreIn set d.args → IsIn d.result set
+IsClosedAt theory set c =
+    (d : Operation) → slice_get theory.operations c ≡ Some d → IsConstructor theory c → AreIn set d.args → IsIn d.result set

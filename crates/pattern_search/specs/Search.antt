@@ -48,7 +48,10 @@ abbrev mutual
 -- first of which has the number c
 abbrev pub OpenBy : Theory → ℕ → TermTrees → TermTrees → ℕ → List Operation → List TermTrees → Type 0
 OpenBy theory s row ps c [] qs = qs ≡ []
-OpenBy theory s row ps c (d ∷ ds) qs = IsMaker theory s c d × ((rest : List TermTrees) × (qs ≡ opened_any (apply c (variables d.args)) row ps ∷ rest) × OpenBy theory s row ps (suc c) ds rest) ⊎ (IsMaker theory s c d → ⊥) × OpenBy theory s row ps (suc c) ds qs
+OpenBy theory s row ps c (d ∷ ds) qs =
+    IsMaker theory s c d ×
+    ((rest : List TermTrees) × (qs ≡ opened_any (apply c (variables d.args)) row ps ∷ rest) × OpenBy theory s row ps (suc c) ds rest) ⊎
+    (IsMaker theory s c d → ⊥) × OpenBy theory s row ps (suc c) ds qs
 
 -- the row is the first one that meets the pattern
 abbrev pub IsFirstMeeting : List TermTrees → TermTrees → TermTrees → Type 0
@@ -60,11 +63,14 @@ mutual
   pub data Finds (theory : Theory) (rows : List TermTrees) : TermTrees → Option TermTrees → Type 0 where
     covered : {ps : TermTrees} → OneOf (λ r. AreOfShape r ps) rows → Finds theory rows ps None
     uncovered : {ps : TermTrees} → Each (λ r. MeetAll r ps → ⊥) rows → Finds theory rows ps (Some ps)
-    split : {ps : TermTrees} {answer : Option TermTrees} (row : TermTrees) (s : ℕ) (qs : List TermTrees) → (OneOf (λ r. AreOfShape r ps) rows → ⊥) → IsFirstMeeting rows ps row → faced_any row ps ≡ Some s → OpenBy theory s row ps 0 theory.operations qs → FindsFirst theory rows qs answer → Finds theory rows ps answer
+    split : {ps : TermTrees} {answer : Option TermTrees} (row : TermTrees) (s : ℕ) (qs : List TermTrees) →
+        (OneOf (λ r. AreOfShape r ps) rows → ⊥) → IsFirstMeeting rows ps row → faced_any row ps ≡ Some s →
+        OpenBy theory s row ps 0 theory.operations qs → FindsFirst theory rows qs answer → Finds theory rows ps answer
 
   pub data FindsFirst (theory : Theory) (rows : List TermTrees) : List TermTrees → Option TermTrees → Type 0 where
     in_none : FindsFirst theory rows [] None
-    later : {ps : TermTrees} {qs : List TermTrees} {answer : Option TermTrees} → Finds theory rows ps None → FindsFirst theory rows qs answer → FindsFirst theory rows (ps ∷ qs) answer
+    later : {ps : TermTrees} {qs : List TermTrees} {answer : Option TermTrees} →
+        Finds theory rows ps None → FindsFirst theory rows qs answer → FindsFirst theory rows (ps ∷ qs) answer
     here : {ps q : TermTrees} {qs : List TermTrees} → Finds theory rows ps (Some q) → FindsFirst theory rows (ps ∷ qs) (Some q)
 
 -- what the program's rows and patterns stand for
@@ -84,11 +90,13 @@ stack_of todo = stack_onto todo []
 
 -- before the stack stands the pattern opened by the operation c, declared as d, if that is a constructor of the sort that has values
 abbrev pub IsAlternative : Theory → ℕ → TermTrees → TermTrees → ℕ → Operation → List TermTrees → List TermTrees → Type 0
-IsAlternative theory s row ps c d old new = IsMaker theory s c d × (new ≡ opened_any (apply c (variables d.args)) row ps ∷ old) ⊎ (IsMaker theory s c d → ⊥) × (new ≡ old)
+IsAlternative theory s row ps c d old new =
+    IsMaker theory s c d × (new ≡ opened_any (apply c (variables d.args)) row ps ∷ old) ⊎ (IsMaker theory s c d → ⊥) × (new ≡ old)
 
 -- before the stack stand the patterns opened by the operations from c on
 abbrev pub AreAlternatives : Theory → ℕ → TermTrees → TermTrees → ℕ → List TermTrees → List TermTrees → Type 0
-AreAlternatives theory s row ps c old new = (qs : List TermTrees) × OpenBy theory s row ps c (drop c theory.operations) qs × (new ≡ qs ++ old)
+AreAlternatives theory s row ps c old new =
+    (qs : List TermTrees) × OpenBy theory s row ps c (drop c theory.operations) qs × (new ≡ qs ++ old)
 
 -- what the search finds in the new stack it finds in the old one
 abbrev pub LeadsBack : Theory → List TermTrees → List TermTrees → List TermTrees → Type 0

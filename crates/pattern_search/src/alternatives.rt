@@ -65,7 +65,8 @@ fn push_alternative(
     todo: &mut Vec<Arguments>,
 ) -> Result<(), Memory>
     requires exact { AreInhabited (theory_of algebra.now) inhabited.now }
-    ensures { OnOk result (IsAlternative (theory_of algebra.now) sort (terms (map term_of row.now)) (terms (map term_of pattern.now)) op.0 (operation_of declaration.now) (stack_of todo.old.items) (stack_of todo.new.items)) }
+    ensures { OnOk result (IsAlternative (theory_of algebra.now) sort (terms (map term_of row.now)) (terms (map term_of pattern.now)) op.0
+        (operation_of declaration.now) (stack_of todo.old.items) (stack_of todo.new.items)) }
 {
     if !is_maker(algebra, inhabited, op, declaration, sort) {
         return Ok(());
@@ -88,7 +89,8 @@ pub fn push_alternatives(
 ) -> Result<(), Memory>
     requires fits { FitsData (theory_of algebra.now) }
     requires exact { AreInhabited (theory_of algebra.now) inhabited.now }
-    ensures { OnOk result (AreAlternatives (theory_of algebra.now) sort (terms (map term_of row.now)) (terms (map term_of pattern.now)) 0 (stack_of todo.old.items) (stack_of todo.new.items)) }
+    ensures { OnOk result (AreAlternatives (theory_of algebra.now) sort (terms (map term_of row.now)) (terms (map term_of pattern.now)) 0
+        (stack_of todo.old.items) (stack_of todo.new.items)) }
 {
     let mut place = algebra.signature.ops.len();
     while place > 0 {

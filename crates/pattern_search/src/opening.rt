@@ -63,7 +63,8 @@ pub fn opened_any(
     alloc: Global,
     replacement: &Term,
 ) -> Result<Vec<Term>, Memory>
-    ensures { IfOk result (λ all. terms (map term_of all.items) ≡ opened_any (term_of replacement.now) (terms (map term_of rows.now)) (terms (map term_of patterns.now))) }
+    ensures { IfOk result (λ all. terms (map term_of all.items) ≡
+        opened_any (term_of replacement.now) (terms (map term_of rows.now)) (terms (map term_of patterns.now))) }
 {
     let mut all = copy_terms(alloc, patterns)?;
     for (i, pattern) in patterns.iter().enumerate() {

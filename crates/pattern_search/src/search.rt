@@ -56,7 +56,8 @@ fn step(
     requires fits { FitsData (theory_of algebra.now) }
     requires exact { AreInhabited (theory_of algebra.now) inhabited.now }
     ensures found { result ≡ Ok true → Each (λ r. MeetAll r (terms (map term_of pattern.now)) → ⊥) (rows_of rows.now) }
-    ensures left { result ≡ Ok false → LeadsBack (theory_of algebra.now) (rows_of rows.now) (terms (map term_of pattern.now) ∷ stack_of todo.old.items) (stack_of todo.new.items) }
+    ensures left { result ≡ Ok false → LeadsBack (theory_of algebra.now) (rows_of rows.now)
+        (terms (map term_of pattern.now) ∷ stack_of todo.old.items) (stack_of todo.new.items) }
 {
     if some_covers(rows, pattern) {
         return Ok(false);
@@ -78,7 +79,12 @@ fn step(
     }
 }
 
-/// The first pattern, from this one on, that no row covers in any part.
+/// What the search for an uncovered pattern answers from this one on: nothing where the rows cover it, else the first pattern that no row
+/// covers in any part. Each variable of a pattern is one of its own, and its number is its sort.
+///
+/// It ends: count the operations of a row that stand at or below a variable of the pattern, and add up over the rows that meet the
+/// pattern. Where a variable is replaced, the row that was looked at loses one of them or no longer meets the pattern, and no row gains
+/// any. So no pattern is opened more often than the rows have operations. (The count isn't proved; the loop has a bound of 2^64 turns.)
 pub fn uncovered_pattern(
     alloc: Global,
     algebra: &DataSpec,
@@ -88,7 +94,8 @@ pub fn uncovered_pattern(
 ) -> Result<Option<Arguments>, Memory>
     requires fits { FitsData (theory_of algebra.now) }
     requires exact { AreInhabited (theory_of algebra.now) inhabited.now }
-    ensures finds { IfOk result (λ found. Finds (theory_of algebra.now) (rows_of rows.now) (arguments_of start) (option_map arguments_of found)) }
+    ensures finds { IfOk result (λ found.
+        Finds (theory_of algebra.now) (rows_of rows.now) (arguments_of start) (option_map arguments_of found)) }
 {
     let mut todo = Vec::new(alloc);
     todo.push(start)?;
