@@ -12,7 +12,8 @@ use Rattle.inhabited_sorts.proofs.Options.{both_on, on_some, some_one}
 use Rattle.premise_constants.proofs.Giving.{one_constant, gives_to_candidates}
 use Rattle.premise_constants.specs.Given.{candidate, under}
 use Rattle.term_shapes.proofs.Linear.{Tells, number}
-use Rattle.full_groups.specs.Fullness.{IsFullBy, HaveAtMost, Begins, BeginsWith, IsFirstPremise, HasSomeSort, AllFit, head_sort, result_of}
+use Rattle.data_fits.specs.Heads.{head_sort, result_of}
+use Rattle.full_groups.specs.Fullness.{IsFullBy, HaveAtMost, Begins, BeginsWith, IsFirstPremise, HasSomeSort, AllFit}
 
 -- each list of the first is one of the second
 abbrev pub Within : List (List Premise) → List (List Premise) → Type 0

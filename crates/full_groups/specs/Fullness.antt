@@ -1,12 +1,11 @@
 -- Full sets of lists of premises, as they are decided.
-use Rattle.std.specs.Prelude.{ℕ, ◌≡◌, List, [], ◌∷◌, Option, length, option_map, ◌≤◌}
-use Rattle.std.specs.List.{slice_get}
+use Rattle.std.specs.Prelude.{ℕ, ◌≡◌, List, [], ◌∷◌, Option, length, ◌≤◌}
 use Rattle.spec_core.specs.Constructors.{IsConstructor}
 use Rattle.spec_core.specs.Cover.{IsConstant, HasConstants, BeginWithConstants, IsAfter, IsFull}
 use Rattle.spec_core.specs.Lists.{Each}
 use Rattle.spec_core.specs.Orthogonality.{Gives}
 use Rattle.spec_core.specs.Sorts.{HasSort, PremiseFits}
-use Rattle.spec_core.specs.Terms.{TermTree, variable, apply}
+use Rattle.spec_core.specs.Terms.{TermTree}
 use Rattle.spec_core.specs.Theories.{Operation, Premise, Theory}
 
 -- all lists begin by giving this term a constant, all constructors of its sort are constants, and for each of these the lists after it
@@ -35,14 +34,6 @@ BeginsWith theory t c (p ∷ ps) rest = Gives theory p t c × (ps ≡ rest)
 -- the operation, declared as d, is a constant if it is a constructor of the sort
 abbrev pub IsAllowed : Theory → ℕ → ℕ → Operation → Type 0
 IsAllowed theory sort c d = IsConstructor theory c → d.result ≡ sort → d.args ≡ []
-
-abbrev pub result_of : Operation → ℕ
-result_of d = d.result
-
--- the sort that a term with these sorts of its variables has, if it has one
-abbrev pub head_sort : Theory → (ℕ → Option ℕ) → TermTree → Option ℕ
-head_sort theory vars (variable x) = vars x
-head_sort theory vars (apply f ts) = option_map result_of (slice_get theory.operations f)
 
 -- the premises of all lists are of terms over these variables
 abbrev pub AllFit : Theory → (ℕ → Option ℕ) → List (List Premise) → Type 0

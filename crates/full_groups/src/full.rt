@@ -12,7 +12,7 @@ ghost use Rattle.spec_core.specs.Theories.{theory_of};
 
 use crate::constants::{has_constants, is_constant};
 use crate::premises::{after, all_begin, first_premise, has_empty};
-use crate::sorts::head_sort;
+use data_fits::head_sort;
 use premise_constants::candidate;
 use spec_core::equation::DataSpec;
 use spec_core::items::{Op, Sort};

@@ -6,6 +6,5 @@ mod full;
 mod group;
 mod premises;
 mod renaming;
-mod sorts;
 
 pub use group::has_full_group;
