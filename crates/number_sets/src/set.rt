@@ -34,6 +34,13 @@ impl NumberSet {
         Ok(NumberSet { flags })
     }
 
+    /// The bound below which the numbers of the set are. It takes no memory.
+    pub fn bound(&self) -> usize
+        ensures sized { result ≡ length self.now }
+    {
+        self.flags.len()
+    }
+
     /// Whether a number is in the set. It takes no memory.
     pub fn has(&self, number: u32) -> bool
         ensures decides { IsTrue result ↔ IsIn number self.now }

@@ -3,5 +3,4 @@ pub mod Depending
 pub mod Ordering
 pub mod Refusing
 pub mod Smaller
-pub mod TermLists
 pub mod Walks

@@ -58,9 +58,11 @@ two_values (apply (suc (suc (suc f))) ts) h c = absurd h.0
 
 -- each of the two equations makes a group of its own
 covered_call : (given result : ℕ) →
+    OneOf (λ e. e.left ≡ (negation given result).left) booleans.equations →
     IsGroup booleans (negation given result).left ([] ∷ []) → IsCoveredCall booleans (negation given result).left
-covered_call given result group = record {
+covered_call given result equation group = record {
   left = (negation given result).left;
+  equation = equation;
   bound = λ x. constant 0;
   vars = no_variables;
   lists = [] ∷ [];
@@ -83,8 +85,8 @@ group_of_false = record {
 }
 
 covered_value : (v : TermTree) → (v ≡ constant 0) ⊎ (v ≡ constant 1) → IsCoveredCall booleans (apply 2 (and_term v no_terms))
-covered_value v (inl e) = subst (λ w. IsCoveredCall booleans (apply 2 (and_term w no_terms))) (sym e) (covered_call 0 1 group_of_true)
-covered_value v (inr e) = subst (λ w. IsCoveredCall booleans (apply 2 (and_term w no_terms))) (sym e) (covered_call 1 0 group_of_false)
+covered_value v (inl e) = subst (λ w. IsCoveredCall booleans (apply 2 (and_term w no_terms))) (sym e) (covered_call 0 1 (inl refl) group_of_true)
+covered_value v (inr e) = subst (λ w. IsCoveredCall booleans (apply 2 (and_term w no_terms))) (sym e) (covered_call 1 0 (inr (inl refl)) group_of_false)
 
 covered : IsCovered booleans
 covered zero vs defined sorts constructed = absurd (defined (inr refl))

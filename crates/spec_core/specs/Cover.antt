@@ -53,9 +53,10 @@ pub record IsGroup (theory : Theory) (l : TermTree) (ls : List (List Premise)) :
   pub all_equations :
       Each (λ e. (r : ℕ → ℕ) → instance (λ x. variable (r x)) e.left ≡ l → OneOf (λ ps. IsOfGroup l ps e) ls) theory.equations
 
--- the call matches a left side, by terms of the right sorts, whose group is full
+-- the call matches the left side of an equation, by terms of the right sorts, whose group is full
 pub record IsCoveredCall (theory : Theory) (call : TermTree) : Type 0 where
   pub left : TermTree
+  pub equation : OneOf (λ e. e.left ≡ left) theory.equations
   pub bound : ℕ → TermTree
   pub vars : ℕ → Option ℕ
   pub lists : List (List Premise)

@@ -15,9 +15,9 @@ pub fn is_constructor(algebra: &DataSpec, op: Op) -> bool
     is_marked(algebra, op) || heads_none(algebra, op)
 }
 
-// Whether the declaration marks the operation as a constructor.
-fn is_marked(algebra: &DataSpec, op: Op) -> bool
-    ensures { IsTrue result ↔ IsMarked (theory_of algebra.now) op.0 }
+/// Whether the declaration marks the operation as a constructor. It takes no memory.
+pub fn is_marked(algebra: &DataSpec, op: Op) -> bool
+    ensures decides { IsTrue result ↔ IsMarked (theory_of algebra.now) op.0 }
 {
     let place = op.0 as usize;
     place < algebra.signature.ops.len() && algebra.signature.ops[place].marked
@@ -35,8 +35,8 @@ fn heads_none(algebra: &DataSpec, op: Op) -> bool
     true
 }
 
-// Whether the equation's left side is the operation over some terms.
-fn heads(equation: &Equation, op: Op) -> bool
+/// Whether the equation's left side is the operation over some terms. It takes no memory.
+pub fn heads(equation: &Equation, op: Op) -> bool
     ensures { IsTrue result ↔ Heads op.0 (equation_of equation.now) }
 {
     match &equation.left {

@@ -1,0 +1,208 @@
+-- A search that finds nothing shows that an operation is covered, and a pattern that it isn't.
+use Rattle.std.proofs.Common.{ℕ, zero, suc, ◌≡◌, ◌<◌, length, map, get_or, arith, List, [], ◌∷◌, ◌++◌, Option, Some, None, Result, Ok, Err, IfOk, MatchOption, option_map, refl, sym, ap, subst, ◌∙◌, inl, inr}
+use Rattle.std.specs.List.{slice_get}
+use Rattle.spec_core.specs.Lists.{Each, OneOf, IsOneOf}
+use Rattle.spec_core.specs.Terms.{TermTree, TermTrees, variable, apply, no_terms, and_term, instance, instances, Occurs, OccursInAny}
+use Rattle.spec_core.specs.Theories.{Operation, ConditionalEquation, Theory}
+use Rattle.spec_core.specs.Sorts.{OnSome, HasSort, HaveSorts, EquationFits, FitsData, no_variables}
+use Rattle.spec_core.specs.Constructors.{IsConstructor, AreConstructed}
+use Rattle.spec_core.specs.Orthogonality.{IsLinear, HasPatterns, IsOrthogonal}
+use Rattle.spec_core.specs.Cover.{IsGroup, IsCoveredCall}
+use Rattle.term_shapes.specs.Shapes.{AreOfShape}
+use Rattle.term_shapes.proofs.Linear.{Tells, occurs, filled, are_of_shape}
+use Rattle.inhabited_sorts.proofs.Options.{both_on, on_some, some_one}
+use Rattle.inhabited_sorts.specs.Sorts.{IsInhabited}
+use Rattle.pattern_search.specs.Search.{variables, Finds, arguments_of}
+use Rattle.pattern_search.specs.declared.arguments.Arguments.{Arguments}
+use Rattle.pattern_search.proofs.Searching.{variables_sorts, variables_made, variables_shape, all_covered, some_uncovered}
+use Rattle.full_groups.specs.Groups.{HasFullGroup}
+use Rattle.full_groups.proofs.Fullness.{full_over, one_sort}
+use Rattle.cover_check.specs.Cases.{IsCoveredOperation, AreRows, IsUncoveredBy}
+use Rattle.cover_check.specs.Rows.{IsRowAdded}
+use Rattle.cover_check.proofs.Occurring.{group_occurs}
+
+abbrev only : {A : Type 0} → Tells A → Option ℕ → Option ℕ
+only (inl a) v = v
+only (inr n) v = None
+
+only_first : {A : Type 0} (d : Tells A) (v : Option ℕ) → A → only d v ≡ v
+only_first (inl a) v h = refl
+only_first (inr n) v h = absurd (n h)
+
+only_some : {A : Type 0} (d : Tells A) (v : Option ℕ) (a : ℕ) → only d v ≡ Some a → A × (v ≡ Some a)
+only_some (inl h) v a e = (h, e)
+only_some (inr n) v a e = absurd (cc)
+
+each_one : {A : Type 0} (P : A → Type 0) (Q : A → Type 0) (xs : List A) → Each P xs → OneOf Q xs → (x : A) × P x × Q x × OneOf (λ y. x ≡ y) xs
+each_one P Q [] h o = absurd o
+each_one P Q (x ∷ xs) h (inl q) = (x, h.0, q, inl refl)
+each_one P Q (x ∷ xs) h (inr o) = let r = each_one P Q xs h.1 o in (r.0, r.1, r.2, inr r.3)
+
+-- an element that a loop has come to is one of the list's
+pub one_of_at : {A B : Type 0} (g : A → B) (xs ys : List A) (i : ℕ) (x : A) → ys ≡ xs → i < length ys → x ≡ get_or ys i x → IsOneOf (g x) (map g xs)
+one_of_at {A = A} g xs ys i x same w a = subst (λ zs. IsOneOf (g x) (map g zs)) same (go ys i w a)
+  where
+    go : (zs : List A) (i : ℕ) → i < length zs → x ≡ get_or zs i x → IsOneOf (g x) (map g zs)
+    go [] i w a = absurd (omega arith)
+    go (z ∷ zs) zero w a = inl (ap g a)
+    go (z ∷ zs) (suc i) w a = inr (go zs i (omega arith) a)
+
+module _ (theory : Theory) (f : ℕ) where
+  rows_from : (all es : List ConditionalEquation) (rows : List TermTrees) → ((e : ConditionalEquation) → IsOneOf e es → IsOneOf e all) → AreRows theory f es rows →
+      Each (λ r. (e : ConditionalEquation) × IsOneOf e all × (e.left ≡ apply f r) × HasFullGroup theory e) rows
+  rows_from all [] rows m h = subst (Each (λ r. (e : ConditionalEquation) × IsOneOf e all × (e.left ≡ apply f r) × HasFullGroup theory e)) (sym h) tt
+  rows_from all (e ∷ es) rows m (inl h) = subst (Each (λ r. (e : ConditionalEquation) × IsOneOf e all × (e.left ≡ apply f r) × HasFullGroup theory e)) (sym h.3.1)
+      ((e, m e (inl refl), h.1, h.2), rows_from all es h.3.0 (λ d o. m d (inr o)) h.3.2)
+  rows_from all (e ∷ es) rows m (inr h) = rows_from all es rows (λ d o. m d (inr o)) h.1
+
+  among : (r : TermTrees) (e : ConditionalEquation) (es : List ConditionalEquation) (rows : List TermTrees) → AreRows theory f es rows → IsOneOf e es → e.left ≡ apply f r → HasFullGroup theory e → OneOf (λ q. q ≡ r) rows
+  among r e [] rows h o l g = absurd o
+  among r e (d ∷ es) rows (inl h) (inl k) l g =
+      let m : apply f r ≡ apply f h.0 = sym l ∙ ap (λ x. x.left) k ∙ h.1 in
+      let same : h.0 ≡ r = cc in
+      subst (OneOf (λ q. q ≡ r)) (sym h.3.1) (inl same)
+  among r e (d ∷ es) rows (inl h) (inr o) l g = subst (OneOf (λ q. q ≡ r)) (sym h.3.1) (inr (among r e es h.3.0 h.3.2 o l g))
+  among r e (d ∷ es) rows (inr h) (inl k) l g = absurd (h.0 r (sym (ap (λ x. x.left) k) ∙ l) (subst (HasFullGroup theory) k g))
+  among r e (d ∷ es) rows (inr h) (inr o) l g = among r e es rows h.1 o l g
+
+  -- one more row
+  pub rows_more : (es : List ConditionalEquation) (e : ConditionalEquation) (rows new : List TermTrees) → AreRows theory f es rows → IsRowAdded theory f e rows new → AreRows theory f (es ++ e ∷ []) new
+  rows_more [] e rows new h (inl a) = inl (a.0, a.1, a.2, ([], a.3 ∙ ap (λ xs. xs ++ a.0 ∷ []) h, refl))
+  rows_more [] e rows new h (inr a) = inr (a.0, a.1 ∙ h)
+  rows_more (d ∷ es) e rows new (inl h) (inl a) = inl (h.0, h.1, h.2, (h.3.0 ++ a.0 ∷ [], a.3 ∙ ap (λ xs. xs ++ a.0 ∷ []) h.3.1, rows_more es e h.3.0 (h.3.0 ++ a.0 ∷ []) h.3.2 (inl (a.0, a.1, a.2, refl))))
+  rows_more (d ∷ es) e rows new (inl h) (inr a) = inl (h.0, h.1, h.2, (h.3.0, a.1 ∙ h.3.1, rows_more es e h.3.0 h.3.0 h.3.2 (inr (a.0, refl))))
+  rows_more (d ∷ es) e rows new (inr h) a = inr (h.0, rows_more es e rows new h.1 a)
+
+module _ (theory : Theory) where
+  -- what a match gives a variable has its sort
+  mutual
+    bound_sort : (vars : ℕ → Option ℕ) (b : ℕ → TermTree) (t : TermTree) (s x a : ℕ) → HasSort theory vars t s → HasSort theory no_variables (instance b t) s → Occurs x t → vars x ≡ Some a → HasSort theory no_variables (b x) a
+    bound_sort vars b (variable y) s x a h k o e = subst (HasSort theory no_variables (b x)) (some_one (sym h ∙ ap vars (sym o) ∙ e)) (subst (λ z. HasSort theory no_variables (b z) s) (sym o) k)
+    bound_sort vars b (apply g ts) s x a h k o e =
+        let d = both_on (slice_get theory.operations g) (λ d. (d.result ≡ s) × HaveSorts theory vars ts d.args) (λ d. (d.result ≡ s) × HaveSorts theory no_variables (instances b ts) d.args) h k in
+        bound_sorts vars b ts d.0.args x a d.2.1 d.3.1 o e
+
+    bound_sorts : (vars : ℕ → Option ℕ) (b : ℕ → TermTree) (ts : TermTrees) (sorts : List ℕ) (x a : ℕ) → HaveSorts theory vars ts sorts → HaveSorts theory no_variables (instances b ts) sorts → OccursInAny x ts → vars x ≡ Some a → HasSort theory no_variables (b x) a
+    bound_sorts vars b no_terms sorts x a h k o e = absurd o
+    bound_sorts vars b (and_term t ts) [] x a h k o e = absurd h
+    bound_sorts vars b (and_term t ts) (s ∷ sorts) x a h k (inl o) e = bound_sort vars b t s x a h.0 k.0 o e
+    bound_sorts vars b (and_term t ts) (s ∷ sorts) x a h k (inr o) e = bound_sorts vars b ts sorts x a h.1 k.1 o e
+
+  -- a variable of a well sorted term has a sort
+  mutual
+    some_sort : (vars : ℕ → Option ℕ) (t : TermTree) (s x : ℕ) → HasSort theory vars t s → Occurs x t → (a : ℕ) × (vars x ≡ Some a)
+    some_sort vars (variable y) s x h o = (s, ap vars o ∙ h)
+    some_sort vars (apply g ts) s x h o = let d = on_some (slice_get theory.operations g) (λ d. (d.result ≡ s) × HaveSorts theory vars ts d.args) h in some_sort_of vars ts d.0.args x d.2.1 o
+
+    some_sort_of : (vars : ℕ → Option ℕ) (ts : TermTrees) (sorts : List ℕ) (x : ℕ) → HaveSorts theory vars ts sorts → OccursInAny x ts → (a : ℕ) × (vars x ≡ Some a)
+    some_sort_of vars no_terms sorts x h o = absurd o
+    some_sort_of vars (and_term t ts) [] x h o = absurd h
+    some_sort_of vars (and_term t ts) (s ∷ sorts) x h (inl o) = some_sort vars t s x h.0 o
+    some_sort_of vars (and_term t ts) (s ∷ sorts) x h (inr o) = some_sort_of vars ts sorts x h.1 o
+
+  right_sort : (vars : ℕ → Option ℕ) (b : ℕ → TermTree) (t : TermTree) (s x a : ℕ) → HasSort theory vars t s → HasSort theory no_variables (instance b t) s → Occurs x t → HasSort theory no_variables (b x) a → vars x ≡ Some a
+  right_sort vars b t s x a h k o g =
+      let r = some_sort vars t s x h o in
+      r.1 ∙ ap Some (one_sort theory no_variables (b x) r.0 a (bound_sort vars b t s x r.0 h k o r.1) g)
+
+  module _ (f : ℕ) (d : Operation) (declared : slice_get theory.operations f ≡ Some d) (fits : FitsData theory) (orthogonal : IsOrthogonal theory)
+      (rows : List TermTrees) (are_rows : AreRows theory f theory.equations rows) where
+    call_sort : (vs : TermTrees) → HaveSorts theory no_variables vs d.args → HasSort theory no_variables (apply f vs) d.result
+    call_sort vs h = subst (λ o. OnSome o (λ x. (x.result ≡ d.result) × HaveSorts theory no_variables vs x.args)) (sym declared) (refl, h)
+
+    -- the sort of a left side that f heads is f's
+    left_sort : (e : ConditionalEquation) (r : TermTrees) → EquationFits theory e → e.left ≡ apply f r → HasSort theory (slice_get e.sorts) e.left d.result
+    left_sort e r h l =
+        let k : HasSort theory (slice_get e.sorts) (apply f r) h.sides.0 = subst (λ t. HasSort theory (slice_get e.sorts) t h.sides.0) l h.sides.1 in
+        let x = on_some (slice_get theory.operations f) (λ x. (x.result ≡ h.sides.0) × HaveSorts theory (slice_get e.sorts) r x.args) k in
+        let same : x.0 ≡ d = some_one (sym x.1 ∙ declared) in
+        subst (HasSort theory (slice_get e.sorts) e.left) (sym x.2.0 ∙ ap (λ y. y.result) same) h.sides.1
+
+    lefts : (e : ConditionalEquation) (es : List ConditionalEquation) → IsOneOf e es → OneOf (λ y. y.left ≡ e.left) es
+    lefts e [] o = absurd o
+    lefts e (y ∷ ys) (inl q) = inl (ap (λ z. z.left) (sym q))
+    lefts e (y ∷ ys) (inr o) = inr (lefts e ys o)
+
+    call_covered : (e : ConditionalEquation) (r vs : TermTrees) → IsOneOf e theory.equations → EquationFits theory e → IsLinear e.left → e.left ≡ apply f r → HasFullGroup theory e → HaveSorts theory no_variables vs d.args → AreOfShape r vs → IsCoveredCall theory (apply f vs)
+    call_covered e r vs o ef lin l full hv h =
+        let s = filled (apply f r) (apply f vs) (subst IsLinear l lin) (refl, h) in
+        let m : instance s.0 e.left ≡ apply f vs = ap (instance s.0) l ∙ s.1 in
+        record {
+          left = e.left;
+          equation = lefts e theory.equations o;
+          bound = s.0;
+          vars = λ x. only (occurs x e.left) (slice_get e.sorts x);
+          lists = full.lists;
+          matches = m;
+          sorts = λ x a v. let k = only_some (occurs x e.left) (slice_get e.sorts x) a v in
+              bound_sort (slice_get e.sorts) s.0 e.left d.result x a (left_sort e r ef l) (subst (λ t. HasSort theory no_variables t d.result) (sym m) (call_sort vs hv)) k.0 k.1;
+          group = full.group;
+          full = full_over theory (slice_get e.sorts) (λ x. only (occurs x e.left) (slice_get e.sorts x)) full.full
+              (λ ps i x a j v. only_first (occurs x e.left) (slice_get e.sorts x) (group_occurs theory e.left orthogonal.closed full.lists full.group ps i x j) ∙ v);
+        }
+
+    zipped : (es : List ConditionalEquation) → Each (EquationFits theory) es → Each (λ e. IsLinear e.left) es → Each (HasPatterns theory) es → Each (λ e. EquationFits theory e × IsLinear e.left × HasPatterns theory e) es
+    zipped [] h k l = tt
+    zipped (e ∷ es) h k l = ((h.0, k.0, l.0), zipped es h.1 k.1 l.1)
+
+    facts : Each (λ e. EquationFits theory e × IsLinear e.left × HasPatterns theory e) theory.equations
+    facts = zipped theory.equations fits.equations orthogonal.linear orthogonal.patterns
+
+    -- where the search finds nothing, each call is covered
+    pub covers : Finds theory rows (variables d.args) None → (vs : TermTrees) → HaveSorts theory no_variables vs d.args → AreConstructed theory vs → IsCoveredCall theory (apply f vs)
+    covers found vs hv c =
+        let o = all_covered theory rows found refl d.args vs (variables_sorts theory d.args) hv c (variables_shape theory vs d.args hv) in
+        let r = each_one (λ r. (e : ConditionalEquation) × IsOneOf e theory.equations × (e.left ≡ apply f r) × HasFullGroup theory e) (λ r. AreOfShape r vs) rows (rows_from theory f theory.equations theory.equations rows (λ e o. o) are_rows) o in
+        let e = r.1.0 in
+        let k = at_one theory.equations facts r.1.1 in
+        call_covered e r.0 vs r.1.1 k.0 k.1 r.1.2 r.1.3 hv r.2
+      where
+        at_one : {e : ConditionalEquation} (es : List ConditionalEquation) → Each (λ e. EquationFits theory e × IsLinear e.left × HasPatterns theory e) es → IsOneOf e es → EquationFits theory e × IsLinear e.left × HasPatterns theory e
+        at_one [] h o = absurd o
+        at_one (y ∷ ys) h (inl q) = subst (λ e. EquationFits theory e × IsLinear e.left × HasPatterns theory e) (sym q) h.0
+        at_one (y ∷ ys) h (inr o) = at_one ys h.1 o
+
+    row_of : (r vs : TermTrees) (rs : List TermTrees) → AreOfShape r vs → OneOf (λ q. q ≡ r) rs → OneOf (λ q. AreOfShape q vs) rs
+    row_of r vs [] h o = absurd o
+    row_of r vs (q ∷ qs) h (inl e) = inl (subst (λ x. AreOfShape x vs) (sym e) h)
+    row_of r vs (q ∷ qs) h (inr o) = inr (row_of r vs qs h o)
+
+    -- a covered call is of a row's shape
+    covered_row : (vs : TermTrees) → HaveSorts theory no_variables vs d.args → IsCoveredCall theory (apply f vs) → OneOf (λ r. AreOfShape r vs) rows
+    covered_row vs hv c =
+        let e = each_one (λ e. EquationFits theory e × IsLinear e.left × HasPatterns theory e) (λ e. e.left ≡ c.left) theory.equations facts c.equation in
+        let p = e.1.2 in
+        let m : instance c.bound e.0.left ≡ apply f vs = ap (instance c.bound) e.2 ∙ c.matches in
+        let head : apply p.0 (instances c.bound p.1) ≡ apply f vs = ap (instance c.bound) (sym p.2) ∙ m in
+        let same : p.0 ≡ f = cc in
+        let args : instances c.bound p.1 ≡ vs = cc in
+        let l : e.0.left ≡ apply f p.1 = p.2 ∙ ap (λ g. apply g p.1) same in
+        let group : IsGroup theory e.0.left c.lists = subst (λ t. IsGroup theory t c.lists) (sym e.2) c.group in
+        let full : HasFullGroup theory e.0 = record {
+          lists = c.lists;
+          group = group;
+          full = full_over theory c.vars (slice_get e.0.sorts) c.full
+              (λ ps i x a j v. right_sort (slice_get e.0.sorts) c.bound e.0.left d.result x a (left_sort e.0 p.1 e.1.0 l)
+              (subst (λ t. HasSort theory no_variables t d.result) (sym m) (call_sort vs hv))
+              (group_occurs theory e.0.left orthogonal.closed c.lists group ps i x j) (c.sorts x a v));
+        } in
+        row_of p.1 vs rows (subst (AreOfShape p.1) args (are_of_shape c.bound p.1)) (among theory f p.1 e.0 theory.equations rows are_rows e.3 l full)
+
+    -- where it finds a pattern, some call isn't covered
+    pub uncovers : (q : TermTrees) → Finds theory rows (variables d.args) (Some q) → Each (IsInhabited theory) d.args → (vs : TermTrees) × HaveSorts theory no_variables vs d.args × AreConstructed theory vs × (IsCoveredCall theory (apply f vs) → ⊥)
+    uncovers q found inhabited =
+        let r = some_uncovered theory rows found q refl d.args (variables_sorts theory d.args) (variables_made theory d.args inhabited) in
+        (r.0, r.1, r.2, λ c. r.4 (covered_row r.0 r.1 c))
+
+-- what an answer of the search says
+pub answers : (theory : Theory) (f : ℕ) (d : Operation) → slice_get theory.operations f ≡ Some d → FitsData theory → IsOrthogonal theory → (rows : List TermTrees) → AreRows theory f theory.equations rows → (IsConstructor theory f → ⊥) → Each (IsInhabited theory) d.args → (start : TermTrees) → start ≡ variables d.args → {E : Type 0} (r : Result (Option Arguments) E) → IfOk r (λ found. Finds theory rows start (option_map arguments_of found)) →
+    IfOk r (λ found. MatchOption found (IsCoveredOperation theory f d) (λ _. Unit {0})) × IfOk r (λ found. MatchOption found (Unit {0}) (λ case. IsUncoveredBy theory f d (arguments_of case)))
+answers theory f d declared fits o rows ar n i start e (Ok None) h = ((λ vs k hv c. covers theory f d declared fits o rows ar (subst (λ s. Finds theory rows s None) e h) vs hv c), tt)
+answers theory f d declared fits o rows ar n i start e (Ok (Some q)) h = (tt, record { defined = n; inhabited = i; rows = rows; are_rows = ar; found = subst (λ s. Finds theory rows s (Some (arguments_of q))) e h })
+answers theory f d declared fits o rows ar n i start e (Err m) h = (tt, tt)
+
+-- an operation with an uncovered pattern isn't covered
+pub not_covered : (theory : Theory) (f : ℕ) (d : Operation) → slice_get theory.operations f ≡ Some d → FitsData theory → IsOrthogonal theory → (q : TermTrees) → IsUncoveredBy theory f d q → IsCoveredOperation theory f d → ⊥
+not_covered theory f d declared fits o q u c =
+    let r = uncovers theory f d declared fits o u.rows u.are_rows q u.found u.inhabited in
+    r.3 (c r.0 u.defined r.1 r.2)

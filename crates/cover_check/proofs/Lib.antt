@@ -1,0 +1,4 @@
+pub mod Covering
+pub mod Numbering
+pub mod Occurring
+pub mod Refusing

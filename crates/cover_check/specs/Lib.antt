@@ -1,0 +1,4 @@
+pub mod Cases
+pub mod PatternTexts
+pub mod Refused
+pub mod Rows

@@ -1,0 +1,3 @@
+pub mod Choosing
+pub mod Grouping
+pub mod Refusing

@@ -1,0 +1,9 @@
+use Rattle.std.proofs.Common.{ℕ, ◌≡◌, [], length}
+use Rattle.equation_check.specs.Groups.{group_of}
+use Rattle.equation_check.proofs.groups.no_groups.Given as goal
+
+abbrev pub invariant-loop : goal.invariant-loop
+invariant-loop l = record {
+  sized : length l.groups.items ≡ l.counter;
+  empty : (f : ℕ) → group_of l.groups.items f ≡ [];
+}

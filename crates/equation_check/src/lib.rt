@@ -1,0 +1,7 @@
+// Whether equations are as orthogonal data have them.
+#![tactic(auto)]
+
+mod check;
+mod groups;
+
+pub use check::check_shape;

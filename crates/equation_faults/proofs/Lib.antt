@@ -1,0 +1,4 @@
+pub mod Constructing
+pub mod Occurrences
+pub mod Options
+pub mod Walks

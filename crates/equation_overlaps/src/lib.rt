@@ -1,0 +1,7 @@
+// Whether two equations of one operation are apart.
+#![tactic(auto)]
+
+pub mod apart;
+pub mod common;
+mod exclusion;
+mod renaming;

@@ -1,0 +1,3 @@
+pub mod Fullness
+pub mod Groups
+pub mod Renamings

@@ -1,0 +1,2 @@
+pub mod Inhabiting
+pub mod Options

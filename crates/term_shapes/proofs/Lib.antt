@@ -1,0 +1,4 @@
+pub mod Linear
+pub mod Shapes
+pub mod TermLists
+pub mod TermPairs
