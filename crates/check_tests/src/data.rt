@@ -1,4 +1,4 @@
-// Data for the tests, over one sort.
+// Data for the tests.
 
 use data_parser::expression;
 use lotos_ast::refusal::{FrontFault, Refusal};
@@ -13,7 +13,7 @@ use spec_core::signature::{OpDecl, Signature};
 use spec_core::term::Term;
 use std::alloc::Global;
 
-/// An operation: its name, and how many arguments it has.
+/// An operation over one sort: its name, and how many arguments it has.
 pub type Declared = (&'static str, u32);
 
 /// An equation: its line, and its sides as texts, those of each premise first, then the left and the right side.
@@ -21,7 +21,8 @@ pub type Stated = (u32, &'static [&'static str]);
 
 const VARIABLES: [&str; 3] = ["x", "y", "z"];
 
-fn name(alloc: Global, text: &str) -> Result<Name, Memory> {
+/// A name with this text.
+pub fn name(alloc: Global, text: &str) -> Result<Name, Memory> {
     Ok(Name::new(String::from_str(alloc, text)?))
 }
 
@@ -81,9 +82,9 @@ fn term(alloc: Global, scope: &Scope, text: &str) -> Result<Term, Memory> {
 fn equation(alloc: Global, scope: &Scope, stated: &Stated) -> Result<Equation, Memory> {
     let mut vars = Vec::new(alloc);
     let mut names = Vec::new(alloc);
-    for text in &VARIABLES {
-        vars.push(Sort(0))?;
-        names.push(name(alloc, text)?)?;
+    for variable in &scope.vars {
+        vars.push(variable.sort)?;
+        names.push(variable.name.copy(alloc)?)?;
     }
     let mut premises = Vec::new(alloc);
     let mut half = None;
@@ -111,13 +112,17 @@ fn equation(alloc: Global, scope: &Scope, stated: &Stated) -> Result<Equation, M
     })
 }
 
-/// Data with these operations and equations.
+/// Data with these operations over one sort, and equations.
 pub fn data(
     alloc: Global,
     operations: &[Declared],
     equations: &[Stated],
 ) -> Result<DataSpec, Memory> {
-    let scope = scope(alloc, operations)?;
+    data_over(alloc, scope(alloc, operations)?, equations)
+}
+
+/// Data with the signature of a scope, and equations over its variables.
+pub fn data_over(alloc: Global, scope: Scope, equations: &[Stated]) -> Result<DataSpec, Memory> {
     let mut all = Vec::new(alloc);
     for stated in equations {
         all.push(equation(alloc, &scope, stated)?)?;

@@ -6,4 +6,8 @@ mod data;
 #[cfg(test)]
 mod decreasing;
 #[cfg(test)]
+mod orthogonal;
+#[cfg(test)]
 mod sets;
+#[cfg(test)]
+mod truths;

@@ -1,3 +1,4 @@
 pub mod Common
 pub mod Exclusion
+pub mod Laws
 pub mod Renamings

@@ -4,4 +4,5 @@
 pub mod apart;
 pub mod common;
 mod exclusion;
+pub mod laws;
 mod renaming;
