@@ -1,0 +1,4 @@
+pub mod Moved
+pub mod Own
+pub mod Signatures
+pub mod Views
