@@ -2,6 +2,7 @@ pub mod Bodies
 pub mod Equalities
 pub mod Equations
 pub mod Gathered
+pub mod Laws
 pub mod Numbered
 pub mod Premisses
 pub mod Truths

@@ -5,6 +5,7 @@ pub mod body;
 pub mod condition;
 pub mod equality;
 pub mod equation;
+pub mod laws;
 mod names;
 mod numbering;
 mod truth;

@@ -1,3 +1,4 @@
+pub mod Laws
 pub mod Moved
 pub mod Own
 pub mod Signatures

@@ -2,6 +2,7 @@
 #![tactic(auto)]
 
 mod bodies;
+pub mod laws;
 mod moved;
 pub mod own;
 mod signature;
