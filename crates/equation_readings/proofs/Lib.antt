@@ -1,1 +1,9 @@
 pub mod Equalities
+pub mod Firsts
+pub mod Gatherings
+pub mod Judgements
+pub mod Occurrences
+pub mod Parts
+pub mod Scopes
+pub mod Truths
+pub mod Uniqueness
