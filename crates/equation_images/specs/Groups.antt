@@ -4,7 +4,8 @@ use Rattle.std.specs.List.{filter}
 use Rattle.std.specs.Option.{option_map_or}
 use Rattle.indexmap.specs.IndexMap.{get}
 use Rattle.spec_core.specs.Terms.{TermTree, TermTrees, variable, apply, no_terms, and_term}
-use Rattle.spec_core.specs.Theories.{ConditionalEquation, equation_of}
+use Rattle.spec_core.specs.Theories.{ConditionalEquation}
+use Rattle.equation_images.specs.Views.{shared_of}
 use Rattle.equation_images.specs.declared.set.EquationSet.{EquationSet}
 
 -- a number of 32 bits that a list of operations makes of another
@@ -26,11 +27,11 @@ abbrev pub key_of : ConditionalEquation → ℕ
 key_of e = term_key 0 e.left
 
 abbrev pub equations_of : EquationSet → List ConditionalEquation
-equations_of s = map (λ e. equation_of e.value) s.all.items
+equations_of s = map shared_of s.all.items
 
 -- the equations that stand under a key
 abbrev pub group_at : EquationSet → ℕ → List ConditionalEquation
-group_at s key = option_map_or (λ g. map (λ e. equation_of e.value) g.items) (get nat_eq s.groups key) []
+group_at s key = option_map_or (λ g. map shared_of g.items) (get nat_eq s.groups key) []
 
 abbrev pub IsGrouped : EquationSet → Type 0
 IsGrouped s = (key : ℕ) → group_at s key ≡ filter (λ e. nat_eq key (key_of e)) (equations_of s)

@@ -6,3 +6,4 @@ pub mod key;
 pub mod numbers;
 pub mod same;
 pub mod set;
+pub mod shared;
