@@ -38,8 +38,8 @@ pub record AreNumbersOf (types : List TypeDef) (numbers : ItemNumbers) : Type 0 
 -- what is known of the types is right
 pub record IsPrepared (p : Prepared) : Type 0 where
   pub contents : p.contents.now ≡ contents p.types.now
-  pub parts : map parts_at p.standings.now ≡ parts p.types.now
-  pub numbers : AreNumbersOf p.types.now p.numbers.now
+  pub parts : map parts_at p.standings.items ≡ parts p.types.now
+  pub numbers : AreNumbersOf p.types.now p.numbers
 
 -- the own equations of types
 abbrev pub stated_by : List (Vec Equation Global) → List (List ConditionalEquation)

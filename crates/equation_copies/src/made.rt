@@ -6,6 +6,8 @@ ghost use Rattle.lotos_ast.specs.declared.types.TypeDef.{TypeDef};
 ghost use Rattle.spec_core.specs.Theories.{equation_of};
 ghost use Rattle.type_contents.specs.Lists.{listed};
 ghost use Rattle.type_contents.specs.Contents as items;
+ghost use Rattle.type_contents.specs.Numbering.{all_sorts, all_operations};
+ghost use Rattle.type_contents.specs.Views.{described_of};
 ghost use Rattle.equation_images.specs.Same as same;
 ghost use Rattle.equation_images.specs.Views.{numbers_of, shared_of};
 ghost use Rattle.equation_copies.specs.Copies as copies;
@@ -24,9 +26,10 @@ use spec_core::equation::Equation;
 use spec_core::memory::Memory;
 use std::alloc::Global;
 use type_contents::contents::Contents;
+use type_contents::flat::FlatData;
 use type_contents::numbers::number_of;
 use type_contents::order::itself_and_parts;
-use type_contents::standing::Standing;
+use type_contents::standing::{Standing, standings_of};
 
 /// What is known of a list of types before their equations.
 #[derive(Drop)]
@@ -36,9 +39,31 @@ pub struct Prepared<'f, 'a> {
     /// What each has.
     pub contents: &'f Contents,
     /// The numbers of all sorts and operations.
-    pub numbers: &'f ItemNumbers<'f, 'a>,
+    pub numbers: ItemNumbers<'f, 'a>,
     /// Of which types each is made.
-    pub standings: &'f [Option<Standing>],
+    pub standings: Vec<Option<Standing>>,
+}
+
+impl<'f, 'a> Prepared<'f, 'a> {
+    /// What is known of types that come to this.
+    pub fn of(
+        alloc: Global,
+        types: &'f [TypeDef],
+        flat: &'f FlatData<'a>,
+    ) -> Result<Prepared<'f, 'a>, Memory>
+        requires sorts { map described_of flat.now.sorts.items ≡ all_sorts types.now }
+        requires operations { map described_of flat.now.operations.items ≡ all_operations types.now }
+        requires contents { flat.now.contents ≡ items.contents types.now }
+        ensures types { IfOk result (λ p. p.types.now ≡ types.now) }
+        ensures prepared { IfOk result (λ p. IsPrepared p) }
+    {
+        Ok(Prepared {
+            types,
+            contents: &flat.contents,
+            numbers: ItemNumbers::of(alloc, flat)?,
+            standings: standings_of(alloc, types)?,
+        })
+    }
 }
 
 // Adds the equations of the types of these names.
@@ -128,7 +153,7 @@ fn newly_copied(
         source.now (numbers_of news.now)) }
 {
     let types = prepared.types;
-    let among = itself_and_parts(alloc, types, prepared.standings, source)?;
+    let among = itself_and_parts(alloc, types, &prepared.standings, source)?;
     let content = all_at(found, number_of(types, source));
     let ordered = in_order(alloc, found, &among, content, types.len())?;
     new_images(alloc, news, &ordered)

@@ -2,7 +2,6 @@
 
 ghost use Rattle.std.specs.Prelude.{◌≡◌, ◌<◌, ◌∷◌, ◌++◌, ℕ, [], suc, true, IfOk, OnOk, None, is_some, length, map, slice_index_or};
 ghost use Rattle.std.specs.List.{list_all, zip};
-ghost use Rattle.type_contents.specs.Numbering.{parts};
 ghost use Rattle.type_contents.specs.Settled.{are_ready};
 ghost use Rattle.type_contents.specs.Views.{parts_at};
 ghost use Rattle.equation_copies.specs.Contents as contents;
@@ -65,16 +64,12 @@ fn all_with_parts(
 }
 
 // On which types the equations of each type depend.
-fn needs_of(
-    alloc: Global,
-    types: &[TypeDef],
-    standings: &[Option<Standing>],
-) -> Result<Vec<Links>, Memory>
-    requires { map parts_at standings.now ≡ parts types.now }
-    ensures { IfOk result (λ all. map (λ l. l.numbers.items) all.items ≡ map (needs types.now) types.now) }
+fn needs_of(alloc: Global, prepared: &Prepared<'_, '_>) -> Result<Vec<Links>, Memory>
+    requires { IsPrepared prepared.now }
+    ensures { IfOk result (λ all. map (λ l. l.numbers.items) all.items ≡ map (needs prepared.now.types.now) prepared.now.types.now) }
 {
-    let linked = links_of(alloc, types)?;
-    all_with_parts(alloc, standings, &linked)
+    let linked = links_of(alloc, prepared.types)?;
+    all_with_parts(alloc, &prepared.standings, &linked)
 }
 
 // Nothing for each type.
@@ -127,10 +122,9 @@ fn made_once(
     ensures { IfOk result (λ found. list_all is_some found.items ≡ true → map made_at found.items
         ≡ contents.equations prepared.now.types.now (stated_by own.now)) }
 {
-    let types = prepared.types;
-    let needed = needs_of(alloc, types, prepared.standings)?;
-    let mut found = nothing_found(alloc, types)?;
-    for _found in 0..types.len() {
+    let needed = needs_of(alloc, prepared)?;
+    let mut found = nothing_found(alloc, prepared.types)?;
+    for _found in 0..prepared.types.len() {
         match next_ready(&found, &needed) {
             None => return Ok(found),
             Some(number) => make_one(alloc, prepared, own, &mut found, number)?,
