@@ -1,0 +1,4 @@
+pub mod Agreeing
+pub mod Lists
+pub mod Named
+pub mod Schedules

@@ -1,0 +1,5 @@
+pub mod Contents
+pub mod Copies
+pub mod Indexes
+pub mod Needs
+pub mod Views

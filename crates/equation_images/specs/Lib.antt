@@ -1,0 +1,4 @@
+pub mod Groups
+pub mod Images
+pub mod Same
+pub mod Views
