@@ -1,19 +1,17 @@
 -- What is judged is judged in one way only.
-use Rattle.std.proofs.Common.{Option, Some, None, ℕ, ◌≡◌, ◌<◌, ◌⊎◌, inl, inr, List, [], ◌∷◌, ◌++◌, length, refl, ap, sym, subst, ◌∙◌, arith}
-use Rattle.std.specs.Prelude.{option_map}
+use Rattle.std.proofs.Common.{Option, Some, ℕ, ◌≡◌, ◌⊎◌, inl, inr, List, [], ◌∷◌, refl, ap, sym, subst, ◌∙◌, arith}
 use Rattle.lotos_ast.specs.declared.place.Place.{Place}
 use Rattle.lotos_ast.specs.declared.refusal.Refusal.{Refusal}
 use Rattle.lotos_ast.specs.declared.refusal.RefusalKind.TheVariants.{Ambiguous}
 use Rattle.spec_core.specs.declared.items.Sort.{Sort}
 use Rattle.spec_core.specs.Terms.{TermTree, preorder}
-use Rattle.spec_core.specs.Theories.{Premise, premise}
 use Rattle.spec_core.specs.Windows.{IsLess, IsBefore}
 use Rattle.sort_overloads.specs.Expressions.{Expression}
 use Rattle.sort_overloads.specs.Judged.{IsJudged, read, unread, unknown}
 use Rattle.sort_overloads.specs.Listed.{Typed}
 use Rattle.sort_overloads.specs.Overloads.{IsOnlyReading, AreFirstReadings}
 use Rattle.sort_overloads.specs.Readings.{Context}
-use Rattle.sort_overloads.specs.Refused.{unknowns, text_in, IsOverloadRefusal, no_reading, ambiguous}
+use Rattle.sort_overloads.specs.Refused.{text_in, IsOverloadRefusal, no_reading, ambiguous}
 
 less_onward : (xs ys zs : List ℕ) → IsLess xs ys → IsLess ys zs → IsLess xs zs
 less_onward [] [] zs h k = absurd h

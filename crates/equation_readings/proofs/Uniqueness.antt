@@ -1,5 +1,5 @@
 -- What the definitions of this crate say of a text, they say in one way only.
-use Rattle.std.proofs.Common.{Option, Some, None, ℕ, ◌≡◌, List, [], ◌∷◌, ◌++◌, refl, ap, sym, subst, ◌∙◌}
+use Rattle.std.proofs.Common.{Option, Some, None, ◌≡◌, List, [], ◌∷◌, ◌++◌, refl, ap, sym, subst, ◌∙◌}
 use Rattle.std.specs.Prelude.{option_map, option_to_list}
 use Rattle.lotos_ast.specs.declared.expression.Expr.{Expr}
 use Rattle.lotos_ast.specs.declared.place.Place.{Place}
@@ -8,7 +8,7 @@ use Rattle.lotos_ast.specs.declared.types.Equation.{Equation}
 use Rattle.lotos_ast.specs.declared.types.EquationBody.{EquationBody}
 use Rattle.lotos_ast.specs.declared.types.SortEquations.{SortEquations}
 use Rattle.spec_core.specs.declared.items.Sort.{Sort}
-use Rattle.spec_core.specs.Theories.{Premise, premise, ConditionalEquation}
+use Rattle.spec_core.specs.Theories.{premise}
 use Rattle.sort_overloads.specs.Expressions.{Expression}
 use Rattle.sort_overloads.specs.Judged.{IsJudged}
 use Rattle.sort_overloads.specs.Listed.{Typed}
@@ -20,7 +20,6 @@ use Rattle.equation_readings.specs.Equations.{equation_unless_refused, IsEquatio
 use Rattle.equation_readings.specs.Gathered.{Gathers, none, further, IfRead, UnlessRefused, refused_before, judged}
 use Rattle.equation_readings.specs.Laws.{IsOne}
 use Rattle.equation_readings.specs.Premisses.{IsTruthJudged, by_truth, without, IsConditionJudged}
-use Rattle.equation_readings.specs.Truths.{truth}
 use Rattle.equation_readings.specs.Variables.{under}
 use Rattle.equation_readings.proofs.Judgements.{judged-one}
 
@@ -91,9 +90,11 @@ equation-one c sort e f g rs ss h k =
     let left = judged-one h.left_judged k.left_judged in
     let right = judged-one h.right_judged k.right_judged in
     let all : rs ≡ ss = h.all_refusals ∙ ap (λ z. z ++ (h.left_refusals ++ h.right_refusals)) premises.1 ∙ ap (λ z. k.premise_refusals ++ (z ++ h.right_refusals)) left.1
-    ∙ ap (λ z. k.premise_refusals ++ (k.left_refusals ++ z)) right.1 ∙ sym k.all_refusals in
-    (h.equation ∙ ap (λ z. equation_unless_refused c e.place z h.left h.right rs) premises.0 ∙ ap (λ z. equation_unless_refused c e.place k.premises z h.right rs) left.0
-    ∙ ap (λ z. equation_unless_refused c e.place k.premises k.left z rs) right.0 ∙ ap (equation_unless_refused c e.place k.premises k.left k.right) all ∙ sym k.equation, all)
+    ∙ ap (λ z. k.premise_refusals ++ (k.left_refusals ++ z)) right.1 ∙ sym k.all_refusals in (
+      h.equation ∙ ap (λ z. equation_unless_refused c e.place z h.left h.right rs) premises.0 ∙ ap (λ z. equation_unless_refused c e.place k.premises z h.right rs) left.0
+          ∙ ap (λ z. equation_unless_refused c e.place k.premises k.left z rs) right.0 ∙ ap (equation_unless_refused c e.place k.premises k.left k.right) all ∙ sym k.equation,
+      all,
+    )
 
 of-sort-one : (c : Context) (part : SortEquations) → IsOne (AreJudgedOfSort c part)
 of-sort-one c part f g rs ss (s, e, h) (t, k, l) =

@@ -1,5 +1,5 @@
 -- What types have of their own, they have in one way only.
-use Rattle.std.proofs.Common.{◌≡◌, List, [], ◌∷◌, map, ap, sym, ◌∙◌}
+use Rattle.std.proofs.Common.{List, [], ◌∷◌, map, ap, sym, ◌∙◌}
 use Rattle.std.specs.List.{zip}
 use Rattle.lotos_ast.specs.declared.types.EquationBody.{EquationBody}
 use Rattle.lotos_ast.specs.declared.types.TypeDef.{TypeDef}
