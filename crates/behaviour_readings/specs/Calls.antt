@@ -1,0 +1,74 @@
+-- Expressions whose sort is declared: the values of a call, and those of a `let`.
+use Rattle.std.specs.Prelude.{◌≡◌, ℕ, suc, List, [], ◌∷◌, ◌++◌, length, Option, Some, None, option_map, if◌then◌else◌, ◌==◌, ◌&&◌, Bool, true, false}
+use Rattle.lotos_ast.specs.declared.behaviour.Binding.{Binding}
+use Rattle.lotos_ast.specs.declared.expression.Expr.{Expr}
+use Rattle.lotos_ast.specs.declared.refusal.Refusal.{Refusal}
+use Rattle.lotos_ast.specs.declared.refusal.RefusalKind.TheVariants.{UnknownProcess, WrongCount}
+use Rattle.lotos_ast.specs.declared.token.Token.{Token}
+use Rattle.lotos_ast.specs.ExpressionTrees.{expr_tree}
+use Rattle.spec_core.specs.declared.items.Sort.{Sort}
+use Rattle.spec_core.specs.Code as code
+use Rattle.spec_core.specs.Code.{Node, call}
+use Rattle.spec_core.specs.Functionality.{Functionality}
+use Rattle.spec_core.specs.Terms.{TermTree}
+use Rattle.sort_overloads.specs.Expressions.{expression}
+use Rattle.sort_overloads.specs.Listed.{Typed}
+use Rattle.sort_overloads.specs.Readings.{Declared}
+use Rattle.sort_overloads.specs.Refused.{refused, unknowns, is_sort_known, unknown_sort}
+use Rattle.equation_readings.specs.Variables.{sort_named}
+use Rattle.behaviour_readings.specs.Declarations.{unknown_gates, gate_numbers}
+use Rattle.behaviour_readings.specs.Joins.{Read, single}
+use Rattle.behaviour_readings.specs.Offers.{IsExpressionRead}
+use Rattle.behaviour_readings.specs.ReadsAll.{before, ReadsAll}
+use Rattle.behaviour_readings.specs.Sites.{Site, Heading, process_named}
+
+-- an expression of a sort; where the sort isn't known, it is asked for its unknown names alone
+pub data IsValueRead (s : Site) : Option ℕ → Expr → Option TermTree → List Refusal → Type 0 where
+  sorted : (sort : Sort) (e : Expr) (x : Option Typed) (rs : List Refusal) → IsExpressionRead s (Some sort) e x rs →
+      IsValueRead s (Some sort.0) e (option_map (λ x. x.term) x) rs
+  unsorted : (e : Expr) → IsValueRead s None e None (unknowns s.context (expression (expr_tree e)))
+
+-- as many expressions as sorts
+pub data AreValuesRead (s : Site) : List (Option ℕ) → List Expr → Option (List TermTree) → List Refusal → Type 0 where
+  none : AreValuesRead s [] [] (Some []) []
+  further : (sort : Option ℕ) (sorts : List (Option ℕ)) (e : Expr) (es : List Expr) (t : Option TermTree) (ts : Option (List TermTree))
+      (rs refusals : List Refusal) → IsValueRead s sort e t rs → AreValuesRead s sorts es ts refusals →
+      AreValuesRead s (sort ∷ sorts) (e ∷ es) (before t ts) (rs ++ refusals)
+
+-- the call of a process, where its gates and values are there
+abbrev pub called : Heading → Option (List ℕ) → Option (List TermTree) → Option Read
+called p (Some gates) (Some values) = option_map (single (call p.number gates values)) p.functionality
+called p _ _ = None
+
+-- as many gates and values as the process has
+abbrev pub has_counts : Heading → List Token → List Expr → Bool
+has_counts p gates values = (length gates == p.gates) && (length values == length p.sorts)
+
+-- a call of a process of this name, if there is one. Where there is none, or counts differ, nothing else is asked of the call
+pub data IsCallRead (s : Site) (name : Token) (gates : List Token) (es : List Expr) : Option Heading → Option Read → List Refusal → Type 0 where
+  unknown : IsCallRead s name gates es None None (refused UnknownProcess name.place [] ∷ [])
+  miscounted : (p : Heading) → has_counts p gates es ≡ false →
+      IsCallRead s name gates es (Some p) None (refused WrongCount name.place [] ∷ [])
+  counted : (p : Heading) (values : Option (List TermTree)) (rs : List Refusal) → has_counts p gates es ≡ true →
+      AreValuesRead s p.sorts es values rs →
+      IsCallRead s name gates es (Some p) (called p (gate_numbers s gates) values) (unknown_gates s gates ++ rs)
+
+-- the variables of a `let`
+
+abbrev pub variable_of : Site → Binding → Declared
+variable_of s b = record { name = b.name.text; sort = sort_named s.context.sorts b.sort.text }
+
+-- the sort that a binding declares, if it is known
+abbrev pub sort_of : Site → Binding → Option ℕ
+sort_of s b = if is_sort_known s.context b.sort.text then Some (sort_named s.context.sorts b.sort.text) else None
+
+abbrev pub bound_to : Site → ℕ → Binding → Option TermTree → Option code.Binding
+bound_to s n b t = option_map
+    (λ t. record { variable = record { number = n; sort = sort_named s.context.sorts b.sort.text }; term = t }) t
+
+-- bindings, none of which sees the variables of the others; the first variable has this number
+pub data AreBindingsRead (s : Site) : ℕ → List Binding → Option (List code.Binding) → List Refusal → Type 0 where
+  none : {n : ℕ} → AreBindingsRead s n [] (Some []) []
+  further : {n : ℕ} (b : Binding) (bs : List Binding) (t : Option TermTree) (found : Option (List code.Binding)) (rs refusals : List Refusal)
+      → IsValueRead s (sort_of s b) b.value t rs → AreBindingsRead s (suc n) bs found refusals →
+      AreBindingsRead s n (b ∷ bs) (before (bound_to s n b t) found) ((unknown_sort s.context b.sort ++ rs) ++ refusals)

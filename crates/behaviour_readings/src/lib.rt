@@ -1,0 +1,4 @@
+// What constructs of behaviour are read as.
+#![tactic(auto)]
+
+pub mod laws;
