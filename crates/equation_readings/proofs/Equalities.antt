@@ -1,10 +1,10 @@
 -- What is added for two expressions.
-use Rattle.std.proofs.Common.{Option, Some, None, ℕ, ◌≡◌, List, [], ◌∷◌, ◌++◌, refl, ap, sym, subst, ◌∙◌, append_assoc}
+use Rattle.std.proofs.Common.{Option, Some, None, ◌≡◌, List, [], ◌++◌, refl, ap, sym, subst, ◌∙◌, append_assoc}
 use Rattle.std.proofs.lemmas.List.{append-nil}
 use Rattle.lotos_ast.specs.declared.place.Place.{Place}
 use Rattle.lotos_ast.specs.declared.refusal.Refusal.{Refusal}
 use Rattle.spec_core.specs.declared.items.Sort.{Sort}
-use Rattle.spec_core.specs.Theories.{Premise, premise}
+use Rattle.spec_core.specs.Theories.{premise}
 use Rattle.sort_overloads.specs.Expressions.{Expression}
 use Rattle.sort_overloads.specs.Judged.{Adds, IsJudged}
 use Rattle.sort_overloads.specs.Judged as judged

@@ -1,1 +1,9 @@
+pub mod Bodies
 pub mod Equalities
+pub mod Equations
+pub mod Gathered
+pub mod Numbered
+pub mod Premisses
+pub mod Truths
+pub mod Variables
+pub mod Views

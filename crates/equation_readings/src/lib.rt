@@ -1,4 +1,11 @@
 // Premises and equations: what they stand for.
 #![tactic(auto)]
 
+pub mod body;
+pub mod condition;
 pub mod equality;
+pub mod equation;
+mod names;
+mod numbering;
+mod truth;
+mod variables;
