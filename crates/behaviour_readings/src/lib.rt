@@ -1,4 +1,7 @@
 // What constructs of behaviour are read as.
 #![tactic(auto)]
 
-pub mod laws;
+pub mod functionality;
+pub mod heading;
+pub mod output;
+pub mod site;
