@@ -9,7 +9,7 @@ use Rattle.lotos_ast.specs.declared.token.Token.{Token}
 use Rattle.spec_core.specs.Code.{Variable}
 use Rattle.sort_overloads.specs.Readings.{Context, Declared}
 use Rattle.sort_overloads.specs.Refused.{refused, is_sort_known, unknown_sort}
-use Rattle.equation_readings.specs.Variables.{all_variables}
+use Rattle.equation_readings.specs.Variables.{all_variables, sort_named}
 use Rattle.type_names.specs.DuplicateNames.{names_twice}
 use Rattle.behaviour_readings.specs.Sites.{Site, gate_number}
 use Rattle.behaviour_readings.specs.ReadsAll.{before}
@@ -30,6 +30,10 @@ unknown_gates s ts = flat_map (unknown_gate s) ts
 abbrev pub gate_numbers : Site → List Token → Option (List ℕ)
 gate_numbers s [] = Some []
 gate_numbers s (t ∷ ts) = before (gate_number s t) (gate_numbers s ts)
+
+-- variables of these names and of one sort; one that isn't known has the number behind the last
+abbrev pub of_one_sort : List (List ℕ) → List Token → Token → List Declared
+of_one_sort sorts names sort = map (λ t. record { name = t.text; sort = sort_named sorts sort.text }) names
 
 -- variables as code has them, where the first has this number
 abbrev pub numbered_from : ℕ → List Declared → List Variable

@@ -24,7 +24,7 @@ use Rattle.sort_overloads.specs.Readings.{Context, Declared}
 use Rattle.sort_overloads.specs.Refused.{is_sort_known, unknown_sort}
 use Rattle.equation_readings.specs.Premisses.{IsPremissJudged}
 use Rattle.equation_readings.specs.Variables.{sort_named}
-use Rattle.behaviour_readings.specs.Declarations.{numbered_from}
+use Rattle.behaviour_readings.specs.Declarations.{of_one_sort, numbered_from}
 use Rattle.behaviour_readings.specs.ReadsAll.{all_before, ReadsAll}
 use Rattle.behaviour_readings.specs.Sites.{Site}
 
@@ -36,7 +36,7 @@ IsExpressionRead s wanted e = IsJudged s.context (expression (expr_tree e)) want
 
 abbrev pub variables_of : Site → Offer → List Declared
 variables_of s (Offer.Value place value) = []
-variables_of s (Variables place names sort) = map (λ t. record { name = t.text; sort = sort_named s.context.sorts sort.text }) names.items
+variables_of s (Variables place names sort) = of_one_sort s.context.sorts names.items sort
 
 abbrev pub names_of : Offer → List Token
 names_of (Offer.Value place value) = []

@@ -1,5 +1,5 @@
 -- What is in scope where a construct of behaviour stands (ISO 8807, static semantics).
-use Rattle.std.specs.Prelude.{ℕ, suc, ◌+◌, List, [], ◌∷◌, ◌++◌, map, length, Option, Some, None, option_map, if◌then◌else◌}
+use Rattle.std.specs.Prelude.{ℕ, suc, ◌+◌, List, [], ◌∷◌, ◌++◌, map, length, take, Option, Some, None, option_map, if◌then◌else◌}
 use Rattle.std.specs.List.{find}
 use Rattle.spec_core.specs.Functionality.{Functionality}
 use Rattle.lotos_ast.specs.declared.token.Token.{Token}
@@ -55,6 +55,19 @@ abbrev pub with_variables : Site → List Declared → Site
 with_variables s vs = record {
   context = record { sorts = s.context.sorts; operations = s.context.operations; variables = s.context.variables ++ vs };
   gates = s.gates;
+  first_gate = s.first_gate;
+  processes = s.processes;
+}
+
+-- with the first variables and gates alone
+abbrev pub with_first : Site → ℕ → ℕ → Site
+with_first s variables gates = record {
+  context = record {
+    sorts = s.context.sorts;
+    operations = s.context.operations;
+    variables = take variables s.context.variables;
+  };
+  gates = take gates s.gates;
   first_gate = s.first_gate;
   processes = s.processes;
 }
