@@ -1,5 +1,7 @@
 -- What is put into scope, and left again.
-use Rattle.std.proofs.Common.{ℕ, ◌≡◌, ◌∙◌, ◌<◌, ◌≤◌, ◌+◌, refl, sym, ap, List, [], ◌∷◌, ◌++◌, length, get_or, take, map, append_assoc}
+use Rattle.std.proofs.Common.{ℕ, ◌≡◌, ◌∙◌, ◌<◌, ◌≤◌, ◌+◌, refl, sym, ap, List, [], ◌∷◌, ◌++◌, length, get_or, take, map, append-nil, append_assoc}
+use Rattle.std.specs.List.{flat_map}
+use Rattle.std.proofs.lemmas.Grind.{flat_map-append}
 use Rattle.std.proofs.lemmas.List.{map-append, take-map}
 use Rattle.spec_core.specs.Theories.{Operation}
 use Rattle.lotos_ast.specs.declared.token.Token.{Token}
@@ -7,7 +9,8 @@ use Rattle.sort_overloads.specs.Readings.{Context, Declared}
 use Rattle.sort_overloads.proofs.Loops.{taken-next, taken-all}
 use Rattle.behaviour_readings.specs.Declarations.{of_one_sort}
 use Rattle.behaviour_readings.specs.Sites.{Site, Heading, with_gates, with_variables, with_first}
-use Rattle.equation_readings.specs.Variables.{sort_named}
+use Rattle.lotos_ast.specs.declared.declaration.Declaration.{Declaration}
+use Rattle.equation_readings.specs.Variables.{sort_named, variables_of, all_variables}
 
 gates_joined : (s : Site) (ts us : List Token) → with_gates (with_gates s ts) us ≡ with_gates s (ts ++ us)
 gates_joined s ts us =
@@ -50,3 +53,16 @@ first_left f g sorts operations first processes vs ws gs hs i j a b =
     (ap (map f) a ∙ sym (take-map f i vs))
     ∙ ap (λ ys. record { context = record { sorts = sorts; operations = operations; variables = take i (map f vs) }; gates = ys; first_gate = first; processes = processes })
     (ap (map g) b ∙ sym (take-map g j gs))
+
+pub declared_next : (s now then : Site) (ds : List Declaration) (i : ℕ) (d : Declaration) → i < length ds → d ≡ get_or ds i d
+    → now ≡ with_variables s (all_variables s.context.sorts (take i ds)) → then ≡ with_variables now (of_one_sort now.context.sorts d.names.items d.sort)
+    → then ≡ with_variables s (all_variables s.context.sorts (take (i + 1) ds))
+declared_next s now then ds i d within at before more =
+    more ∙ ap (λ z. with_variables z (of_one_sort z.context.sorts d.names.items d.sort)) before
+    ∙ variables_joined s (all_variables s.context.sorts (take i ds)) (of_one_sort s.context.sorts d.names.items d.sort)
+    ∙ ap (with_variables s) (sym (flat_map-append (variables_of s.context.sorts) (take i ds) (d ∷ []) ∙ ap (λ z. flat_map (variables_of s.context.sorts) (take i ds) ++ z) (append-nil (of_one_sort s.context.sorts d.names.items d.sort))))
+    ∙ ap (λ es. with_variables s (all_variables s.context.sorts es)) (sym (taken-next ds i d within at))
+
+pub declared_all : (s now : Site) (ds : List Declaration) (i : ℕ) → length ds ≤ i → now ≡ with_variables s (all_variables s.context.sorts (take i ds))
+    → now ≡ with_variables s (all_variables s.context.sorts ds)
+declared_all s now ds i past h = h ∙ ap (λ es. with_variables s (all_variables s.context.sorts es)) (taken-all ds i past)

@@ -1,6 +1,7 @@
 // What constructs of behaviour are read as.
 #![tactic(auto)]
 
+pub mod declarations;
 pub mod functionality;
 pub mod heading;
 pub mod output;
