@@ -6,3 +6,4 @@ pub mod functionality;
 pub mod heading;
 pub mod output;
 pub mod site;
+pub mod values;
