@@ -18,7 +18,7 @@ use Rattle.sort_overloads.specs.Refused.{unknowns, unknown_sort, is_sort_known}
 use Rattle.equation_readings.specs.Variables.{sort_named}
 use Rattle.behaviour_readings.specs.Calls.{IsValueRead, sorted, unsorted}
 use Rattle.behaviour_readings.specs.Offers.{IsExpressionRead, IsExitValueRead, any, value}
-use Rattle.behaviour_readings.specs.Sites.{Site}
+use Rattle.behaviour_readings.specs.Sites.{Site, sort_of}
 
 -- what is added in one sense is added in another that follows from it
 pub added_as : {P Q : List Refusal → Type 0} (old new : List Refusal) → ((rs : List Refusal) → P rs → Q rs) → Adds P old new → Adds Q old new
@@ -37,35 +37,21 @@ pub value_read : (s : Site) (sort : Sort) (e : Expr) (x : Typed) (old new : List
 value_read s sort e x old new h = added_as old new (λ rs p. sorted sort e (Some x) rs p) h
 
 -- any value of a sort
-any_as : (s : Site) (place : Place) (t : Token) (b : Bool) → is_sort_known s.context t.text ≡ b → (old new : List Refusal) → new ≡ old ++ unknown_sort s.context t
-    → Adds (IsExitValueRead s (Any place t) (if b then Some (exit_any (sort_named s.context.sorts t.text), sort_named s.context.sorts t.text) else None)) old new
-any_as s place t b known old new h = record {
+any_as : (s : Site) (place : Place) (t : Token) (o : Option ℕ) → o ≡ sort_of s t → (old new : List Refusal) → new ≡ old ++ unknown_sort s.context t
+    → Adds (IsExitValueRead s (Any place t) (option_map (λ n. (exit_any n, n)) o)) old new
+any_as s place t o is old new h = record {
   refusals = unknown_sort s.context t;
-  such = subst (λ z. IsExitValueRead s (Any place t) (if z then Some (exit_any (sort_named s.context.sorts t.text), sort_named s.context.sorts t.text) else None) (unknown_sort s.context t)) known (any t);
+  such = subst (λ z. IsExitValueRead s (Any place t) (option_map (λ n. (exit_any n, n)) z) (unknown_sort s.context t)) (sym is) (any t);
   behind = h;
 }
 
-differ : {A : Type 0} (a : A) → Some a ≡ None → ⊥
-differ a e = cc
-
-pub any_unknown : (s : Site) (place : Place) (t : Token) (old new : List Refusal) → None ≡ (if is_sort_known s.context t.text then Some (sort_named s.context.sorts t.text) else None)
+pub any_unknown : (s : Site) (place : Place) (t : Token) (old new : List Refusal) → None ≡ sort_of s t
     → new ≡ old ++ unknown_sort s.context t → Adds (IsExitValueRead s (Any place t) None) old new
-any_unknown s place t old new unknown h = by_test (is_sort_known s.context t.text) refl
-  where
-    by_test : (b : Bool) → is_sort_known s.context t.text ≡ b → Adds (IsExitValueRead s (Any place t) None) old new
-    by_test false e = any_as s place t false e old new h
-    by_test true e = absurd (differ (sort_named s.context.sorts t.text) (sym (unknown ∙ ap (λ b. if b then Some (sort_named s.context.sorts t.text) else None) e)))
+any_unknown s place t old new unknown h = any_as s place t None unknown old new h
 
-pub any_known : (s : Site) (place : Place) (t : Token) (n : ℕ) (old new : List Refusal) → Some n ≡ (if is_sort_known s.context t.text then Some (sort_named s.context.sorts t.text) else None)
+pub any_known : (s : Site) (place : Place) (t : Token) (n : ℕ) (old new : List Refusal) → Some n ≡ sort_of s t
     → new ≡ old ++ unknown_sort s.context t → Adds (IsExitValueRead s (Any place t) (Some (exit_any n, n))) old new
-any_known s place t n old new known h = by_test (is_sort_known s.context t.text) refl
-  where
-    same : Some n ≡ Some (sort_named s.context.sorts t.text) → sort_named s.context.sorts t.text ≡ n
-    same e = cc
-
-    by_test : (b : Bool) → is_sort_known s.context t.text ≡ b → Adds (IsExitValueRead s (Any place t) (Some (exit_any n, n))) old new
-    by_test true e = subst (λ m. Adds (IsExitValueRead s (Any place t) (Some (exit_any m, m))) old new) (same (known ∙ ap (λ b. if b then Some (sort_named s.context.sorts t.text) else None) e)) (any_as s place t true e old new h)
-    by_test false e = absurd (differ n (known ∙ ap (λ b. if b then Some (sort_named s.context.sorts t.text) else None) e))
+any_known s place t n old new known h = any_as s place t (Some n) known old new h
 
 pub exit_unread : (s : Site) (place : Place) (e : Expr) (old new : List Refusal) → Adds (IsExpressionRead s None e None) old new
     → Adds (IsExitValueRead s (ExitValue.Value place e) None) old new

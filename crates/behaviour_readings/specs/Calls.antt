@@ -1,5 +1,6 @@
 -- Expressions whose sort is declared: the values of a call, and those of a `let`.
 use Rattle.std.specs.Prelude.{◌≡◌, ℕ, suc, List, [], ◌∷◌, ◌++◌, length, Option, Some, None, option_map, if◌then◌else◌, ◌==◌, ◌&&◌, Bool, true, false}
+use Rattle.std.specs.List.{zip, enumerate_from}
 use Rattle.lotos_ast.specs.declared.behaviour.Binding.{Binding}
 use Rattle.lotos_ast.specs.declared.expression.Expr.{Expr}
 use Rattle.lotos_ast.specs.declared.refusal.Refusal.{Refusal}
@@ -19,8 +20,8 @@ use Rattle.equation_readings.specs.Variables.{sort_named}
 use Rattle.behaviour_readings.specs.Declarations.{unknown_gates, gate_numbers}
 use Rattle.behaviour_readings.specs.Joins.{Read, single}
 use Rattle.behaviour_readings.specs.Offers.{IsExpressionRead}
-use Rattle.behaviour_readings.specs.ReadsAll.{before, ReadsAll}
-use Rattle.behaviour_readings.specs.Sites.{Site, Heading, process_named}
+use Rattle.behaviour_readings.specs.ReadsAll.{ReadsAll}
+use Rattle.behaviour_readings.specs.Sites.{Site, Heading, sort_of}
 
 -- an expression of a sort; where the sort isn't known, it is asked for its unknown names alone
 pub data IsValueRead (s : Site) : Option ℕ → Expr → Option TermTree → List Refusal → Type 0 where
@@ -28,12 +29,9 @@ pub data IsValueRead (s : Site) : Option ℕ → Expr → Option TermTree → Li
       IsValueRead s (Some sort.0) e (option_map (λ x. x.term) x) rs
   unsorted : (e : Expr) → IsValueRead s None e None (unknowns s.context (expression (expr_tree e)))
 
--- as many expressions as sorts
-pub data AreValuesRead (s : Site) : List (Option ℕ) → List Expr → Option (List TermTree) → List Refusal → Type 0 where
-  none : AreValuesRead s [] [] (Some []) []
-  further : (sort : Option ℕ) (sorts : List (Option ℕ)) (e : Expr) (es : List Expr) (t : Option TermTree) (ts : Option (List TermTree))
-      (rs refusals : List Refusal) → IsValueRead s sort e t rs → AreValuesRead s sorts es ts refusals →
-      AreValuesRead s (sort ∷ sorts) (e ∷ es) (before t ts) (rs ++ refusals)
+-- expressions, each with its sort
+abbrev pub AreValuesRead : Site → List (Option ℕ) → List Expr → Option (List TermTree) → List Refusal → Type 0
+AreValuesRead s sorts es = ReadsAll (λ e. IsValueRead s e.0 e.1) (zip sorts es)
 
 -- the call of a process, where its gates and values are there
 abbrev pub called : Heading → Option (List ℕ) → Option (List TermTree) → Option Read
@@ -58,17 +56,14 @@ pub data IsCallRead (s : Site) (name : Token) (gates : List Token) (es : List Ex
 abbrev pub variable_of : Site → Binding → Declared
 variable_of s b = record { name = b.name.text; sort = sort_named s.context.sorts b.sort.text }
 
--- the sort that a binding declares, if it is known
-abbrev pub sort_of : Site → Binding → Option ℕ
-sort_of s b = if is_sort_known s.context b.sort.text then Some (sort_named s.context.sorts b.sort.text) else None
+-- its value, as that of the variable of a number
+abbrev pub bound_to : Site → ℕ → Binding → TermTree → code.Binding
+bound_to s n b t = record { variable = record { number = n; sort = sort_named s.context.sorts b.sort.text }; term = t }
 
-abbrev pub bound_to : Site → ℕ → Binding → Option TermTree → Option code.Binding
-bound_to s n b t = option_map
-    (λ t. record { variable = record { number = n; sort = sort_named s.context.sorts b.sort.text }; term = t }) t
+-- a binding, which doesn't see the variables of the others
+pub data IsBindingRead (s : Site) : ℕ × Binding → Option code.Binding → List Refusal → Type 0 where
+  bound : {n : ℕ} (b : Binding) (t : Option TermTree) (rs : List Refusal) → IsValueRead s (sort_of s b.sort) b.value t rs →
+      IsBindingRead s (n, b) (option_map (bound_to s n b) t) (unknown_sort s.context b.sort ++ rs)
 
--- bindings, none of which sees the variables of the others; the first variable has this number
-pub data AreBindingsRead (s : Site) : ℕ → List Binding → Option (List code.Binding) → List Refusal → Type 0 where
-  none : {n : ℕ} → AreBindingsRead s n [] (Some []) []
-  further : {n : ℕ} (b : Binding) (bs : List Binding) (t : Option TermTree) (found : Option (List code.Binding)) (rs refusals : List Refusal)
-      → IsValueRead s (sort_of s b) b.value t rs → AreBindingsRead s (suc n) bs found refusals →
-      AreBindingsRead s n (b ∷ bs) (before (bound_to s n b t) found) ((unknown_sort s.context b.sort ++ rs) ++ refusals)
+abbrev pub AreBindingsRead : Site → List Binding → Option (List code.Binding) → List Refusal → Type 0
+AreBindingsRead s bindings = ReadsAll (IsBindingRead s) (enumerate_from (length s.context.variables) bindings)

@@ -25,8 +25,8 @@ use Rattle.sort_overloads.specs.Refused.{is_sort_known, unknown_sort}
 use Rattle.equation_readings.specs.Premisses.{IsPremissJudged}
 use Rattle.equation_readings.specs.Variables.{sort_named}
 use Rattle.behaviour_readings.specs.Declarations.{of_one_sort, numbered_from}
-use Rattle.behaviour_readings.specs.ReadsAll.{all_before, ReadsAll}
-use Rattle.behaviour_readings.specs.Sites.{Site}
+use Rattle.behaviour_readings.specs.ReadsAll.{ReadsAll}
+use Rattle.behaviour_readings.specs.Sites.{Site, sort_of}
 
 -- an expression with a wanted sort, or with none
 abbrev pub IsExpressionRead : Site → Option Sort → Expr → Option Typed → List Refusal → Type 0
@@ -49,22 +49,25 @@ abbrev pub offered_names : List Offer → List Token
 offered_names offers = flat_map names_of offers
 
 -- the fields of variables of which the first has this number, where their sort is known
-abbrev pub accepting : Site → ℕ → Offer → Token → Option (List ActionField)
-accepting s n offer sort = if is_sort_known s.context sort.text then Some (map accept (numbered_from n (variables_of s offer))) else None
+abbrev pub accepting : Site → ℕ → List Token → Token → Option (List ActionField)
+accepting s n names sort =
+    if is_sort_known s.context sort.text then Some (map accept (numbered_from n (of_one_sort s.context.sorts names sort))) else None
 
-abbrev pub given : Option Typed → Option (List ActionField)
-given x = option_map (λ x. give x.term ∷ []) x
+-- the fields of an offer, whose first variable has this number; it doesn't see the variables that the action declares
+pub data IsOfferRead (s : Site) : ℕ × Offer → Option (List ActionField) → List Refusal → Type 0 where
+  value : {n : ℕ} {place : Place} (e : Expr) (x : Option Typed) (rs : List Refusal) → IsExpressionRead s None e x rs →
+      IsOfferRead s (n, Offer.Value place e) (option_map (λ x. give x.term ∷ []) x) rs
+  variables : {n : ℕ} {place : Place} (names : Vec Token Global) (sort : Token) →
+      IsOfferRead s (n, Variables place names sort) (accepting s n names.items sort) (unknown_sort s.context sort)
 
--- the fields of offers, none of which sees the variables that they declare; the next variable has this number
-pub data AreOffersRead (s : Site) : ℕ → List Offer → Option (List ActionField) → List Refusal → Type 0 where
-  none : {n : ℕ} → AreOffersRead s n [] (Some []) []
-  value : {n : ℕ} {place : Place} (e : Expr) (offers : List Offer) (x : Option Typed) (fields : Option (List ActionField))
-      (rs refusals : List Refusal) → IsExpressionRead s None e x rs → AreOffersRead s n offers fields refusals →
-      AreOffersRead s n (Offer.Value place e ∷ offers) (all_before (given x) fields) (rs ++ refusals)
-  variables : {n : ℕ} {place : Place} (names : Vec Token Global) (sort : Token) (offers : List Offer) (fields : Option (List ActionField))
-      (refusals : List Refusal) → AreOffersRead s (n + length names.items) offers fields refusals →
-      AreOffersRead s n (Variables place names sort ∷ offers) (all_before (accepting s n (Variables place names sort) sort) fields)
-      (unknown_sort s.context sort ++ refusals)
+-- offers, each with the number of its first variable
+abbrev pub numbered_offers : ℕ → List Offer → List (ℕ × Offer)
+numbered_offers n [] = []
+numbered_offers n (o ∷ os) = (n, o) ∷ numbered_offers (n + length (names_of o)) os
+
+-- the fields of offers, by offers
+abbrev pub AreOffersRead : Site → List Offer → Option (List (List ActionField)) → List Refusal → Type 0
+AreOffersRead s offers = ReadsAll (IsOfferRead s) (numbered_offers (length s.context.variables) offers)
 
 -- a predicate, if there is one
 abbrev pub IsPredicateRead : Site → Option Premiss → Option (Option Premise) → List Refusal → Type 0
@@ -73,10 +76,12 @@ IsPredicateRead s (Some p) found refusals = (x : Option Premise) × (found ≡ o
     × IsPremissJudged s.context p x refusals
 
 -- a value with which a behaviour ends, and its sort
+
+abbrev pub any_value : Site → Token → Option (code.ExitValue × ℕ)
+any_value s sort = option_map (λ n. (exit_any n, n)) (sort_of s sort)
+
 pub data IsExitValueRead (s : Site) : ExitValue → Option (code.ExitValue × ℕ) → List Refusal → Type 0 where
-  any : {place : Place} (sort : Token) → IsExitValueRead s (Any place sort)
-      (if is_sort_known s.context sort.text then Some (exit_any (sort_named s.context.sorts sort.text), sort_named s.context.sorts sort.text)
-      else None) (unknown_sort s.context sort)
+  any : {place : Place} (sort : Token) → IsExitValueRead s (Any place sort) (any_value s sort) (unknown_sort s.context sort)
   value : {place : Place} (e : Expr) (x : Option Typed) (rs : List Refusal) → IsExpressionRead s None e x rs →
       IsExitValueRead s (ExitValue.Value place e) (option_map (λ x. (exit_given x.term, x.sort)) x) rs
 

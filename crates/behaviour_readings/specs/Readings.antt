@@ -1,7 +1,7 @@
 -- What constructs of behaviour are read as where they stand, and what is refused of them (ISO 8807, static semantics of behaviour
 -- expressions).
 use Rattle.std.specs.Prelude.{ℕ, suc, pred, ◌+◌, List, [], ◌∷◌, ◌++◌, map, length, Option, Some, None, option_map}
-use Rattle.std.specs.List.{range_with_len}
+use Rattle.std.specs.List.{range_with_len, flat_map}
 use Rattle.lotos_ast.specs.declared.behaviour.Binding.{Binding}
 use Rattle.lotos_ast.specs.declared.behaviour.ExitValue.{ExitValue}
 use Rattle.lotos_ast.specs.declared.behaviour.GateChoice.{GateChoice}
@@ -38,8 +38,8 @@ abbrev pub ended : List (code.ExitValue × ℕ) → Read
 ended values = single (exit (map (λ v. v.0) values)) (exits (map (λ v. v.1) values))
 
 -- an action before what follows, where its parts are there
-abbrev pub acting : ℕ → Option ℕ → Option (List ActionField) → Option (Option Premise) → Option Read → Option Read
-acting from (Some g) (Some fields) (Some guard) (Some r) = Some (around from (action g fields guard) r)
+abbrev pub acting : ℕ → Option ℕ → Option (List (List ActionField)) → Option (Option Premise) → Option Read → Option Read
+acting from (Some g) (Some fields) (Some guard) (Some r) = Some (around from (action g (flat_map (λ all. all) fields) guard) r)
 acting from _ _ _ _ = None
 
 -- a part under what is there
@@ -118,8 +118,8 @@ mutual
     acted_inside : {s : Site} {from : ℕ} (b : Construct) (x : Option Read) (rs : List Refusal) → IsRead s from b x rs →
         IsRead s from (acts_inside b) (option_map (around from inner) x) rs
     acted : {s : Site} {from : ℕ} (gate : Token) (offers : List Offer) (predicate : Option Premiss) (b : Construct)
-        (fields : Option (List ActionField)) (guard : Option (Option Premise)) (x : Option Read) (ro rp rb : List Refusal) →
-        AreOffersRead s (length s.context.variables) offers fields ro →
+        (fields : Option (List (List ActionField))) (guard : Option (Option Premise)) (x : Option Read) (ro rp rb : List Refusal) →
+        AreOffersRead s offers fields ro →
         IsPredicateRead (with_variables s (offered_variables s offers)) predicate guard rp →
         IsRead (with_variables s (offered_variables s offers)) from b x rb →
         IsRead s from (acts gate offers predicate b) (acting from (gate_number s gate) fields guard x)
@@ -131,7 +131,7 @@ mutual
         IsPremissJudged s.context p found rp → IsRead s from b x rb →
         IsRead s from (asks p b) (under from guarded found x) (rp ++ rb)
     bound_to_values : {s : Site} {from : ℕ} (bindings : List Binding) (b : Construct) (found : Option (List code.Binding)) (x : Option Read)
-        (rv rb : List Refusal) → AreBindingsRead s (length s.context.variables) bindings found rv →
+        (rv rb : List Refusal) → AreBindingsRead s bindings found rv →
         IsRead (with_variables s (map (variable_of s) bindings)) from b x rb →
         IsRead s from (binds bindings b) (under from bound found x) (names_twice (map (λ b. b.name) bindings) ++ (rv ++ rb))
     chosen_values : {s : Site} {from : ℕ} (ds : List Declaration) (b : Construct) (x : Option Read) (rb : List Refusal) →

@@ -5,6 +5,8 @@ use Rattle.spec_core.specs.Functionality.{Functionality}
 use Rattle.lotos_ast.specs.declared.token.Token.{Token}
 use Rattle.sort_overloads.specs.Readings.{Context, Declared}
 use Rattle.sort_overloads.specs.Listed.{is_same_name}
+use Rattle.sort_overloads.specs.Refused.{is_sort_known}
+use Rattle.equation_readings.specs.Variables.{sort_named}
 
 -- a process that can be called: its name, its number, how many gates it has, the sorts of its values and how it ends. A sort that isn't
 -- known is none; so is a functionality that names one
@@ -36,6 +38,10 @@ gate_number s t = last_named t.text None s.first_gate s.gates
 -- the number that the next gate will have
 abbrev pub next_gate : Site → ℕ
 next_gate s = s.first_gate + length s.gates
+
+-- the sort of this name, if it is known
+abbrev pub sort_of : Site → Token → Option ℕ
+sort_of s t = if is_sort_known s.context t.text then Some (sort_named s.context.sorts t.text) else None
 
 -- the process of this name
 abbrev pub process_named : Site → Token → Option Heading

@@ -145,8 +145,7 @@ impl<'a> Site<'a> {
 
     /// The sort of a name, if it is known. It takes no memory.
     pub fn sort(&self, name: &Token) -> Option<Sort>
-        ensures { option_map sort_number result ≡ (if is_sort_known self.now.context name.now.text
-            then Some (sort_named self.now.context.sorts name.now.text) else None) }
+        ensures { option_map sort_number result ≡ sites.sort_of self.now name.now }
     {
         if has_sort(&self.scope.signature.sorts, name.text.as_str()) {
             Some(Sort(sort_named(&self.scope.signature.sorts, name.text.as_str()) as u32))
