@@ -1,7 +1,7 @@
 -- The first process of a name, one further.
-use Rattle.std.proofs.Common.{ℕ, zero, suc, ◌≡◌, ◌∙◌, ◌<◌, ◌≤◌, ◌+◌, refl, sym, ap, List, [], ◌∷◌, length, get_or, drop, arith, Option, Some, None, Bool, true, false, if◌then◌else◌}
+use Rattle.std.proofs.Common.{ℕ, ◌≡◌, ◌∙◌, ◌<◌, ◌≤◌, ◌+◌, ap, List, ◌∷◌, length, get_or, drop, Some, Bool, true, false, if◌then◌else◌}
 use Rattle.std.specs.Prelude.{option_map}
-use Rattle.std.specs.List.{find, slice_get, cons_option}
+use Rattle.std.specs.List.{find, cons_option}
 use Rattle.std.proofs.lemmas.List.{get_or_default}
 use Rattle.type_names.proofs.Lists.{got, past_end}
 use Rattle.sort_overloads.proofs.Loops.{dropped-next}

@@ -1,11 +1,11 @@
 -- What is put into scope, and left again.
-use Rattle.std.proofs.Common.{ℕ, ◌≡◌, ◌∙◌, ◌<◌, ◌≤◌, ◌+◌, refl, sym, ap, List, [], ◌∷◌, ◌++◌, length, get_or, take, map, append-nil, append_assoc}
+use Rattle.std.proofs.Common.{ℕ, ◌≡◌, ◌∙◌, ◌<◌, ◌≤◌, ◌+◌, sym, ap, List, [], ◌∷◌, ◌++◌, length, get_or, take, map, append-nil, append_assoc}
 use Rattle.std.specs.List.{flat_map}
 use Rattle.std.proofs.lemmas.Grind.{flat_map-append}
 use Rattle.std.proofs.lemmas.List.{map-append, take-map}
 use Rattle.spec_core.specs.Theories.{Operation}
 use Rattle.lotos_ast.specs.declared.token.Token.{Token}
-use Rattle.sort_overloads.specs.Readings.{Context, Declared}
+use Rattle.sort_overloads.specs.Readings.{Declared}
 use Rattle.sort_overloads.proofs.Loops.{taken-next, taken-all}
 use Rattle.behaviour_readings.specs.Declarations.{of_one_sort}
 use Rattle.behaviour_readings.specs.Sites.{Site, Heading, with_gates, with_variables, with_first}

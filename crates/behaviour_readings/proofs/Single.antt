@@ -1,5 +1,5 @@
 -- What single values are read as.
-use Rattle.std.proofs.Common.{ℕ, ◌≡◌, ◌∙◌, refl, sym, ap, subst, List, [], ◌∷◌, ◌++◌, append-nil, Option, Some, None, if◌then◌else◌, Bool, true, false}
+use Rattle.std.proofs.Common.{ℕ, ◌≡◌, sym, subst, List, ◌++◌, Option, Some, None}
 use Rattle.std.specs.Prelude.{option_map}
 use Rattle.lotos_ast.specs.declared.behaviour.ExitValue.{ExitValue}
 use Rattle.lotos_ast.specs.declared.behaviour.ExitValue.TheVariants.{Any}
@@ -9,13 +9,11 @@ use Rattle.lotos_ast.specs.declared.refusal.Refusal.{Refusal}
 use Rattle.lotos_ast.specs.declared.token.Token.{Token}
 use Rattle.lotos_ast.specs.ExpressionTrees.{expr_tree}
 use Rattle.spec_core.specs.declared.items.Sort.{Sort}
-use Rattle.spec_core.specs.Code as code
 use Rattle.spec_core.specs.Code.{exit_given, exit_any}
 use Rattle.sort_overloads.specs.Expressions.{expression}
 use Rattle.sort_overloads.specs.Judged.{Adds}
 use Rattle.sort_overloads.specs.Listed.{Typed}
-use Rattle.sort_overloads.specs.Refused.{unknowns, unknown_sort, is_sort_known}
-use Rattle.equation_readings.specs.Variables.{sort_named}
+use Rattle.sort_overloads.specs.Refused.{unknowns, unknown_sort}
 use Rattle.behaviour_readings.specs.Calls.{IsValueRead, sorted, unsorted}
 use Rattle.behaviour_readings.specs.Offers.{IsExpressionRead, IsExitValueRead, any, value}
 use Rattle.behaviour_readings.specs.Sites.{Site, sort_of}

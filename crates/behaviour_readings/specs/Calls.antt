@@ -1,5 +1,5 @@
 -- Expressions whose sort is declared: the values of a call, and those of a `let`.
-use Rattle.std.specs.Prelude.{◌≡◌, ℕ, suc, List, [], ◌∷◌, ◌++◌, length, Option, Some, None, option_map, if◌then◌else◌, ◌==◌, ◌&&◌, Bool, true, false}
+use Rattle.std.specs.Prelude.{◌≡◌, ℕ, List, [], ◌∷◌, ◌++◌, length, Option, Some, None, option_map, ◌==◌, ◌&&◌, Bool, true, false}
 use Rattle.std.specs.List.{zip, enumerate_from}
 use Rattle.lotos_ast.specs.declared.behaviour.Binding.{Binding}
 use Rattle.lotos_ast.specs.declared.expression.Expr.{Expr}
@@ -10,12 +10,11 @@ use Rattle.lotos_ast.specs.ExpressionTrees.{expr_tree}
 use Rattle.spec_core.specs.declared.items.Sort.{Sort}
 use Rattle.spec_core.specs.Code as code
 use Rattle.spec_core.specs.Code.{Node, call}
-use Rattle.spec_core.specs.Functionality.{Functionality}
 use Rattle.spec_core.specs.Terms.{TermTree}
 use Rattle.sort_overloads.specs.Expressions.{expression}
 use Rattle.sort_overloads.specs.Listed.{Typed}
 use Rattle.sort_overloads.specs.Readings.{Declared}
-use Rattle.sort_overloads.specs.Refused.{refused, unknowns, is_sort_known, unknown_sort}
+use Rattle.sort_overloads.specs.Refused.{refused, unknowns, unknown_sort}
 use Rattle.equation_readings.specs.Variables.{sort_named}
 use Rattle.behaviour_readings.specs.Declarations.{unknown_gates, gate_numbers}
 use Rattle.behaviour_readings.specs.Joins.{Read, single}
@@ -43,7 +42,8 @@ abbrev pub has_counts : Heading → List Token → List Expr → Bool
 has_counts p gates values = (length gates == p.gates) && (length values == length p.sorts)
 
 -- a call of a process of this name, if there is one. Where there is none, or counts differ, nothing else is asked of the call
-pub data IsCallRead (s : Site) (name : Token) (gates : List Token) (es : List Expr) : Option Heading → Option Read → List Refusal → Type 0 where
+pub data IsCallRead (s : Site) (name : Token) (gates : List Token) (es : List Expr) :
+    Option Heading → Option Read → List Refusal → Type 0 where
   unknown : IsCallRead s name gates es None None (refused UnknownProcess name.place [] ∷ [])
   miscounted : (p : Heading) → has_counts p gates es ≡ false →
       IsCallRead s name gates es (Some p) None (refused WrongCount name.place [] ∷ [])

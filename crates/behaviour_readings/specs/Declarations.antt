@@ -1,5 +1,5 @@
 -- Variables and gates that a construct declares, and gates that it names.
-use Rattle.std.specs.Prelude.{ℕ, suc, ◌+◌, List, [], ◌∷◌, ◌++◌, map, length, Option, Some, None, Bool, if◌then◌else◌}
+use Rattle.std.specs.Prelude.{ℕ, suc, List, [], ◌∷◌, ◌++◌, map, length, Option, Some, None, Bool, if◌then◌else◌}
 use Rattle.std.specs.List.{flat_map, list_all}
 use Rattle.lotos_ast.specs.declared.declaration.Declaration.{Declaration}
 use Rattle.lotos_ast.specs.declared.place.Place.{Place}
@@ -7,7 +7,7 @@ use Rattle.lotos_ast.specs.declared.refusal.Refusal.{Refusal}
 use Rattle.lotos_ast.specs.declared.refusal.RefusalKind.TheVariants.{UnknownGate}
 use Rattle.lotos_ast.specs.declared.token.Token.{Token}
 use Rattle.spec_core.specs.Code.{Variable}
-use Rattle.sort_overloads.specs.Readings.{Context, Declared}
+use Rattle.sort_overloads.specs.Readings.{Declared}
 use Rattle.sort_overloads.specs.Refused.{refused, is_sort_known, unknown_sort}
 use Rattle.equation_readings.specs.Variables.{all_variables, sort_named}
 use Rattle.type_names.specs.DuplicateNames.{names_twice}
@@ -53,4 +53,5 @@ are_known s ds = list_all (λ d. is_sort_known s.context d.sort.text) ds
 
 -- the variables of declarations as code has them, where all their sorts are known
 abbrev pub declared_variables : Site → List Declaration → Option (List Variable)
-declared_variables s ds = if are_known s ds then Some (numbered_from (length s.context.variables) (all_variables s.context.sorts ds)) else None
+declared_variables s ds = if are_known s ds then Some (numbered_from (length s.context.variables) (all_variables s.context.sorts ds))
+    else None

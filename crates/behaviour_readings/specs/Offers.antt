@@ -1,5 +1,5 @@
 -- What an action offers, and the values with which a behaviour ends.
-use Rattle.std.specs.Prelude.{◌≡◌, ℕ, ◌+◌, List, [], ◌∷◌, ◌++◌, map, length, Option, Some, None, option_map, if◌then◌else◌, Vec}
+use Rattle.std.specs.Prelude.{◌≡◌, ℕ, ◌+◌, List, [], ◌∷◌, map, length, Option, Some, None, option_map, if◌then◌else◌, Vec}
 use Rattle.std.specs.List.{flat_map}
 use Rattle.std.specs.declared.alloc.Global.{Global}
 use Rattle.lotos_ast.specs.declared.behaviour.ExitValue.{ExitValue}
@@ -20,10 +20,9 @@ use Rattle.spec_core.specs.Theories.{Premise}
 use Rattle.sort_overloads.specs.Expressions.{expression}
 use Rattle.sort_overloads.specs.Judged.{IsJudged}
 use Rattle.sort_overloads.specs.Listed.{Typed}
-use Rattle.sort_overloads.specs.Readings.{Context, Declared}
+use Rattle.sort_overloads.specs.Readings.{Declared}
 use Rattle.sort_overloads.specs.Refused.{is_sort_known, unknown_sort}
 use Rattle.equation_readings.specs.Premisses.{IsPremissJudged}
-use Rattle.equation_readings.specs.Variables.{sort_named}
 use Rattle.behaviour_readings.specs.Declarations.{of_one_sort, numbered_from}
 use Rattle.behaviour_readings.specs.ReadsAll.{ReadsAll}
 use Rattle.behaviour_readings.specs.Sites.{Site, sort_of}

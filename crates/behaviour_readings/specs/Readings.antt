@@ -1,6 +1,6 @@
 -- What constructs of behaviour are read as where they stand, and what is refused of them (ISO 8807, static semantics of behaviour
 -- expressions).
-use Rattle.std.specs.Prelude.{ℕ, suc, pred, ◌+◌, List, [], ◌∷◌, ◌++◌, map, length, Option, Some, None, option_map}
+use Rattle.std.specs.Prelude.{ℕ, suc, ◌+◌, List, [], ◌∷◌, ◌++◌, map, length, Option, Some, None, option_map}
 use Rattle.std.specs.List.{range_with_len, flat_map}
 use Rattle.lotos_ast.specs.declared.behaviour.Binding.{Binding}
 use Rattle.lotos_ast.specs.declared.behaviour.ExitValue.{ExitValue}
@@ -13,14 +13,13 @@ use Rattle.lotos_ast.specs.declared.expression.Expr.{Expr}
 use Rattle.lotos_ast.specs.declared.expression.Premiss.{Premiss}
 use Rattle.lotos_ast.specs.declared.place.Place.{Place}
 use Rattle.lotos_ast.specs.declared.refusal.Refusal.{Refusal}
-use Rattle.lotos_ast.specs.declared.refusal.RefusalKind.TheVariants.{WrongFunctionality}
 use Rattle.lotos_ast.specs.declared.token.Token.{Token}
 use Rattle.spec_core.specs.Code as code
 use Rattle.spec_core.specs.Code.{Node, Variable, ActionField, Synchronised, every_gate, these_gates}
-use Rattle.spec_core.specs.Code.{stop, exit, inner, action, choice, guarded, bound, value_choice, gate_choice, parallel, hide, enable, disable, relabel}
+use Rattle.spec_core.specs.Code.{stop, exit, inner, action, choice, guarded, bound, value_choice, gate_choice, parallel}
+use Rattle.spec_core.specs.Code.{hide, enable, disable, relabel}
 use Rattle.spec_core.specs.Functionality.{Functionality, noexit, exits, sort_of_variable}
 use Rattle.spec_core.specs.Theories.{Premise}
-use Rattle.sort_overloads.specs.Refused.{refused}
 use Rattle.equation_readings.specs.Premisses.{IsPremissJudged}
 use Rattle.equation_readings.specs.Variables.{all_variables}
 use Rattle.type_names.specs.DuplicateNames.{names_twice}
@@ -28,9 +27,9 @@ use Rattle.constructs.specs.Constructs.{Construct, stops, acts_inside, acts, cho
 use Rattle.constructs.specs.Constructs.{composes, hides, enables, disables, calls, copies}
 use Rattle.constructs.specs.Constructs as written
 use Rattle.behaviour_readings.specs.Calls.{IsCallRead, AreBindingsRead, variable_of}
-use Rattle.behaviour_readings.specs.Declarations.{unknown_gate, unknown_gates, gate_numbers, numbered_from, declared_names, declaration_refusals}
+use Rattle.behaviour_readings.specs.Declarations.{unknown_gate, unknown_gates, gate_numbers, declaration_refusals}
 use Rattle.behaviour_readings.specs.Declarations.{declared_variables}
-use Rattle.behaviour_readings.specs.Joins.{Read, root, after, single, around, over, if_same, either, both, joined, disagreement, refused_if_none}
+use Rattle.behaviour_readings.specs.Joins.{Read, root, after, single, around, if_same, either, both, joined, disagreement}
 use Rattle.behaviour_readings.specs.Offers.{AreOffersRead, IsPredicateRead, AreExitValuesRead, offered_variables, offered_names}
 use Rattle.behaviour_readings.specs.Sites.{Site, gate_number, next_gate, process_named, with_gates, with_variables}
 
@@ -140,7 +139,8 @@ mutual
     chosen_gates : {s : Site} {from : ℕ} (cs : List GateChoice) (b : Construct) (x : Option Read) (rs : List Refusal) →
         AreGatesChosen s from cs b x rs →
         IsRead s from (chooses_gates cs b) x (names_twice (map (λ c. c.gate) cs) ++ rs)
-    composed_with : {s : Site} {from : ℕ} (place : Place) (operator : Operator) (a b : Construct) (x y : Option Read) (ra rb : List Refusal) →
+    composed_with : {s : Site} {from : ℕ} (place : Place) (operator : Operator) (a b : Construct) (x y : Option Read)
+        (ra rb : List Refusal) →
         IsRead s from a x ra → IsRead s (after from x) b y rb →
         IsRead s from (composes place operator a b) (composed from (synchronised s operator) x y)
         (unknown_gates s (gates_of operator) ++ ((ra ++ rb) ++ composed_refusals place (synchronised s operator) x y))

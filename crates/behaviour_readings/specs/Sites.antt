@@ -1,5 +1,5 @@
 -- What is in scope where a construct of behaviour stands (ISO 8807, static semantics).
-use Rattle.std.specs.Prelude.{ℕ, suc, ◌+◌, List, [], ◌∷◌, ◌++◌, map, length, take, Option, Some, None, option_map, if◌then◌else◌}
+use Rattle.std.specs.Prelude.{ℕ, suc, ◌+◌, List, [], ◌∷◌, ◌++◌, map, length, take, Option, Some, None, if◌then◌else◌}
 use Rattle.std.specs.List.{find}
 use Rattle.spec_core.specs.Functionality.{Functionality}
 use Rattle.lotos_ast.specs.declared.token.Token.{Token}

@@ -1,7 +1,6 @@
 -- What the definitions see of the values of the code.
-use Rattle.std.specs.Prelude.{ℕ, ◌<◌, List, map, length, Option, Some, None, option_map, bytes_eq}
+use Rattle.std.specs.Prelude.{ℕ, List, map, option_map}
 use Rattle.std.specs.List.{slice_get, filter_map}
-use Rattle.spec_core.specs.Lists.{Each}
 use Rattle.spec_core.specs.Numbers.{sort_number}
 use Rattle.spec_core.specs.Functionality as core
 use Rattle.spec_core.specs.Code.{node_of}

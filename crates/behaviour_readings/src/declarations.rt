@@ -21,10 +21,7 @@ use type_names::duplicates::add_names_twice;
 use type_names::names::add_names;
 
 // The names that declarations declare.
-fn declared_names<'d>(
-    alloc: Global,
-    declared: &'d [Declaration],
-) -> Result<Vec<&'d Token>, Memory>
+fn declared_names<'d>(alloc: Global, declared: &'d [Declaration]) -> Result<Vec<&'d Token>, Memory>
     ensures { IfOk result (λ all. map (λ t. t.now) all.items ≡ declarations.declared_names declared.now) }
 {
     let mut all = Vec::new(alloc);
@@ -120,7 +117,8 @@ pub fn gates_named(
     site: &Site<'_>,
     names: &[Token],
 ) -> Result<Option<Vec<Gate>>, Memory>
-    ensures { IfOk result (λ found. option_map (λ gates. map gate_number gates.items) found ≡ declarations.gate_numbers site.now names.now) }
+    ensures { IfOk result (λ found. option_map (λ gates. map gate_number gates.items) found
+        ≡ declarations.gate_numbers site.now names.now) }
 {
     let mut all = Vec::new(alloc);
     for name in names {

@@ -1,6 +1,7 @@
 // What is in scope.
 
-ghost use Rattle.std.specs.Prelude.{◌≡◌, ◌<◌, ◌^◌, ◌+◌, ◌++◌, [], ◌∷◌, Some, None, IfOk, OnOk, length, take, map, option_map, vec_len, if◌then◌else◌};
+ghost use Rattle.std.specs.Prelude.{◌≡◌, ◌<◌, ◌^◌, ◌+◌, ◌++◌, [], ◌∷◌, Some, None, IfOk, OnOk, length, map, option_map};
+ghost use Rattle.std.specs.Prelude.{if◌then◌else◌};
 ghost use Rattle.std.specs.List.{find, list_any};
 ghost use Rattle.lotos_ast.specs.declared.token.Token.{Token};
 ghost use Rattle.lotos_ast.specs.ExpressionTrees.{expr_tree};

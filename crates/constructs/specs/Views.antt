@@ -1,10 +1,11 @@
 -- What the definitions see of the values of the code.
-use Rattle.std.specs.Prelude.{Option, option_map, box_value}
+use Rattle.std.specs.Prelude.{option_map, box_value}
 use Rattle.constructs.specs.Constructs.{stops, exits, acts_inside, acts, chooses, asks, binds, chooses_values, chooses_gates}
 use Rattle.constructs.specs.Constructs.{composes, hides, enables, disables, calls, copies}
 use Rattle.constructs.specs.Constructs as written
 use Rattle.constructs.specs.declared.construct.Construct.{Construct}
-use Rattle.constructs.specs.declared.construct.Construct.TheOpen.{Construct-F, Stop, Exit, Inner, Act, Choice, Guard, Let, Values, Gates, Parallel}
+use Rattle.constructs.specs.declared.construct.Construct.TheOpen.{Construct-F, Stop, Exit, Inner, Act, Choice, Guard, Let, Values}
+use Rattle.constructs.specs.declared.construct.Construct.TheOpen.{Gates, Parallel}
 use Rattle.constructs.specs.declared.construct.Construct.TheOpen.{Hide, Enable, Disable, Call, Par}
 use Rattle.constructs.specs.declared.construct.Construct.TheFolds.{fold-Construct}
 

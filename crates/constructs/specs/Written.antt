@@ -9,11 +9,11 @@ use Rattle.lotos_ast.specs.declared.behaviour.Atom.TheOpen.{ChoiceOfValues, Choi
 use Rattle.lotos_ast.specs.declared.behaviour.Atom.TheFolds.{fold-Atom, fold-Unary}
 use Rattle.lotos_ast.specs.declared.behaviour.Behaviour.{Behaviour, Behaviour-F, fold-Behaviour}
 use Rattle.lotos_ast.specs.declared.behaviour.Choice.{Choice, Choice-F, fold-Choice}
-use Rattle.lotos_ast.specs.declared.behaviour.Choosing.{Choosing, Choosing-F, fold-Choosing}
-use Rattle.lotos_ast.specs.declared.behaviour.Composing.{Composing, Composing-F, fold-Composing}
+use Rattle.lotos_ast.specs.declared.behaviour.Choosing.{Choosing-F}
+use Rattle.lotos_ast.specs.declared.behaviour.Composing.{Composing-F}
 use Rattle.lotos_ast.specs.declared.behaviour.Disable.{Disable, Disable-F, fold-Disable}
-use Rattle.lotos_ast.specs.declared.behaviour.Disabling.{Disabling, Disabling-F, fold-Disabling}
-use Rattle.lotos_ast.specs.declared.behaviour.Enabling.{Enabling, Enabling-F, fold-Enabling}
+use Rattle.lotos_ast.specs.declared.behaviour.Disabling.{Disabling-F}
+use Rattle.lotos_ast.specs.declared.behaviour.Enabling.{Enabling-F}
 use Rattle.lotos_ast.specs.declared.behaviour.Parallel.{Parallel, Parallel-F, fold-Parallel}
 use Rattle.lotos_ast.specs.declared.behaviour.Unary.{Unary}
 use Rattle.lotos_ast.specs.declared.declaration.Declaration.{Declaration}

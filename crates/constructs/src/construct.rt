@@ -12,9 +12,13 @@ pub enum Construct<'a> {
     /// `stop`
     Stop,
     /// `exit` with these values.
-    Exit { values: &'a [ExitValue] },
+    Exit {
+        values: &'a [ExitValue],
+    },
     /// `i` and what follows.
-    Inner { rest: Box<Construct<'a>> },
+    Inner {
+        rest: Box<Construct<'a>>,
+    },
     /// An action at a gate and what follows.
     Act {
         gate: &'a Token,

@@ -3,7 +3,8 @@
 ghost use Rattle.std.specs.Prelude.{◌≡◌, IfOk, option_map};
 ghost use Rattle.constructs.specs.Views.{construct_of};
 ghost use Rattle.constructs.specs.Written.{listed, gates_in, declarations_in, action_written};
-ghost use Rattle.constructs.specs.Written.{behaviour_written, disable_written, parallel_written, choice_written, unary_written, atom_written};
+ghost use Rattle.constructs.specs.Written.{behaviour_written, disable_written, parallel_written};
+ghost use Rattle.constructs.specs.Written.{choice_written, unary_written, atom_written};
 
 use crate::construct::Construct;
 use lotos_ast::behaviour::{Action, Atom, Behaviour, Choice, Disable, Parallel, Unary};

@@ -1,4 +1,4 @@
-use Rattle.std.proofs.Common.{◌≡◌, sym, ◌∙◌}
+use Rattle.std.proofs.Common.{sym, ◌∙◌}
 use Rattle.sort_overloads.specs.Listed.{is_same_name}
 use Rattle.behaviour_readings.proofs.Headings.{named_next, unnamed_next, past_next}
 use Rattle.behaviour_readings.proofs.site.process_named.Goals.{then-number-headings+else-is_named, else-number-headings}

@@ -1,4 +1,4 @@
-use Rattle.std.proofs.Common.{ap, sym, map, take, ◌∙◌}
+use Rattle.std.proofs.Common.{ap, sym, map, ◌∙◌}
 use Rattle.std.proofs.lemmas.List.{take-map}
 use Rattle.spec_core.specs.Code.{node_of}
 use Rattle.behaviour_readings.proofs.output.Output.truncate.Goals as goal

@@ -1,4 +1,4 @@
-use Rattle.std.proofs.Common.{◌≡◌, sym, ap, ◌∙◌}
+use Rattle.std.proofs.Common.{ap, ◌∙◌}
 use Rattle.behaviour_readings.specs.Sites.{with_first}
 use Rattle.behaviour_readings.specs.Views.{headings_at}
 use Rattle.sort_overloads.specs.Views.{declared_of}
