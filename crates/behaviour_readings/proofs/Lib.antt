@@ -1,0 +1,4 @@
+pub mod Headings
+pub mod Reading
+pub mod Scopes
+pub mod Single

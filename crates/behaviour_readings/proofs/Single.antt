@@ -1,0 +1,60 @@
+-- What single values are read as.
+use Rattle.std.proofs.Common.{ℕ, ◌≡◌, sym, subst, List, ◌++◌, Option, Some, None}
+use Rattle.std.specs.Prelude.{option_map}
+use Rattle.lotos_ast.specs.declared.behaviour.ExitValue.{ExitValue}
+use Rattle.lotos_ast.specs.declared.behaviour.ExitValue.TheVariants.{Any}
+use Rattle.lotos_ast.specs.declared.expression.Expr.{Expr}
+use Rattle.lotos_ast.specs.declared.place.Place.{Place}
+use Rattle.lotos_ast.specs.declared.refusal.Refusal.{Refusal}
+use Rattle.lotos_ast.specs.declared.token.Token.{Token}
+use Rattle.lotos_ast.specs.ExpressionTrees.{expr_tree}
+use Rattle.spec_core.specs.declared.items.Sort.{Sort}
+use Rattle.spec_core.specs.Code.{exit_given, exit_any}
+use Rattle.sort_overloads.specs.Expressions.{expression}
+use Rattle.sort_overloads.specs.Judged.{Adds}
+use Rattle.sort_overloads.specs.Listed.{Typed}
+use Rattle.sort_overloads.specs.Refused.{unknowns, unknown_sort}
+use Rattle.behaviour_readings.specs.Calls.{IsValueRead, sorted, unsorted}
+use Rattle.behaviour_readings.specs.Offers.{IsExpressionRead, IsExitValueRead, any, value}
+use Rattle.behaviour_readings.specs.Sites.{Site, sort_of}
+
+-- what is added in one sense is added in another that follows from it
+pub added_as : {P Q : List Refusal → Type 0} (old new : List Refusal) → ((rs : List Refusal) → P rs → Q rs) → Adds P old new → Adds Q old new
+added_as old new f h = record { refusals = h.refusals; such = f h.refusals h.such; behind = h.behind }
+
+pub value_unsorted : (s : Site) (e : Expr) (old new : List Refusal) → new ≡ old ++ unknowns s.context (expression (expr_tree e))
+    → Adds (IsValueRead s None e None) old new
+value_unsorted s e old new h = record { refusals = unknowns s.context (expression (expr_tree e)); such = unsorted e; behind = h }
+
+pub value_unread : (s : Site) (sort : Sort) (e : Expr) (old new : List Refusal) → Adds (IsExpressionRead s (Some sort) e None) old new
+    → Adds (IsValueRead s (Some sort.0) e None) old new
+value_unread s sort e old new h = added_as old new (λ rs p. sorted sort e None rs p) h
+
+pub value_read : (s : Site) (sort : Sort) (e : Expr) (x : Typed) (old new : List Refusal) → Adds (IsExpressionRead s (Some sort) e (Some x)) old new
+    → Adds (IsValueRead s (Some sort.0) e (Some x.term)) old new
+value_read s sort e x old new h = added_as old new (λ rs p. sorted sort e (Some x) rs p) h
+
+-- any value of a sort
+any_as : (s : Site) (place : Place) (t : Token) (o : Option ℕ) → o ≡ sort_of s t → (old new : List Refusal) → new ≡ old ++ unknown_sort s.context t
+    → Adds (IsExitValueRead s (Any place t) (option_map (λ n. (exit_any n, n)) o)) old new
+any_as s place t o is old new h = record {
+  refusals = unknown_sort s.context t;
+  such = subst (λ z. IsExitValueRead s (Any place t) (option_map (λ n. (exit_any n, n)) z) (unknown_sort s.context t)) (sym is) (any t);
+  behind = h;
+}
+
+pub any_unknown : (s : Site) (place : Place) (t : Token) (old new : List Refusal) → None ≡ sort_of s t
+    → new ≡ old ++ unknown_sort s.context t → Adds (IsExitValueRead s (Any place t) None) old new
+any_unknown s place t old new unknown h = any_as s place t None unknown old new h
+
+pub any_known : (s : Site) (place : Place) (t : Token) (n : ℕ) (old new : List Refusal) → Some n ≡ sort_of s t
+    → new ≡ old ++ unknown_sort s.context t → Adds (IsExitValueRead s (Any place t) (Some (exit_any n, n))) old new
+any_known s place t n old new known h = any_as s place t (Some n) known old new h
+
+pub exit_unread : (s : Site) (place : Place) (e : Expr) (old new : List Refusal) → Adds (IsExpressionRead s None e None) old new
+    → Adds (IsExitValueRead s (ExitValue.Value place e) None) old new
+exit_unread s place e old new h = added_as old new (λ rs p. value e None rs p) h
+
+pub exit_read : (s : Site) (place : Place) (e : Expr) (x : Typed) (old new : List Refusal) → Adds (IsExpressionRead s None e (Some x)) old new
+    → Adds (IsExitValueRead s (ExitValue.Value place e) (Some (exit_given x.term, x.sort))) old new
+exit_read s place e x old new h = added_as old new (λ rs p. value e (Some x) rs p) h

@@ -1,0 +1,9 @@
+pub mod Calls
+pub mod Declarations
+pub mod Joins
+pub mod Offers
+pub mod Outputs
+pub mod Readings
+pub mod ReadsAll
+pub mod Sites
+pub mod Views

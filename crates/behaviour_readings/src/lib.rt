@@ -1,0 +1,9 @@
+// What constructs of behaviour are read as.
+#![tactic(auto)]
+
+pub mod declarations;
+pub mod functionality;
+pub mod heading;
+pub mod output;
+pub mod site;
+pub mod values;

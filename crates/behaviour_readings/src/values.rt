@@ -1,0 +1,69 @@
+// Expressions of declared sorts, and values with which a behaviour ends.
+
+ghost use Rattle.std.specs.Prelude.{◌≡◌, ◌++◌, IfOk, OnOk, map, option_map};
+ghost use Rattle.spec_core.specs.Code.{exit_value_of};
+ghost use Rattle.spec_core.specs.Numbers.{sort_number};
+ghost use Rattle.spec_core.specs.Terms.{term_of};
+ghost use Rattle.sort_overloads.specs.Judged.{Adds};
+ghost use Rattle.behaviour_readings.specs.Calls.{IsValueRead, AreValuesRead};
+ghost use Rattle.behaviour_readings.specs.Offers.{IsExitValueRead, AreExitValuesRead};
+
+use crate::site::Site;
+use lotos_ast::behaviour::ExitValue;
+use lotos_ast::expression::Expr;
+use lotos_ast::refusal::Refusal;
+use spec_core::code::ExitField;
+use spec_core::items::Sort;
+use spec_core::memory::Memory;
+use spec_core::term::Term;
+use std::alloc::Global;
+
+#[tactic(auto, using(crate::proofs::Single::value_unsorted, crate::proofs::Single::value_unread, crate::proofs::Single::value_read))]
+/// An expression of a sort; where the sort isn't known, the expression is asked for its unknown names alone.
+pub fn value(
+    alloc: Global,
+    site: &Site<'_>,
+    sort: Option<Sort>,
+    expr: &Expr,
+    refusals: &mut Vec<Refusal>,
+) -> Result<Option<Term>, Memory>
+    ensures { IfOk result (λ found. Adds (IsValueRead site.now (option_map sort_number sort) expr.now (option_map term_of found))
+        refusals.old.items refusals.new.items) }
+{
+    match sort {
+        None => {
+            site.add_unknowns(alloc, expr, refusals)?;
+            Ok(None)
+        }
+        Some(sort) => match site.judge(alloc, expr, Some(sort), refusals)? {
+            None => Ok(None),
+            Some(found) => Ok(Some(found.term)),
+        },
+    }
+}
+
+// A value with which a behaviour ends, and its sort.
+#[tactic(auto, using(crate::proofs::Single::any_unknown, crate::proofs::Single::any_known, crate::proofs::Single::exit_unread, crate::proofs::Single::exit_read))]
+fn exit_value(
+    alloc: Global,
+    site: &Site<'_>,
+    from: &ExitValue,
+    refusals: &mut Vec<Refusal>,
+) -> Result<Option<(ExitField, Sort)>, Memory>
+    ensures { IfOk result (λ found. Adds (IsExitValueRead site.now from.now (option_map (λ v. (exit_value_of v.0, v.1.0)) found))
+        refusals.old.items refusals.new.items) }
+{
+    match from {
+        ExitValue::Any { place: _, sort } => {
+            site.add_unknown_sort(alloc, sort, refusals)?;
+            match site.sort(sort) {
+                None => Ok(None),
+                Some(number) => Ok(Some((ExitField::Any(number), number))),
+            }
+        }
+        ExitValue::Value { place: _, value } => match site.judge(alloc, value, None, refusals)? {
+            None => Ok(None),
+            Some(found) => Ok(Some((ExitField::Give(found.term), found.sort))),
+        },
+    }
+}

@@ -1,0 +1,5 @@
+// Behaviours as constructs.
+#![tactic(auto)]
+
+pub mod construct;
+pub mod written;
