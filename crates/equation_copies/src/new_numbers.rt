@@ -92,8 +92,9 @@ fn image_numbers(
     described: &[Declared<'_>],
 ) -> Result<Vec<u32>, Memory>
     requires { AreWithin (length table.now) replaced.now }
-    ensures { IfOk result (λ all. (among : List items.Described) → IsIndexOf index.now (items_in among) → all.items ≡ copies.image_numbers among
-        (copies.image_in (items_at table.now replaced.now) (renaming_view renaming.now)) (map described_of described.now)) }
+    ensures { IfOk result (λ all. (among : List items.Described) → IsIndexOf index.now (items_in among) → all.items
+        ≡ copies.image_numbers among (copies.image_in (items_at table.now replaced.now) (renaming_view renaming.now))
+        (map described_of described.now)) }
 {
     let mut all = Vec::new(alloc);
     for one in described {
