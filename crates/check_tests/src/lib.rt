@@ -2,8 +2,12 @@
 #![tactic(auto)]
 
 #[cfg(test)]
+mod covered;
+#[cfg(test)]
 mod data;
 #[cfg(test)]
 mod decreasing;
 #[cfg(test)]
 mod sets;
+#[cfg(test)]
+mod sorted_data;
