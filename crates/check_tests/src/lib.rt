@@ -2,6 +2,8 @@
 #![tactic(auto)]
 
 #[cfg(test)]
+mod covered;
+#[cfg(test)]
 mod data;
 #[cfg(test)]
 mod decreasing;
@@ -9,5 +11,7 @@ mod decreasing;
 mod orthogonal;
 #[cfg(test)]
 mod sets;
+#[cfg(test)]
+mod sorted_data;
 #[cfg(test)]
 mod truths;

@@ -33,13 +33,15 @@ only_some : {A : Type 0} (d : Tells A) (v : Option ℕ) (a : ℕ) → only d v �
 only_some (inl h) v a e = (h, e)
 only_some (inr n) v a e = absurd (cc)
 
-each_one : {A : Type 0} (P : A → Type 0) (Q : A → Type 0) (xs : List A) → Each P xs → OneOf Q xs → (x : A) × P x × Q x × OneOf (λ y. x ≡ y) xs
+each_one : {A : Type 0} (P : A → Type 0) (Q : A → Type 0) (xs : List A) → Each P xs → OneOf Q xs →
+    (x : A) × P x × Q x × OneOf (λ y. x ≡ y) xs
 each_one P Q [] h o = absurd o
 each_one P Q (x ∷ xs) h (inl q) = (x, h.0, q, inl refl)
 each_one P Q (x ∷ xs) h (inr o) = let r = each_one P Q xs h.1 o in (r.0, r.1, r.2, inr r.3)
 
 -- an element that a loop has come to is one of the list's
-pub one_of_at : {A B : Type 0} (g : A → B) (xs ys : List A) (i : ℕ) (x : A) → ys ≡ xs → i < length ys → x ≡ get_or ys i x → IsOneOf (g x) (map g xs)
+pub one_of_at : {A B : Type 0} (g : A → B) (xs ys : List A) (i : ℕ) (x : A) → ys ≡ xs → i < length ys → x ≡ get_or ys i x →
+    IsOneOf (g x) (map g xs)
 one_of_at {A = A} g xs ys i x same w a = subst (λ zs. IsOneOf (g x) (map g zs)) same (go ys i w a)
   where
     go : (zs : List A) (i : ℕ) → i < length zs → x ≡ get_or zs i x → IsOneOf (g x) (map g zs)
@@ -48,14 +50,18 @@ one_of_at {A = A} g xs ys i x same w a = subst (λ zs. IsOneOf (g x) (map g zs))
     go (z ∷ zs) (suc i) w a = inr (go zs i (omega arith) a)
 
 module _ (theory : Theory) (f : ℕ) where
-  rows_from : (all es : List ConditionalEquation) (rows : List TermTrees) → ((e : ConditionalEquation) → IsOneOf e es → IsOneOf e all) → AreRows theory f es rows →
+  rows_from : (all es : List ConditionalEquation) (rows : List TermTrees) → ((e : ConditionalEquation) → IsOneOf e es → IsOneOf e all) →
+      AreRows theory f es rows →
       Each (λ r. (e : ConditionalEquation) × IsOneOf e all × (e.left ≡ apply f r) × HasFullGroup theory e) rows
-  rows_from all [] rows m h = subst (Each (λ r. (e : ConditionalEquation) × IsOneOf e all × (e.left ≡ apply f r) × HasFullGroup theory e)) (sym h) tt
-  rows_from all (e ∷ es) rows m (inl h) = subst (Each (λ r. (e : ConditionalEquation) × IsOneOf e all × (e.left ≡ apply f r) × HasFullGroup theory e)) (sym h.3.1)
+  rows_from all [] rows m h =
+      subst (Each (λ r. (e : ConditionalEquation) × IsOneOf e all × (e.left ≡ apply f r) × HasFullGroup theory e)) (sym h) tt
+  rows_from all (e ∷ es) rows m (inl h) =
+      subst (Each (λ r. (e : ConditionalEquation) × IsOneOf e all × (e.left ≡ apply f r) × HasFullGroup theory e)) (sym h.3.1)
       ((e, m e (inl refl), h.1, h.2), rows_from all es h.3.0 (λ d o. m d (inr o)) h.3.2)
   rows_from all (e ∷ es) rows m (inr h) = rows_from all es rows (λ d o. m d (inr o)) h.1
 
-  among : (r : TermTrees) (e : ConditionalEquation) (es : List ConditionalEquation) (rows : List TermTrees) → AreRows theory f es rows → IsOneOf e es → e.left ≡ apply f r → HasFullGroup theory e → OneOf (λ q. q ≡ r) rows
+  among : (r : TermTrees) (e : ConditionalEquation) (es : List ConditionalEquation) (rows : List TermTrees) → AreRows theory f es rows →
+      IsOneOf e es → e.left ≡ apply f r → HasFullGroup theory e → OneOf (λ q. q ≡ r) rows
   among r e [] rows h o l g = absurd o
   among r e (d ∷ es) rows (inl h) (inl k) l g =
       let m : apply f r ≡ apply f h.0 = sym l ∙ ap (λ x. x.left) k ∙ h.1 in
@@ -66,23 +72,27 @@ module _ (theory : Theory) (f : ℕ) where
   among r e (d ∷ es) rows (inr h) (inr o) l g = among r e es rows h.1 o l g
 
   -- one more row
-  pub rows_more : (es : List ConditionalEquation) (e : ConditionalEquation) (rows new : List TermTrees) → AreRows theory f es rows → IsRowAdded theory f e rows new → AreRows theory f (es ++ e ∷ []) new
+  pub rows_more : (es : List ConditionalEquation) (e : ConditionalEquation) (rows new : List TermTrees) → AreRows theory f es rows →
+      IsRowAdded theory f e rows new → AreRows theory f (es ++ e ∷ []) new
   rows_more [] e rows new h (inl a) = inl (a.0, a.1, a.2, ([], a.3 ∙ ap (λ xs. xs ++ a.0 ∷ []) h, refl))
   rows_more [] e rows new h (inr a) = inr (a.0, a.1 ∙ h)
   rows_more (d ∷ es) e rows new (inl h) (inl a) = inl (h.0, h.1, h.2, (h.3.0 ++ a.0 ∷ [], a.3 ∙ ap (λ xs. xs ++ a.0 ∷ []) h.3.1, rows_more es e h.3.0 (h.3.0 ++ a.0 ∷ []) h.3.2 (inl (a.0, a.1, a.2, refl))))
-  rows_more (d ∷ es) e rows new (inl h) (inr a) = inl (h.0, h.1, h.2, (h.3.0, a.1 ∙ h.3.1, rows_more es e h.3.0 h.3.0 h.3.2 (inr (a.0, refl))))
+  rows_more (d ∷ es) e rows new (inl h) (inr a) =
+      inl (h.0, h.1, h.2, (h.3.0, a.1 ∙ h.3.1, rows_more es e h.3.0 h.3.0 h.3.2 (inr (a.0, refl))))
   rows_more (d ∷ es) e rows new (inr h) a = inr (h.0, rows_more es e rows new h.1 a)
 
 module _ (theory : Theory) where
   -- what a match gives a variable has its sort
   mutual
-    bound_sort : (vars : ℕ → Option ℕ) (b : ℕ → TermTree) (t : TermTree) (s x a : ℕ) → HasSort theory vars t s → HasSort theory no_variables (instance b t) s → Occurs x t → vars x ≡ Some a → HasSort theory no_variables (b x) a
+    bound_sort : (vars : ℕ → Option ℕ) (b : ℕ → TermTree) (t : TermTree) (s x a : ℕ) → HasSort theory vars t s →
+        HasSort theory no_variables (instance b t) s → Occurs x t → vars x ≡ Some a → HasSort theory no_variables (b x) a
     bound_sort vars b (variable y) s x a h k o e = subst (HasSort theory no_variables (b x)) (some_one (sym h ∙ ap vars (sym o) ∙ e)) (subst (λ z. HasSort theory no_variables (b z) s) (sym o) k)
     bound_sort vars b (apply g ts) s x a h k o e =
         let d = both_on (slice_get theory.operations g) (λ d. (d.result ≡ s) × HaveSorts theory vars ts d.args) (λ d. (d.result ≡ s) × HaveSorts theory no_variables (instances b ts) d.args) h k in
         bound_sorts vars b ts d.0.args x a d.2.1 d.3.1 o e
 
-    bound_sorts : (vars : ℕ → Option ℕ) (b : ℕ → TermTree) (ts : TermTrees) (sorts : List ℕ) (x a : ℕ) → HaveSorts theory vars ts sorts → HaveSorts theory no_variables (instances b ts) sorts → OccursInAny x ts → vars x ≡ Some a → HasSort theory no_variables (b x) a
+    bound_sorts : (vars : ℕ → Option ℕ) (b : ℕ → TermTree) (ts : TermTrees) (sorts : List ℕ) (x a : ℕ) → HaveSorts theory vars ts sorts →
+        HaveSorts theory no_variables (instances b ts) sorts → OccursInAny x ts → vars x ≡ Some a → HasSort theory no_variables (b x) a
     bound_sorts vars b no_terms sorts x a h k o e = absurd o
     bound_sorts vars b (and_term t ts) [] x a h k o e = absurd h
     bound_sorts vars b (and_term t ts) (s ∷ sorts) x a h k (inl o) e = bound_sort vars b t s x a h.0 k.0 o e
@@ -94,13 +104,15 @@ module _ (theory : Theory) where
     some_sort vars (variable y) s x h o = (s, ap vars o ∙ h)
     some_sort vars (apply g ts) s x h o = let d = on_some (slice_get theory.operations g) (λ d. (d.result ≡ s) × HaveSorts theory vars ts d.args) h in some_sort_of vars ts d.0.args x d.2.1 o
 
-    some_sort_of : (vars : ℕ → Option ℕ) (ts : TermTrees) (sorts : List ℕ) (x : ℕ) → HaveSorts theory vars ts sorts → OccursInAny x ts → (a : ℕ) × (vars x ≡ Some a)
+    some_sort_of : (vars : ℕ → Option ℕ) (ts : TermTrees) (sorts : List ℕ) (x : ℕ) → HaveSorts theory vars ts sorts → OccursInAny x ts →
+        (a : ℕ) × (vars x ≡ Some a)
     some_sort_of vars no_terms sorts x h o = absurd o
     some_sort_of vars (and_term t ts) [] x h o = absurd h
     some_sort_of vars (and_term t ts) (s ∷ sorts) x h (inl o) = some_sort vars t s x h.0 o
     some_sort_of vars (and_term t ts) (s ∷ sorts) x h (inr o) = some_sort_of vars ts sorts x h.1 o
 
-  right_sort : (vars : ℕ → Option ℕ) (b : ℕ → TermTree) (t : TermTree) (s x a : ℕ) → HasSort theory vars t s → HasSort theory no_variables (instance b t) s → Occurs x t → HasSort theory no_variables (b x) a → vars x ≡ Some a
+  right_sort : (vars : ℕ → Option ℕ) (b : ℕ → TermTree) (t : TermTree) (s x a : ℕ) → HasSort theory vars t s →
+      HasSort theory no_variables (instance b t) s → Occurs x t → HasSort theory no_variables (b x) a → vars x ≡ Some a
   right_sort vars b t s x a h k o g =
       let r = some_sort vars t s x h o in
       r.1 ∙ ap Some (one_sort theory no_variables (b x) r.0 a (bound_sort vars b t s x r.0 h k o r.1) g)
@@ -111,7 +123,8 @@ module _ (theory : Theory) where
     call_sort vs h = subst (λ o. OnSome o (λ x. (x.result ≡ d.result) × HaveSorts theory no_variables vs x.args)) (sym declared) (refl, h)
 
     -- the sort of a left side that f heads is f's
-    left_sort : (e : ConditionalEquation) (r : TermTrees) → EquationFits theory e → e.left ≡ apply f r → HasSort theory (slice_get e.sorts) e.left d.result
+    left_sort : (e : ConditionalEquation) (r : TermTrees) → EquationFits theory e → e.left ≡ apply f r →
+        HasSort theory (slice_get e.sorts) e.left d.result
     left_sort e r h l =
         let k : HasSort theory (slice_get e.sorts) (apply f r) h.sides.0 = subst (λ t. HasSort theory (slice_get e.sorts) t h.sides.0) l h.sides.1 in
         let x = on_some (slice_get theory.operations f) (λ x. (x.result ≡ h.sides.0) × HaveSorts theory (slice_get e.sorts) r x.args) k in
@@ -123,7 +136,9 @@ module _ (theory : Theory) where
     lefts e (y ∷ ys) (inl q) = inl (ap (λ z. z.left) (sym q))
     lefts e (y ∷ ys) (inr o) = inr (lefts e ys o)
 
-    call_covered : (e : ConditionalEquation) (r vs : TermTrees) → IsOneOf e theory.equations → EquationFits theory e → IsLinear e.left → e.left ≡ apply f r → HasFullGroup theory e → HaveSorts theory no_variables vs d.args → AreOfShape r vs → IsCoveredCall theory (apply f vs)
+    call_covered : (e : ConditionalEquation) (r vs : TermTrees) → IsOneOf e theory.equations → EquationFits theory e → IsLinear e.left →
+        e.left ≡ apply f r → HasFullGroup theory e → HaveSorts theory no_variables vs d.args → AreOfShape r vs →
+        IsCoveredCall theory (apply f vs)
     call_covered e r vs o ef lin l full hv h =
         let s = filled (apply f r) (apply f vs) (subst IsLinear l lin) (refl, h) in
         let m : instance s.0 e.left ≡ apply f vs = ap (instance s.0) l ∙ s.1 in
@@ -141,7 +156,8 @@ module _ (theory : Theory) where
               (λ ps i x a j v. only_first (occurs x e.left) (slice_get e.sorts x) (group_occurs theory e.left orthogonal.closed full.lists full.group ps i x j) ∙ v);
         }
 
-    zipped : (es : List ConditionalEquation) → Each (EquationFits theory) es → Each (λ e. IsLinear e.left) es → Each (HasPatterns theory) es → Each (λ e. EquationFits theory e × IsLinear e.left × HasPatterns theory e) es
+    zipped : (es : List ConditionalEquation) → Each (EquationFits theory) es → Each (λ e. IsLinear e.left) es →
+        Each (HasPatterns theory) es → Each (λ e. EquationFits theory e × IsLinear e.left × HasPatterns theory e) es
     zipped [] h k l = tt
     zipped (e ∷ es) h k l = ((h.0, k.0, l.0), zipped es h.1 k.1 l.1)
 
@@ -149,7 +165,8 @@ module _ (theory : Theory) where
     facts = zipped theory.equations fits.equations orthogonal.linear orthogonal.patterns
 
     -- where the search finds nothing, each call is covered
-    pub covers : Finds theory rows (variables d.args) None → (vs : TermTrees) → HaveSorts theory no_variables vs d.args → AreConstructed theory vs → IsCoveredCall theory (apply f vs)
+    pub covers : Finds theory rows (variables d.args) None → (vs : TermTrees) → HaveSorts theory no_variables vs d.args →
+        AreConstructed theory vs → IsCoveredCall theory (apply f vs)
     covers found vs hv c =
         let o = all_covered theory rows found refl d.args vs (variables_sorts theory d.args) hv c (variables_shape theory vs d.args hv) in
         let r = each_one (λ r. (e : ConditionalEquation) × IsOneOf e theory.equations × (e.left ≡ apply f r) × HasFullGroup theory e) (λ r. AreOfShape r vs) rows (rows_from theory f theory.equations theory.equations rows (λ e o. o) are_rows) o in
@@ -157,7 +174,9 @@ module _ (theory : Theory) where
         let k = at_one theory.equations facts r.1.1 in
         call_covered e r.0 vs r.1.1 k.0 k.1 r.1.2 r.1.3 hv r.2
       where
-        at_one : {e : ConditionalEquation} (es : List ConditionalEquation) → Each (λ e. EquationFits theory e × IsLinear e.left × HasPatterns theory e) es → IsOneOf e es → EquationFits theory e × IsLinear e.left × HasPatterns theory e
+        at_one : {e : ConditionalEquation} (es : List ConditionalEquation) →
+            Each (λ e. EquationFits theory e × IsLinear e.left × HasPatterns theory e) es → IsOneOf e es →
+            EquationFits theory e × IsLinear e.left × HasPatterns theory e
         at_one [] h o = absurd o
         at_one (y ∷ ys) h (inl q) = subst (λ e. EquationFits theory e × IsLinear e.left × HasPatterns theory e) (sym q) h.0
         at_one (y ∷ ys) h (inr o) = at_one ys h.1 o
@@ -168,7 +187,8 @@ module _ (theory : Theory) where
     row_of r vs (q ∷ qs) h (inr o) = inr (row_of r vs qs h o)
 
     -- a covered call is of a row's shape
-    covered_row : (vs : TermTrees) → HaveSorts theory no_variables vs d.args → IsCoveredCall theory (apply f vs) → OneOf (λ r. AreOfShape r vs) rows
+    covered_row : (vs : TermTrees) → HaveSorts theory no_variables vs d.args → IsCoveredCall theory (apply f vs) →
+        OneOf (λ r. AreOfShape r vs) rows
     covered_row vs hv c =
         let e = each_one (λ e. EquationFits theory e × IsLinear e.left × HasPatterns theory e) (λ e. e.left ≡ c.left) theory.equations facts c.equation in
         let p = e.1.2 in
@@ -189,20 +209,27 @@ module _ (theory : Theory) where
         row_of p.1 vs rows (subst (AreOfShape p.1) args (are_of_shape c.bound p.1)) (among theory f p.1 e.0 theory.equations rows are_rows e.3 l full)
 
     -- where it finds a pattern, some call isn't covered
-    pub uncovers : (q : TermTrees) → Finds theory rows (variables d.args) (Some q) → Each (IsInhabited theory) d.args → (vs : TermTrees) × HaveSorts theory no_variables vs d.args × AreConstructed theory vs × (IsCoveredCall theory (apply f vs) → ⊥)
+    pub uncovers : (q : TermTrees) → Finds theory rows (variables d.args) (Some q) → Each (IsInhabited theory) d.args →
+        (vs : TermTrees) × HaveSorts theory no_variables vs d.args × AreConstructed theory vs × (IsCoveredCall theory (apply f vs) → ⊥)
     uncovers q found inhabited =
         let r = some_uncovered theory rows found q refl d.args (variables_sorts theory d.args) (variables_made theory d.args inhabited) in
         (r.0, r.1, r.2, λ c. r.4 (covered_row r.0 r.1 c))
 
 -- what an answer of the search says
-pub answers : (theory : Theory) (f : ℕ) (d : Operation) → slice_get theory.operations f ≡ Some d → FitsData theory → IsOrthogonal theory → (rows : List TermTrees) → AreRows theory f theory.equations rows → (IsConstructor theory f → ⊥) → Each (IsInhabited theory) d.args → (start : TermTrees) → start ≡ variables d.args → {E : Type 0} (r : Result (Option Arguments) E) → IfOk r (λ found. Finds theory rows start (option_map arguments_of found)) →
+pub answers : (theory : Theory) (f : ℕ) (d : Operation) → slice_get theory.operations f ≡ Some d → FitsData theory → IsOrthogonal theory →
+    (rows : List TermTrees) → AreRows theory f theory.equations rows → (IsConstructor theory f → ⊥) → Each (IsInhabited theory) d.args →
+    (start : TermTrees) → start ≡ variables d.args → {E : Type 0} (r : Result (Option Arguments) E) →
+    IfOk r (λ found. Finds theory rows start (option_map arguments_of found)) →
     IfOk r (λ found. MatchOption found (IsCoveredOperation theory f d) (λ _. Unit {0})) × IfOk r (λ found. MatchOption found (Unit {0}) (λ case. IsUncoveredBy theory f d (arguments_of case)))
-answers theory f d declared fits o rows ar n i start e (Ok None) h = ((λ vs k hv c. covers theory f d declared fits o rows ar (subst (λ s. Finds theory rows s None) e h) vs hv c), tt)
-answers theory f d declared fits o rows ar n i start e (Ok (Some q)) h = (tt, record { defined = n; inhabited = i; rows = rows; are_rows = ar; found = subst (λ s. Finds theory rows s (Some (arguments_of q))) e h })
+answers theory f d declared fits o rows ar n i start e (Ok None) h =
+    ((λ vs k hv c. covers theory f d declared fits o rows ar (subst (λ s. Finds theory rows s None) e h) vs hv c), tt)
+answers theory f d declared fits o rows ar n i start e (Ok (Some q)) h =
+    (tt, record { defined = n; inhabited = i; rows = rows; are_rows = ar; found = subst (λ s. Finds theory rows s (Some (arguments_of q))) e h })
 answers theory f d declared fits o rows ar n i start e (Err m) h = (tt, tt)
 
 -- an operation with an uncovered pattern isn't covered
-pub not_covered : (theory : Theory) (f : ℕ) (d : Operation) → slice_get theory.operations f ≡ Some d → FitsData theory → IsOrthogonal theory → (q : TermTrees) → IsUncoveredBy theory f d q → IsCoveredOperation theory f d → ⊥
+pub not_covered : (theory : Theory) (f : ℕ) (d : Operation) → slice_get theory.operations f ≡ Some d → FitsData theory →
+    IsOrthogonal theory → (q : TermTrees) → IsUncoveredBy theory f d q → IsCoveredOperation theory f d → ⊥
 not_covered theory f d declared fits o q u c =
     let r = uncovers theory f d declared fits o u.rows u.are_rows q u.found u.inhabited in
     r.3 (c r.0 u.defined r.1 r.2)

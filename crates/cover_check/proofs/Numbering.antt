@@ -27,13 +27,15 @@ module _ (xs : List Term) (i : ℕ) (x : Term) (within : i < length xs) (at : x 
   more : terms (map term_of (take (i + 1) xs)) ≡ terms (map term_of (take i xs) ++ term_of x ∷ [])
   more = ap terms (map_more term_of xs i x within at)
 
-  pub numbered_next : (n next : ℕ) (made new : List Term) (one : Term) → terms (map term_of made) ≡ all_numbered n (terms (map term_of (take i xs))) →
+  pub numbered_next : (n next : ℕ) (made new : List Term) (one : Term) →
+      terms (map term_of made) ≡ all_numbered n (terms (map term_of (take i xs))) →
       next ≡ n + all_places (terms (map term_of (take i xs))) → term_of one ≡ numbered next (term_of x) →
       map term_of new ≡ map term_of made ++ term_of one ∷ [] → terms (map term_of new) ≡ all_numbered n (terms (map term_of (take (i + 1) xs)))
   numbered_next n next made new one h k e p =
       ap terms p ∙ numbered_last n (map term_of (take i xs)) (term_of x) (map term_of made) (term_of one) h (e ∙ ap (λ j. numbered j (term_of x)) k) ∙ ap (all_numbered n) (sym more)
 
-  pub places_next : (n next other : ℕ) → next ≡ n + all_places (terms (map term_of (take i xs))) → other ≡ next + places (term_of x) → other ≡ n + all_places (terms (map term_of (take (i + 1) xs)))
+  pub places_next : (n next other : ℕ) → next ≡ n + all_places (terms (map term_of (take i xs))) → other ≡ next + places (term_of x) →
+      other ≡ n + all_places (terms (map term_of (take (i + 1) xs)))
   places_next n next other h e =
       let a = places_last (map term_of (take i xs)) (term_of x) in
       let b = ap all_places more in

@@ -37,20 +37,24 @@ module _ (r : ℕ → ℕ) where
   premises_from (premise a b ∷ ps) x (inr (inr o)) = let k = premises_from ps x o in (k.0, inr (inr k.1), k.2)
 
 module _ (theory : Theory) (l : TermTree) (closed : Each HasNoLooseVariables theory.equations) where
-  in_one : (ps : List Premise) (e : ConditionalEquation) → HasNoLooseVariables e → IsOfGroup l ps e → (x : ℕ) → OccursInPremises x ps → Occurs x l
+  in_one : (ps : List Premise) (e : ConditionalEquation) → HasNoLooseVariables e → IsOfGroup l ps e → (x : ℕ) → OccursInPremises x ps →
+      Occurs x l
   in_one ps e h g x o =
       let k = premises_from g.0 e.premises x (subst (OccursInPremises x) g.2 o) in
       subst (λ z. Occurs z l) (sym k.2) (subst (Occurs (g.0 k.0)) g.1 (goes_to g.0 e.left k.0 (h.premises k.0 k.1)))
 
-  in_some : (es : List ConditionalEquation) → Each HasNoLooseVariables es → (ps : List Premise) → OneOf (IsOfGroup l ps) es → (x : ℕ) → OccursInPremises x ps → Occurs x l
+  in_some : (es : List ConditionalEquation) → Each HasNoLooseVariables es → (ps : List Premise) → OneOf (IsOfGroup l ps) es → (x : ℕ) →
+      OccursInPremises x ps → Occurs x l
   in_some [] h ps o x i = absurd o
   in_some (e ∷ es) h ps (inl g) x i = in_one ps e h.0 g x i
   in_some (e ∷ es) h ps (inr o) x i = in_some es h.1 ps o x i
 
-  pub group_occurs : (lists : List (List Premise)) → IsGroup theory l lists → (ps : List Premise) → IsOneOf ps lists → (x : ℕ) → OccursInPremises x ps → Occurs x l
+  pub group_occurs : (lists : List (List Premise)) → IsGroup theory l lists → (ps : List Premise) → IsOneOf ps lists → (x : ℕ) →
+      OccursInPremises x ps → Occurs x l
   group_occurs lists g ps o = in_some theory.equations closed ps (from lists g.from_equations o)
     where
-      from : (ls : List (List Premise)) → Each (λ qs. OneOf (IsOfGroup l qs) theory.equations) ls → IsOneOf ps ls → OneOf (IsOfGroup l ps) theory.equations
+      from : (ls : List (List Premise)) → Each (λ qs. OneOf (IsOfGroup l qs) theory.equations) ls → IsOneOf ps ls →
+          OneOf (IsOfGroup l ps) theory.equations
       from [] h o = absurd o
       from (q ∷ qs) h (inl e) = subst (λ y. OneOf (IsOfGroup l y) theory.equations) (sym e) h.0
       from (q ∷ qs) h (inr o) = from qs h.1 o

@@ -14,26 +14,30 @@ use Rattle.cover_check.specs.Refused.{IsAnswerOf, IsAdded, listed, AreRefusals, 
 use Rattle.cover_check.proofs.Covering.{not_covered}
 
 module _ (theory : Theory) where
-  pub added_last : (f : ℕ) (ds : List Operation) (d : Operation) (old new : List Refusal) → AreRefusals theory f ds old → IsAdded theory (f + length ds) d old new → AreRefusals theory f (ds ++ d ∷ []) new
+  pub added_last : (f : ℕ) (ds : List Operation) (d : Operation) (old new : List Refusal) → AreRefusals theory f ds old →
+      IsAdded theory (f + length ds) d old new → AreRefusals theory f (ds ++ d ∷ []) new
   added_last f ds d old new h (answer, k, e) = subst (AreRefusals theory f (ds ++ d ∷ [])) (sym e) (go f ds old answer h k)
     where
       one : (f : ℕ) (answer : Option Refusal) → IsAnswerOf theory f d answer → AreRefusals theory f (d ∷ []) (listed answer)
       one f None k = covered k none
       one f (Some r) k = refused k none
 
-      go : (f : ℕ) (ds : List Operation) (old : List Refusal) (answer : Option Refusal) → AreRefusals theory f ds old → IsAnswerOf theory (f + length ds) d answer → AreRefusals theory f (ds ++ d ∷ []) (old ++ listed answer)
+      go : (f : ℕ) (ds : List Operation) (old : List Refusal) (answer : Option Refusal) → AreRefusals theory f ds old →
+          IsAnswerOf theory (f + length ds) d answer → AreRefusals theory f (ds ++ d ∷ []) (old ++ listed answer)
       go f [] [] answer none k = one f answer (subst (λ n. IsAnswerOf theory n d answer) (let z : f + 0 ≡ f = omega arith in z) k)
       go f [] (r ∷ rs) answer h k = elim h [ ]
       go f (x ∷ ds) old answer (covered c h) k = covered c (go (suc f) ds old answer h (subst (λ n. IsAnswerOf theory n d answer) (let z : f + suc (length ds) ≡ suc f + length ds = omega arith in z) k))
       go f (x ∷ ds) (r ∷ rs) answer (refused c h) k = refused c (go (suc f) ds rs answer h (subst (λ n. IsAnswerOf theory n d answer) (let z : f + suc (length ds) ≡ suc f + length ds = omega arith in z) k))
 
   -- with no refusal each operation is covered
-  none_refused : (f : ℕ) (ds : List Operation) → AreRefusals theory f ds [] → (i : ℕ) (d : Operation) → slice_get ds i ≡ Some d → IsCoveredOperation theory (f + i) d
+  none_refused : (f : ℕ) (ds : List Operation) → AreRefusals theory f ds [] → (i : ℕ) (d : Operation) → slice_get ds i ≡ Some d →
+      IsCoveredOperation theory (f + i) d
   none_refused f [] h i d e = absurd (cc)
   none_refused f (x ∷ ds) (covered c h) zero d e =
       let same : x ≡ d = cc in
       subst (λ n. IsCoveredOperation theory n d) (let z : f ≡ f + 0 = omega arith in z) (subst (IsCoveredOperation theory f) same c)
-  none_refused f (x ∷ ds) (covered c h) (suc i) d e = subst (λ n. IsCoveredOperation theory n d) (let z : suc f + i ≡ f + suc i = omega arith in z) (none_refused (suc f) ds h i d e)
+  none_refused f (x ∷ ds) (covered c h) (suc i) d e =
+      subst (λ n. IsCoveredOperation theory n d) (let z : suc f + i ≡ f + suc i = omega arith in z) (none_refused (suc f) ds h i d e)
 
   pub all_covered : AreRefusals theory 0 theory.operations [] → IsCovered theory
   all_covered h f vs n k c =
@@ -44,10 +48,12 @@ module _ (theory : Theory) where
   each_covered all f d e vs n k c = all f vs n (subst (λ o. OnSome o (λ d. HaveSorts theory no_variables vs d.args)) (sym e) k) c
 
   -- with a refusal some operation isn't
-  refuses : FitsData theory → IsOrthogonal theory → IsCovered theory → (f : ℕ) (ds : List Operation) (rs : List Refusal) → ((i : ℕ) → slice_get ds i ≡ slice_get theory.operations (f + i)) → AreRefusals theory f ds rs → rs ≡ []
+  refuses : FitsData theory → IsOrthogonal theory → IsCovered theory → (f : ℕ) (ds : List Operation) (rs : List Refusal) →
+      ((i : ℕ) → slice_get ds i ≡ slice_get theory.operations (f + i)) → AreRefusals theory f ds rs → rs ≡ []
   refuses fits o all f [] [] at none = refl
   refuses fits o all f [] (r ∷ rs) at h = elim h [ ]
-  refuses fits o all f (d ∷ ds) rs at (covered c h) = refuses fits o all (suc f) ds rs (λ i. at (suc i) ∙ ap (slice_get theory.operations) (let k : f + suc i ≡ suc f + i = omega arith in k)) h
+  refuses fits o all f (d ∷ ds) rs at (covered c h) =
+      refuses fits o all (suc f) ds rs (λ i. at (suc i) ∙ ap (slice_get theory.operations) (let k : f + suc i ≡ suc f + i = omega arith in k)) h
   refuses fits o all f (d ∷ ds) (r ∷ rs) at (refused x h) =
       let here : slice_get theory.operations f ≡ Some d = ap (slice_get theory.operations) (let k : f ≡ f + 0 = omega arith in k) ∙ sym (at 0) in
       absurd (not_covered theory f d here fits o x.pattern x.uncovered (each_covered all f d here))
@@ -65,7 +71,8 @@ taken_length g xs i w = let k = go g xs i w in omega (arith, k)
     go g (x ∷ xs) zero w = refl
     go g (x ∷ xs) (suc i) w = let k = go g xs i (omega arith) in omega (arith, k)
 
-pub declared_at : (ops : List OpDecl) (items : List OpDecl) (i : ℕ) (x : OpDecl) → items ≡ ops → i < length items → x ≡ get_or items i x → slice_get (map operation_of ops) i ≡ Some (operation_of x)
+pub declared_at : (ops : List OpDecl) (items : List OpDecl) (i : ℕ) (x : OpDecl) → items ≡ ops → i < length items → x ≡ get_or items i x →
+    slice_get (map operation_of ops) i ≡ Some (operation_of x)
 declared_at ops items i x same w a = subst (λ zs. slice_get (map operation_of zs) i ≡ Some (operation_of x)) same (go items i w a)
   where
     go : (zs : List OpDecl) (i : ℕ) → i < length zs → x ≡ get_or zs i x → slice_get (map operation_of zs) i ≡ Some (operation_of x)

@@ -14,7 +14,8 @@ on_some None P h = absurd h
 on_some (Some d) P h = (d, refl, h)
 
 module _ (theory : Theory) (vars : ℕ → Option ℕ) where
-  pub have_lengths : (xs : List Term) (ys : List Sort) → HaveSorts theory vars (terms (map term_of xs)) (map sort_number ys) → length xs ≡ length ys
+  pub have_lengths : (xs : List Term) (ys : List Sort) → HaveSorts theory vars (terms (map term_of xs)) (map sort_number ys) →
+      length xs ≡ length ys
   have_lengths [] [] h = refl
   have_lengths [] (y ∷ ys) h = absurd h
   have_lengths (x ∷ xs) [] h = absurd h

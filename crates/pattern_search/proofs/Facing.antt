@@ -52,17 +52,23 @@ NotFaced (suc i) (r ∷ rows) (p ∷ patterns) = (faced (term_of r) (term_of p) 
 NotFaced (suc i) [] patterns = Unit {0}
 NotFaced (suc i) (r ∷ rows) [] = Unit {0}
 
-not_faced_suc : (rows patterns : List Term) (i : ℕ) (p : Term) → NotFaced i rows patterns → i < length patterns → p ≡ get_or patterns i p → ((r : Term) → i < length rows → r ≡ get_or rows i r → faced (term_of r) (term_of p) ≡ None) → NotFaced (suc i) rows patterns
+not_faced_suc : (rows patterns : List Term) (i : ℕ) (p : Term) → NotFaced i rows patterns → i < length patterns →
+    p ≡ get_or patterns i p → ((r : Term) → i < length rows → r ≡ get_or rows i r → faced (term_of r) (term_of p) ≡ None) →
+    NotFaced (suc i) rows patterns
 not_faced_suc [] patterns i p n w b h = tt
 not_faced_suc (x ∷ rows) [] i p n w b h = tt
 not_faced_suc (x ∷ rows) (y ∷ patterns) zero p n w b h = (subst (λ t. faced (term_of x) (term_of t) ≡ None) b (h x (omega arith) refl), tt)
-not_faced_suc (x ∷ rows) (y ∷ patterns) (suc i) p n w b h = (n.0, not_faced_suc rows patterns i p n.1 (omega arith) b (λ r v a. h r (omega (arith, v)) a))
+not_faced_suc (x ∷ rows) (y ∷ patterns) (suc i) p n w b h =
+    (n.0, not_faced_suc rows patterns i p n.1 (omega arith) b (λ r v a. h r (omega (arith, v)) a))
 
-pub not_faced_next : (rows patterns : List Term) (i : ℕ) (p : Term) → NotFaced i rows patterns → i < length patterns → p ≡ get_or patterns i p → ((r : Term) → i < length rows → r ≡ get_or rows i r → faced (term_of r) (term_of p) ≡ None) → NotFaced (i + 1) rows patterns
+pub not_faced_next : (rows patterns : List Term) (i : ℕ) (p : Term) → NotFaced i rows patterns → i < length patterns →
+    p ≡ get_or patterns i p → ((r : Term) → i < length rows → r ≡ get_or rows i r → faced (term_of r) (term_of p) ≡ None) →
+    NotFaced (i + 1) rows patterns
 not_faced_next rows patterns i p n w b h = rw add-one (not_faced_suc rows patterns i p n w b h)
 
 -- where no pattern has one, opening changes nothing
-pub opened_nowhere : (u : TermTree) (rows patterns : List Term) (i : ℕ) → NotFaced i rows patterns → length patterns ≤ i → opened_any u (terms (map term_of rows)) (terms (map term_of patterns)) ≡ terms (map term_of patterns)
+pub opened_nowhere : (u : TermTree) (rows patterns : List Term) (i : ℕ) → NotFaced i rows patterns → length patterns ≤ i →
+    opened_any u (terms (map term_of rows)) (terms (map term_of patterns)) ≡ terms (map term_of patterns)
 opened_nowhere u [] patterns i n w = refl
 opened_nowhere u (r ∷ rows) [] i n w = refl
 opened_nowhere u (r ∷ rows) (p ∷ patterns) zero n w = absurd (omega arith)
@@ -71,7 +77,10 @@ opened_nowhere u (r ∷ rows) (p ∷ patterns) (suc i) n w =
     ap (λ o. first_faced o (and_term (opened u (term_of r) (term_of p)) (terms (map term_of patterns))) (and_term (term_of p) (opened_any u (terms (map term_of rows)) (terms (map term_of patterns))))) n.0 ∙ ap (and_term (term_of p)) k
 
 -- the first that has one is the one that is opened
-pub opened_there : (u : TermTree) (rows patterns all : List Term) (i s : ℕ) (r p t : Term) → NotFaced i rows patterns → i < length rows → i < length patterns → r ≡ get_or rows i r → p ≡ get_or patterns i p → faced (term_of r) (term_of p) ≡ Some s → term_of t ≡ opened u (term_of r) (term_of p) → map term_of all ≡ map term_of patterns → terms (map term_of (slice_set all i t)) ≡ opened_any u (terms (map term_of rows)) (terms (map term_of patterns))
+pub opened_there : (u : TermTree) (rows patterns all : List Term) (i s : ℕ) (r p t : Term) → NotFaced i rows patterns → i < length rows →
+    i < length patterns → r ≡ get_or rows i r → p ≡ get_or patterns i p → faced (term_of r) (term_of p) ≡ Some s →
+    term_of t ≡ opened u (term_of r) (term_of p) → map term_of all ≡ map term_of patterns →
+    terms (map term_of (slice_set all i t)) ≡ opened_any u (terms (map term_of rows)) (terms (map term_of patterns))
 opened_there u [] patterns all i s r p t n w v a b e h m = absurd (omega arith)
 opened_there u (x ∷ rows) [] all i s r p t n w v a b e h m = absurd (omega arith)
 opened_there u (x ∷ rows) (y ∷ patterns) [] i s r p t n w v a b e h m = cc
@@ -88,8 +97,11 @@ opened_there u (x ∷ rows) (y ∷ patterns) (z ∷ all) (suc i) s r p t n w v a
     ap (λ q. and_term q (terms (map term_of (slice_set all i t)))) z' ∙ ap (and_term (term_of y)) k
     ∙ ap (λ o. first_faced o (and_term (opened u (term_of x) (term_of y)) (terms (map term_of patterns))) (and_term (term_of y) (opened_any u (terms (map term_of rows)) (terms (map term_of patterns))))) (sym n.0)
 
-pub faced_skip : (w : Option ℕ) (rows patterns : List Term) (i : ℕ) (r p : Term) → i < length rows → i < length patterns → r ≡ get_or rows i r → p ≡ get_or patterns i p → faced (term_of r) (term_of p) ≡ None → w ≡ faced_any (from i rows) (from i patterns) → w ≡ faced_any (from (i + 1) rows) (from (i + 1) patterns)
-faced_skip w rows patterns i r p lr lp a b e h = h ∙ faced_next rows patterns i r p lr lp a b ∙ ap (λ o. or_else o (faced_any (from (i + 1) rows) (from (i + 1) patterns))) e
+pub faced_skip : (w : Option ℕ) (rows patterns : List Term) (i : ℕ) (r p : Term) → i < length rows → i < length patterns →
+    r ≡ get_or rows i r → p ≡ get_or patterns i p → faced (term_of r) (term_of p) ≡ None → w ≡ faced_any (from i rows) (from i patterns) →
+    w ≡ faced_any (from (i + 1) rows) (from (i + 1) patterns)
+faced_skip w rows patterns i r p lr lp a b e h =
+    h ∙ faced_next rows patterns i r p lr lp a b ∙ ap (λ o. or_else o (faced_any (from (i + 1) rows) (from (i + 1) patterns))) e
 
 pub is_there : {A : Type 0} (o : Option A) → is_some o ≡ true → (s : A) × (o ≡ Some s)
 is_there None e = absurd (cc)
@@ -111,7 +123,8 @@ mutual
   all_cover_if no_terms no_terms m e = tt
   all_cover_if no_terms (and_term p ps) m e = absurd m
   all_cover_if (and_term r rs) no_terms m e = absurd m
-  all_cover_if (and_term r rs) (and_term p ps) m e = let k = or_else_none (faced r p) (faced_any rs ps) e in (covers_if r p m.0 k.0, all_cover_if rs ps m.1 k.1)
+  all_cover_if (and_term r rs) (and_term p ps) m e =
+      let k = or_else_none (faced r p) (faced_any rs ps) e in (covers_if r p m.0 k.0, all_cover_if rs ps m.1 k.1)
 
 pub some_or_none : (o : Option ℕ) → ((s : ℕ) × (o ≡ Some s)) ⊎ (o ≡ None)
 some_or_none None = inr refl

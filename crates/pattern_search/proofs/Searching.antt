@@ -46,16 +46,19 @@ module _ (theory : Theory) where
     pub lifts : (u : TermTree) → IsOfShape u part → AreOfShape (opened_any u rs ps) vs
 
   mutual
-    at_faced : (r p v : TermTree) (s sort : ℕ) → faced r p ≡ Some s → HasSort theory Some p sort → HasSort theory no_variables v sort → IsConstructed theory v → IsOfShape p v → Faces r p v s
+    at_faced : (r p v : TermTree) (s sort : ℕ) → faced r p ≡ Some s → HasSort theory Some p sort → HasSort theory no_variables v sort →
+        IsConstructed theory v → IsOfShape p v → Faces r p v s
     at_faced (variable x) p v s sort e hp hv c h = absurd (cc)
-    at_faced (apply g rs) (variable t) v s sort e hp hv c h = record { part = v; sorted = subst (HasSort theory no_variables v) (some_one (sym hp ∙ e)) hv; constructed = c; lifts = λ u k. k }
+    at_faced (apply g rs) (variable t) v s sort e hp hv c h =
+        record { part = v; sorted = subst (HasSort theory no_variables v) (some_one (sym hp ∙ e)) hv; constructed = c; lifts = λ u k. k }
     at_faced (apply g rs) (apply f ps) (variable y) s sort e hp hv c h = absurd c
     at_faced (apply g rs) (apply f ps) (apply i vs) s sort e hp hv c h =
         let k = both_on (slice_get theory.operations f) (λ d. (d.result ≡ sort) × HaveSorts theory Some ps d.args) (λ d. (d.result ≡ sort) × HaveSorts theory no_variables vs d.args) hp (subst (λ n. OnSome (slice_get theory.operations n) (λ d. (d.result ≡ sort) × HaveSorts theory no_variables vs d.args)) (sym h.0) hv) in
         let r = at_faced_any rs ps vs s k.0.args e k.2.1 k.3.1 c.1 h.1 in
         record { part = r.part; sorted = r.sorted; constructed = r.constructed; lifts = λ u m. (h.0, r.lifts u m) }
 
-    at_faced_any : (rs ps vs : TermTrees) (s : ℕ) (sorts : List ℕ) → faced_any rs ps ≡ Some s → HaveSorts theory Some ps sorts → HaveSorts theory no_variables vs sorts → AreConstructed theory vs → AreOfShape ps vs → FaceAll rs ps vs s
+    at_faced_any : (rs ps vs : TermTrees) (s : ℕ) (sorts : List ℕ) → faced_any rs ps ≡ Some s → HaveSorts theory Some ps sorts →
+        HaveSorts theory no_variables vs sorts → AreConstructed theory vs → AreOfShape ps vs → FaceAll rs ps vs s
     at_faced_any no_terms ps vs s sorts e hp hv c h = absurd (cc)
     at_faced_any (and_term r rs) no_terms vs s sorts e hp hv c h = absurd (cc)
     at_faced_any (and_term r rs) (and_term p ps) no_terms s sorts e hp hv c h = absurd h
@@ -70,14 +73,16 @@ module _ (theory : Theory) where
 
   -- opening keeps sorts
   mutual
-    opened_sort : (u r p : TermTree) (s sort : ℕ) → faced r p ≡ Some s → HasSort theory Some p sort → HasSort theory Some u s → HasSort theory Some (opened u r p) sort
+    opened_sort : (u r p : TermTree) (s sort : ℕ) → faced r p ≡ Some s → HasSort theory Some p sort → HasSort theory Some u s →
+        HasSort theory Some (opened u r p) sort
     opened_sort u (variable x) p s sort e hp hu = absurd (cc)
     opened_sort u (apply g rs) (variable t) s sort e hp hu = subst (HasSort theory Some u) (some_one (sym e ∙ hp)) hu
     opened_sort u (apply g rs) (apply f ps) s sort e hp hu =
         let k = on_some (slice_get theory.operations f) (λ d. (d.result ≡ sort) × HaveSorts theory Some ps d.args) hp in
         subst (λ o. OnSome o (λ d. (d.result ≡ sort) × HaveSorts theory Some (opened_any u rs ps) d.args)) (sym k.1) (k.2.0, opened_sorts u rs ps s k.0.args e k.2.1 hu)
 
-    opened_sorts : (u : TermTree) (rs ps : TermTrees) (s : ℕ) (sorts : List ℕ) → faced_any rs ps ≡ Some s → HaveSorts theory Some ps sorts → HasSort theory Some u s → HaveSorts theory Some (opened_any u rs ps) sorts
+    opened_sorts : (u : TermTree) (rs ps : TermTrees) (s : ℕ) (sorts : List ℕ) → faced_any rs ps ≡ Some s →
+        HaveSorts theory Some ps sorts → HasSort theory Some u s → HaveSorts theory Some (opened_any u rs ps) sorts
     opened_sorts u no_terms ps s sorts e hp hu = absurd (cc)
     opened_sorts u (and_term r rs) no_terms s sorts e hp hu = absurd (cc)
     opened_sorts u (and_term r rs) (and_term p ps) s [] e hp hu = absurd hp
@@ -115,14 +120,16 @@ module _ (theory : Theory) where
 
   -- such a pattern has an instance of ground constructor terms
   mutual
-    pub fill : (t : TermTree) (sort : ℕ) → IsMade t → HasSort theory Some t sort → (v : TermTree) × HasSort theory no_variables v sort × IsConstructed theory v × IsOfShape t v
+    pub fill : (t : TermTree) (sort : ℕ) → IsMade t → HasSort theory Some t sort →
+        (v : TermTree) × HasSort theory no_variables v sort × IsConstructed theory v × IsOfShape t v
     fill (variable s) sort m h = (m.0, subst (HasSort theory no_variables m.0) (some_one h) m.1, m.2, tt)
     fill (apply c ts) sort m h =
         let k = on_some (slice_get theory.operations c) (λ d. (d.result ≡ sort) × HaveSorts theory Some ts d.args) h in
         let r = fill_all ts k.0.args m.1 k.2.1 in
         (apply c r.0, subst (λ o. OnSome o (λ d. (d.result ≡ sort) × HaveSorts theory no_variables r.0 d.args)) (sym k.1) (k.2.0, r.1), (m.0, r.2), (refl, r.3))
 
-    pub fill_all : (ts : TermTrees) (sorts : List ℕ) → AreMade ts → HaveSorts theory Some ts sorts → (vs : TermTrees) × HaveSorts theory no_variables vs sorts × AreConstructed theory vs × AreOfShape ts vs
+    pub fill_all : (ts : TermTrees) (sorts : List ℕ) → AreMade ts → HaveSorts theory Some ts sorts →
+        (vs : TermTrees) × HaveSorts theory no_variables vs sorts × AreConstructed theory vs × AreOfShape ts vs
     fill_all no_terms [] m h = (no_terms, tt, tt, tt)
     fill_all no_terms (s ∷ sorts) m h = absurd h
     fill_all (and_term t ts) [] m h = absurd h
@@ -145,14 +152,17 @@ module _ (theory : Theory) where
   variables_shape (and_term v vs) [] h = absurd h
   variables_shape (and_term v vs) (s ∷ sorts) h = (tt, variables_shape vs sorts h.1)
 
-  pub inhabited_by : (vs : TermTrees) (sorts : List ℕ) → HaveSorts theory no_variables vs sorts → AreConstructed theory vs → Each (IsInhabited theory) sorts
+  pub inhabited_by : (vs : TermTrees) (sorts : List ℕ) → HaveSorts theory no_variables vs sorts → AreConstructed theory vs →
+      Each (IsInhabited theory) sorts
   inhabited_by no_terms [] h c = tt
   inhabited_by no_terms (s ∷ sorts) h c = absurd h
   inhabited_by (and_term v vs) [] h c = absurd h
   inhabited_by (and_term v vs) (s ∷ sorts) h c = ((v, h.0, c.0), inhabited_by vs sorts h.1 c.1)
 
   -- what is opened by a constructor that has values is one of the patterns
-  opened_by : (s : ℕ) (row ps : TermTrees) (n : ℕ) (ds : List Operation) (qs : List TermTrees) → OpenBy theory s row ps n ds qs → (i c : ℕ) (d : Operation) → c ≡ n + i → slice_get ds i ≡ Some d → IsMaker theory s c d → OneOf (λ q. opened_any (apply c (variables d.args)) row ps ≡ q) qs
+  opened_by : (s : ℕ) (row ps : TermTrees) (n : ℕ) (ds : List Operation) (qs : List TermTrees) → OpenBy theory s row ps n ds qs →
+      (i c : ℕ) (d : Operation) → c ≡ n + i → slice_get ds i ≡ Some d → IsMaker theory s c d →
+      OneOf (λ q. opened_any (apply c (variables d.args)) row ps ≡ q) qs
   opened_by s row ps n [] qs o i c d e at m = absurd (cc)
   opened_by s row ps n (x ∷ ds) qs (inl o) zero c d e at m =
       let a : x ≡ d = some_one at in
@@ -167,14 +177,17 @@ module _ (theory : Theory) where
   opened_by s row ps n (x ∷ ds) qs (inr o) (suc i) c d e at m = opened_by s row ps (suc n) ds qs o.1 i c d (omega (arith, e)) at m
 
   module _ (rows : List TermTrees) where
-    covers_through : (ps vs : TermTrees) (rs : List TermTrees) → AreOfShape ps vs → OneOf (λ r. AreOfShape r ps) rs → OneOf (λ r. AreOfShape r vs) rs
+    covers_through : (ps vs : TermTrees) (rs : List TermTrees) → AreOfShape ps vs → OneOf (λ r. AreOfShape r ps) rs →
+        OneOf (λ r. AreOfShape r vs) rs
     covers_through ps vs [] h o = absurd o
     covers_through ps vs (r ∷ rs) h (inl o) = inl (shapes_chain r ps vs o h)
     covers_through ps vs (r ∷ rs) h (inr o) = inr (covers_through ps vs rs h o)
 
     -- where the search finds nothing, each tuple of the pattern is covered
     mutual
-      pub all_covered : {ps : TermTrees} {answer : Option TermTrees} → Finds theory rows ps answer → answer ≡ None → (sorts : List ℕ) (vs : TermTrees) → HaveSorts theory Some ps sorts → HaveSorts theory no_variables vs sorts → AreConstructed theory vs → AreOfShape ps vs → OneOf (λ r. AreOfShape r vs) rows
+      pub all_covered : {ps : TermTrees} {answer : Option TermTrees} → Finds theory rows ps answer → answer ≡ None →
+          (sorts : List ℕ) (vs : TermTrees) → HaveSorts theory Some ps sorts → HaveSorts theory no_variables vs sorts →
+          AreConstructed theory vs → AreOfShape ps vs → OneOf (λ r. AreOfShape r vs) rows
       all_covered (covered {ps} o) e sorts vs hp hv c h = covers_through ps vs rows h o
       all_covered (uncovered k) e sorts vs hp hv c h = absurd (cc)
       all_covered (split {ps} row s qs free first at opens found) e sorts vs hp hv c h =
@@ -193,14 +206,19 @@ module _ (theory : Theory) where
               (opened_sorts u row ps s sorts at hp sorted)
               (lift u (refl, variables_shape ws d.0.args d.2.1))
 
-      all_of : {qs : List TermTrees} {answer : Option TermTrees} → FindsFirst theory rows qs answer → answer ≡ None → (q : TermTrees) → OneOf (λ p. q ≡ p) qs → (sorts : List ℕ) (vs : TermTrees) → HaveSorts theory Some q sorts → HaveSorts theory no_variables vs sorts → AreConstructed theory vs → AreOfShape q vs → OneOf (λ r. AreOfShape r vs) rows
+      all_of : {qs : List TermTrees} {answer : Option TermTrees} → FindsFirst theory rows qs answer → answer ≡ None → (q : TermTrees) →
+          OneOf (λ p. q ≡ p) qs → (sorts : List ℕ) (vs : TermTrees) → HaveSorts theory Some q sorts →
+          HaveSorts theory no_variables vs sorts → AreConstructed theory vs → AreOfShape q vs → OneOf (λ r. AreOfShape r vs) rows
       all_of in_none e q o sorts vs hq hv c h = absurd o
-      all_of (later f g) e q (inl o) sorts vs hq hv c h = all_covered f refl sorts vs (subst (λ p. HaveSorts theory Some p sorts) o hq) hv c (subst (λ p. AreOfShape p vs) o h)
+      all_of (later f g) e q (inl o) sorts vs hq hv c h =
+          all_covered f refl sorts vs (subst (λ p. HaveSorts theory Some p sorts) o hq) hv c (subst (λ p. AreOfShape p vs) o h)
       all_of (later f g) e q (inr o) sorts vs hq hv c h = all_of g e q o sorts vs hq hv c h
       all_of (here f) e q o sorts vs hq hv c h = absurd (cc)
 
     -- what each of the opened patterns is
-    opens_made : (s : ℕ) (row ps : TermTrees) (n : ℕ) (ds : List Operation) (qs : List TermTrees) (sorts : List ℕ) → ((i : ℕ) → slice_get ds i ≡ slice_get theory.operations (n + i)) → faced_any row ps ≡ Some s → OpenBy theory s row ps n ds qs → HaveSorts theory Some ps sorts → AreMade ps → Each (λ q. HaveSorts theory Some q sorts × AreMade q) qs
+    opens_made : (s : ℕ) (row ps : TermTrees) (n : ℕ) (ds : List Operation) (qs : List TermTrees) (sorts : List ℕ) →
+        ((i : ℕ) → slice_get ds i ≡ slice_get theory.operations (n + i)) → faced_any row ps ≡ Some s → OpenBy theory s row ps n ds qs →
+        HaveSorts theory Some ps sorts → AreMade ps → Each (λ q. HaveSorts theory Some q sorts × AreMade q) qs
     opens_made s row ps n [] qs sorts at e o hs m = subst (Each (λ q. HaveSorts theory Some q sorts × AreMade q)) (sym o) tt
     opens_made s row ps n (d ∷ ds) qs sorts at e (inr o) hs m = opens_made s row ps (suc n) ds qs sorts (λ i. at (suc i) ∙ ap (slice_get theory.operations) (let k : n + suc i ≡ suc n + i = omega arith in k)) e o.1 hs m
     opens_made s row ps n (d ∷ ds) qs sorts at e (inl o) hs m =
@@ -214,17 +232,23 @@ module _ (theory : Theory) where
 
     -- what it finds is a pattern of constructors of those sorts, which no row meets
     mutual
-      pub none_meets : {ps : TermTrees} {answer : Option TermTrees} → Finds theory rows ps answer → (q : TermTrees) → answer ≡ Some q → (sorts : List ℕ) → HaveSorts theory Some ps sorts → AreMade ps → HaveSorts theory Some q sorts × AreMade q × Each (λ r. MeetAll r q → ⊥) rows
+      pub none_meets : {ps : TermTrees} {answer : Option TermTrees} → Finds theory rows ps answer → (q : TermTrees) → answer ≡ Some q →
+          (sorts : List ℕ) → HaveSorts theory Some ps sorts → AreMade ps →
+          HaveSorts theory Some q sorts × AreMade q × Each (λ r. MeetAll r q → ⊥) rows
       none_meets (covered o) q e sorts hs m = absurd (cc)
-      none_meets (uncovered {ps} k) q e sorts hs m = subst (λ p. HaveSorts theory Some p sorts × AreMade p × Each (λ r. MeetAll r p → ⊥) rows) (some_one e) (hs, m, k)
+      none_meets (uncovered {ps} k) q e sorts hs m =
+          subst (λ p. HaveSorts theory Some p sorts × AreMade p × Each (λ r. MeetAll r p → ⊥) rows) (some_one e) (hs, m, k)
       none_meets (split {ps} row s qs free first at opens found) q e sorts hs m = first_meets found q e sorts (opens_made s row ps 0 theory.operations qs sorts (λ i. ap (slice_get theory.operations) (let k : i ≡ 0 + i = omega arith in k)) at opens hs m)
 
-      first_meets : {qs : List TermTrees} {answer : Option TermTrees} → FindsFirst theory rows qs answer → (q : TermTrees) → answer ≡ Some q → (sorts : List ℕ) → Each (λ p. HaveSorts theory Some p sorts × AreMade p) qs → HaveSorts theory Some q sorts × AreMade q × Each (λ r. MeetAll r q → ⊥) rows
+      first_meets : {qs : List TermTrees} {answer : Option TermTrees} → FindsFirst theory rows qs answer → (q : TermTrees) →
+          answer ≡ Some q → (sorts : List ℕ) → Each (λ p. HaveSorts theory Some p sorts × AreMade p) qs →
+          HaveSorts theory Some q sorts × AreMade q × Each (λ r. MeetAll r q → ⊥) rows
       first_meets in_none q e sorts h = absurd (cc)
       first_meets (later f g) q e sorts h = first_meets g q e sorts h.1
       first_meets (here f) q e sorts h = none_meets f q e sorts h.0.0 h.0.1
 
-    none_covers : (q vs : TermTrees) (rs : List TermTrees) → AreOfShape q vs → Each (λ r. MeetAll r q → ⊥) rs → OneOf (λ r. AreOfShape r vs) rs → ⊥
+    none_covers : (q vs : TermTrees) (rs : List TermTrees) → AreOfShape q vs → Each (λ r. MeetAll r q → ⊥) rs →
+        OneOf (λ r. AreOfShape r vs) rs → ⊥
     none_covers q vs [] h k o = o
     none_covers q vs (r ∷ rs) h k (inl o) = k.0 (all_shapes r q vs o h)
     none_covers q vs (r ∷ rs) h k (inr o) = none_covers q vs rs h k.1 o

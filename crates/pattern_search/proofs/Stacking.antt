@@ -11,11 +11,13 @@ use Rattle.pattern_search.specs.declared.arguments.Arguments.{Arguments}
 use Rattle.inhabited_sorts.specs.Sorts.{IsInhabited, AreIn}
 use Rattle.pattern_search.specs.Search.{variables, faced_any, opened_any, OpenBy, IsFirstMeeting, Finds, FindsFirst, covered, uncovered, split, in_none, later, here, arguments_of, stack_onto, stack_of, IsAlternative, AreAlternatives, LeadsBack}
 
-pub pushed_onto : (todo : List Arguments) (a : Arguments) (done : List TermTrees) → stack_onto (todo ++ a ∷ []) done ≡ arguments_of a ∷ stack_onto todo done
+pub pushed_onto : (todo : List Arguments) (a : Arguments) (done : List TermTrees) →
+    stack_onto (todo ++ a ∷ []) done ≡ arguments_of a ∷ stack_onto todo done
 pushed_onto [] a done = refl
 pushed_onto (b ∷ todo) a done = pushed_onto todo a (arguments_of b ∷ done)
 
-pub makers_in : (theory : Theory) (marks : List Bool) (sorts : List ℕ) → ((s : ℕ) → IsIn s marks ↔ IsInhabited theory s) → AreIn marks sorts ↔ Each (IsInhabited theory) sorts
+pub makers_in : (theory : Theory) (marks : List Bool) (sorts : List ℕ) → ((s : ℕ) → IsIn s marks ↔ IsInhabited theory s) →
+    AreIn marks sorts ↔ Each (IsInhabited theory) sorts
 makers_in theory marks [] exact = (λ h. tt, λ h. tt)
 makers_in theory marks (s ∷ sorts) exact =
     let r = makers_in theory marks sorts exact in
@@ -26,7 +28,8 @@ pub one_more : (theory : Theory) (s : ℕ) (row ps : TermTrees) (c : ℕ) (d : O
 one_more theory s row ps c d ds qs old before new o e (inl a) = (opened_any (apply c (variables d.args)) row ps ∷ qs, inl (a.0, (qs, refl, o)), a.1 ∙ ap (λ x. opened_any (apply c (variables d.args)) row ps ∷ x) e)
 one_more theory s row ps c d ds qs old before new o e (inr a) = (qs, inr (a.0, o), a.1 ∙ e)
 
-drop_at : (xs : List OpDecl) (i : ℕ) (d : OpDecl) → i < length xs → d ≡ get_or xs i d → drop i (map operation_of xs) ≡ operation_of d ∷ drop (suc i) (map operation_of xs)
+drop_at : (xs : List OpDecl) (i : ℕ) (d : OpDecl) → i < length xs → d ≡ get_or xs i d →
+    drop i (map operation_of xs) ≡ operation_of d ∷ drop (suc i) (map operation_of xs)
 drop_at [] i d w a = absurd (omega arith)
 drop_at (x ∷ xs) zero d w a = ap (λ y. operation_of y ∷ map operation_of xs) (sym a)
 drop_at (x ∷ xs) (suc i) d w a = drop_at xs i d (omega arith) a
@@ -44,11 +47,15 @@ drop_all [] (suc i) h = refl
 drop_all (x ∷ xs) zero h = absurd (omega arith)
 drop_all (x ∷ xs) (suc i) h = drop_all xs i (omega arith)
 
-pub no_alternatives : (theory : Theory) (s : ℕ) (row ps : TermTrees) (c : ℕ) (old : List TermTrees) → length theory.operations ≤ c → AreAlternatives theory s row ps c old old
-no_alternatives theory s row ps c old h = ([], subst (λ xs. OpenBy theory s row ps c xs []) (sym (drop_all theory.operations c h)) refl, refl)
+pub no_alternatives : (theory : Theory) (s : ℕ) (row ps : TermTrees) (c : ℕ) (old : List TermTrees) → length theory.operations ≤ c →
+    AreAlternatives theory s row ps c old old
+no_alternatives theory s row ps c old h =
+    ([], subst (λ xs. OpenBy theory s row ps c xs []) (sym (drop_all theory.operations c h)) refl, refl)
 
 module _ (theory : Theory) (rows : List TermTrees) where
-  first_of : {ls : List TermTrees} {a : Option TermTrees} → FindsFirst theory rows ls a → (p : TermTrees) (rest : List TermTrees) → ls ≡ p ∷ rest → (Finds theory rows p None × FindsFirst theory rows rest a) ⊎ ((q : TermTrees) × (a ≡ Some q) × Finds theory rows p (Some q))
+  first_of : {ls : List TermTrees} {a : Option TermTrees} → FindsFirst theory rows ls a → (p : TermTrees) (rest : List TermTrees) →
+      ls ≡ p ∷ rest →
+      (Finds theory rows p None × FindsFirst theory rows rest a) ⊎ ((q : TermTrees) × (a ≡ Some q) × Finds theory rows p (Some q))
   first_of in_none p rest e = absurd (cc)
   first_of {a = a} (later {ps = x} {qs = xs} f g) p rest e =
       let h : x ≡ p = cc in
@@ -68,7 +75,9 @@ module _ (theory : Theory) (rows : List TermTrees) where
   pub after_covered : (ps : TermTrees) (old : List TermTrees) → OneOf (λ r. AreOfShape r ps) rows → LeadsBack theory rows (ps ∷ old) old
   after_covered ps old o = λ a f. later (covered o) f
 
-  pub after_split : (ps row : TermTrees) (s : ℕ) (old new : List TermTrees) → (OneOf (λ r. AreOfShape r ps) rows → ⊥) → IsFirstMeeting rows ps row → faced_any row ps ≡ Some s → AreAlternatives theory s row ps 0 old new → LeadsBack theory rows (ps ∷ old) new
+  pub after_split : (ps row : TermTrees) (s : ℕ) (old new : List TermTrees) → (OneOf (λ r. AreOfShape r ps) rows → ⊥) →
+      IsFirstMeeting rows ps row → faced_any row ps ≡ Some s → AreAlternatives theory s row ps 0 old new →
+      LeadsBack theory rows (ps ∷ old) new
   after_split ps row s old new free first at alts = λ a f.
       elim (parted alts.0 old a (subst (λ xs. FindsFirst theory rows xs a) alts.2 f)) [
         | inl r ↦ later (split row s alts.0 free first at alts.1 r.0) r.1
@@ -78,7 +87,8 @@ module _ (theory : Theory) (rows : List TermTrees) where
   pub at_end : (start : TermTrees) → LeadsBack theory rows (start ∷ []) [] → Finds theory rows start None
   at_end start back = elim (first_of (back None in_none) start [] refl) [ inl r ↦ r.0 | inr r ↦ absurd (cc) ]
 
-  pub at_found : (start ps : TermTrees) (rest : List TermTrees) → LeadsBack theory rows (start ∷ []) (ps ∷ rest) → Each (λ r. MeetAll r ps → ⊥) rows → Finds theory rows start (Some ps)
+  pub at_found : (start ps : TermTrees) (rest : List TermTrees) → LeadsBack theory rows (start ∷ []) (ps ∷ rest) →
+      Each (λ r. MeetAll r ps → ⊥) rows → Finds theory rows start (Some ps)
   at_found start ps rest back none = elim (first_of (back (Some ps) (here (uncovered none))) start [] refl) [
     | inl r ↦ absurd (nothing r.1)
     | inr r ↦ subst (λ a. Finds theory rows start a) (sym r.1) r.2
@@ -92,7 +102,8 @@ module _ (theory : Theory) (rows : List TermTrees) where
           empty (later f g) e k = cc
           empty (here f) e k = cc
 
-  pub not_facing : (rs : List TermTrees) (ps row : TermTrees) → IsFirstMeeting rs ps row → faced_any row ps ≡ None → OneOf (λ r. AreOfShape r ps) rs
+  pub not_facing : (rs : List TermTrees) (ps row : TermTrees) → IsFirstMeeting rs ps row → faced_any row ps ≡ None →
+      OneOf (λ r. AreOfShape r ps) rs
   not_facing [] ps row m e = absurd m
   not_facing (r ∷ rs) ps row (inl m) e = inl (all_cover_if r ps m.0 (ap (λ x. faced_any x ps) (sym m.1) ∙ e))
   not_facing (r ∷ rs) ps row (inr m) e = inr (not_facing rs ps row m.1 e)

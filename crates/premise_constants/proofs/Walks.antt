@@ -2,7 +2,8 @@
 use Rattle.std.proofs.Common.{ℕ, zero, suc, ◌≡◌, ◌<◌, List, [], ◌∷◌, length, map, get_or, inl, inr, subst, arith}
 use Rattle.spec_core.specs.Lists.{Each, OneOf}
 
-one-here : {A B : Type 0} (P : B → Type 0) (f : A → B) (xs : List A) (i : ℕ) (x : A) → i < length xs → x ≡ get_or xs i x → P (f x) → OneOf P (map f xs)
+one-here : {A B : Type 0} (P : B → Type 0) (f : A → B) (xs : List A) (i : ℕ) (x : A) → i < length xs → x ≡ get_or xs i x → P (f x) →
+    OneOf P (map f xs)
 one-here P f [] i x w a h = absurd (omega arith)
 one-here P f (y ∷ xs) zero x w a h = inl (subst (λ z. P (f z)) a h)
 one-here P f (y ∷ xs) (suc i) x w a h = inr (one-here P f xs i x (omega arith) a h)
