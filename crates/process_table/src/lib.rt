@@ -1,0 +1,7 @@
+// The processes of a specification.
+#![tactic(auto)]
+
+pub mod entry;
+pub mod heading;
+pub mod refusals;
+pub mod table;
