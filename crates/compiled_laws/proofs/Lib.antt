@@ -1,0 +1,14 @@
+pub mod CalledRow
+pub mod Codes
+pub mod Copies
+pub mod Endings
+pub mod Fields
+pub mod Gates
+pub mod Judgements
+pub mod Options
+pub mod Readings
+pub mod Rows
+pub mod Standings
+pub mod Values
+pub mod Variables
+pub mod Whole

@@ -1,0 +1,14 @@
+// Laws of the definitions: a call does nothing, and its contract is the law.
+
+ghost use Rattle.compiled_laws.specs.Laws.{ReadingsHaveSorts, ReadConstructsFit};
+
+/// A reading of an expression is a term of its sort.
+pub fn readings_have_sorts()
+    ensures { ReadingsHaveSorts }
+{}
+
+/// Where a construct is read, the last of its nodes stands for it wherever its site agrees with the program: what it speaks of is in scope,
+/// terms have their sorts, calls fit their processes, and it ends as it was read to end.
+pub fn read_constructs_fit()
+    ensures { ReadConstructsFit }
+{}
