@@ -42,13 +42,13 @@ module _ (program : Program) (processes : ℕ → Functionality) (gates : List �
       (omega (arith, length-append rest (relabelled part g a ∷ parallel synchronised left right ∷ [])))
       (at_node (parallel synchronised left right) last (parallel_fits f f fits one more (both-same f)))
 
-before-pred : (m n : ℕ) → 0 < m → pred (m + n) ≡ pred m + n
+pub before-pred : (m n : ℕ) → 0 < m → pred (m + n) ≡ pred m + n
 before-pred zero n h = absurd (omega arith)
 before-pred (suc m) n h =
     let e : suc m + n ≡ suc (m + n) = omega arith in
     ap pred e
 
-suc-pred : (m : ℕ) → 0 < m → suc (pred m) ≡ m
+pub suc-pred : (m : ℕ) → 0 < m → suc (pred m) ≡ m
 suc-pred zero h = absurd (omega arith)
 suc-pred (suc m) h = refl
 

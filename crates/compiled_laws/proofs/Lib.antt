@@ -6,6 +6,8 @@ pub mod Fields
 pub mod Gates
 pub mod Judgements
 pub mod Options
+pub mod Parts
+pub mod PartsRows
 pub mod Readings
 pub mod Rows
 pub mod Standings

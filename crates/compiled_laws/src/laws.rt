@@ -1,6 +1,6 @@
 // Laws of the definitions: a call does nothing, and its contract is the law.
 
-ghost use Rattle.compiled_laws.specs.Laws.{ReadingsHaveSorts, ReadConstructsFit};
+ghost use Rattle.compiled_laws.specs.Laws.{ReadingsHaveSorts, ReadConstructsFit, ReadNodesFit, RootsNameBehaviour};
 
 /// A reading of an expression is a term of its sort.
 pub fn readings_have_sorts()
@@ -11,4 +11,14 @@ pub fn readings_have_sorts()
 /// terms have their sorts, calls fit their processes, and it ends as it was read to end.
 pub fn read_constructs_fit()
     ensures { ReadConstructsFit }
+{}
+
+/// Where a construct is read, each of its nodes is a construct of behaviour whose parts have lower numbers, and whose call names a process.
+pub fn read_nodes_fit()
+    ensures { ReadNodesFit }
+{}
+
+/// Where a construct is read, the last of its nodes is a construct of behaviour, and no process.
+pub fn roots_name_behaviour()
+    ensures { RootsNameBehaviour }
 {}
