@@ -5,6 +5,8 @@ pub mod Endings
 pub mod Fields
 pub mod Gates
 pub mod Judgements
+pub mod Opens
+pub mod OpensRows
 pub mod Options
 pub mod Parts
 pub mod PartsRows

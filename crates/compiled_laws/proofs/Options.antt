@@ -18,6 +18,10 @@ pub if-some : {A : Type 0} (b : Bool) (x y : A) → (if b then Some x else None)
 if-some true x y e = (refl, cc)
 if-some false x y e = absurd (cc)
 
+pub if-all : {A : Type 0} {P : A → Type 0} → ((x : A) → P x) → (o : Option A) → IfSome o P
+if-all h None = tt
+if-all h (Some x) = h x
+
 pub each-before : {A : Type 0} (P : A → Type 0) (y : Option A) (ys : Option (List A)) →
     IfSome y P → IfSome ys (Each P) → IfSome (before y ys) (Each P)
 each-before P None ys h hs = tt

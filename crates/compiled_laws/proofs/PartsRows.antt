@@ -29,13 +29,9 @@ use Rattle.compiled_laws.specs.Standing.{StandAt, HeadingAgrees}
 use Rattle.compiled_laws.proofs.CalledRow.{each-found}
 use Rattle.compiled_laws.proofs.Codes.{in-front, behind, node-at}
 use Rattle.compiled_laws.proofs.Copies.{before-pred, suc-pred}
-use Rattle.compiled_laws.proofs.Options.{if-map}
+use Rattle.compiled_laws.proofs.Options.{if-map, if-all}
 use Rattle.compiled_laws.proofs.Parts.{IsBehaviourNode, AreBehaviourNodes, NodesFit, append-fit, over-one, over-two, fits-single}
 use Rattle.compiled_laws.proofs.Parts.{fits-around, fits-over}
-
-if-all : {A : Type 0} {P : A → Type 0} → ((x : A) → P x) → (o : Option A) → IfSome o P
-if-all h None = tt
-if-all h (Some x) = h x
 
 module _ (program : Program) where
   without-parts : (number : ℕ) (node : Node) → parts_of node ≡ [] → CallsProcess program node → (IsProcess node → ⊥) →

@@ -4,8 +4,8 @@ use Rattle.std.specs.List.{slice_get}
 use Rattle.lotos_ast.specs.declared.refusal.Refusal.{Refusal}
 use Rattle.spec_core.specs.Code.{Node, Program}
 use Rattle.spec_core.specs.Functionality.{Functionality, HasFunctionality}
-use Rattle.spec_core.specs.Lists.{Each}
-use Rattle.spec_core.specs.Ready.{PartsFit, NamesBehaviour, IsProcess}
+use Rattle.spec_core.specs.Lists.{Each, IsOneOf}
+use Rattle.spec_core.specs.Ready.{PartsFit, NamesBehaviour, IsProcess, CallsAtOnce}
 use Rattle.spec_core.specs.Sorts.{HasSort}
 use Rattle.spec_core.specs.Terms.{TermTree}
 use Rattle.spec_core.specs.Theories.{Theory}
@@ -15,6 +15,7 @@ use Rattle.constructs.specs.Constructs.{Construct}
 use Rattle.behaviour_readings.specs.Joins.{Read, root}
 use Rattle.behaviour_readings.specs.Readings.{IsRead}
 use Rattle.behaviour_readings.specs.Sites.{Site}
+use Rattle.compiled_laws.specs.AtOnce.{called_at_once}
 use Rattle.compiled_laws.specs.Standing.{AgreesWithData, Agrees, HeadingAgrees, StandAt, CopiesAtGates}
 
 -- a reading of an expression is a term of its sort
@@ -43,3 +44,10 @@ abbrev pub RootsNameBehaviour : Type 0
 RootsNameBehaviour = (program : Program) (processes : ℕ → Functionality) (s : Site) (from : ℕ) (b : Construct) (r : Read)
     (refusals : List Refusal) → IsRead s from b (Some r) refusals → Each (HeadingAgrees program processes) s.processes →
     StandAt program from r.nodes → NamesBehaviour program (root from r)
+
+-- Where a construct is read, and its nodes stand in a program, a process that the last of them calls at once is one that the construct calls
+-- at once
+abbrev pub CallsAtOnceAreWritten : Type 0
+CallsAtOnceAreWritten = (program : Program) (s : Site) (from : ℕ) (b : Construct) (r : Read) (refusals : List Refusal) →
+    IsRead s from b (Some r) refusals → StandAt program from r.nodes →
+    (p : ℕ) → CallsAtOnce program p (root from r) → IsOneOf p (called_at_once s b)

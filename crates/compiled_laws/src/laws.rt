@@ -1,6 +1,6 @@
 // Laws of the definitions: a call does nothing, and its contract is the law.
 
-ghost use Rattle.compiled_laws.specs.Laws.{ReadingsHaveSorts, ReadConstructsFit, ReadNodesFit, RootsNameBehaviour};
+ghost use Rattle.compiled_laws.specs.Laws.{ReadingsHaveSorts, ReadConstructsFit, ReadNodesFit, RootsNameBehaviour, CallsAtOnceAreWritten};
 
 /// A reading of an expression is a term of its sort.
 pub fn readings_have_sorts()
@@ -21,4 +21,9 @@ pub fn read_nodes_fit()
 /// Where a construct is read, the last of its nodes is a construct of behaviour, and no process.
 pub fn roots_name_behaviour()
     ensures { RootsNameBehaviour }
+{}
+
+/// What the code of a construct calls before any action, the construct calls before any action.
+pub fn calls_at_once_are_written()
+    ensures { CallsAtOnceAreWritten }
 {}
