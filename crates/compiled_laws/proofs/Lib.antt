@@ -1,4 +1,6 @@
+pub mod Assembling
 pub mod CalledRow
+pub mod Calling
 pub mod Codes
 pub mod Copies
 pub mod Endings
@@ -10,6 +12,7 @@ pub mod OpensRows
 pub mod Options
 pub mod Parts
 pub mod PartsRows
+pub mod Readiness
 pub mod Readings
 pub mod Rows
 pub mod Standings

@@ -3,9 +3,10 @@ use Rattle.std.specs.Prelude.{◌≡◌, ℕ, ◌+◌, List, Option, Some}
 use Rattle.std.specs.List.{slice_get}
 use Rattle.lotos_ast.specs.declared.refusal.Refusal.{Refusal}
 use Rattle.spec_core.specs.Code.{Node, Program}
+use Rattle.spec_core.specs.Executable.{IsExecutable}
 use Rattle.spec_core.specs.Functionality.{Functionality, HasFunctionality}
 use Rattle.spec_core.specs.Lists.{Each, IsOneOf}
-use Rattle.spec_core.specs.Ready.{PartsFit, NamesBehaviour, IsProcess, CallsAtOnce}
+use Rattle.spec_core.specs.Ready.{PartsFit, NamesBehaviour, IsProcess, CallsAtOnce, AreNamed, IsReady}
 use Rattle.spec_core.specs.Sorts.{HasSort}
 use Rattle.spec_core.specs.Terms.{TermTree}
 use Rattle.spec_core.specs.Theories.{Theory}
@@ -15,6 +16,8 @@ use Rattle.constructs.specs.Constructs.{Construct}
 use Rattle.behaviour_readings.specs.Joins.{Read, root}
 use Rattle.behaviour_readings.specs.Readings.{IsRead}
 use Rattle.behaviour_readings.specs.Sites.{Site}
+use Rattle.type_cycles.specs.MadeFrom.{AreAcyclic}
+use Rattle.compiled_laws.specs.Assembled.{Placed, Definition, IsAssembled, links}
 use Rattle.compiled_laws.specs.AtOnce.{called_at_once}
 use Rattle.compiled_laws.specs.Standing.{AgreesWithData, Agrees, HeadingAgrees, StandAt, CopiesAtGates}
 
@@ -51,3 +54,9 @@ abbrev pub CallsAtOnceAreWritten : Type 0
 CallsAtOnceAreWritten = (program : Program) (s : Site) (from : ℕ) (b : Construct) (r : Read) (refusals : List Refusal) →
     IsRead s from b (Some r) refusals → StandAt program from r.nodes →
     (p : ℕ) → CallsAtOnce program p (root from r) → IsOneOf p (called_at_once s b)
+
+-- A program that is put together of constructs that are read is ready: where its data is executable, its names are those that the grammar
+-- allows, and no process calls itself at once, directly or through others
+abbrev pub AssembledIsReady : Type 0
+AssembledIsReady = (program : Program) (processes : ℕ → Functionality) (ds : List Definition) (whole : Placed) →
+    IsAssembled program processes ds whole → IsExecutable program.theory → AreNamed program → AreAcyclic (links ds) → IsReady program

@@ -1,6 +1,6 @@
 // Laws of the definitions: a call does nothing, and its contract is the law.
 
-ghost use Rattle.compiled_laws.specs.Laws.{ReadingsHaveSorts, ReadConstructsFit, ReadNodesFit, RootsNameBehaviour, CallsAtOnceAreWritten};
+ghost use Rattle.compiled_laws.specs.Laws.{ReadingsHaveSorts, ReadConstructsFit, ReadNodesFit, RootsNameBehaviour, CallsAtOnceAreWritten, AssembledIsReady};
 
 /// A reading of an expression is a term of its sort.
 pub fn readings_have_sorts()
@@ -26,4 +26,10 @@ pub fn roots_name_behaviour()
 /// What the code of a construct calls before any action, the construct calls before any action.
 pub fn calls_at_once_are_written()
     ensures { CallsAtOnceAreWritten }
+{}
+
+/// A program that is put together of constructs that are read, over executable data, in which no process calls itself before any action, is
+/// ready to run.
+pub fn assembled_is_ready()
+    ensures { AssembledIsReady }
 {}
