@@ -1,0 +1,4 @@
+pub mod Assembled
+pub mod AtOnce
+pub mod Laws
+pub mod Standing

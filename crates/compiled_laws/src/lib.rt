@@ -1,0 +1,4 @@
+// Laws of what behaviour is compiled to.
+#![tactic(auto)]
+
+pub mod laws;
