@@ -1,7 +1,9 @@
 -- Lists of which all elements are read, one more element at a time.
-use Rattle.std.proofs.Common.{ℕ, ◌≡◌, ◌∙◌, ◌<◌, ◌≤◌, ◌+◌, refl, sym, ap, subst, List, [], ◌∷◌, ◌++◌, length, get_or, take, map, append_assoc, append-nil, Option, Some, None}
+use Rattle.std.proofs.Common.{ℕ, ◌≡◌, ◌∙◌, ◌<◌, ◌≤◌, ◌+◌, refl, sym, ap, subst, List, [], ◌∷◌, ◌++◌, length, get_or, take, map, append_assoc, append-nil, arith, Option, Some, None}
 use Rattle.std.specs.Prelude.{option_map}
-use Rattle.std.proofs.lemmas.List.{map-append}
+use Rattle.std.specs.List.{zip}
+use Rattle.std.proofs.lemmas.List.{map-append, get_or-map, length-map}
+use Rattle.std.proofs.lemmas.Slice.Zip.{get_or-zip, length-zip}
 use Rattle.lotos_ast.specs.declared.refusal.Refusal.{Refusal}
 use Rattle.sort_overloads.specs.Judged.{Adds}
 use Rattle.sort_overloads.proofs.Loops.{taken-next, taken-all}
@@ -55,3 +57,14 @@ next P f xs i x now then one old mid new within at h k is = record {
 pub ended : {A C : Type 0} (P : A → Option C → List Refusal → Type 0) (xs : List A) (i : ℕ) (ys : Option (List C)) (old new : List Refusal)
     → length xs ≤ i → Adds (ReadsAll P (take i xs) ys) old new → Adds (ReadsAll P xs ys) old new
 ended P xs i ys old new past h = subst (λ z. Adds (ReadsAll P z ys) old new) (taken-all xs i past) h
+
+-- two lists side by side
+
+pub within_both : {A B : Type 0} (xs : List A) (ys : List B) (i : ℕ) → length xs ≡ length ys → i < length ys → i < length (zip xs ys)
+within_both xs ys i same h = omega (arith, length-zip xs ys, same, h)
+
+pub side_by_side : {A B C : Type 0} (f : C → A) (xs : List C) (ys : List B) (i : ℕ) (x : C) (y : B) → length xs ≡ length ys → i < length ys → x ≡ get_or xs i x → y ≡ get_or ys i y
+    → (f x, y) ≡ get_or (zip (map f xs) ys) i (f x, y)
+side_by_side f xs ys i x y same h at there =
+    ap (λ z. (z, y)) (ap f at ∙ sym (get_or-map f xs i x (f x) (omega (arith, same, h)))) ∙ ap (λ z. (get_or (map f xs) i (f x), z)) there
+    ∙ sym (get_or-zip (map f xs) ys i (f x, y) (omega (arith, length-map xs f, same, h)) h)

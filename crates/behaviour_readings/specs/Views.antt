@@ -1,5 +1,5 @@
 -- What the definitions see of the values of the code.
-use Rattle.std.specs.Prelude.{ℕ, List, map, option_map}
+use Rattle.std.specs.Prelude.{Option, ℕ, List, map, option_map}
 use Rattle.std.specs.List.{slice_get, filter_map}
 use Rattle.spec_core.specs.Numbers.{sort_number}
 use Rattle.spec_core.specs.Functionality as core
@@ -37,3 +37,6 @@ headings_at headings numbers = filter_map (λ n. option_map heading_of (slice_ge
 -- a value with which a behaviour ends, and its sort
 abbrev pub exit_value_at : ExitField × Sort → code.ExitValue × ℕ
 exit_value_at v = (code.exit_value_of v.0, v.1.0)
+
+abbrev pub sort_if_known : Option Sort → Option ℕ
+sort_if_known sort = option_map sort_number sort

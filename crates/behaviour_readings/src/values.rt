@@ -1,13 +1,13 @@
 // Expressions of declared sorts, and values with which a behaviour ends.
 
-ghost use Rattle.std.specs.Prelude.{◌≡◌, ◌++◌, ◌∷◌, [], IfOk, OnOk, map, option_map};
+ghost use Rattle.std.specs.Prelude.{◌≡◌, ◌++◌, ◌∷◌, [], IfOk, OnOk, length, map, option_map};
 ghost use Rattle.spec_core.specs.Numbers.{sort_number};
 ghost use Rattle.spec_core.specs.Terms.{term_of};
 ghost use Rattle.sort_overloads.specs.Judged.{Adds};
 ghost use Rattle.behaviour_readings.specs.Calls.{IsValueRead, AreValuesRead};
 ghost use Rattle.behaviour_readings.specs.Offers.{IsExitValueRead, AreExitValuesRead};
 ghost use Rattle.behaviour_readings.specs.ReadsAll.{all_before};
-ghost use Rattle.behaviour_readings.specs.Views.{exit_value_at};
+ghost use Rattle.behaviour_readings.specs.Views.{exit_value_at, sort_if_known};
 
 use crate::site::Site;
 use lotos_ast::behaviour::ExitValue;
@@ -28,7 +28,7 @@ pub fn value(
     expr: &Expr,
     refusals: &mut Vec<Refusal>,
 ) -> Result<Option<Term>, Memory>
-    ensures { IfOk result (λ found. Adds (IsValueRead site.now (option_map sort_number sort) expr.now (option_map term_of found))
+    ensures { IfOk result (λ found. Adds (IsValueRead site.now (sort_if_known sort) expr.now (option_map term_of found))
         refusals.old.items refusals.new.items) }
 {
     match sort {
@@ -96,6 +96,26 @@ pub fn exit_values(
     let mut all = Some(Vec::new(alloc));
     for one in from {
         let found = exit_value(alloc, site, one, refusals)?;
+        all = with_one(all, found)?;
+    }
+    Ok(all)
+}
+
+/// Expressions, each with its sort.
+pub fn values(
+    alloc: Global,
+    site: &Site<'_>,
+    sorts: &[Option<Sort>],
+    from: &[Expr],
+    refusals: &mut Vec<Refusal>,
+) -> Result<Option<Vec<Term>>, Memory>
+    requires { length sorts.now ≡ length from.now }
+    ensures { IfOk result (λ found. Adds (AreValuesRead site.now (map sort_if_known sorts.now) from.now
+        (option_map (map term_of) (option_map (λ v. v.items) found))) refusals.old.items refusals.new.items) }
+{
+    let mut all = Some(Vec::new(alloc));
+    for (i, expr) in from.iter().enumerate() {
+        let found = value(alloc, site, sorts[i], expr, refusals)?;
         all = with_one(all, found)?;
     }
     Ok(all)
