@@ -1,8 +1,11 @@
 -- What the definitions see of the values of the code.
-use Rattle.std.specs.Prelude.{ℕ, List, map, option_map}
+use Rattle.std.specs.Prelude.{Option, ℕ, List, map, option_map}
 use Rattle.std.specs.List.{slice_get, filter_map}
 use Rattle.spec_core.specs.Numbers.{sort_number}
 use Rattle.spec_core.specs.Functionality as core
+use Rattle.spec_core.specs.declared.code.ExitField.{ExitField}
+use Rattle.spec_core.specs.declared.items.Sort.{Sort}
+use Rattle.spec_core.specs.Code as code
 use Rattle.spec_core.specs.Code.{node_of}
 use Rattle.behaviour_readings.specs.Outputs as outputs
 use Rattle.behaviour_readings.specs.Sites as sites
@@ -30,3 +33,10 @@ output_of o = record { code = map node_of o.code.items; refusals = o.refusals.it
 -- the processes of these numbers
 abbrev pub headings_at : List Heading → List ℕ → List sites.Heading
 headings_at headings numbers = filter_map (λ n. option_map heading_of (slice_get headings n)) numbers
+
+-- a value with which a behaviour ends, and its sort
+abbrev pub exit_value_at : ExitField × Sort → code.ExitValue × ℕ
+exit_value_at v = (code.exit_value_of v.0, v.1.0)
+
+abbrev pub sort_if_known : Option Sort → Option ℕ
+sort_if_known sort = option_map sort_number sort

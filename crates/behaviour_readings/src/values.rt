@@ -1,12 +1,13 @@
 // Expressions of declared sorts, and values with which a behaviour ends.
 
-ghost use Rattle.std.specs.Prelude.{◌≡◌, ◌++◌, IfOk, OnOk, map, option_map};
-ghost use Rattle.spec_core.specs.Code.{exit_value_of};
+ghost use Rattle.std.specs.Prelude.{◌≡◌, ◌++◌, ◌∷◌, [], IfOk, OnOk, length, map, option_map};
 ghost use Rattle.spec_core.specs.Numbers.{sort_number};
 ghost use Rattle.spec_core.specs.Terms.{term_of};
 ghost use Rattle.sort_overloads.specs.Judged.{Adds};
 ghost use Rattle.behaviour_readings.specs.Calls.{IsValueRead, AreValuesRead};
 ghost use Rattle.behaviour_readings.specs.Offers.{IsExitValueRead, AreExitValuesRead};
+ghost use Rattle.behaviour_readings.specs.ReadsAll.{all_before};
+ghost use Rattle.behaviour_readings.specs.Views.{exit_value_at, sort_if_known};
 
 use crate::site::Site;
 use lotos_ast::behaviour::ExitValue;
@@ -27,7 +28,7 @@ pub fn value(
     expr: &Expr,
     refusals: &mut Vec<Refusal>,
 ) -> Result<Option<Term>, Memory>
-    ensures { IfOk result (λ found. Adds (IsValueRead site.now (option_map sort_number sort) expr.now (option_map term_of found))
+    ensures { IfOk result (λ found. Adds (IsValueRead site.now (sort_if_known sort) expr.now (option_map term_of found))
         refusals.old.items refusals.new.items) }
 {
     match sort {
@@ -50,7 +51,7 @@ fn exit_value(
     from: &ExitValue,
     refusals: &mut Vec<Refusal>,
 ) -> Result<Option<(ExitField, Sort)>, Memory>
-    ensures { IfOk result (λ found. Adds (IsExitValueRead site.now from.now (option_map (λ v. (exit_value_of v.0, v.1.0)) found))
+    ensures { IfOk result (λ found. Adds (IsExitValueRead site.now from.now (option_map exit_value_at found))
         refusals.old.items refusals.new.items) }
 {
     match from {
@@ -66,4 +67,56 @@ fn exit_value(
             Some(found) => Ok(Some((ExitField::Give(found.term), found.sort))),
         },
     }
+}
+
+// These and one more, where all are there.
+fn with_one<T: Drop>(all: Option<Vec<T>>, one: Option<T>) -> Result<Option<Vec<T>>, Memory>
+    ensures { IfOk result (λ found. option_map (λ v. v.items) found
+        ≡ all_before (option_map (λ v. v.items) all) (option_map (λ x. x ∷ []) one)) }
+{
+    match (all, one) {
+        (Some(mut all), Some(one)) => {
+            all.push(one)?;
+            Ok(Some(all))
+        }
+        _ => Ok(None),
+    }
+}
+
+/// Values with which a behaviour ends, each with its sort.
+pub fn exit_values(
+    alloc: Global,
+    site: &Site<'_>,
+    from: &[ExitValue],
+    refusals: &mut Vec<Refusal>,
+) -> Result<Option<Vec<(ExitField, Sort)>>, Memory>
+    ensures { IfOk result (λ found. Adds (AreExitValuesRead site.now from.now (option_map (map exit_value_at) (option_map (λ v. v.items) found)))
+        refusals.old.items refusals.new.items) }
+{
+    let mut all = Some(Vec::new(alloc));
+    for one in from {
+        let found = exit_value(alloc, site, one, refusals)?;
+        all = with_one(all, found)?;
+    }
+    Ok(all)
+}
+
+/// Expressions, each with its sort.
+pub fn values(
+    alloc: Global,
+    site: &Site<'_>,
+    sorts: &[Option<Sort>],
+    from: &[Expr],
+    refusals: &mut Vec<Refusal>,
+) -> Result<Option<Vec<Term>>, Memory>
+    requires { length sorts.now ≡ length from.now }
+    ensures { IfOk result (λ found. Adds (AreValuesRead site.now (map sort_if_known sorts.now) from.now
+        (option_map (map term_of) (option_map (λ v. v.items) found))) refusals.old.items refusals.new.items) }
+{
+    let mut all = Some(Vec::new(alloc));
+    for (i, expr) in from.iter().enumerate() {
+        let found = value(alloc, site, sorts[i], expr, refusals)?;
+        all = with_one(all, found)?;
+    }
+    Ok(all)
 }
