@@ -1,5 +1,5 @@
--- Programs that are put together of constructs that are read: first the definitions of processes, then the nodes of their bodies in the same
--- order, then those of the specification's behaviour (this profile).
+-- Programs that are put together of constructs that are read: first the definitions of processes, then the nodes of their bodies in the
+-- same order, then those of the specification's behaviour (this profile).
 use Rattle.std.specs.Prelude.{◌≡◌, ◌⊎◌, ℕ, ◌+◌, List, [], ◌∷◌, ◌++◌, map, length, Some}
 use Rattle.std.specs.List.{slice_get, flat_map, range_with_len}
 use Rattle.lotos_ast.specs.declared.refusal.Refusal.{Refusal}
