@@ -1,15 +1,21 @@
 -- Where the parts of a program stand that is put together of constructs that are read.
-use Rattle.std.proofs.Common.{ℕ, zero, suc, ◌≡◌, ◌+◌, List, [], ◌∷◌, ◌++◌, length, refl, sym, ap, subst, ◌∙◌, arith}
+use Rattle.std.proofs.Common.{ℕ, zero, suc, ◌≡◌, ◌+◌, List, [], ◌∷◌, ◌++◌, length, map, refl, sym, ap, subst, ◌∙◌, arith}
 use Rattle.std.proofs.Common.{append_assoc, append-nil, inl, inr}
 use Rattle.std.specs.Prelude.{◌⊎◌, Some}
 use Rattle.std.specs.List.{slice_get}
 use Rattle.spec_core.specs.Code.{Node, Program, process}
 use Rattle.spec_core.specs.Functionality.{Functionality}
-use Rattle.spec_core.specs.Lists.{Each}
+use Rattle.spec_core.specs.Functionality as core
+use Rattle.spec_core.specs.Lists.{Each, IsOneOf}
+use Rattle.spec_core.specs.Sorts.{no_variables}
+use Rattle.sort_overloads.specs.Readings.{Declared}
+use Rattle.behaviour_readings.specs.Sites.{Site, Heading}
 use Rattle.behaviour_readings.specs.Joins.{root}
-use Rattle.compiled_laws.specs.Assembled.{Placed, Definition, IsReadAt, process_nodes, body_nodes, AreBodiesRead, IsAssembled, behind_bodies}
-use Rattle.compiled_laws.specs.Standing.{StandAt, HeadingAgrees}
+use Rattle.compiled_laws.specs.Assembled.{HeadingFits, Placed, Definition, IsReadAt, process_nodes, body_nodes, AreBodiesRead, IsAssembled, behind_bodies}
+use Rattle.compiled_laws.specs.Standing.{StandAt, HeadingAgrees, Agrees}
 use Rattle.compiled_laws.proofs.Codes.{in-front, behind, node-at}
+use Rattle.compiled_laws.proofs.Gates.{in-range}
+use Rattle.compiled_laws.proofs.Variables.{numbered-sorts}
 use Rattle.compiled_laws.proofs.Parts.{AreBehaviourNodes, append-fit}
 use Rattle.compiled_laws.proofs.PartsRows.{nodes-fit}
 
@@ -100,11 +106,58 @@ module _ (program : Program) (processes : ℕ → Functionality) where
         subst (λ n. Located program n d) (omega arith)
         (located program ds 0 (length ds) whole.read.nodes heads-stand tail-stands h.bodies_read p d e)
 
+    heading-agrees : (g : Heading) → HeadingFits processes ds g → HeadingAgrees program processes g
+    heading-agrees g f =
+        let l = definition-located g.number f.definition f.defined in
+        record {
+          formal = f.definition.formal;
+          variables = f.definition.variables;
+          body = root l.from f.definition.body.read;
+          defined = l.node;
+          gates = sym f.gates;
+          sorts = f.sorts;
+          functionality = f.functionality;
+        }
+
+    headings-agree : (gs : List Heading) → Each (HeadingFits processes ds) gs → Each (HeadingAgrees program processes) gs
+    headings-agree [] f = tt
+    headings-agree (g ∷ gs) f = (heading-agrees g f.0, headings-agree gs f.1)
+
+    -- the sites of bodies, and that of the specification's behaviour, agree with the program
+
+    pub definition-agrees : (p : ℕ) (d : Definition) → slice_get ds p ≡ Some d →
+        Agrees program processes d.body.site d.formal (core.with_variables d.variables no_variables)
+    definition-agrees p d e =
+        let f = h.definitions p d e in
+        let s : Site = d.body.site in
+        record {
+          data_agrees = record {
+            sorts = f.site.sorts;
+            operations = f.site.operations;
+            variables = λ x. ap (λ xs. core.with_variables xs no_variables x) f.variables
+                ∙ numbered-sorts s.context.variables 0 [] no_variables refl (λ y. refl) x;
+          };
+          gates_in_scope = λ g low high. inr (subst (IsOneOf g) (sym f.formal)
+              (in-range (length s.gates) (length program.gates) g (omega (arith, low, f.first_gate)) (omega (arith, high, f.first_gate))));
+          headings = headings-agree s.processes f.site.headings;
+        }
+
+    pub whole-agrees : Agrees program processes whole.site [] no_variables
+    whole-agrees = record {
+      data_agrees = record {
+        sorts = h.whole_site.sorts;
+        operations = h.whole_site.operations;
+        variables = λ x. ap (λ vs. slice_get (map (λ (v : Declared). v.sort) vs) x) (sym h.whole_variables);
+      };
+      gates_in_scope = λ g low high. inl (omega (arith, high, h.whole_first_gate, h.whole_gates));
+      headings = headings-agree whole.site.processes h.whole_site.headings;
+    }
+
     pub tail-fits : AreBehaviourNodes program (length ds) (body_nodes ds ++ whole.read.nodes)
     tail-fits =
         append-fit program (length ds) (body_nodes ds) whole.read.nodes
-        (bodies-fit ds (length ds) whole.read.nodes (λ p d e. (h.definitions p d e).site.headings) tail-stands h.bodies_read)
-        ((nodes-fit program processes h.whole_read h.whole_site.headings).nodes whole-stands)
+        (bodies-fit ds (length ds) whole.read.nodes (λ p d e. (definition-agrees p d e).headings) tail-stands h.bodies_read)
+        ((nodes-fit program processes h.whole_read whole-agrees.headings).nodes whole-stands)
 
     -- a node is that of a definition, or one behind them
     pub defined-or-behind : (number : ℕ) (node : Node) → slice_get program.code number ≡ Some node →

@@ -59,7 +59,7 @@ pub gates-counted : (s : Site) (ts : List Token) → IfSome (gate_numbers s ts) 
 gates-counted s [] = refl
 gates-counted s (t ∷ ts) = as-many (length ts) (gate_number s t) (gate_numbers s ts) (gates-counted s ts)
 
-in-range : (n a g : ℕ) → a ≤ g → g < a + n → IsOneOf g (range_with_len a n)
+pub in-range : (n a g : ℕ) → a ≤ g → g < a + n → IsOneOf g (range_with_len a n)
 in-range zero a g low high = absurd (omega arith)
 in-range (suc n) a g low high =
     elim (eq-or-lt_of_le low) as (λ h. IsOneOf g (range_with_len a (suc n))) [

@@ -12,7 +12,7 @@ use Rattle.spec_core.specs.Sorts.{no_variables}
 use Rattle.type_cycles.specs.MadeFrom.{AreAcyclic}
 use Rattle.behaviour_readings.specs.Joins.{root}
 use Rattle.compiled_laws.specs.Assembled.{Placed, Definition, IsAssembled, links, body_nodes}
-use Rattle.compiled_laws.proofs.Assembling.{definition-located, defined-or-behind, tail-fits, whole-stands}
+use Rattle.compiled_laws.proofs.Assembling.{definition-agrees, whole-agrees, definition-located, defined-or-behind, tail-fits, whole-stands}
 use Rattle.compiled_laws.proofs.Calling.{definition-of, none-leads-back}
 use Rattle.compiled_laws.proofs.Parts.{node-fits}
 use Rattle.compiled_laws.proofs.PartsRows.{nodes-fit}
@@ -26,7 +26,7 @@ module _ (program : Program) (processes : ℕ → Functionality) (ds : List Defi
   start-named : NamesBehaviour program program.start
   start-named =
       subst (NamesBehaviour program) (sym h.start)
-      ((nodes-fit program processes h.whole_read h.whole_site.headings).last (whole-stands program processes ds whole h))
+      ((nodes-fit program processes h.whole_read (whole-agrees program processes ds whole h).headings).last (whole-stands program processes ds whole h))
 
   definition-parts : (number : ℕ) (d : Definition) → slice_get ds number ≡ Some d → (node : Node) →
       slice_get program.code number ≡ Some node → PartsFit program number node
@@ -35,7 +35,7 @@ module _ (program : Program) (processes : ℕ → Functionality) (ds : List Defi
       let same : process d.formal d.variables (root l.from d.body.read) ≡ node =
       some-same (process d.formal d.variables (root l.from d.body.read)) node (sym l.node ∙ at) in
       subst (PartsFit program number) same (record {
-        names = ((nodes-fit program processes l.read (h.definitions number d e).site.headings).last l.nodes, tt);
+        names = ((nodes-fit program processes l.read (definition-agrees program processes ds whole h number d e).headings).last l.nodes, tt);
         calls = tt;
         below = λ other. absurd (other tt);
       })
@@ -52,7 +52,7 @@ module _ (program : Program) (processes : ℕ → Functionality) (ds : List Defi
   start-fits : HasFunctionality program processes [] no_variables program.start whole.read.functionality
   start-fits =
       subst (λ n. HasFunctionality program processes [] no_variables n whole.read.functionality) (sym h.start)
-      ((construct-stands program processes h.whole_read h.whole_copies [] no_variables h.whole_site).fits
+      ((construct-stands program processes h.whole_read h.whole_copies [] no_variables (whole-agrees program processes ds whole h)).fits
       (whole-stands program processes ds whole h))
 
   -- what a definition's node says fits
@@ -70,10 +70,11 @@ module _ (program : Program) (processes : ℕ → Functionality) (ds : List Defi
       let same : process d.formal d.variables (root l.from d.body.read) ≡ process formal xs body =
       some-same (process d.formal d.variables (root l.from d.body.read)) (process formal xs body) (sym l.node ∙ at) in
       let fits : NodeProcessFits p (process d.formal d.variables (root l.from d.body.read)) = (
-        f.variables,
+        f.sorts,
         (
           d.body.read.functionality,
-          (construct-stands program processes l.read f.copies d.formal (core.with_variables d.variables no_variables) f.site).fits l.nodes,
+          (construct-stands program processes l.read f.copies d.formal (core.with_variables d.variables no_variables)
+              (definition-agrees program processes ds whole h p d g.1)).fits l.nodes,
           f.ends,
         ),
       ) in

@@ -29,7 +29,7 @@ pushed [] v (suc y) = rw eqb-suc-zero refl
 pushed (s ∷ ss) v zero = rw eqb-zero-suc refl
 pushed (s ∷ ss) v (suc y) = rw eqb-suc-suc (pushed ss v y)
 
-numbered-sorts : (vs : List Declared) (n : ℕ) (ss : List ℕ) (vars : ℕ → Option ℕ) → length ss ≡ n →
+pub numbered-sorts : (vs : List Declared) (n : ℕ) (ss : List ℕ) (vars : ℕ → Option ℕ) → length ss ≡ n →
     ((y : ℕ) → vars y ≡ slice_get ss y) →
     (y : ℕ) → core.with_variables (numbered_from n vs) vars y ≡ slice_get (ss ++ map (λ v. v.sort) vs) y
 numbered-sorts [] n ss vars e h y = h y ∙ ap (λ l. slice_get l y) (sym (append-nil ss))

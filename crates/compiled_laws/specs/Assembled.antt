@@ -1,18 +1,19 @@
--- Programs that are put together of constructs that are read: first the definitions of processes, then the nodes of their bodies in the same
--- order, then those of the specification's behaviour (this profile).
+-- Programs that are put together of constructs that are read: first the definitions of processes, then the nodes of their bodies in the
+-- same order, then those of the specification's behaviour (this profile).
 use Rattle.std.specs.Prelude.{◌≡◌, ◌⊎◌, ℕ, ◌+◌, List, [], ◌∷◌, ◌++◌, map, length, Some}
-use Rattle.std.specs.List.{slice_get, flat_map}
+use Rattle.std.specs.List.{slice_get, flat_map, range_with_len}
 use Rattle.lotos_ast.specs.declared.refusal.Refusal.{Refusal}
 use Rattle.spec_core.specs.Code.{Node, Variable, Program, process}
-use Rattle.spec_core.specs.Functionality.{Functionality, noexit, VariableFits, with_variables}
+use Rattle.spec_core.specs.Functionality.{Functionality, noexit, VariableFits}
 use Rattle.spec_core.specs.Lists.{Each}
-use Rattle.spec_core.specs.Sorts.{no_variables}
+use Rattle.spec_core.specs.Theories.{Theory}
 use Rattle.constructs.specs.Constructs.{Construct}
+use Rattle.behaviour_readings.specs.Declarations.{numbered_from}
 use Rattle.behaviour_readings.specs.Joins.{Read, root}
 use Rattle.behaviour_readings.specs.Readings.{IsRead}
-use Rattle.behaviour_readings.specs.Sites.{Site}
+use Rattle.behaviour_readings.specs.Sites.{Site, Heading}
 use Rattle.compiled_laws.specs.AtOnce.{called_at_once}
-use Rattle.compiled_laws.specs.Standing.{Agrees, CopiesAtGates}
+use Rattle.compiled_laws.specs.Standing.{CopiesAtGates}
 
 -- a construct in its site, and what it is read as
 pub record Placed : Type 0 where
@@ -44,11 +45,28 @@ abbrev pub AreBodiesRead : ℕ → List Definition → Type 0
 AreBodiesRead from [] = Unit {0}
 AreBodiesRead from (d ∷ ds) = IsReadAt from d.body × AreBodiesRead (from + length d.body.read.nodes) ds
 
--- the sorts of the parameters are declared, the body's site agrees with the program where the process's own gates and parameters alone are
--- in scope, and the body ends as the process does, or never
-pub record DefinitionFits (program : Program) (processes : ℕ → Functionality) (p : ℕ) (d : Definition) : Type 0 where
-  pub variables : Each (VariableFits program.theory) d.variables
-  pub site : Agrees program processes d.body.site d.formal (with_variables d.variables no_variables)
+-- the heading is that of one of these definitions
+pub record HeadingFits (processes : ℕ → Functionality) (ds : List Definition) (h : Heading) : Type 0 where
+  pub definition : Definition
+  pub defined : slice_get ds h.number ≡ Some definition
+  pub gates : h.gates ≡ length definition.formal
+  pub sorts : h.sorts ≡ map (λ x. Some x.sort) definition.variables
+  pub functionality : h.functionality ≡ Some (processes h.number)
+
+-- the site has the sorts and operations of the data, and headings of these definitions
+pub record SiteFits (theory : Theory) (processes : ℕ → Functionality) (ds : List Definition) (s : Site) : Type 0 where
+  pub sorts : s.context.sorts ≡ theory.sorts
+  pub operations : s.context.operations ≡ theory.operations
+  pub headings : Each (HeadingFits processes ds) s.processes
+
+-- the body's site has the parameters, whose sorts are declared, and the formal gates, whose numbers follow those of the specification's
+-- heading; the body ends as the process does, or never
+pub record DefinitionFits (program : Program) (processes : ℕ → Functionality) (ds : List Definition) (p : ℕ) (d : Definition) : Type 0 where
+  pub site : SiteFits program.theory processes ds d.body.site
+  pub variables : d.variables ≡ numbered_from 0 d.body.site.context.variables
+  pub sorts : Each (VariableFits program.theory) d.variables
+  pub first_gate : d.body.site.first_gate ≡ length program.gates
+  pub formal : d.formal ≡ range_with_len (length program.gates) (length d.body.site.gates)
   pub copies : CopiesAtGates d.body.construct
   pub ends : (d.body.read.functionality ≡ processes p) ⊎ (d.body.read.functionality ≡ noexit)
 
@@ -66,6 +84,9 @@ pub record IsAssembled (program : Program) (processes : ℕ → Functionality) (
   pub start : program.start ≡ root (behind_bodies ds) whole.read
   pub bodies_read : AreBodiesRead (length ds) ds
   pub whole_read : IsReadAt (behind_bodies ds) whole
-  pub definitions : (p : ℕ) (d : Definition) → slice_get ds p ≡ Some d → DefinitionFits program processes p d
-  pub whole_site : Agrees program processes whole.site [] no_variables
+  pub definitions : (p : ℕ) (d : Definition) → slice_get ds p ≡ Some d → DefinitionFits program processes ds p d
+  pub whole_site : SiteFits program.theory processes ds whole.site
+  pub whole_variables : whole.site.context.variables ≡ []
+  pub whole_first_gate : whole.site.first_gate ≡ 0
+  pub whole_gates : length whole.site.gates ≡ length program.gates
   pub whole_copies : CopiesAtGates whole.construct

@@ -48,8 +48,8 @@ RootsNameBehaviour = (program : Program) (processes : ℕ → Functionality) (s 
     (refusals : List Refusal) → IsRead s from b (Some r) refusals → Each (HeadingAgrees program processes) s.processes →
     StandAt program from r.nodes → NamesBehaviour program (root from r)
 
--- Where a construct is read, and its nodes stand in a program, a process that the last of them calls at once is one that the construct calls
--- at once
+-- Where a construct is read, and its nodes stand in a program, a process that the last of them calls at once is one that the construct
+-- calls at once
 abbrev pub CallsAtOnceAreWritten : Type 0
 CallsAtOnceAreWritten = (program : Program) (s : Site) (from : ℕ) (b : Construct) (r : Read) (refusals : List Refusal) →
     IsRead s from b (Some r) refusals → StandAt program from r.nodes →

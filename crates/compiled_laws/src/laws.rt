@@ -1,6 +1,7 @@
 // Laws of the definitions: a call does nothing, and its contract is the law.
 
-ghost use Rattle.compiled_laws.specs.Laws.{ReadingsHaveSorts, ReadConstructsFit, ReadNodesFit, RootsNameBehaviour, CallsAtOnceAreWritten, AssembledIsReady};
+ghost use Rattle.compiled_laws.specs.Laws.{ReadingsHaveSorts, ReadConstructsFit, ReadNodesFit, RootsNameBehaviour};
+ghost use Rattle.compiled_laws.specs.Laws.{CallsAtOnceAreWritten, AssembledIsReady};
 
 /// A reading of an expression is a term of its sort.
 pub fn readings_have_sorts()
