@@ -38,7 +38,6 @@ mapped_alone f None y = refl
 mapped_alone f (Some ys) None = refl
 mapped_alone f (Some ys) (Some y) = ap Some (map-append f ys (y ∷ []))
 
-
 pub begun : {A C : Type 0} (P : A → Option C → List Refusal → Type 0) (old : List Refusal) → Adds (ReadsAll P [] (Some [])) old old
 begun P old = record { refusals = []; such = none; behind = sym (append-nil old) }
 
