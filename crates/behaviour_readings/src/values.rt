@@ -90,7 +90,8 @@ pub fn exit_values(
     from: &[ExitValue],
     refusals: &mut Vec<Refusal>,
 ) -> Result<Option<Vec<(ExitField, Sort)>>, Memory>
-    ensures { IfOk result (λ found. Adds (AreExitValuesRead site.now from.now (option_map (map exit_value_at) (option_map (λ v. v.items) found)))
+    ensures { IfOk result (λ found. Adds (AreExitValuesRead site.now from.now
+        (option_map (map exit_value_at) (option_map (λ v. v.items) found)))
         refusals.old.items refusals.new.items) }
 {
     let mut all = Some(Vec::new(alloc));

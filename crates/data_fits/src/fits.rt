@@ -52,7 +52,8 @@ fn operations_fit(algebra: &DataSpec, all: &[OpDecl]) -> bool
 
 // Whether two terms have one sort.
 fn have_one_sort(algebra: &DataSpec, vars: &[Sort], one: &Term, other: &Term) -> bool
-    ensures { IsTrue result ↔ HaveOneSort (theory_of algebra.now) (slice_get (map sort_number vars.now)) (term_of one.now) (term_of other.now) }
+    ensures { IsTrue result ↔
+        HaveOneSort (theory_of algebra.now) (slice_get (map sort_number vars.now)) (term_of one.now) (term_of other.now) }
 {
     match head_sort(one, algebra, vars) {
         None => false,

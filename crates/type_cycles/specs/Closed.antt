@@ -12,7 +12,8 @@ pub record IsClosedBut (links : List (List ℕ)) (k : ℕ) (marks : List Bool) (
   pub from_marked : (i j : ℕ) → is_marked marks i ≡ true → Contains (slice_index_or links i []) j → IsMarkedOrIn marks waiting j
   pub from_this : (j : ℕ) → Contains (slice_index_or links k []) j → IsMarkedOrIn marks waiting j
 
--- marks after these types were marked, with what waits then: no mark is lost, these are marked, and of what is new all that it is made of waits
+-- marks after these types were marked, with what waits then: no mark is lost, these are marked, and of what is new all that it is made of
+-- waits
 pub record Marks (links : List (List ℕ)) (types : List ℕ) (old new : List Bool) (waiting : List ℕ) : Type 0 where
   pub kept : (i : ℕ) → is_marked old i ≡ true → is_marked new i ≡ true
   pub marked : (j : ℕ) → Contains types j → is_marked new j ≡ true
