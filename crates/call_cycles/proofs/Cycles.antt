@@ -1,17 +1,14 @@
 -- Ways, and calls from which none leads back.
 use Rattle.std.proofs.Common.{ℕ, zero, suc, ◌≡◌, ◌<◌, ◌≤◌, ◌+◌, ◌⊎◌, inl, inr, List, [], ◌∷◌, ◌++◌, length, map, drop, get_or, arith, ap, sym, ◌∙◌, refl, append-nil, append_assoc, subst, Option, Some, None}
-use Rattle.std.specs.Prelude.{option_map, Vec}
+use Rattle.std.specs.Prelude.{Vec}
 use Rattle.std.specs.declared.alloc.Global.{Global}
-use Rattle.std.specs.Option.{option_or}
 use Rattle.std.specs.List.{range_with_len, slice_index_or, slice_get, Contains, flat_map}
 use Rattle.std.proofs.lemmas.List.{length-map}
 use Rattle.std.proofs.lemmas.Option.{slice_get_past}
-use Rattle.std.proofs.lemmas.List.FromFn.{get_or-map-range_with_len}
 use Rattle.lotos_ast.specs.declared.refusal.Refusal.{Refusal}
-use Rattle.type_cycles.specs.Cycles.{first_some, way_from, ways_to, cycle_of}
-use Rattle.type_cycles.proofs.Firsts.{first_is, first_is_none}
-use Rattle.type_cycles.proofs.Reached.{no_more_ways}
-use Rattle.type_cycles.proofs.Walks.{linked_within}
+use Rattle.type_cycles.specs.Cycles.{ways_to, cycle_of}
+use Rattle.type_cycles.proofs.Firsts.{first_is, first_is_none, none_in_range}
+use Rattle.type_cycles.proofs.Reached.{no_more_ways, no_way_onward}
 use Rattle.sort_overloads.proofs.Loops.{dropped-next, dropped-all}
 use Rattle.call_cycles.specs.Unguarded.{called, links, name_of, way, call_refusals, refused_if, refusals_from}
 use Rattle.call_cycles.specs.declared.call.Call.{Call}
@@ -40,38 +37,10 @@ no_way_at_all links from to n past few = first_is_none (λ m. slice_index_or (wa
 
 -- where a process is on no cycle, no way leads back from those that it calls
 
-none_of_both : {B : Type 0} (o p : Option B) → option_or o p ≡ None → (o ≡ None) × (p ≡ None)
-none_of_both None p e = (refl, e)
-none_of_both (Some b) p e = absurd (cc)
-
-none_at : {A B : Type 0} (f : A → Option B) (xs : List A) → first_some f xs ≡ None → (x : A) → Contains xs x → f x ≡ None
-none_at f [] e x (i, within, at) = absurd (omega (arith, within))
-none_at f (y ∷ ys) e x (zero, within, at) = ap f (sym at) ∙ (none_of_both (f y) (first_some f ys) e).0
-none_at f (y ∷ ys) e x (suc i, within, at) = none_at f ys (none_of_both (f y) (first_some f ys) e).1 x (i, omega (arith, within), at)
-
-here_or_later : (a j : ℕ) → a ≤ j → (a ≡ j) ⊎ (a < j)
-here_or_later a j h = grind arith
-
-none_in_range : {B : Type 0} (f : ℕ → Option B) (a n j : ℕ) → first_some f (range_with_len a n) ≡ None → a ≤ j → j < a + n → f j ≡ None
-none_in_range f a zero j e from within = absurd (omega (arith, from, within))
-none_in_range f a (suc n) j e from within =
-    let parts : (f a ≡ None) × (first_some f (range_with_len (a + 1) n) ≡ None) = none_of_both (f a) (first_some f (range_with_len (a + 1) n)) e in
-    elim (here_or_later a j from) [
-      | inl same ↦ ap f (sym same) ∙ parts.0
-      | inr h ↦ none_in_range f (a + 1) n j parts.1 (omega (arith, h)) (omega (arith, within))
-    ]
-
-unmapped : {A B : Type 0} (f : A → B) (o : Option A) → option_map f o ≡ None → o ≡ None
-unmapped f None e = refl
-unmapped f (Some a) e = absurd (cc)
-
 no_way_back : (links : List (List ℕ)) (p q : ℕ) → cycle_of links p ≡ None → Contains (slice_index_or links p []) q → way links q p ≡ None
 no_way_back links p q off c = first_is_none (λ n. slice_index_or (ways_to links p n) q None) 0 (length links) (λ n h w.
-    none_at (λ j. slice_index_or (ways_to links p n) j None) (slice_index_or links p [])
-    (unmapped (λ way. p ∷ way) (first_some (λ j. slice_index_or (ways_to links p n) j None) (slice_index_or links p []))
-    (sym (get_or-map-range_with_len (λ k. way_from (ways_to links p n) k (slice_index_or links k [])) 0 (length links) p p None (linked_within links p q c) (omega arith))
-    ∙ none_in_range (λ n. slice_index_or (ways_to links p n) p None) 1 (length links) (suc n) off (omega arith) (omega arith)))
-    q c)
+    no_way_onward links p n p q c
+    (none_in_range (λ n. slice_index_or (ways_to links p n) p None) 1 (length links) (suc n) off (omega arith) (omega arith)))
 
 -- nothing is refused of the calls of a process that is on no cycle
 

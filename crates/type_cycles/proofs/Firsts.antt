@@ -1,6 +1,6 @@
 -- The first number of a range for which something is there.
 use Rattle.std.proofs.Common.{ℕ, zero, suc, ◌≡◌, ◌<◌, ◌≤◌, ◌+◌, ◌⊎◌, inl, inr, List, [], ◌∷◌, ◌++◌, map, arith, ap, sym, ◌∙◌, refl, Option, Some, None, true, false, below_more}
-use Rattle.std.specs.Prelude.{is_some}
+use Rattle.std.specs.Prelude.{is_some, option_map}
 use Rattle.std.specs.List.{range_with_len, Contains}
 use Rattle.std.specs.Option.{option_or}
 use Rattle.std.proofs.lemmas.List.Elements.{Contains-append_right}
@@ -59,3 +59,27 @@ is_there (Some b) t e = cc
 pub is_not_there : {B : Type 0} (o : Option B) → is_some o ≡ false → o ≡ None
 is_not_there None t = refl
 is_not_there (Some b) t = absurd (cc)
+
+-- where nothing is there, nothing is for any element
+
+none_of_both : {B : Type 0} (o p : Option B) → option_or o p ≡ None → (o ≡ None) × (p ≡ None)
+none_of_both None p e = (refl, e)
+none_of_both (Some b) p e = absurd (cc)
+
+pub none_at : {A B : Type 0} (f : A → Option B) (xs : List A) → first_some f xs ≡ None → (x : A) → Contains xs x → f x ≡ None
+none_at f [] e x (i, within, at) = absurd (omega (arith, within))
+none_at f (y ∷ ys) e x (zero, within, at) = ap f (sym at) ∙ (none_of_both (f y) (first_some f ys) e).0
+none_at f (y ∷ ys) e x (suc i, within, at) = none_at f ys (none_of_both (f y) (first_some f ys) e).1 x (i, omega (arith, within), at)
+
+pub none_in_range : {B : Type 0} (f : ℕ → Option B) (a n j : ℕ) → first_some f (range_with_len a n) ≡ None → a ≤ j → j < a + n → f j ≡ None
+none_in_range f a zero j e from within = absurd (omega (arith, from, within))
+none_in_range f a (suc n) j e from within =
+    let parts : (f a ≡ None) × (first_some f (range_with_len (a + 1) n) ≡ None) = none_of_both (f a) (first_some f (range_with_len (a + 1) n)) e in
+    elim (here_or_later a j from) [
+      | inl same ↦ ap f (sym same) ∙ parts.0
+      | inr h ↦ none_in_range f (a + 1) n j parts.1 (omega (arith, h)) (omega (arith, within))
+    ]
+
+pub unmapped : {A B : Type 0} (f : A → B) (o : Option A) → option_map f o ≡ None → o ≡ None
+unmapped f None e = refl
+unmapped f (Some a) e = absurd (cc)

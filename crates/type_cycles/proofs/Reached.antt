@@ -7,7 +7,8 @@ use Rattle.std.proofs.lemmas.List.{get_or_past}
 use Rattle.std.proofs.lemmas.Grind.{common_steps}
 use Rattle.type_cycles.specs.Cycles.{first_some, way_from, ways_to, cycle_of}
 use Rattle.type_cycles.specs.Ends.{Ends, ends}
-use Rattle.type_cycles.proofs.Firsts.{first_is_none, first_of_none, found_in}
+use Rattle.type_cycles.proofs.Firsts.{first_is_none, first_of_none, found_in, none_at, unmapped}
+use Rattle.type_cycles.proofs.Walks.{linked_within}
 
 -- a way from one type to another in so many steps
 pub data Reaches (links : List (List ℕ)) : ℕ → ℕ → ℕ → Type 0 where
@@ -52,6 +53,15 @@ no_more_ways links to n (suc m) within none = by_end (λ h. no_more_ways links t
     by_end earlier (inl e) = subst (λ z. (k : ℕ) → slice_index_or (ways_to links to z) k None ≡ None) e none
     by_end earlier (inr h) = table_of_none (λ k. way_from (ways_to links to m) k (slice_index_or links k [])) (length links)
         (λ k. ap (option_map (λ w. k ∷ w)) (first_of_none (λ j. slice_index_or (ways_to links to m) j None) (earlier h) (slice_index_or links k [])))
+
+-- where a type has no way in so many steps, none of which it is made has one in a step less
+pub no_way_onward : (links : List (List ℕ)) (to n k j : ℕ) → Contains (slice_index_or links k []) j
+    → slice_index_or (ways_to links to (suc n)) k None ≡ None → slice_index_or (ways_to links to n) j None ≡ None
+no_way_onward links to n k j c e = none_at (λ j. slice_index_or (ways_to links to n) j None) (slice_index_or links k [])
+    (unmapped (λ way. k ∷ way) (first_some (λ j. slice_index_or (ways_to links to n) j None) (slice_index_or links k []))
+    (sym (get_or-map-range_with_len (λ k. way_from (ways_to links to n) k (slice_index_or links k [])) 0 (length links) k k None
+    (linked_within links k j c) (omega arith)) ∙ e))
+    j c
 
 pub way_reaches : (links : List (List ℕ)) (to n k : ℕ) (way : List ℕ) → slice_index_or (ways_to links to n) k None ≡ Some way → Reaches links n k to
 way_reaches links to zero k way e = by_test (k == to) refl (table_at (λ k. if k == to then Some [] else None) (length links) k way e)
