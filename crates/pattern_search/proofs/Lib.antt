@@ -1,3 +1,4 @@
+pub mod Ending
 pub mod Facing
 pub mod Searching
 pub mod Stacking

@@ -27,7 +27,7 @@ mutual
   shapes_chain (and_term r rs) (and_term p ps) no_terms h k = absurd k
   shapes_chain (and_term r rs) (and_term p ps) (and_term v vs) h k = (shape_chain r p v h.0 k.0, shapes_chain rs ps vs h.1 k.1)
 
-or_else_some : (o q : Option ℕ) (s : ℕ) → or_else o q ≡ Some s → (o ≡ Some s) ⊎ ((o ≡ None) × (q ≡ Some s))
+pub or_else_some : (o q : Option ℕ) (s : ℕ) → or_else o q ≡ Some s → (o ≡ Some s) ⊎ ((o ≡ None) × (q ≡ Some s))
 or_else_some None q s e = inr (refl, e)
 or_else_some (Some x) q s e = inl e
 

@@ -1,8 +1,9 @@
 // The search for an uncovered pattern.
 
-ghost use Rattle.std.specs.Prelude.{◌≡◌, ◌↔◌, ◌∷◌, Ok, IfOk, IfSome, IfNone, IsTrue, true, false, map, option_map};
+ghost use Rattle.std.specs.Prelude.{◌≡◌, ◌<◌, ◌↔◌, ◌∷◌, Ok, IfOk, IfSome, IfNone, IsTrue, true, false, map, option_map};
 ghost use Rattle.inhabited_sorts.specs.Sorts.{AreInhabited};
 ghost use Rattle.pattern_search.specs.Search.{arguments_of, rows_of, stack_of, IsFirstMeeting, LeadsBack, Finds};
+ghost use Rattle.pattern_search.specs.Turns.{turns_left};
 ghost use Rattle.spec_core.specs.Lists.{Each, OneOf};
 ghost use Rattle.spec_core.specs.Sorts.{FitsData};
 ghost use Rattle.spec_core.specs.Terms.{term_of, terms};
@@ -58,6 +59,8 @@ fn step(
     ensures found { result ≡ Ok true → Each (λ r. MeetAll r (terms (map term_of pattern.now)) → ⊥) (rows_of rows.now) }
     ensures left { result ≡ Ok false → LeadsBack (theory_of algebra.now) (rows_of rows.now)
         (terms (map term_of pattern.now) ∷ stack_of todo.old.items) (stack_of todo.new.items) }
+    ensures fewer { result ≡ Ok false → turns_left (theory_of algebra.now) (rows_of rows.now) (stack_of todo.new.items)
+        < turns_left (theory_of algebra.now) (rows_of rows.now) (terms (map term_of pattern.now) ∷ stack_of todo.old.items) }
 {
     if some_covers(rows, pattern) {
         return Ok(false);
@@ -82,9 +85,8 @@ fn step(
 /// What the search for an uncovered pattern answers from this one on: nothing where the rows cover it, else the first pattern that no row
 /// covers in any part. Each variable of a pattern is one of its own, and its number is its sort.
 ///
-/// It ends: count the operations of a row that stand at or below a variable of the pattern, and add up over the rows that meet the
-/// pattern. Where a variable is replaced, the row that was looked at loses one of them or no longer meets the pattern, and no row gains
-/// any. So no pattern is opened more often than the rows have operations. (The count isn't proved; the loop has a bound of 2^64 turns.)
+/// It ends: where a variable of a pattern is replaced, the row that was looked at has fewer operations that stand in the place of a
+/// variable or below one, and no row has more of them (`turns_left`).
 pub fn uncovered_pattern(
     alloc: Global,
     algebra: &DataSpec,
@@ -99,17 +101,11 @@ pub fn uncovered_pattern(
 {
     let mut todo = Vec::new(alloc);
     todo.push(start)?;
-    for _turn in 0..u64::MAX {
-        let next = todo.pop();
-        match next {
-            None => return Ok(None),
-            Some(pattern) => {
-                let uncovered = step(alloc, algebra, inhabited, rows, &pattern.items, &mut todo)?;
-                if uncovered {
-                    return Ok(Some(pattern));
-                }
-            }
+    while let Some(pattern) = todo.pop() {
+        let uncovered = step(alloc, algebra, inhabited, rows, &pattern.items, &mut todo)?;
+        if uncovered {
+            return Ok(Some(pattern));
         }
     }
-    Err(Memory)
+    Ok(None)
 }
