@@ -1,0 +1,4 @@
+pub mod Asking
+pub mod Following
+pub mod Needing
+pub mod Searching

@@ -1,0 +1,46 @@
+-- What follows from the definitions.
+use Rattle.std.specs.Prelude.{ℕ, ◌≡◌, ◌⊎◌, ◌++◌, List, [], ◌∷◌, filter, flat_map, Some, None}
+use Rattle.spec_core.specs.Lists.{IsOneOf}
+use Rattle.courses.specs.Courses.{Question, Answers, Course, result, asked, after}
+use Rattle.courses.specs.Known.{Knowledge, Extends, decided, IsNeeded, found}
+use Rattle.courses.specs.Lazy.{Lazy, whole, of_list, joined, each, first, first_holding, all_holding}
+use Rattle.courses.specs.Rules.{Query, Waiting, next_of, course}
+
+-- what is decided from what is known is the result under all answers that extend it
+abbrev pub DecidedIsSo : (I A R : Type 0) → Type 0
+DecidedIsSo I A R = (known : Knowledge I A) (c : Course I A R) (r : R) (s : Answers I A) →
+    Extends s known → decided known c ≡ Some r → result s c ≡ r
+
+-- all is decided and nothing is found, or something is found and the result isn't decided
+abbrev pub DecidedOrFound : (I A R : Type 0) → Type 0
+DecidedOrFound I A R = (known : Knowledge I A) (c : Course I A R) →
+    ((r : R) × (decided known c ≡ Some r) × (found known c ≡ []))
+    ⊎ ((q : Question A) × (qs : List (Question A)) × (decided known c ≡ None) × (found known c ≡ q ∷ qs))
+
+-- the first question that is found is asked under all answers that extend what is known
+abbrev pub FirstIsAsked : (I A R : Type 0) → Type 0
+FirstIsAsked I A R = (known : Knowledge I A) (c : Course I A R) (q : Question A) (qs : List (Question A)) (s : Answers I A) →
+    Extends s known → found known c ≡ q ∷ qs → IsOneOf q (asked s c)
+
+-- each question that is found is needed
+abbrev pub FoundAreNeeded : (I A R : Type 0) → Type 0
+FoundAreNeeded I A R = (known : Knowledge I A) (c : Course I A R) (q : Question A) → IsOneOf q (found known c) → IsNeeded known c q
+
+-- where a question is needed, one is found
+abbrev pub NeededIsFound : (I A R : Type 0) → Type 0
+NeededIsFound I A R = (known : Knowledge I A) (c : Course I A R) (q : Question A) → IsNeeded known c q → found known c ≡ [] → ⊥
+
+-- the results of one course after another, and of searches; and what lists that wait come to
+pub record SearchesAreSo (I A B R S : Type 0) : Type 0 where
+  pub one_after_another : (s : Answers I A) (c : Course I A R) (f : R → Course I A S) → result s (after c f) ≡ result s (f (result s c))
+  pub firsts : (s : Answers I A) (l : Lazy I A) → result s (first_holding l) ≡ first (filter s.verdict (whole s l))
+  pub alls : (s : Answers I A) (l : Lazy I A) → result s (all_holding l) ≡ filter s.verdict (whole s l)
+  pub listed : (s : Answers I A) (xs : List A) → whole s (of_list {I = I} xs) ≡ xs
+  pub joins : (s : Answers I A) (l m : Lazy I A) → whole s (joined l m) ≡ whole s l ++ whole s m
+  pub flat : (s : Answers I A) (t : Answers I B) → ((g : ℕ) → s.items g ≡ t.items g) → (f : A → Lazy I B) (l : Lazy I A) →
+      whole t (each f l) ≡ flat_map (λ a. whole t (f a)) (whole s l)
+
+-- the course of the rules comes to what the rules say of the whole lists of those that hold
+abbrev pub CourseIsNext : (I P A : Type 0) → Type 0
+CourseIsNext I P A = (lazy : Query P → Lazy I A) (w : Waiting P) (s : Answers I A) →
+    result s (course lazy w) ≡ next_of (λ q. filter s.verdict (whole s (lazy q))) w

@@ -1,0 +1,39 @@
+// Laws of the definitions: a call does nothing, and its contract is the law.
+
+ghost use Rattle.courses.specs.Laws.{DecidedIsSo, DecidedOrFound, FirstIsAsked, FoundAreNeeded, NeededIsFound};
+ghost use Rattle.courses.specs.Laws.{SearchesAreSo, CourseIsNext};
+
+/// What is decided from what is known is so under all answers that extend it.
+pub fn decided_is_so<I, A, R>()
+    ensures { DecidedIsSo I A R }
+{}
+
+/// Either all is decided, or the walk finds a question.
+pub fn decided_or_found<I, A, R>()
+    ensures { DecidedOrFound I A R }
+{}
+
+/// The first question that the walk finds is asked under all answers that extend what is known.
+pub fn first_is_asked<I, A, R>()
+    ensures { FirstIsAsked I A R }
+{}
+
+/// Each question that the walk finds is needed.
+pub fn found_are_needed<I, A, R>()
+    ensures { FoundAreNeeded I A R }
+{}
+
+/// Where a question is needed, the walk finds one.
+pub fn needed_is_found<I, A, R>()
+    ensures { NeededIsFound I A R }
+{}
+
+/// Searches in lists that wait find what they look for in the whole lists.
+pub fn searches_are_so<I, A, B, R, S>()
+    ensures { SearchesAreSo I A B R S }
+{}
+
+/// The course of the rules comes to what they say of the whole lists.
+pub fn course_is_next<I, P, A>()
+    ensures { CourseIsNext I P A }
+{}
