@@ -1,11 +1,5 @@
-pub mod Letters
-pub mod Tokens
-pub mod FirstForm
-pub mod Steps
-pub mod Script
-pub mod Forms
-pub mod Walk
-pub mod Session
-pub mod Trace
+pub mod Commands
+pub mod Due
+pub mod Outside
+pub mod Runs
 pub mod Statuses
-pub mod Grammar

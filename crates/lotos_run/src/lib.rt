@@ -1,26 +1,21 @@
 // The program's commands.
 #![tactic(auto)]
 
-pub mod laws;
-mod pieces;
+mod answer;
+mod command;
+mod due;
 mod run;
-mod script;
-mod session;
-mod specification;
-mod stack;
 pub mod status;
-mod token;
-mod trace;
-mod walk;
-mod words;
 
-ghost use Rattle.std.specs.Prelude.{◌≡◌, ℕ, List, map, string_bytes};
+ghost use Rattle.std.specs.Prelude.{◌≡◌, map, string_bytes};
 ghost use Rattle.lotos_outside.specs.Counts.{Rose};
 ghost use Rattle.lotos_outside.specs.Sink.{with_more, AppendsPrefix};
-ghost use Rattle.lotos_run.specs.Statuses.{IsDue, IsFinal, call_of};
-ghost use Rattle.lotos_run.specs.declared.status.Status.{Status};
+ghost use Rattle.lotos_run.specs.Commands.{command_of};
+ghost use Rattle.lotos_run.specs.Due.{IsAnswered, IsCutShort};
+ghost use Rattle.lotos_run.specs.Outside.{outside};
+ghost use Rattle.lotos_run.specs.Statuses.{IsFinal};
 
-use crate::run::due_answer;
+use crate::due::due_answer;
 use crate::status::Status;
 use lotos_outside::shelf::Shelf;
 use lotos_outside::sink::{Sink, SinkFault, write_all};
@@ -54,16 +49,14 @@ pub fn lotos_main<R: AllocGlobal, F: Shelf, I: Source, O: Sink>(
 ) -> Status
     // A final status is due, and the text that is due with it was written.
     ensures due { IsFinal result →
-        (text : List ℕ) ×
-        IsDue (F.files shelf.old) (F.failed shelf.old) (F.failed shelf.new) (call_of (map string_bytes words.now)) result text ×
-        (O.written out.new ≡ with_more text (O.written out.old)) }
+        IsAnswered (outside (F.files shelf.old) (F.failed shelf.old) (F.failed shelf.new) (O.written out.old) (O.written out.new))
+        (command_of (map string_bytes words.now)) result }
 
     // Where the output failed, the sink noted a fault in this call, and a prefix of the text that was due was written.
     ensures write_fault { result ≡ Status.WriteFault → Rose (O.faults out.old) (O.faults out.new) }
     ensures prefix { result ≡ Status.WriteFault →
-        (status : Status) × (text : List ℕ) ×
-        IsDue (F.files shelf.old) (F.failed shelf.old) (F.failed shelf.new) (call_of (map string_bytes words.now)) status text ×
-        AppendsPrefix text (O.written out.old) (O.written out.new) }
+        IsCutShort (outside (F.files shelf.old) (F.failed shelf.old) (F.failed shelf.new) (O.written out.old) (O.written out.new))
+        (command_of (map string_bytes words.now)) }
 {
     let _ = input;
     match due_answer(rt.alloc(), words, shelf) {

@@ -1,0 +1,16 @@
+use Rattle.std.proofs.Common.{◌≡◌, ◌≤◌, length, take, All}
+use Rattle.rule_model.specs.Behaviours.{behaviour_of}
+use Rattle.rule_model.specs.Logs.{events_of}
+use Rattle.first_form.specs.Trace.{IsPlain}
+use Rattle.first_form.specs.Session.{IsSessionSoFar}
+use Rattle.first_form.proofs.session.drive.Given as goal
+
+abbrev pub invariant-loop-gate : goal.invariant-loop-gate
+invariant-loop-gate l = record {
+  so_far :
+      IsSessionSoFar (length l.gates) (behaviour_of l.fn.start) (take l.gate-index l.wishes) (events_of l.log) (behaviour_of l.from)
+      l.number l.actions;
+  plain : All IsPlain (events_of l.log);
+  counted : l.number ≡ l.gate-index;
+  fewer : l.actions ≤ l.gate-index;
+}

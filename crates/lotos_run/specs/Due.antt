@@ -1,0 +1,28 @@
+-- Which status a call ends with, and which text it brings.
+use Rattle.std.specs.Prelude.{ℕ, ◌≡◌, List, Option, Some, None, codes}
+use Rattle.lotos_outside.specs.Sink.{with_more, AppendsPrefix}
+use Rattle.lotos_run.specs.declared.status.Status.{Status}
+use Rattle.lotos_run.specs.declared.status.Status.TheVariants.{Usage}
+use Rattle.lotos_run.specs.Commands.{Command, run}
+use Rattle.lotos_run.specs.Outside.{Shelved, Outside}
+use Rattle.lotos_run.specs.Runs.{IsRunDue}
+
+-- what is due where the words name no command
+abbrev pub IsUsageDue : Status → List ℕ → Type 0
+IsUsageDue Usage text = text ≡ codes "usage\n"
+IsUsageDue _ text = ⊥
+
+-- which status is due, with which text
+abbrev pub IsDue : Shelved → Option Command → Status → List ℕ → Type 0
+IsDue shelf None status text = IsUsageDue status text
+IsDue shelf (Some (run specification script)) status text = IsRunDue shelf specification script status text
+
+-- the status is due, and the text that is due with it was written
+abbrev pub IsAnswered : Outside → Option Command → Status → Type 0
+IsAnswered known command status =
+    (text : List ℕ) × IsDue known.shelf command status text × (known.written_after ≡ with_more text known.written_before)
+
+-- a prefix of the text that is due with some status was written
+abbrev pub IsCutShort : Outside → Option Command → Type 0
+IsCutShort known command = (status : Status) × (text : List ℕ) × IsDue known.shelf command status text
+    × AppendsPrefix text known.written_before known.written_after

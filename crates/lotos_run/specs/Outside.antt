@@ -1,0 +1,22 @@
+-- What is known of the outside of a call.
+use Rattle.std.specs.Prelude.{ℕ, List, Option}
+
+-- of the shelf: its files, where it tells them, and the names whose fetch failed, before the call and after it
+pub record Shelved : Type 0 where
+  pub files : Option (List ℕ → Option (List ℕ))
+  pub failed_before : List (List ℕ)
+  pub failed_after : List (List ℕ)
+
+-- of the shelf, and of what the sink had taken, before the call and after it, where it tells that
+pub record Outside : Type 0 where
+  pub shelf : Shelved
+  pub written_before : Option (List ℕ)
+  pub written_after : Option (List ℕ)
+
+abbrev pub shelved : Option (List ℕ → Option (List ℕ)) → List (List ℕ) → List (List ℕ) → Shelved
+shelved files before after = record { files = files; failed_before = before; failed_after = after }
+
+abbrev pub outside :
+    Option (List ℕ → Option (List ℕ)) → List (List ℕ) → List (List ℕ) → Option (List ℕ) → Option (List ℕ) → Outside
+outside files failed failed_after written written_after =
+    record { shelf = shelved files failed failed_after; written_before = written; written_after = written_after }

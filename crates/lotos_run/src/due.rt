@@ -1,0 +1,34 @@
+// What is due for the words of a call.
+
+ghost use Rattle.std.specs.Prelude.{IfOk, map, string_bytes};
+ghost use Rattle.lotos_run.specs.Commands.{command_of};
+ghost use Rattle.lotos_run.specs.Due.{IsDue};
+ghost use Rattle.lotos_run.specs.Outside.{shelved};
+
+use crate::answer::{Answer, with_text};
+use crate::command::{Command, read_command};
+use crate::run::run;
+use crate::status::Status;
+use lotos_outside::shelf::Shelf;
+use spec_core::memory::Memory;
+use std::alloc::Global;
+
+/// What is due for the words.
+pub fn due_answer<F: Shelf>(
+    alloc: Global,
+    words: &[String],
+    shelf: &mut F,
+) -> Result<Answer, Memory>
+    ensures { IfOk result (λ a. IsDue (shelved (F.files shelf.old) (F.failed shelf.old) (F.failed shelf.new))
+        (command_of (map string_bytes words.now)) a.status a.text.items) }
+{
+    match read_command(words) {
+        None => with_text(alloc, Status::Usage, b"usage\n"),
+        Some(
+            Command::Run {
+                specification,
+                script,
+            },
+        ) => run(alloc, shelf, specification, script),
+    }
+}
