@@ -3,7 +3,8 @@ use Rattle.std.specs.Prelude.{ℕ, ◌≡◌, ◌↔◌, List, [], ◌∷◌, Bo
 use Rattle.std.specs.List.{slice_get}
 use Rattle.lotos_ast.specs.declared.refusal.Refusal.{Refusal}
 use Rattle.lotos_ast.specs.declared.refusal.RefusalKind.{RefusalKind}
-use Rattle.lotos_ast.specs.declared.refusal.RefusalKind.TheVariants.{ConstructorHasEquation, PatternHasDefined, NotLeftLinear, LooseVariable}
+use Rattle.lotos_ast.specs.declared.refusal.RefusalKind.TheVariants.{ConstructorHasEquation, PatternHasDefined, NotLeftLinear}
+use Rattle.lotos_ast.specs.declared.refusal.RefusalKind.TheVariants.{LooseVariable}
 use Rattle.number_sets.specs.Members.{IsIn}
 use Rattle.spec_core.specs.Constructors.{IsMarked}
 use Rattle.spec_core.specs.Lists.{OneOf}
