@@ -1,0 +1,16 @@
+pub mod Classes
+pub mod Conditions
+pub mod Covered
+pub mod Depth
+pub mod Evaluated
+pub mod Exists
+pub mod Fit
+pub mod Full
+pub mod Given
+pub mod Matching
+pub mod Narrow
+pub mod Renaming
+pub mod Smaller
+pub mod Sorted
+pub mod Still
+pub mod Whole

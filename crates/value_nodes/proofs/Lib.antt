@@ -1,0 +1,4 @@
+pub mod Copied
+pub mod Nodes
+pub mod Outcomes
+pub mod Parts

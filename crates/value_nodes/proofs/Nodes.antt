@@ -1,0 +1,216 @@
+-- Tables of nodes.
+use Rattle.std.proofs.Common.{ℕ, zero, suc, ◌≡◌, ◌<◌, ◌≤◌, ◌+◌, List, [], ◌∷◌, ◌++◌, length, get_or, refl, sym, ap, subst, ◌∙◌, arith}
+use Rattle.std.proofs.Common.{length-append, map, slice_index_or, inl, inr, ◌⊎◌}
+use Rattle.value_nodes.specs.declared.node.Node.{Node}
+use Rattle.value_nodes.specs.declared.node.Node.TheVariants.{Constant, One, More}
+use Rattle.spec_core.specs.Theories.{Theory}
+use Rattle.spec_core.specs.Constructors.{IsConstructor, IsConstructed, AreConstructed}
+use Rattle.spec_core.specs.Lists.{Each}
+use Rattle.spec_core.specs.Terms.{TermTree, TermTrees, variable, apply, no_terms, and_term, preorder, preorders}
+use Rattle.value_nodes.specs.Sizes.{symbols}
+use Rattle.value_nodes.specs.Nodes.{arguments, tree_in, node_tree, trees_after, trees_of, tree_at, IsMade, AreMade, IsSeen, IsNode}
+use Rattle.value_nodes.specs.Nodes.{IsLonger, AreValues}
+
+pub in_front : (ts us : List TermTree) (i : ℕ) → i < length ts → tree_in (ts ++ us) i ≡ tree_in ts i
+in_front [] us i h = absurd (omega arith)
+in_front (t ∷ ts) us zero h = refl
+in_front (t ∷ ts) us (suc i) h = in_front ts us i (omega arith)
+
+pub at_end : (ts : List TermTree) (t : TermTree) → tree_in (ts ++ t ∷ []) (length ts) ≡ t
+at_end [] t = refl
+at_end (u ∷ ts) t = at_end ts t
+
+pub trees-length : (before : List TermTree) (rs : List Node) → length (trees_after before rs) ≡ length before + length rs
+trees-length before [] = omega arith
+trees-length before (r ∷ rs) =
+    let e = trees-length (before ++ node_tree before r ∷ []) rs in
+    let l = length-append before (node_tree before r ∷ []) in
+    omega (arith, e, l)
+
+-- earlier terms stay
+pub stay : (before : List TermTree) (rs : List Node) (i : ℕ) → i < length before → tree_in (trees_after before rs) i ≡ tree_in before i
+stay before [] i h = refl
+stay before (r ∷ rs) i h =
+    let l = length-append before (node_tree before r ∷ []) in
+    stay (before ++ node_tree before r ∷ []) rs i (omega (arith, l)) ∙ in_front before (node_tree before r ∷ []) i h
+
+pub trees-push : (before : List TermTree) (rs : List Node) (r : Node) →
+    trees_after before (rs ++ r ∷ []) ≡ trees_after before rs ++ node_tree (trees_after before rs) r ∷ []
+trees-push before [] r = refl
+trees-push before (q ∷ rs) r = trees-push (before ++ node_tree before q ∷ []) rs r
+
+pub made-push : (before : List TermTree) (rs : List Node) (r : Node) → AreMade before rs → IsMade (trees_after before rs) r →
+    AreMade before (rs ++ r ∷ [])
+made-push before [] r h m = (m, tt)
+made-push before (q ∷ rs) r h m = (h.0, made-push (before ++ node_tree before q ∷ []) rs r h.1 m)
+
+more_call : (op : ℕ) (a t : TermTree) (f : ℕ) (ts : TermTrees) → t ≡ apply f ts →
+    symbols (apply op (and_term a (arguments t))) ≡ symbols a + symbols t
+more_call op a t f ts e =
+    let l = length-append (preorder a) (preorders ts) in
+    let q : symbols (apply op (and_term a ts)) ≡ symbols a + symbols (apply f ts) = omega (arith, l) in
+    ap (λ u. symbols (apply op (and_term a (arguments u)))) e ∙ q ∙ ap (λ u. symbols a + symbols u) (sym e)
+
+module _ (before : List TermTree) (q : Node) (rs : List Node) where
+  early : (j : ℕ) → j < length before → tree_in (trees_after before (q ∷ rs)) j ≡ tree_in before j
+  early j h = stay before (q ∷ rs) j h
+
+  itself_seen : tree_in (trees_after before (q ∷ rs)) (length before) ≡ node_tree before q
+  itself_seen =
+      let l = length-append before (node_tree before q ∷ []) in
+      stay (before ++ node_tree before q ∷ []) rs (length before) (omega (arith, l)) ∙ at_end before (node_tree before q)
+
+  longer : (j : ℕ) → j < length before → j < length (trees_after before (q ∷ rs))
+  longer j h = let l = trees-length before (q ∷ rs) in omega (arith, l)
+
+  first_seen : IsMade before q → IsSeen (trees_after before (q ∷ rs)) (length before) q
+  first_seen h = by_kind q refl h itself_seen early longer
+    where
+      by_kind : (r : Node) → r ≡ q → IsMade before r → tree_in (trees_after before (q ∷ rs)) (length before) ≡ node_tree before q →
+          ((j : ℕ) → j < length before → tree_in (trees_after before (q ∷ rs)) j ≡ tree_in before j) →
+          ((j : ℕ) → j < length before → j < length (trees_after before (q ∷ rs))) →
+          IsSeen (trees_after before (q ∷ rs)) (length before) r
+      by_kind (Constant op) e m i s l = i ∙ ap (node_tree before) (sym e)
+      by_kind (One op size arg) e m i s l =
+          let k : tree_in (trees_after before (q ∷ rs)) (length before) ≡ node_tree before (One op size arg) =
+          i ∙ ap (node_tree before) (sym e) in
+          (l arg m.0, k ∙ ap (λ t. apply op.0 (and_term t no_terms)) (sym (s arg m.0)), m.1 ∙ ap symbols (sym k), m.2)
+      by_kind (More op size arg rest) e m i s l =
+          let k : tree_in (trees_after before (q ∷ rs)) (length before) ≡ node_tree before (More op size arg rest) =
+          i ∙ ap (node_tree before) (sym e) in (
+            l arg m.0,
+            l rest m.1,
+            k ∙ ap (λ t. apply op.0 (and_term t (arguments (tree_in before rest)))) (sym (s arg m.0)) ∙ ap
+                (λ t. apply op.0 (and_term (tree_in (trees_after before (q ∷ rs)) arg) (arguments t))) (sym (s rest m.1)),
+            m.2 ∙ ap symbols (sym k),
+            m.3,
+            λ q. m.4 (ap arguments (sym (s rest m.1)) ∙ q),
+          )
+
+seen : (before : List TermTree) (rs : List Node) (i : ℕ) (d : Node) → AreMade before rs → i < length rs →
+    IsSeen (trees_after before rs) (length before + i) (get_or rs i d)
+seen before [] i d m h = absurd (omega arith)
+seen before (q ∷ rs) zero d m h =
+    let e : length before ≡ length before + 0 = omega arith in
+    subst (λ n. IsSeen (trees_after before (q ∷ rs)) n q) e (first_seen before q rs m.0)
+seen before (q ∷ rs) (suc i) d m h =
+    let l = length-append before (node_tree before q ∷ []) in
+    let e : length (before ++ node_tree before q ∷ []) + i ≡ length before + suc i = omega (arith, l) in
+    subst (λ n. IsSeen (trees_after before (q ∷ rs)) n (get_or rs i d)) e
+    (seen (before ++ node_tree before q ∷ []) rs i d m.1 (omega arith))
+
+-- what is read at a place
+pub read : (rows : List Node) (i : ℕ) (r : Node) → AreMade [] rows → i < length rows → r ≡ get_or rows i r → IsSeen (trees_of rows) i r
+read rows i r m h e =
+    let z : 0 + i ≡ i = omega arith in
+    subst (λ n. IsSeen (trees_of rows) n r) z (subst (IsSeen (trees_of rows) (0 + i)) (sym e) (seen [] rows i r m h))
+
+-- a node with more arguments has as many symbols as its first argument and the node of the others
+pub more_size : (ts : List TermTree) (op : ℕ) (a : TermTree) (rest : ℕ) (r : Node) → IsSeen ts rest r →
+    symbols (apply op (and_term a (arguments (tree_in ts rest)))) ≡ symbols a + symbols (tree_in ts rest)
+more_size ts op a rest (Constant f) s = more_call op a (tree_in ts rest) f.0 no_terms s
+more_size ts op a rest (One f size arg) s = more_call op a (tree_in ts rest) f.0 (and_term (tree_in ts arg) no_terms) s.1
+more_size ts op a rest (More f size arg others) s =
+    more_call op a (tree_in ts rest) f.0 (and_term (tree_in ts arg) (arguments (tree_in ts others))) s.2
+
+-- one more node
+pub pushed : (rows : List Node) (r : Node) → AreMade [] rows → IsMade (trees_of rows) r → AreMade [] (rows ++ r ∷ [])
+pushed rows r h m = made-push [] rows r h m
+
+pub pushed_tree : (rows : List Node) (r : Node) → tree_at (rows ++ r ∷ []) (length rows) ≡ node_tree (trees_of rows) r
+pushed_tree rows r =
+    let l = trees-length [] rows in
+    let e : length (trees_of rows) ≡ length rows = omega (arith, l) in
+    ap (λ ts. tree_in ts (length rows)) (trees-push [] rows r) ∙ ap (λ n. tree_in (trees_of rows ++ node_tree (trees_of rows) r ∷ []) n)
+    (sym e) ∙ at_end (trees_of rows) (node_tree (trees_of rows) r)
+
+pub pushed_longer : (rows : List Node) (r : Node) → IsLonger rows (rows ++ r ∷ [])
+pushed_longer rows r = record {
+  at_least = let l = length-append rows (r ∷ []) in omega (arith, l);
+  same = λ i h. let l = trees-length [] rows in
+      ap (λ ts. tree_in ts i) (trees-push [] rows r) ∙ in_front (trees_of rows) (node_tree (trees_of rows) r ∷ []) i (omega (arith, l));
+}
+
+pub longer_itself : (rows : List Node) → IsLonger rows rows
+longer_itself rows = record { at_least = omega arith; same = λ i h. refl }
+
+pub longer_on : (a b c : List Node) → IsLonger a b → IsLonger b c → IsLonger a c
+longer_on a b c h k = record {
+  at_least = omega (arith, h.at_least, k.at_least);
+  same = λ i l. k.same i (omega (arith, h.at_least)) ∙ h.same i l;
+}
+
+-- the same terms stand at the nodes that there were
+pub same_trees : (old new : List Node) → IsLonger old new → (is : List ℕ) → Each (IsNode old) is →
+    map (tree_at new) is ≡ map (tree_at old) is
+same_trees old new h [] e = refl
+same_trees old new h (i ∷ is) e =
+    let a = h.same i e.0 in
+    let b = same_trees old new h is e.1 in
+    cc
+
+pub still_nodes : (old new : List Node) → IsLonger old new → (is : List ℕ) → Each (IsNode old) is → Each (IsNode new) is
+still_nodes old new h [] e = tt
+still_nodes old new h (i ∷ is) e = (omega (arith, h.at_least, e.0), still_nodes old new h is e.1)
+
+less_or_not : (i m : ℕ) → (i < m) ⊎ (m ≤ i)
+less_or_not zero zero = inr (omega arith)
+less_or_not zero (suc m) = inl (omega arith)
+less_or_not (suc i) zero = inr (omega arith)
+less_or_not (suc i) (suc m) = one_up (less_or_not i m)
+  where
+    one_up : (i < m) ⊎ (m ≤ i) → (suc i < suc m) ⊎ (suc m ≤ suc i)
+    one_up (inl h) = inl (omega (arith, h))
+    one_up (inr h) = inr (omega (arith, h))
+
+arguments_constructed : (theory : Theory) (t : TermTree) → IsConstructed theory t → AreConstructed theory (arguments t)
+arguments_constructed theory (variable x) c = absurd c
+arguments_constructed theory (apply f ts) c = c.1
+
+pub each_first : (P : ℕ → Type 0) (xs : List ℕ) (d : ℕ) → 1 ≤ length xs → Each P xs → P (slice_index_or xs 0 d)
+each_first P [] d h e = absurd (omega arith)
+each_first P (x ∷ xs) d h e = e.0
+
+-- a constructor over values is one more value
+pub made_more : (theory : Theory) (f : ℕ) (old mid new : List Node) (vs : List ℕ) (d rest n : ℕ) → 1 ≤ length vs → Each (IsNode old) vs →
+    IsLonger old mid → IsNode mid rest → AreValues theory mid → IsLonger mid new → ((i : ℕ) → IsNode new i → IsNode mid i ⊎ (i ≡ n)) →
+    tree_at new n ≡ apply f (and_term (tree_at mid (slice_index_or vs 0 d)) (arguments (tree_at mid rest))) → IsConstructor theory f →
+    AreValues theory new
+made_more theory f old mid new vs d rest n some there grown at constructed longer others tree c i h = by_place (others i h)
+  where
+    by_place : IsNode mid i ⊎ (i ≡ n) → IsConstructed theory (tree_at new i)
+    by_place (inl l) = subst (IsConstructed theory) (sym (longer.same i l)) (constructed i l)
+    by_place (inr e) =
+        let a : IsNode mid (slice_index_or vs 0 d) = let p = each_first (IsNode old) vs d some there in omega (arith, p, grown.at_least) in
+        subst (λ j. IsConstructed theory (tree_at new j)) (sym e)
+        (subst (IsConstructed theory) (sym tree)
+        (c, (constructed (slice_index_or vs 0 d) a, arguments_constructed theory (tree_at mid rest) (constructed rest at))))
+
+pub made_one : (theory : Theory) (f : ℕ) (old new : List Node) (v n : ℕ) → IsNode old v → AreValues theory old → IsLonger old new →
+    ((i : ℕ) → IsNode new i → IsNode old i ⊎ (i ≡ n)) → tree_at new n ≡ apply f (and_term (tree_at old v) no_terms) →
+    IsConstructor theory f → AreValues theory new
+made_one theory f old new v n there constructed longer others tree c i h = by_place (others i h)
+  where
+    by_place : IsNode old i ⊎ (i ≡ n) → IsConstructed theory (tree_at new i)
+    by_place (inl l) = subst (IsConstructed theory) (sym (longer.same i l)) (constructed i l)
+    by_place (inr e) = subst (λ j. IsConstructed theory (tree_at new j)) (sym e)
+        (subst (IsConstructed theory) (sym tree) (c, (constructed v there, tt)))
+
+pub made_none : (theory : Theory) (f : ℕ) (old new : List Node) (n : ℕ) → AreValues theory old → IsLonger old new →
+    ((i : ℕ) → IsNode new i → IsNode old i ⊎ (i ≡ n)) → tree_at new n ≡ apply f no_terms → IsConstructor theory f → AreValues theory new
+made_none theory f old new n constructed longer others tree c i h = by_place (others i h)
+  where
+    by_place : IsNode old i ⊎ (i ≡ n) → IsConstructed theory (tree_at new i)
+    by_place (inl l) = subst (IsConstructed theory) (sym (longer.same i l)) (constructed i l)
+    by_place (inr e) = subst (λ j. IsConstructed theory (tree_at new j)) (sym e) (subst (IsConstructed theory) (sym tree) (c, tt))
+
+pub one_more_node : (old new : List Node) (n : ℕ) → length new ≡ length old + 1 → length new ≡ n + 1 → (i : ℕ) → IsNode new i →
+    IsNode old i ⊎ (i ≡ n)
+one_more_node old new n count last i h = by_place (less_or_not i (length old))
+  where
+    by_place : (i < length old) ⊎ (length old ≤ i) → IsNode old i ⊎ (i ≡ n)
+    by_place (inl l) = inl l
+    by_place (inr l) = inr (omega (arith, h, l, count, last))
+
+pub within : (rows : List Node) (i : ℕ) → i < length (trees_of rows) → IsNode rows i
+within rows i h = let l = trees-length [] rows in omega (arith, l, h)

@@ -1,0 +1,23 @@
+use Rattle.std.proofs.Common.{rules, ◌≡◌, ◌∷◌, ◌++◌, [], subst, sym, length}
+use Rattle.value_nodes.specs.Nodes.{trees_of, tree_at, node_tree, AreMade, IsLonger}
+use Rattle.value_nodes.proofs.Nodes.{pushed, pushed_tree, pushed_longer}
+use Rattle.value_nodes.proofs.node.Nodes.add.Goals as goal
+
+pub invariant_of-self-2 : goal.invariant_of-self-2
+invariant_of-self-2 c =
+    let e : c.push.new.self.items ≡ c.args.self.now ++ c.args.row ∷ [] = search rules in
+    let m : AreMade [] c.args.self.now = search rules in
+    subst (AreMade []) (sym e) (pushed c.args.self.now c.args.row m c.requires.made)
+
+pub returns-clause-longer : goal.returns-clause-longer
+returns-clause-longer c =
+    let e : c.push.new.self.items ≡ c.args.self.now ++ c.args.row ∷ [] = search rules in
+    subst (IsLonger c.args.self.now) (sym e) (pushed_longer c.args.self.now c.args.row)
+
+pub returns-clause-tree : goal.returns-clause-tree
+returns-clause-tree c =
+    let e : c.push.new.self.items ≡ c.args.self.now ++ c.args.row ∷ [] = search rules in
+    let n : c.len-place.result ≡ length c.args.self.now = search rules in
+    subst (λ rows. tree_at rows c.len-place.result ≡ node_tree (trees_of c.args.self.now) c.args.row) (sym e)
+    (subst (λ k. tree_at (c.args.self.now ++ c.args.row ∷ []) k ≡ node_tree (trees_of c.args.self.now) c.args.row) (sym n)
+    (pushed_tree c.args.self.now c.args.row))

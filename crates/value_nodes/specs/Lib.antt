@@ -1,0 +1,4 @@
+pub mod Copies
+pub mod Nodes
+pub mod Parts
+pub mod Sizes
