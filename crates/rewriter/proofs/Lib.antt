@@ -1,0 +1,14 @@
+pub mod Calls
+pub mod Causes
+pub mod Following
+pub mod Links
+pub mod Loop
+pub mod Matches
+pub mod Moves
+pub mod Outcomes
+pub mod Plans
+pub mod Slices
+pub mod Tops
+pub mod Turns
+pub mod Weights
+pub mod Words

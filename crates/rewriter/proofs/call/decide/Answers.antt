@@ -1,0 +1,57 @@
+use Rattle.std.proofs.Common.{◌≡◌, sym, subst}
+use Rattle.spec_core.specs.Theories.{theory_of}
+use Rattle.value_nodes.specs.Nodes.{tree_at}
+use Rattle.rewriter.specs.Machine.{Keeps, Exceeds}
+use Rattle.rewriter.specs.Runs.{Coming}
+use Rattle.rewriter.specs.Calls.{Decided}
+use Rattle.rewriter.proofs.Moves.{keep_on, exceeds_before}
+use Rattle.rewriter.proofs.Loop.{if_ok_one, if_err_one, not_both}
+use Rattle.rewriter.proofs.Calls.{chosen}
+use Rattle.rewriter.proofs.call.decide.Goals as goal
+
+pub returns-then-branch-clause-kept : goal.returns-then-branch-clause-kept
+returns-then-branch-clause-kept c =
+    let t = theory_of c.args.algebra.now in
+    let p = chosen t c.args.nodes.now c.args.place c.args.next c.args.todo.now c.args.values.now c.pop.new.self c.pop-in-Some.new.self
+    c.in-Some-pop.left c.in-Some.right c.args.uses c.in-Some.ensures.popped c.in-Some-pop.ensures.popped in
+    let alike : tree_at c.args.nodes.now c.in-Some-pop.left ≡ tree_at c.args.nodes.now c.in-Some.right =
+    c.in_ok-same_value-in-Some-pop.ensures.decides.0 c.if-branch.true in
+    if_ok_one c.hold.result (λ u k. keep_on c.args.uses c.args.uses u p
+    (subst (λ v. Keeps (Decided t c.args.nodes.now c.args.place c.args.next v
+    (tree_at c.args.nodes.now c.in-Some.right) c.args.todo.now c.pop-in-Some.new.self) c.args.uses
+    (Coming t c.args.nodes.now c.hold.new.todo c.hold.new.values) u) (sym alike) (k (tree_at c.args.nodes.now c.in-Some.right))))
+    c.hold.ensures.kept
+
+pub returns-then-branch-clause-spent : goal.returns-then-branch-clause-spent
+returns-then-branch-clause-spent c =
+    let t = theory_of c.args.algebra.now in
+    let p = chosen t c.args.nodes.now c.args.place c.args.next c.args.todo.now c.args.values.now c.pop.new.self c.pop-in-Some.new.self
+    c.in-Some-pop.left c.in-Some.right c.args.uses c.in-Some.ensures.popped c.in-Some-pop.ensures.popped in
+    let alike : tree_at c.args.nodes.now c.in-Some-pop.left ≡ tree_at c.args.nodes.now c.in-Some.right =
+    c.in_ok-same_value-in-Some-pop.ensures.decides.0 c.if-branch.true in
+    if_err_one c.hold.result (λ e k s. exceeds_before c.args.uses c.args.uses c.args.budget p
+    (subst (λ v. Exceeds (Decided t c.args.nodes.now c.args.place c.args.next v
+    (tree_at c.args.nodes.now c.in-Some.right) c.args.todo.now c.pop-in-Some.new.self) c.args.uses c.args.budget) (sym alike)
+    (k s (tree_at c.args.nodes.now c.in-Some.right)))) c.hold.ensures.spent
+
+pub returns-else-branch-clause-kept : goal.returns-else-branch-clause-kept
+returns-else-branch-clause-kept c =
+    let t = theory_of c.args.algebra.now in
+    let p = chosen t c.args.nodes.now c.args.place c.args.next c.args.todo.now c.args.values.now c.pop.new.self c.pop-in-Some.new.self
+    c.in-Some-pop.left c.in-Some.right c.args.uses c.in-Some.ensures.popped c.in-Some-pop.ensures.popped in
+    let differ : tree_at c.args.nodes.now c.in-Some-pop.left ≡ tree_at c.args.nodes.now c.in-Some.right →
+    ⊥ = λ e. not_both c.in_ok-same_value-in-Some-pop.field-0 (c.in_ok-same_value-in-Some-pop.ensures.decides.1 e) c.if-branch.false in
+    if_ok_one c.fail.result (λ u k. keep_on c.args.uses c.args.uses u p
+    (k c.args.next (tree_at c.args.nodes.now c.in-Some-pop.left) (tree_at c.args.nodes.now c.in-Some.right) differ))
+    c.fail.ensures.kept
+
+pub returns-else-branch-clause-spent : goal.returns-else-branch-clause-spent
+returns-else-branch-clause-spent c =
+    let t = theory_of c.args.algebra.now in
+    let p = chosen t c.args.nodes.now c.args.place c.args.next c.args.todo.now c.args.values.now c.pop.new.self c.pop-in-Some.new.self
+    c.in-Some-pop.left c.in-Some.right c.args.uses c.in-Some.ensures.popped c.in-Some-pop.ensures.popped in
+    let differ : tree_at c.args.nodes.now c.in-Some-pop.left ≡ tree_at c.args.nodes.now c.in-Some.right →
+    ⊥ = λ e. not_both c.in_ok-same_value-in-Some-pop.field-0 (c.in_ok-same_value-in-Some-pop.ensures.decides.1 e) c.if-branch.false in
+    if_err_one c.fail.result (λ e k s. exceeds_before c.args.uses c.args.uses c.args.budget p
+    (k s c.args.next (tree_at c.args.nodes.now c.in-Some-pop.left) (tree_at c.args.nodes.now c.in-Some.right) differ))
+    c.fail.ensures.spent

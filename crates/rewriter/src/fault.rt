@@ -1,0 +1,75 @@
+// Why an evaluation gave no value.
+
+ghost use Rattle.std.specs.Prelude.{◌≡◌};
+
+use spec_core::memory::Memory;
+use std::alloc::{AllocError, AllocFailed};
+use std::error::Error;
+use std::fmt;
+use value_nodes::fault::NodeFault;
+
+/// Why an evaluation gave no value.
+#[derive(Clone, Copy, Debug, PartialEq, Eq)]
+pub enum Eval {
+    /// The term has no value within the budget.
+    Spent,
+    /// The evaluation meets a value of more than 65,536 symbols.
+    TooLarge,
+    /// Want of memory.
+    Memory,
+}
+
+impl fmt::Display for Eval {
+    fn fmt<W: fmt::Write>(&self, f: &mut fmt::Formatter<W>) -> fmt::Result {
+        match self {
+            Eval::Spent => write!(f, "no value within the budget"),
+            Eval::TooLarge => write!(f, "a value of more than 65536 symbols"),
+            Eval::Memory => write!(f, "out of memory"),
+        }
+    }
+}
+
+impl Error for Eval {}
+
+impl From<Memory> for Eval {
+    ghost use Rattle.rewriter.specs.declared.fault.Eval.TheVariants.{Memory as NoMemory};
+
+    ghost from_gives = { λ _ e. e ≡ NoMemory };
+
+    fn from(_: Memory) -> Eval {
+        Eval::Memory
+    }
+}
+
+impl From<AllocError> for Eval {
+    ghost use Rattle.rewriter.specs.declared.fault.Eval.TheVariants.{Memory as NoMemory};
+
+    ghost from_gives = { λ _ e. e ≡ NoMemory };
+
+    fn from(_: AllocError) -> Eval {
+        Eval::Memory
+    }
+}
+
+impl<T: Drop> From<AllocFailed<T>> for Eval {
+    ghost use Rattle.rewriter.specs.declared.fault.Eval.TheVariants.{Memory as NoMemory};
+
+    ghost from_gives = { λ _ e. e ≡ NoMemory };
+
+    fn from(_: AllocFailed<T>) -> Eval {
+        Eval::Memory
+    }
+}
+
+impl From<NodeFault> for Eval {
+    ghost use Rattle.rewriter.specs.Faults.{eval_of};
+
+    ghost from_gives = { λ fault e. e ≡ eval_of fault };
+
+    fn from(fault: NodeFault) -> Eval {
+        match fault {
+            NodeFault::TooLarge => Eval::TooLarge,
+            NodeFault::Memory => Eval::Memory,
+        }
+    }
+}
