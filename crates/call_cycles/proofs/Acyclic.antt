@@ -6,7 +6,6 @@ use Rattle.std.specs.Option.{option_or}
 use Rattle.std.proofs.lemmas.List.{length-map, get_or_past}
 use Rattle.std.proofs.lemmas.List.FromFn.{get_or-map-range_with_len}
 use Rattle.lotos_ast.specs.declared.place.Place.{Place}
-use Rattle.lotos_ast.specs.declared.refusal.Refusal.{Refusal}
 use Rattle.lotos_ast.specs.declared.refusal.RefusalKind.TheVariants.{Unguarded}
 use Rattle.sort_overloads.specs.Refused.{refused}
 use Rattle.type_cycles.specs.Cycles.{first_some, way_from, ways_to, cycle_of}

@@ -1,8 +1,8 @@
 -- Ways, and calls from which none leads back.
-use Rattle.std.proofs.Common.{ℕ, zero, suc, ◌≡◌, ◌<◌, ◌≤◌, ◌+◌, ◌⊎◌, inl, inr, List, [], ◌∷◌, ◌++◌, length, map, drop, get_or, arith, ap, sym, ◌∙◌, refl, append-nil, append_assoc, subst, Option, Some, None}
+use Rattle.std.proofs.Common.{ℕ, zero, suc, ◌≡◌, ◌<◌, ◌≤◌, ◌+◌, ◌⊎◌, inl, inr, List, [], ◌∷◌, ◌++◌, length, map, drop, get_or, arith, ap, sym, ◌∙◌, refl, append-nil, append_assoc, subst, Option, None}
 use Rattle.std.specs.Prelude.{Vec}
 use Rattle.std.specs.declared.alloc.Global.{Global}
-use Rattle.std.specs.List.{range_with_len, slice_index_or, slice_get, Contains, flat_map}
+use Rattle.std.specs.List.{slice_index_or, slice_get, Contains, flat_map}
 use Rattle.std.proofs.lemmas.List.{length-map}
 use Rattle.std.proofs.lemmas.Option.{slice_get_past}
 use Rattle.lotos_ast.specs.declared.refusal.Refusal.{Refusal}

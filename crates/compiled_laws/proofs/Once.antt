@@ -30,7 +30,7 @@ use Rattle.behaviour_readings.specs.Calls as read_calls
 use Rattle.behaviour_readings.specs.Calls.{IsValueRead, sorted, unsorted, AreValuesRead, called, IsCallRead, unknown, miscounted, counted}
 use Rattle.behaviour_readings.specs.Calls.{IsBindingRead, bound_to, variable_of}
 use Rattle.behaviour_readings.specs.Declarations.{unknown_gate, unknown_gates, gate_numbers, declaration_refusals, declared_variables}
-use Rattle.behaviour_readings.specs.Joins.{Read, after, around, either, joined, disagreement}
+use Rattle.behaviour_readings.specs.Joins.{after, around, either, joined, disagreement}
 use Rattle.behaviour_readings.specs.Offers.{IsOfferRead, value, variables, IsPredicateRead, IsExitValueRead, any, AreOffersRead, AreExitValuesRead}
 use Rattle.behaviour_readings.specs.Offers.{offered_variables, offered_names, numbered_offers}
 use Rattle.behaviour_readings.specs.ReadsAll.{ReadsAll, none, further, before}
@@ -135,8 +135,7 @@ mutual
       let inside : Site = with_variables s (offered_variables s offers) in
       let os = offers-one s offers fields others ro so o m in
       let ps = predicate-one inside p guard test rp sp q n in
-      let one = construct-one inside from c x y rb sb h k in
-      (
+      let one = construct-one inside from c x y rb sb h k in (
         of-three (λ fields _ guard _ x _. acting from (gate_number s gate) fields guard x) os ps one,
         of-three (λ _ ro _ rp _ rb. unknown_gate s gate ++ (names_twice (offered_names offers) ++ (ro ++ (rp ++ rb)))) os ps one,
       )
@@ -150,8 +149,7 @@ mutual
       (of-two (λ found _ x _. under from guarded found x) ps one, of-two (λ _ rp _ rb. rp ++ rb) ps one)
   construct-one s from b _ _ _ _ (bound_to_values bindings c found x rv rb q h) (bound_to_values _ _ other y sv sb t k) =
       let vs = reads-one _ (binding-one s) _ found other rv sv q t in
-      let one = construct-one (with_variables s (map (variable_of s) bindings)) from c x y rb sb h k in
-      (
+      let one = construct-one (with_variables s (map (variable_of s) bindings)) from c x y rb sb h k in (
         of-two (λ found _ x _. under from code.bound found x) vs one,
         of-two (λ _ rv _ rb. names_twice (map (λ b. b.name) bindings) ++ (rv ++ rb)) vs one,
       )
@@ -163,22 +161,19 @@ mutual
       (one.0, ap (λ l. names_twice (map (λ c. c.gate) cs) ++ l) one.1)
   construct-one s from b _ _ _ _ (composed_with place operator c d x y ra rb h k) (composed_with _ _ _ _ u v sa sb l m) =
       let left = construct-one s from c x u ra sa h l in
-      let right = construct-one s (after from x) d y v rb sb k (subst (λ o. IsRead s (after from o) d v sb) (sym left.0) m) in
-      (
+      let right = construct-one s (after from x) d y v rb sb k (subst (λ o. IsRead s (after from o) d v sb) (sym left.0) m) in (
         of-two (λ x _ y _. composed from (synchronised s operator) x y) left right,
         of-two (λ x ra y rb. unknown_gates s (gates_of operator) ++ ((ra ++ rb) ++ composed_refusals place (synchronised s operator) x y)) left right,
       )
   construct-one s from b _ _ _ _ (hidden gates c x rb h) (hidden _ _ y sb k) =
-      let one = construct-one (with_gates s gates) from c x y rb sb h k in
-      (
+      let one = construct-one (with_gates s gates) from c x y rb sb h k in (
         of-one (λ x _. option_map (around from (hide (range_with_len (next_gate s) (length gates)))) x) one,
         of-one (λ _ rb. names_twice gates ++ rb) one,
       )
   construct-one s from b _ _ _ _ (enabled_by place c ds d x y ra rb h k) (enabled_by _ _ _ _ u v sa sb l m) =
       let inside : Site = with_variables s (all_variables s.context.sorts ds) in
       let left = construct-one s from c x u ra sa h l in
-      let right = construct-one inside (after from x) d y v rb sb k (subst (λ o. IsRead inside (after from o) d v sb) (sym left.0) m) in
-      (
+      let right = construct-one inside (after from x) d y v rb sb k (subst (λ o. IsRead inside (after from o) d v sb) (sym left.0) m) in (
         of-two (λ x _ y _. enabled from (declared_variables s ds) x y) left right,
         of-two (λ x ra y rb. ra ++ (declaration_refusals s ds ++ (rb ++ enabled_refusals place (declared_variables s ds) x y))) left right,
       )
@@ -189,8 +184,7 @@ mutual
   construct-one s from b _ _ _ _ (called_with name gates es x rs h) (called_with _ _ _ y ss k) =
       call-one s name gates es (process_named s name) x y rs ss h k
   construct-one s from b _ _ _ _ (copied_at gate among operator c x rb h) (copied_at _ _ _ _ y sb k) =
-      let one = construct-one (with_gates s (gate ∷ [])) from c x y rb sb h k in
-      (
+      let one = construct-one (with_gates s (gate ∷ [])) from c x y rb sb h k in (
         of-one (λ x _. copied from (next_gate s) (synchronised s operator) (gate_numbers s among) x) one,
         of-one (λ _ rb. unknown_gates s among ++ (unknown_gates s (gates_of operator) ++ rb)) one,
       )
@@ -198,8 +192,7 @@ mutual
   gates-one : (s : Site) (from : ℕ) (cs : List GateChoice) (b : Construct) → IsOne (AreGatesChosen s from cs b)
   gates-one s from cs b _ _ _ _ (none_left _ x rs h) (none_left _ y ss k) = construct-one s from b x y rs ss h k
   gates-one s from cs b _ _ _ _ (one_more c others _ x rs h) (one_more _ _ _ y ss k) =
-      let one = gates-one (with_gates s (c.gate ∷ [])) from others b x y rs ss h k in
-      (
+      let one = gates-one (with_gates s (c.gate ∷ [])) from others b x y rs ss h k in (
         of-one (λ x _. under from (gate_choice (next_gate s)) (gate_numbers s c.gates.gates.items) x) one,
         of-one (λ _ rs. unknown_gates s c.gates.gates.items ++ rs) one,
       )
