@@ -1,8 +1,8 @@
 -- Ways, and calls from which none leads back.
-use Rattle.std.proofs.Common.{ℕ, zero, suc, ◌≡◌, ◌<◌, ◌≤◌, ◌+◌, ◌⊎◌, inl, inr, List, [], ◌∷◌, ◌++◌, length, map, drop, get_or, arith, ap, sym, ◌∙◌, refl, append-nil, append_assoc, subst, Option, Some, None}
+use Rattle.std.proofs.Common.{ℕ, zero, suc, ◌≡◌, ◌<◌, ◌≤◌, ◌+◌, ◌⊎◌, inl, inr, List, [], ◌∷◌, ◌++◌, length, map, drop, get_or, arith, ap, sym, ◌∙◌, refl, append-nil, append_assoc, subst, Option, None}
 use Rattle.std.specs.Prelude.{Vec}
 use Rattle.std.specs.declared.alloc.Global.{Global}
-use Rattle.std.specs.List.{range_with_len, slice_index_or, slice_get, Contains, flat_map}
+use Rattle.std.specs.List.{slice_index_or, slice_get, Contains, flat_map}
 use Rattle.std.proofs.lemmas.List.{length-map}
 use Rattle.std.proofs.lemmas.Option.{slice_get_past}
 use Rattle.lotos_ast.specs.declared.refusal.Refusal.{Refusal}
@@ -13,7 +13,7 @@ use Rattle.sort_overloads.proofs.Loops.{dropped-next, dropped-all}
 use Rattle.call_cycles.specs.Unguarded.{called, links, name_of, way, call_refusals, refused_if, refusals_from}
 use Rattle.call_cycles.specs.declared.call.Call.{Call}
 
-before_or_from : (m n : ℕ) → (m < n) ⊎ (n ≤ m)
+pub before_or_from : (m n : ℕ) → (m < n) ⊎ (n ≤ m)
 before_or_from m n = grind arith
 
 -- the first way is that in so many steps, where there is none in fewer
@@ -37,17 +37,17 @@ no_way_at_all links from to n past few = first_is_none (λ m. slice_index_or (wa
 
 -- where a process is on no cycle, no way leads back from those that it calls
 
-no_way_back : (links : List (List ℕ)) (p q : ℕ) → cycle_of links p ≡ None → Contains (slice_index_or links p []) q → way links q p ≡ None
+pub no_way_back : (links : List (List ℕ)) (p q : ℕ) → cycle_of links p ≡ None → Contains (slice_index_or links p []) q → way links q p ≡ None
 no_way_back links p q off c = first_is_none (λ n. slice_index_or (ways_to links p n) q None) 0 (length links) (λ n h w.
     no_way_onward links p n p q c
     (none_in_range (λ n. slice_index_or (ways_to links p n) p None) 1 (length links) (suc n) off (omega arith) (omega arith)))
 
 -- nothing is refused of the calls of a process that is on no cycle
 
-tail_within : {A : Type 0} (x : A) (xs : List A) (y : A) → Contains xs y → Contains (x ∷ xs) y
+pub tail_within : {A : Type 0} (x : A) (xs : List A) (y : A) → Contains xs y → Contains (x ∷ xs) y
 tail_within x xs y (i, within, at) = (suc i, omega (arith, within), at)
 
-none_refused : (names links : List (List ℕ)) (caller : ℕ) (calls : List Call) → ((q : ℕ) → Contains (called calls) q → way links q caller ≡ None)
+pub none_refused : (names links : List (List ℕ)) (caller : ℕ) (calls : List Call) → ((q : ℕ) → Contains (called calls) q → way links q caller ≡ None)
     → flat_map (call_refusals names links caller) calls ≡ []
 none_refused names links caller [] none = refl
 none_refused names links caller (c ∷ calls) none =

@@ -1,1 +1,2 @@
+pub mod Acyclic
 pub mod Cycles

@@ -3,5 +3,6 @@
 
 pub mod call;
 pub mod calls;
+pub mod laws;
 pub mod unguarded;
 pub mod way;

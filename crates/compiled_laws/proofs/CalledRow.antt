@@ -13,7 +13,6 @@ use Rattle.spec_core.specs.Functionality.{Functionality, call_fits, AreGatesInSc
 use Rattle.spec_core.specs.Lists.{Each}
 use Rattle.spec_core.specs.Terms.{TermTree}
 use Rattle.sort_overloads.specs.Listed.{is_same_name}
-use Rattle.constructs.specs.Constructs as written
 use Rattle.behaviour_readings.specs.Calls.{AreValuesRead, called, IsCallRead, unknown, miscounted, counted}
 use Rattle.behaviour_readings.specs.Declarations.{gate_numbers}
 use Rattle.behaviour_readings.specs.Joins.{Read, single}
@@ -61,7 +60,7 @@ module _ (program : Program) (processes : ℕ → Functionality) (s : Site) (fro
 
 pub called-row : (program : Program) (processes : ℕ → Functionality) (s : Site) (from : ℕ) (name : Token) (ts : List Token) (es : List Expr)
     (x : Option Read) (rs : List Refusal) → IsCallRead s name ts es (process_named s name) x rs →
-    Holds program processes s from (written.calls name ts es) x
-called-row program processes s from name ts es x rs d w gates vars h =
+    Holds program processes s from x
+called-row program processes s from name ts es x rs d gates vars h =
     call-row program processes s from gates vars h name ts es (process_named s name)
     (each-found (HeadingAgrees program processes) (λ p. is_same_name p.name name.text) s.processes h.headings) x rs d

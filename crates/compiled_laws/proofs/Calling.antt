@@ -11,8 +11,9 @@ use Rattle.spec_core.specs.Lists.{IsOneOf}
 use Rattle.spec_core.specs.Ready.{CallsAtOnce, here, within, CallsProcess, IsCallOf, IsProcess, LeadsAtOnce, one_call, more_calls}
 use Rattle.type_cycles.specs.MadeFrom.{IsMadeFrom, directly, through, AreAcyclic}
 use Rattle.behaviour_readings.specs.Joins.{root}
-use Rattle.compiled_laws.specs.Assembled.{Placed, Definition, IsAssembled, links, body_nodes}
-use Rattle.compiled_laws.specs.AtOnce.{called_at_once}
+use Rattle.call_cycles.specs.AtOnce.{calls_at_once}
+use Rattle.call_cycles.specs.Unguarded.{called, links}
+use Rattle.compiled_laws.specs.Assembled.{Placed, Definition, IsAssembled, calls_of, body_nodes}
 use Rattle.compiled_laws.proofs.Assembling.{definition-located, defined-or-behind, tail-fits}
 use Rattle.compiled_laws.proofs.Opens.{begins, one-open}
 use Rattle.compiled_laws.proofs.OpensRows.{construct-calls}
@@ -46,19 +47,20 @@ module _ (program : Program) (processes : ℕ → Functionality) (ds : List Defi
 
   -- what a process calls at once its body calls at once
   process-calls : (p q : ℕ) (d : Definition) → slice_get ds p ≡ Some d → CallsAtOnce program q p →
-      Contains (slice_index_or (links ds) p []) q
+      Contains (slice_index_or (links (calls_of ds)) p []) q
   process-calls p q d e c =
       let l = definition-located program processes ds whole h p d e in
       let body : ℕ = root l.from d.body.read in
       let inside : CallsAtOnce program q body =
       one-open program q (process d.formal d.variables body) body (λ i. i) refl
       (begins program q (process d.formal d.variables body) p l.node c) in
-      let calls : List ℕ = called_at_once d.body.site d.body.construct in
+      let calls : List ℕ = called (calls_at_once d.body.site d.body.construct) in
       let one : IsOneOf q calls = (construct-calls program q l.read d.body.site refl).at_once l.nodes inside in
-      let linked : slice_get (links ds) p ≡ Some calls =
-      slice_get-map (λ d. called_at_once d.body.site d.body.construct) ds p
-      ∙ ap (option_map (λ d. called_at_once d.body.site d.body.construct)) e in
-      subst (λ l. Contains l q) (sym (get_or_from_slice_get (links ds) p calls [] linked)) (one-of-contains q calls one)
+      let linked : slice_get (links (calls_of ds)) p ≡ Some calls =
+      slice_get-map called (calls_of ds) p
+      ∙ ap (option_map called) (slice_get-map (λ d. calls_at_once d.body.site d.body.construct) ds p)
+      ∙ ap (λ o. option_map called (option_map (λ d. calls_at_once d.body.site d.body.construct) o)) e in
+      subst (λ l. Contains l q) (sym (get_or_from_slice_get (links (calls_of ds)) p calls [] linked)) (one-of-contains q calls one)
 
   module _ (parts : (number : ℕ) (node : Node) → slice_get program.code number ≡ Some node → CallsProcess program node) where
     defined-by-call : (q : ℕ) (node : Node) → IsCallOf q node → CallsProcess program node → IsDefined program q
@@ -88,14 +90,14 @@ module _ (program : Program) (processes : ℕ → Functionality) (ds : List Defi
     leads-target {p} {q} (one_call c) = target-defined q c
     leads-target (more_calls q c l) = leads-target l
 
-    step : (p q : ℕ) → IsDefined program p → CallsAtOnce program q p → Contains (slice_index_or (links ds) p []) q
+    step : (p q : ℕ) → IsDefined program p → CallsAtOnce program q p → Contains (slice_index_or (links (calls_of ds)) p []) q
     step p q d c =
         let e = definition-of p (process d.0 d.1 d.2) d.3 tt in
         process-calls p q e.0 e.1 c
 
-    leads-made : {p q : ℕ} → LeadsAtOnce program p q → IsDefined program p → IsMadeFrom (links ds) p q
+    leads-made : {p q : ℕ} → LeadsAtOnce program p q → IsDefined program p → IsMadeFrom (links (calls_of ds)) p q
     leads-made {p} {q} (one_call c) d = directly (step p q d c)
     leads-made {p} (more_calls q c l) d = through (step p q d c) (leads-made l (target-defined q c))
 
-    pub none-leads-back : AreAcyclic (links ds) → (p : ℕ) → LeadsAtOnce program p p → ⊥
+    pub none-leads-back : AreAcyclic (links (calls_of ds)) → (p : ℕ) → LeadsAtOnce program p p → ⊥
     none-leads-back acyclic p l = acyclic p (leads-made l (leads-target l))

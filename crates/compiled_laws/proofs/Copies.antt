@@ -3,15 +3,15 @@ use Rattle.std.proofs.Common.{ℕ, zero, suc, ◌≡◌, ◌<◌, ◌+◌, List,
 use Rattle.std.proofs.Common.{length-append}
 use Rattle.std.specs.Prelude.{pred, Option, Some, None, IfSome}
 use Rattle.std.specs.List.{slice_get}
-use Rattle.spec_core.specs.Code.{Node, Program, Synchronised, parallel}
-use Rattle.spec_core.specs.Functionality.{Functionality, HasFunctionality, at_node, relabel_fits, parallel_fits}
+use Rattle.spec_core.specs.Code.{Node, Program, Synchronised, stop, parallel}
+use Rattle.spec_core.specs.Functionality.{Functionality, noexit, HasFunctionality, at_node, stop_fits, relabel_fits, parallel_fits}
 use Rattle.spec_core.specs.Functionality.{IsGateInScope, AreGatesInScope, SynchronisedFits}
 use Rattle.behaviour_readings.specs.Joins.{Read, root}
 use Rattle.behaviour_readings.specs.Readings.{relabelled, copy_nodes, copied}
-use Rattle.compiled_laws.specs.Standing.{StandAt, IsFilled}
+use Rattle.compiled_laws.specs.Standing.{StandAt}
 use Rattle.compiled_laws.proofs.Codes.{in-front, behind, node-at}
 use Rattle.compiled_laws.proofs.Endings.{both-same}
-use Rattle.compiled_laws.proofs.Standings.{Stands}
+use Rattle.compiled_laws.proofs.Standings.{Stands, stands-single}
 
 module _ (program : Program) (processes : ℕ → Functionality) (gates : List ℕ) (vars : ℕ → Option ℕ) (synchronised : Synchronised)
     (fits : SynchronisedFits program gates synchronised) (part g : ℕ) (f : Functionality)
@@ -54,12 +54,14 @@ suc-pred (suc m) h = refl
 
 pub stands-copied : (program : Program) (processes : ℕ → Functionality) (gates : List ℕ) (vars : ℕ → Option ℕ) (from g : ℕ)
     (o : Option Synchronised) (among : Option (List ℕ)) (x : Option Read) → IfSome o (SynchronisedFits program gates) →
-    IfSome among (λ gs. AreGatesInScope program gates gs × IsFilled gs) → IfSome x (Stands program processes (g ∷ gates) vars from) →
+    IfSome among (AreGatesInScope program gates) → IfSome x (Stands program processes (g ∷ gates) vars from) →
     IfSome (copied from g o among x) (Stands program processes gates vars from)
 stands-copied program processes gates vars from g None among x so sa sx = tt
 stands-copied program processes gates vars from g (Some synchronised) None x so sa sx = tt
-stands-copied program processes gates vars from g (Some synchronised) (Some gs) None so sa sx = tt
-stands-copied program processes gates vars from g (Some synchronised) (Some []) (Some r) so sa sx = absurd sa.1
+stands-copied program processes gates vars from g (Some synchronised) (Some []) None so sa sx = tt
+stands-copied program processes gates vars from g (Some synchronised) (Some (a ∷ others)) None so sa sx = tt
+stands-copied program processes gates vars from g (Some synchronised) (Some []) (Some r) so sa sx =
+    stands-single program processes gates vars from stop noexit stop_fits
 stands-copied program processes gates vars from g (Some synchronised) (Some (a ∷ others)) (Some r) so sa sx =
     let part : ℕ = root from r in
     let some : 0 < from + length r.nodes = omega (arith, sx.filled) in
@@ -70,6 +72,6 @@ stands-copied program processes gates vars from g (Some synchronised) (Some (a �
       fits = λ h.
           subst (λ n. HasFunctionality program processes gates vars n r.functionality)
           (sym (before-pred (from + length r.nodes) (length nodes) some) ∙ ap pred e)
-          (copies-fit program processes gates vars synchronised so part g r.functionality (sx.fits (in-front r.nodes nodes h)) a others sa.0
+          (copies-fit program processes gates vars synchronised so part g r.functionality (sx.fits (in-front r.nodes nodes h)) a others sa
           (subst (λ n. StandAt program n nodes) (sym (suc-pred (from + length r.nodes) some)) (behind r.nodes nodes h)));
     }

@@ -67,12 +67,12 @@ in-range (suc n) a g low high =
       | inr l ↦ inr (in-range n (a + 1) g (omega arith) (omega arith))
     ]
 
-pub one-of-front : (g : ℕ) (xs ys : List ℕ) → IsOneOf g xs → IsOneOf g (xs ++ ys)
+pub one-of-front : {A : Type 0} (g : A) (xs ys : List A) → IsOneOf g xs → IsOneOf g (xs ++ ys)
 one-of-front g [] ys h = absurd h
 one-of-front g (x ∷ xs) ys (inl h) = inl h
 one-of-front g (x ∷ xs) ys (inr h) = inr (one-of-front g xs ys h)
 
-pub one-of-behind : (g : ℕ) (xs ys : List ℕ) → IsOneOf g ys → IsOneOf g (xs ++ ys)
+pub one-of-behind : {A : Type 0} (g : A) (xs ys : List A) → IsOneOf g ys → IsOneOf g (xs ++ ys)
 one-of-behind g [] ys h = h
 one-of-behind g (x ∷ xs) ys h = inr (one-of-behind g xs ys h)
 

@@ -7,6 +7,7 @@ pub mod Endings
 pub mod Fields
 pub mod Gates
 pub mod Judgements
+pub mod Once
 pub mod Opens
 pub mod OpensRows
 pub mod Options

@@ -3,6 +3,7 @@ use Rattle.std.proofs.Common.{ℕ, suc, ◌≡◌, ◌<◌, ◌+◌, List, [], �
 use Rattle.std.proofs.Common.{length-append, inl, inr}
 use Rattle.std.specs.Prelude.{pred, Option, Some, None, option_map, IfSome}
 use Rattle.std.specs.List.{flat_map, range_with_len, find}
+use Rattle.std.proofs.lemmas.List.{map-append}
 use Rattle.lotos_ast.specs.declared.behaviour.GateChoice.{GateChoice}
 use Rattle.lotos_ast.specs.declared.expression.Expr.{Expr}
 use Rattle.lotos_ast.specs.declared.refusal.Refusal.{Refusal}
@@ -25,7 +26,9 @@ use Rattle.behaviour_readings.specs.Readings.{IsRead, stopped, exited, acted_ins
 use Rattle.behaviour_readings.specs.Readings.{chosen_values, chosen_gates, composed_with, hidden, enabled_by, disabled_by, called_with}
 use Rattle.behaviour_readings.specs.Readings.{copied_at, AreGatesChosen, none_left, one_more}
 use Rattle.behaviour_readings.specs.Sites.{Site, Heading, gate_number, next_gate, process_named}
-use Rattle.compiled_laws.specs.AtOnce.{called_at_once, number_of}
+use Rattle.call_cycles.specs.AtOnce.{call_of, calls_at_once}
+use Rattle.call_cycles.specs.Unguarded.{called as processes_called}
+use Rattle.call_cycles.specs.declared.call.Call.{Call}
 use Rattle.compiled_laws.specs.Standing.{StandAt}
 use Rattle.compiled_laws.proofs.Codes.{in-front, behind, node-at}
 use Rattle.compiled_laws.proofs.Copies.{before-pred, suc-pred}
@@ -151,15 +154,18 @@ module _ (program : Program) (p : ℕ) where
       IfSome x (λ r. CallsOf program p from r called) → IfSome (copied from g o among x) (λ r. CallsOf program p from r called)
   calls-copied from g None among x called h = tt
   calls-copied from g (Some sync) None x called h = tt
-  calls-copied from g (Some sync) (Some gs) None called h = tt
-  calls-copied from g (Some sync) (Some gs) (Some r) called h =
+  calls-copied from g (Some sync) (Some []) None called h = tt
+  calls-copied from g (Some sync) (Some (a ∷ among)) None called h = tt
+  calls-copied from g (Some sync) (Some []) (Some r) called h =
+      calls-single program p from stop noexit called (λ b. absurd (none-open program p stop (λ q. q) refl b))
+  calls-copied from g (Some sync) (Some (a ∷ among)) (Some r) called h =
       let part : ℕ = root from r in
-      let nodes : List Node = copy_nodes sync part g gs in
+      let nodes : List Node = copy_nodes sync part g (a ∷ among) in
       let some : 0 < from + length r.nodes = omega (arith, h.filled) in
       let e : from + length (r.nodes ++ nodes) ≡ (from + length r.nodes) + length nodes = omega (arith, length-append r.nodes nodes) in
       record {
         filled = omega (arith, h.filled, length-append r.nodes nodes);
-        at_once = λ at c. h.at_once (in-front r.nodes nodes at) (copies-call sync part g gs
+        at_once = λ at c. h.at_once (in-front r.nodes nodes at) (copies-call sync part g (a ∷ among)
             (subst (λ n. StandAt program n nodes) (sym (suc-pred (from + length r.nodes) some)) (behind r.nodes nodes at))
             (subst (CallsAtOnce program p) (ap pred e ∙ before-pred (from + length r.nodes) (length nodes) some) c));
       }
@@ -178,14 +184,21 @@ module _ (program : Program) (p : ℕ) where
       (call-begins q.number gs ts)) q.functionality)
 
   calls-call : (from : ℕ) (s : Site) (name : Token) (ts : List Token) (es : List Expr) (o : Option Heading) (x : Option Read)
-      (rs : List Refusal) → IsCallRead s name ts es o x rs → IfSome x (λ r. CallsOf program p from r (number_of o))
+      (rs : List Refusal) → IsCallRead s name ts es o x rs → IfSome x (λ r. CallsOf program p from r (processes_called (call_of name.place o)))
   calls-call from s name ts es o x rs unknown = tt
   calls-call from s name ts es o x rs (miscounted q other) = tt
   calls-call from s name ts es o x rs (counted q values refusals counts d) = calls-called from q (gate_numbers s ts) values
 
+  -- the processes that two lists of calls call
+  calls-joined : (from : ℕ) (one other : List Call) (x : Option Read) →
+      IfSome x (λ r. CallsOf program p from r (processes_called one ++ processes_called other)) →
+      IfSome x (λ r. CallsOf program p from r (processes_called (one ++ other)))
+  calls-joined from one other x h =
+      subst (λ l. IfSome x (λ r. CallsOf program p from r l)) (sym (map-append (λ c. c.process) one other)) h
+
   mutual
     pub construct-calls : {s : Site} {from : ℕ} {b : Construct} {found : Option Read} {rs : List Refusal} → IsRead s from b found rs →
-        (t : Site) → s.processes ≡ t.processes → IfSome found (λ r. CallsOf program p from r (called_at_once t b))
+        (t : Site) → s.processes ≡ t.processes → IfSome found (λ r. CallsOf program p from r (processes_called (calls_at_once t b)))
     construct-calls {from = from} stopped t same = calls-single program p from stop noexit [] (λ b. none-open program p stop (λ q. q) refl b)
     construct-calls {from = from} (exited values found rs d) t same =
         if-map (λ r. CallsOf program p from r []) ended found
@@ -195,35 +208,40 @@ module _ (program : Program) (p : ℕ) where
     construct-calls {s} {from} (acted gate offers predicate b fields guard x ro rp rb o q d) t same =
         calls-acting from (gate_number s gate) fields guard x
     construct-calls {s} {from} (chosen_either place a b x y ra rb d e) t same =
-        calls-both from either choice x y (called_at_once t a) (called_at_once t b) (λ _ _ q. q) (λ _ _. refl)
-        (construct-calls d t same) (construct-calls e t same)
+        calls-joined from (calls_at_once t a) (calls_at_once t b) (joined from either choice x y)
+        (calls-both from either choice x y (processes_called (calls_at_once t a)) (processes_called (calls_at_once t b)) (λ _ _ q. q)
+        (λ _ _. refl) (construct-calls d t same) (construct-calls e t same))
     construct-calls {s} {from} (asked q b found x rp rb j d) t same =
-        calls-under from guarded found x (called_at_once t b) (λ _ _ q. q) (λ _ _. refl) (construct-calls d t same)
+        calls-under from guarded found x (processes_called (calls_at_once t b)) (λ _ _ q. q) (λ _ _. refl) (construct-calls d t same)
     construct-calls {s} {from} (bound_to_values bindings b found x rv rb v d) t same =
-        calls-under from bound found x (called_at_once t b) (λ _ _ q. q) (λ _ _. refl) (construct-calls d t same)
+        calls-under from bound found x (processes_called (calls_at_once t b)) (λ _ _ q. q) (λ _ _. refl) (construct-calls d t same)
     construct-calls {s} {from} (chosen_values ds b x rb d) t same =
-        calls-chosen from (declared_variables s ds) x (called_at_once t b) (construct-calls d t same)
+        calls-chosen from (declared_variables s ds) x (processes_called (calls_at_once t b)) (construct-calls d t same)
     construct-calls (chosen_gates cs b x rs d) t same = choices-call d t same
     construct-calls {s} {from} (composed_with place operator a b x y ra rb d e) t same =
-        calls-composed from (synchronised s operator) x y (called_at_once t a) (called_at_once t b) (construct-calls d t same) (construct-calls e t same)
+        calls-joined from (calls_at_once t a) (calls_at_once t b) (composed from (synchronised s operator) x y)
+        (calls-composed from (synchronised s operator) x y (processes_called (calls_at_once t a)) (processes_called (calls_at_once t b))
+        (construct-calls d t same) (construct-calls e t same))
     construct-calls {s} {from} (hidden gates b x rb d) t same =
-        calls-if-around from (hide (range_with_len (next_gate s) (length gates))) x (called_at_once t b) (λ _ q. q) (λ _. refl)
+        calls-if-around from (hide (range_with_len (next_gate s) (length gates))) x (processes_called (calls_at_once t b)) (λ _ q. q) (λ _. refl)
         (construct-calls d t same)
     construct-calls {s} {from} (enabled_by place a ds b x y ra rb d e) t same =
-        calls-enabled from (declared_variables s ds) x y (called_at_once t a) (construct-calls d t same)
+        calls-enabled from (declared_variables s ds) x y (processes_called (calls_at_once t a)) (construct-calls d t same)
     construct-calls {s} {from} (disabled_by place a b x y ra rb d e) t same =
-        calls-both from either disable x y (called_at_once t a) (called_at_once t b) (λ _ _ q. q) (λ _ _. refl)
-        (construct-calls d t same) (construct-calls e t same)
+        calls-joined from (calls_at_once t a) (calls_at_once t b) (joined from either disable x y)
+        (calls-both from either disable x y (processes_called (calls_at_once t a)) (processes_called (calls_at_once t b)) (λ _ _ q. q)
+        (λ _ _. refl) (construct-calls d t same) (construct-calls e t same))
     construct-calls {s} {from} (called_with name gates es x rs d) t same =
-        subst (λ ps. IfSome x (λ r. CallsOf program p from r (number_of (find (λ q. is_same_name q.name name.text) ps)))) same
+        subst (λ ps. IfSome x (λ r. CallsOf program p from r
+        (processes_called (call_of name.place (find (λ q. is_same_name q.name name.text) ps))))) same
         (calls-call from s name gates es (process_named s name) x rs d)
     construct-calls {s} {from} (copied_at gate among operator b x rb d) t same =
-        calls-copied from (next_gate s) (synchronised s operator) (gate_numbers s among) x (called_at_once t b) (construct-calls d t same)
+        calls-copied from (next_gate s) (synchronised s operator) (gate_numbers s among) x (processes_called (calls_at_once t b)) (construct-calls d t same)
 
     choices-call : {s : Site} {from : ℕ} {cs : List GateChoice} {b : Construct} {found : Option Read} {rs : List Refusal} →
         AreGatesChosen s from cs b found rs → (t : Site) → s.processes ≡ t.processes →
-        IfSome found (λ r. CallsOf program p from r (called_at_once t b))
+        IfSome found (λ r. CallsOf program p from r (processes_called (calls_at_once t b)))
     choices-call (none_left b x rs d) t same = construct-calls d t same
     choices-call {s} {from} (one_more c cs b x rs d) t same =
-        calls-under from (gate_choice (next_gate s)) (gate_numbers s c.gates.gates.items) x (called_at_once t b) (λ _ _ q. q) (λ _ _. refl)
+        calls-under from (gate_choice (next_gate s)) (gate_numbers s c.gates.gates.items) x (processes_called (calls_at_once t b)) (λ _ _ q. q) (λ _ _. refl)
         (choices-call d t same)

@@ -132,15 +132,17 @@ module _ (program : Program) where
       IfSome (copied from g o among x) (NodesFit program from)
   fits-copied from g None among x fx = tt
   fits-copied from g (Some sync) None x fx = tt
-  fits-copied from g (Some sync) (Some gs) None fx = tt
-  fits-copied from g (Some sync) (Some gs) (Some r) fx =
+  fits-copied from g (Some sync) (Some []) None fx = tt
+  fits-copied from g (Some sync) (Some (a ∷ among)) None fx = tt
+  fits-copied from g (Some sync) (Some []) (Some r) fx = fits-single program from stop noexit (without-parts from stop refl tt (λ p. p))
+  fits-copied from g (Some sync) (Some (a ∷ among)) (Some r) fx =
       let part : ℕ = root from r in
-      let nodes : List Node = copy_nodes sync part g gs in
+      let nodes : List Node = copy_nodes sync part g (a ∷ among) in
       let some : 0 < from + length r.nodes = omega (arith, fx.filled) in
       let e : (from + length r.nodes) + length nodes ≡ from + length (r.nodes ++ nodes) = omega (arith, length-append r.nodes nodes) in
       let copies : StandAt program from (r.nodes ++ nodes) → AreBehaviourNodes program (suc part) nodes
       × NamesBehaviour program (part + length nodes) =
-      λ at. copies-named sync part g gs (fx.last (in-front r.nodes nodes at))
+      λ at. copies-named sync part g (a ∷ among) (fx.last (in-front r.nodes nodes at))
       (subst (λ n. StandAt program n nodes) (sym (suc-pred (from + length r.nodes) some)) (behind r.nodes nodes at)) in
       record {
         filled = omega (arith, fx.filled, length-append r.nodes nodes);

@@ -11,7 +11,8 @@ use Rattle.spec_core.specs.Ready.{PartsFit, NamesBehaviour, AreNamed, IsReady}
 use Rattle.spec_core.specs.Sorts.{no_variables}
 use Rattle.type_cycles.specs.MadeFrom.{AreAcyclic}
 use Rattle.behaviour_readings.specs.Joins.{root}
-use Rattle.compiled_laws.specs.Assembled.{Placed, Definition, IsAssembled, links, body_nodes}
+use Rattle.call_cycles.specs.Unguarded.{links}
+use Rattle.compiled_laws.specs.Assembled.{Placed, Definition, IsAssembled, calls_of, body_nodes}
 use Rattle.compiled_laws.proofs.Assembling.{definition-agrees, whole-agrees, definition-located, defined-or-behind, tail-fits, whole-stands}
 use Rattle.compiled_laws.proofs.Calling.{definition-of, none-leads-back}
 use Rattle.compiled_laws.proofs.Parts.{node-fits}
@@ -52,7 +53,7 @@ module _ (program : Program) (processes : ℕ → Functionality) (ds : List Defi
   start-fits : HasFunctionality program processes [] no_variables program.start whole.read.functionality
   start-fits =
       subst (λ n. HasFunctionality program processes [] no_variables n whole.read.functionality) (sym h.start)
-      ((construct-stands program processes h.whole_read h.whole_copies [] no_variables (whole-agrees program processes ds whole h)).fits
+      ((construct-stands program processes h.whole_read [] no_variables (whole-agrees program processes ds whole h)).fits
       (whole-stands program processes ds whole h))
 
   -- what a definition's node says fits
@@ -73,14 +74,14 @@ module _ (program : Program) (processes : ℕ → Functionality) (ds : List Defi
         f.sorts,
         (
           d.body.read.functionality,
-          (construct-stands program processes l.read f.copies d.formal (core.with_variables d.variables no_variables)
+          (construct-stands program processes l.read d.formal (core.with_variables d.variables no_variables)
               (definition-agrees program processes ds whole h p d g.1)).fits l.nodes,
           f.ends,
         ),
       ) in
       subst (NodeProcessFits p) same fits
 
-  pub ready : IsExecutable program.theory → AreNamed program → AreAcyclic (links ds) → IsReady program
+  pub ready : IsExecutable program.theory → AreNamed program → AreAcyclic (links (calls_of ds)) → IsReady program
   ready executable named acyclic = record {
     executable = executable;
     named = named;

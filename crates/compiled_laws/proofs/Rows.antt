@@ -1,5 +1,5 @@
 -- What a construct is read as stands for it where what its parts are read as stands for them, construct by construct.
-use Rattle.std.proofs.Common.{ℕ, ◌≡◌, List, [], ◌∷◌, ◌++◌, length, map, sym, subst, arith}
+use Rattle.std.proofs.Common.{ℕ, ◌≡◌, List, [], ◌∷◌, ◌++◌, length, map, sym, subst}
 use Rattle.std.specs.Prelude.{Option, Some, None, option_map, IfSome}
 use Rattle.std.specs.List.{flat_map, range_with_len}
 use Rattle.std.proofs.lemmas.Option.{IfSome_then}
@@ -10,7 +10,6 @@ use Rattle.lotos_ast.specs.declared.behaviour.Offer.{Offer}
 use Rattle.lotos_ast.specs.declared.behaviour.Operator.{Operator}
 use Rattle.lotos_ast.specs.declared.declaration.Declaration.{Declaration}
 use Rattle.lotos_ast.specs.declared.expression.Premiss.{Premiss}
-use Rattle.lotos_ast.specs.declared.place.Place.{Place}
 use Rattle.lotos_ast.specs.declared.refusal.Refusal.{Refusal}
 use Rattle.lotos_ast.specs.declared.token.Token.{Token}
 use Rattle.spec_core.specs.Code as code
@@ -26,29 +25,26 @@ use Rattle.spec_core.specs.Theories.{Premise}
 use Rattle.sort_overloads.specs.Readings.{Declared}
 use Rattle.equation_readings.specs.Premisses.{IsPremissJudged}
 use Rattle.equation_readings.specs.Variables.{all_variables}
-use Rattle.constructs.specs.Constructs.{Construct, stops, acts_inside, acts, chooses, asks, binds, chooses_values, chooses_gates}
-use Rattle.constructs.specs.Constructs.{composes, hides, enables, disables, copies}
-use Rattle.constructs.specs.Constructs as written
 use Rattle.behaviour_readings.specs.Calls.{AreBindingsRead, variable_of}
 use Rattle.behaviour_readings.specs.Declarations.{gate_numbers, numbered_from, declared_variables}
 use Rattle.behaviour_readings.specs.Joins.{Read, after, single, around, either, both, joined}
 use Rattle.behaviour_readings.specs.Offers.{AreOffersRead, IsPredicateRead, AreExitValuesRead, offered_variables}
 use Rattle.behaviour_readings.specs.Readings.{ended, acting, under, chosen, synchronised, composed, enabled, accepting, copied}
 use Rattle.behaviour_readings.specs.Sites.{Site, gate_number, next_gate, with_gates, with_variables}
-use Rattle.compiled_laws.specs.Standing.{Agrees, CopiesAtGates, IsFilled}
+use Rattle.compiled_laws.specs.Standing.{Agrees}
 use Rattle.compiled_laws.proofs.Copies.{stands-copied}
 use Rattle.compiled_laws.proofs.Endings.{either-is, both-is, accepting-is}
 use Rattle.compiled_laws.proofs.Fields.{offers-fit, predicate-fits}
-use Rattle.compiled_laws.proofs.Gates.{gate-fits, gates-fit, gates-counted, synchronised-fits, more-gates}
+use Rattle.compiled_laws.proofs.Gates.{gate-fits, gates-fit, synchronised-fits, more-gates}
 use Rattle.compiled_laws.proofs.Judgements.{condition-fits}
 use Rattle.compiled_laws.proofs.Options.{if-map}
 use Rattle.compiled_laws.proofs.Standings.{Stands, stands-single, stands-around, stands-joined, stands-under, stands-choices}
 use Rattle.compiled_laws.proofs.Values.{exit-values-fit, bindings-fit}
 use Rattle.compiled_laws.proofs.Variables.{more-variables, declared-fit}
 
--- what a construct in this site is read as stands for it wherever the site agrees with the program
-abbrev pub Holds : Program → (ℕ → Functionality) → Site → ℕ → Construct → Option Read → Type 0
-Holds program processes s from b found = CopiesAtGates b → (gates : List ℕ) (vars : ℕ → Option ℕ) →
+-- what is read in this site stands for what was written wherever the site agrees with the program
+abbrev pub Holds : Program → (ℕ → Functionality) → Site → ℕ → Option Read → Type 0
+Holds program processes s from found = (gates : List ℕ) (vars : ℕ → Option ℕ) →
     Agrees program processes s gates vars → IfSome found (Stands program processes gates vars from)
 
 -- a site with further variables, and with further gates, agrees with the program where they are in scope
@@ -72,33 +68,21 @@ agrees-gates program processes s gates vars ts h = record {
   headings = h.headings;
 }
 
-filled-of : (ts : List Token) (gs : List ℕ) → IsFilled ts → length gs ≡ length ts → IsFilled gs
-filled-of [] gs h e = absurd h
-filled-of (t ∷ ts) [] h e = absurd (omega (arith, e))
-filled-of (t ∷ ts) (g ∷ gs) h e = tt
-
--- gates in scope, of which there is at least one
-with-filled : (P : List ℕ → Type 0) (ts : List Token) (o : Option (List ℕ)) → IsFilled ts → IfSome o P →
-    IfSome o (λ gs. length gs ≡ length ts) → IfSome o (λ gs. P gs × IsFilled gs)
-with-filled P ts None h p e = tt
-with-filled P ts (Some gs) h p e = (p, filled-of ts gs h e)
-
 module _ (program : Program) (processes : ℕ → Functionality) (s : Site) (from : ℕ) where
-  pub stopped-row : Holds program processes s from stops (Some (single stop noexit))
-  stopped-row w gates vars h = stands-single program processes gates vars from stop noexit stop_fits
+  pub stopped-row : Holds program processes s from (Some (single stop noexit))
+  stopped-row gates vars h = stands-single program processes gates vars from stop noexit stop_fits
 
   pub exited-row : (values : List ExitValue) (found : Option (List (code.ExitValue × ℕ))) (rs : List Refusal) →
-      AreExitValuesRead s values found rs → Holds program processes s from (written.exits values) (option_map ended found)
-  exited-row values found rs d w gates vars h =
+      AreExitValuesRead s values found rs → Holds program processes s from (option_map ended found)
+  exited-row values found rs d gates vars h =
       if-map (Stands program processes gates vars from) ended found
       (IfSome_then found (exit-values-fit program.theory s vars h.data_agrees values found rs d)
       (λ vs e. stands-single program processes gates vars from (exit (map (λ v. v.0) vs)) (exits (map (λ v. v.1) vs)) (exit_fits e)))
 
-  pub inner-row : (b : Construct) (x : Option Read) → Holds program processes s from b x →
-      Holds program processes s from (acts_inside b) (option_map (around from inner) x)
-  inner-row b x ih w gates vars h =
+  pub inner-row : (x : Option Read) → Holds program processes s from x → Holds program processes s from (option_map (around from inner) x)
+  inner-row x ih gates vars h =
       if-map (Stands program processes gates vars from) (around from inner) x
-      (IfSome_then x (ih w gates vars h) (λ r st. stands-around program processes gates vars from gates vars inner r st (λ p. inner_fits p)))
+      (IfSome_then x (ih gates vars h) (λ r st. stands-around program processes gates vars from gates vars inner r st (λ p. inner_fits p)))
 
   acting-row : (gates : List ℕ) (vars : ℕ → Option ℕ) (g : Option ℕ) (fields : Option (List (List ActionField)))
       (guard : Option (Option Premise)) (x : Option Read) → IfSome g (IsGateInScope program gates) →
@@ -114,12 +98,12 @@ module _ (program : Program) (processes : ℕ → Functionality) (s : Site) (fro
       stands-around program processes gates vars from gates (core.with_variables (accepted (flat_map (λ f. f) fs)) vars)
       (action g (flat_map (λ f. f) fs) guard) r hf.2 (λ p. action_fits hg hf.0 hf.1 p)
 
-  pub acted-row : (gate : Token) (offers : List Offer) (predicate : Option Premiss) (b : Construct)
+  pub acted-row : (gate : Token) (offers : List Offer) (predicate : Option Premiss)
       (fields : Option (List (List ActionField))) (guard : Option (Option Premise)) (x : Option Read) (ro rp : List Refusal) →
       AreOffersRead s offers fields ro → IsPredicateRead (with_variables s (offered_variables s offers)) predicate guard rp →
-      Holds program processes (with_variables s (offered_variables s offers)) from b x →
-      Holds program processes s from (acts gate offers predicate b) (acting from (gate_number s gate) fields guard x)
-  acted-row gate offers predicate b fields guard x ro rp d p ih w gates vars h =
+      Holds program processes (with_variables s (offered_variables s offers)) from x →
+      Holds program processes s from (acting from (gate_number s gate) fields guard x)
+  acted-row gate offers predicate fields guard x ro rp d p ih gates vars h =
       let vs : List Declared = offered_variables s offers in
       acting-row gates vars (gate_number s gate) fields guard x (gate-fits program s gates h.gates_in_scope gate)
       (IfSome_then fields (offers-fit program.theory s vars h.data_agrees offers fields ro d)
@@ -128,32 +112,32 @@ module _ (program : Program) (processes : ℕ → Functionality) (s : Site) (fro
       agrees-variables program processes s gates vars vs xs f.1 h in (
         f.0,
         predicate-fits program.theory (with_variables s vs) (core.with_variables xs vars) h'.data_agrees predicate guard rp p,
-        ih w gates (core.with_variables xs vars) h',
+        ih gates (core.with_variables xs vars) h',
       )))
 
-  pub chosen-either-row : (place : Place) (a b : Construct) (x y : Option Read) → Holds program processes s from a x →
-      Holds program processes s (after from x) b y → Holds program processes s from (chooses place a b) (joined from either choice x y)
-  chosen-either-row place a b x y ia ib w gates vars h =
-      stands-joined program processes gates vars from vars either choice x y (ia w.0 gates vars h) (ib w.1 gates vars h)
+  pub chosen-either-row : (x y : Option Read) → Holds program processes s from x → Holds program processes s (after from x) y →
+      Holds program processes s from (joined from either choice x y)
+  chosen-either-row x y ix iy gates vars h =
+      stands-joined program processes gates vars from vars either choice x y (ix gates vars h) (iy gates vars h)
       (λ f g whole left right e l r. choice_fits f g l r (either-is f g whole e))
 
-  pub asked-row : (p : Premiss) (b : Construct) (found : Option Premise) (x : Option Read) (rp : List Refusal) →
-      IsPremissJudged s.context p found rp → Holds program processes s from b x →
-      Holds program processes s from (asks p b) (under from guarded found x)
-  asked-row p b found x rp d ih w gates vars h =
+  pub asked-row : (p : Premiss) (found : Option Premise) (x : Option Read) (rp : List Refusal) →
+      IsPremissJudged s.context p found rp → Holds program processes s from x →
+      Holds program processes s from (under from guarded found x)
+  asked-row p found x rp d ih gates vars h =
       stands-under program processes gates vars from guarded found x
       (IfSome_then found (condition-fits program.theory s.context vars h.data_agrees p.left p.right found rp d)
-      (λ q f. IfSome_then x (ih w gates vars h)
+      (λ q f. IfSome_then x (ih gates vars h)
       (λ r st. stands-around program processes gates vars from gates vars (guarded q) r st (λ part. guarded_fits f part))))
 
-  pub bound-row : (bindings : List Binding) (b : Construct) (found : Option (List code.Binding)) (x : Option Read) (rv : List Refusal) →
-      AreBindingsRead s bindings found rv → Holds program processes (with_variables s (map (variable_of s) bindings)) from b x →
-      Holds program processes s from (binds bindings b) (under from bound found x)
-  bound-row bindings b found x rv d ih w gates vars h =
+  pub bound-row : (bindings : List Binding) (found : Option (List code.Binding)) (x : Option Read) (rv : List Refusal) →
+      AreBindingsRead s bindings found rv → Holds program processes (with_variables s (map (variable_of s) bindings)) from x →
+      Holds program processes s from (under from bound found x)
+  bound-row bindings found x rv d ih gates vars h =
       stands-under program processes gates vars from bound found x
       (IfSome_then found (bindings-fit program.theory s vars h.data_agrees (length s.context.variables) bindings found rv d)
       (λ all f. IfSome_then x
-      (ih w gates (core.with_variables (bound_variables all) vars)
+      (ih gates (core.with_variables (bound_variables all) vars)
       (agrees-variables program processes s gates vars (map (variable_of s) bindings) (bound_variables all) f.1 h))
       (λ r st. stands-around program processes gates vars from gates (core.with_variables (bound_variables all) vars) (bound all) r st
       (λ part. bound_fits f.0 part))))
@@ -166,26 +150,26 @@ module _ (program : Program) (processes : ℕ → Functionality) (s : Site) (fro
   choosing-row gates vars (Some xs) None h = tt
   choosing-row gates vars (Some xs) (Some r) h = stands-choices program processes gates vars from xs r h.0 h.1
 
-  pub chosen-values-row : (ds : List Declaration) (b : Construct) (x : Option Read) →
-      Holds program processes (with_variables s (all_variables s.context.sorts ds)) from b x →
-      Holds program processes s from (chooses_values ds b) (chosen from (declared_variables s ds) x)
-  chosen-values-row ds b x ih w gates vars h =
+  pub chosen-values-row : (ds : List Declaration) (x : Option Read) →
+      Holds program processes (with_variables s (all_variables s.context.sorts ds)) from x →
+      Holds program processes s from (chosen from (declared_variables s ds) x)
+  chosen-values-row ds x ih gates vars h =
       choosing-row gates vars (declared_variables s ds) x
       (IfSome_then (declared_variables s ds) (declared-fit program.theory s vars h.data_agrees ds)
       (λ xs f. (
         f.0,
-        ih w gates (core.with_variables xs vars)
+        ih gates (core.with_variables xs vars)
             (agrees-variables program processes s gates vars (all_variables s.context.sorts ds) xs f.1 h),
       )))
 
-  pub gate-row : (c : GateChoice) (b : Construct) (x : Option Read) → Holds program processes (with_gates s (c.gate ∷ [])) from b x →
-      Holds program processes s from b (under from (gate_choice (next_gate s)) (gate_numbers s c.gates.gates.items) x)
-  gate-row c b x ih w gates vars h =
+  pub gate-row : (c : GateChoice) (x : Option Read) → Holds program processes (with_gates s (c.gate ∷ [])) from x →
+      Holds program processes s from (under from (gate_choice (next_gate s)) (gate_numbers s c.gates.gates.items) x)
+  gate-row c x ih gates vars h =
       let among : Option (List ℕ) = gate_numbers s c.gates.gates.items in
       stands-under program processes gates vars from (gate_choice (next_gate s)) among x
       (IfSome_then among (gates-fit program s gates h.gates_in_scope c.gates.gates.items)
       (λ gs f. IfSome_then x
-      (ih w (next_gate s ∷ gates) vars (agrees-gates program processes s gates vars (c.gate ∷ []) h))
+      (ih (next_gate s ∷ gates) vars (agrees-gates program processes s gates vars (c.gate ∷ []) h))
       (λ r st. stands-around program processes gates vars from (next_gate s ∷ gates) vars (gate_choice (next_gate s) gs) r st
       (λ part. gate_choice_fits f part))))
 
@@ -198,19 +182,18 @@ module _ (program : Program) (processes : ℕ → Functionality) (s : Site) (fro
       stands-joined program processes gates vars from vars both (parallel among) x y sx sy
       (λ f g whole left right e l r. parallel_fits f g so l r (both-is f g whole e))
 
-  pub composed-row : (place : Place) (operator : Operator) (a b : Construct) (x y : Option Read) → Holds program processes s from a x →
-      Holds program processes s (after from x) b y →
-      Holds program processes s from (composes place operator a b) (composed from (synchronised s operator) x y)
-  composed-row place operator a b x y ia ib w gates vars h =
+  pub composed-row : (operator : Operator) (x y : Option Read) → Holds program processes s from x →
+      Holds program processes s (after from x) y → Holds program processes s from (composed from (synchronised s operator) x y)
+  composed-row operator x y ix iy gates vars h =
       composing-row gates vars (synchronised s operator) x y (synchronised-fits program s gates h.gates_in_scope operator)
-      (ia w.0 gates vars h) (ib w.1 gates vars h)
+      (ix gates vars h) (iy gates vars h)
 
-  pub hidden-row : (ts : List Token) (b : Construct) (x : Option Read) → Holds program processes (with_gates s ts) from b x →
-      Holds program processes s from (hides ts b) (option_map (around from (hide (range_with_len (next_gate s) (length ts)))) x)
-  hidden-row ts b x ih w gates vars h =
+  pub hidden-row : (ts : List Token) (x : Option Read) → Holds program processes (with_gates s ts) from x →
+      Holds program processes s from (option_map (around from (hide (range_with_len (next_gate s) (length ts)))) x)
+  hidden-row ts x ih gates vars h =
       let hidden : List ℕ = range_with_len (next_gate s) (length ts) in
       if-map (Stands program processes gates vars from) (around from (hide hidden)) x
-      (IfSome_then x (ih w (hidden ++ gates) vars (agrees-gates program processes s gates vars ts h))
+      (IfSome_then x (ih (hidden ++ gates) vars (agrees-gates program processes s gates vars ts h))
       (λ r st. stands-around program processes gates vars from (hidden ++ gates) vars (hide hidden) r st (λ p. hide_fits p)))
 
   enabling-row : (gates : List ℕ) (vars : ℕ → Option ℕ) (o : Option (List Variable)) (x y : Option Read) →
@@ -225,30 +208,29 @@ module _ (program : Program) (processes : ℕ → Functionality) (s : Site) (fro
       (λ f g whole left right e l r. let k = accepting-is f xs g whole e in
       subst (λ i. core.NodeFits program processes gates vars (enable left xs right) i) (sym k.1) (enable_fits f l k.0 so.0 r))
 
-  pub enabled-row : (place : Place) (a : Construct) (ds : List Declaration) (b : Construct) (x y : Option Read) →
-      Holds program processes s from a x → Holds program processes (with_variables s (all_variables s.context.sorts ds)) (after from x) b y →
-      Holds program processes s from (enables place a ds b) (enabled from (declared_variables s ds) x y)
-  enabled-row place a ds b x y ia ib w gates vars h =
-      enabling-row gates vars (declared_variables s ds) x y (ia w.0 gates vars h)
+  pub enabled-row : (ds : List Declaration) (x y : Option Read) → Holds program processes s from x →
+      Holds program processes (with_variables s (all_variables s.context.sorts ds)) (after from x) y →
+      Holds program processes s from (enabled from (declared_variables s ds) x y)
+  enabled-row ds x y ix iy gates vars h =
+      enabling-row gates vars (declared_variables s ds) x y (ix gates vars h)
       (IfSome_then (declared_variables s ds) (declared-fit program.theory s vars h.data_agrees ds)
       (λ xs f. (
         f.0,
-        ib w.1 gates (core.with_variables xs vars)
+        iy gates (core.with_variables xs vars)
             (agrees-variables program processes s gates vars (all_variables s.context.sorts ds) xs f.1 h),
       )))
 
-  pub disabled-row : (place : Place) (a b : Construct) (x y : Option Read) → Holds program processes s from a x →
-      Holds program processes s (after from x) b y → Holds program processes s from (disables place a b) (joined from either disable x y)
-  disabled-row place a b x y ia ib w gates vars h =
-      stands-joined program processes gates vars from vars either disable x y (ia w.0 gates vars h) (ib w.1 gates vars h)
+  pub disabled-row : (x y : Option Read) → Holds program processes s from x → Holds program processes s (after from x) y →
+      Holds program processes s from (joined from either disable x y)
+  disabled-row x y ix iy gates vars h =
+      stands-joined program processes gates vars from vars either disable x y (ix gates vars h) (iy gates vars h)
       (λ f g whole left right e l r. disable_fits f g l r (either-is f g whole e))
 
-  pub copied-row : (gate : Token) (among : List Token) (operator : Operator) (b : Construct) (x : Option Read) →
-      Holds program processes (with_gates s (gate ∷ [])) from b x →
-      Holds program processes s from (copies gate among operator b)
-      (copied from (next_gate s) (synchronised s operator) (gate_numbers s among) x)
-  copied-row gate among operator b x ih w gates vars h =
+  pub copied-row : (gate : Token) (among : List Token) (operator : Operator) (x : Option Read) →
+      Holds program processes (with_gates s (gate ∷ [])) from x →
+      Holds program processes s from (copied from (next_gate s) (synchronised s operator) (gate_numbers s among) x)
+  copied-row gate among operator x ih gates vars h =
       stands-copied program processes gates vars from (next_gate s) (synchronised s operator) (gate_numbers s among) x
       (synchronised-fits program s gates h.gates_in_scope operator)
-      (with-filled (AreGatesInScope program gates) among (gate_numbers s among) w.0 (gates-fit program s gates h.gates_in_scope among) (gates-counted s among))
-      (ih w.1 (next_gate s ∷ gates) vars (agrees-gates program processes s gates vars (gate ∷ []) h))
+      (gates-fit program s gates h.gates_in_scope among)
+      (ih (next_gate s ∷ gates) vars (agrees-gates program processes s gates vars (gate ∷ []) h))

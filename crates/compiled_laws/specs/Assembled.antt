@@ -12,8 +12,8 @@ use Rattle.behaviour_readings.specs.Declarations.{numbered_from}
 use Rattle.behaviour_readings.specs.Joins.{Read, root}
 use Rattle.behaviour_readings.specs.Readings.{IsRead}
 use Rattle.behaviour_readings.specs.Sites.{Site, Heading}
-use Rattle.compiled_laws.specs.AtOnce.{called_at_once}
-use Rattle.compiled_laws.specs.Standing.{CopiesAtGates}
+use Rattle.call_cycles.specs.AtOnce.{calls_at_once}
+use Rattle.call_cycles.specs.declared.call.Call.{Call}
 
 -- a construct in its site, and what it is read as
 pub record Placed : Type 0 where
@@ -67,12 +67,11 @@ pub record DefinitionFits (program : Program) (processes : ℕ → Functionality
   pub sorts : Each (VariableFits program.theory) d.variables
   pub first_gate : d.body.site.first_gate ≡ length program.gates
   pub formal : d.formal ≡ range_with_len (length program.gates) (length d.body.site.gates)
-  pub copies : CopiesAtGates d.body.construct
   pub ends : (d.body.read.functionality ≡ processes p) ⊎ (d.body.read.functionality ≡ noexit)
 
--- the processes that each body calls at once
-abbrev pub links : List Definition → List (List ℕ)
-links ds = map (λ d. called_at_once d.body.site d.body.construct) ds
+-- the calls that each body makes at once
+abbrev pub calls_of : List Definition → List (List Call)
+calls_of ds = map (λ d. calls_at_once d.body.site d.body.construct) ds
 
 -- where the nodes of the specification's behaviour begin
 abbrev pub behind_bodies : List Definition → ℕ
@@ -89,4 +88,3 @@ pub record IsAssembled (program : Program) (processes : ℕ → Functionality) (
   pub whole_variables : whole.site.context.variables ≡ []
   pub whole_first_gate : whole.site.first_gate ≡ 0
   pub whole_gates : length whole.site.gates ≡ length program.gates
-  pub whole_copies : CopiesAtGates whole.construct

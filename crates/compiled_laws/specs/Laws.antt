@@ -10,6 +10,7 @@ use Rattle.spec_core.specs.Ready.{PartsFit, NamesBehaviour, IsProcess, CallsAtOn
 use Rattle.spec_core.specs.Sorts.{HasSort}
 use Rattle.spec_core.specs.Terms.{TermTree}
 use Rattle.spec_core.specs.Theories.{Theory}
+use Rattle.equation_readings.specs.Laws.{IsOne}
 use Rattle.sort_overloads.specs.Expressions.{Expression}
 use Rattle.sort_overloads.specs.Readings.{Context, IsReading}
 use Rattle.constructs.specs.Constructs.{Construct}
@@ -17,21 +18,26 @@ use Rattle.behaviour_readings.specs.Joins.{Read, root}
 use Rattle.behaviour_readings.specs.Readings.{IsRead}
 use Rattle.behaviour_readings.specs.Sites.{Site}
 use Rattle.type_cycles.specs.MadeFrom.{AreAcyclic}
-use Rattle.compiled_laws.specs.Assembled.{Placed, Definition, IsAssembled, links}
-use Rattle.compiled_laws.specs.AtOnce.{called_at_once}
-use Rattle.compiled_laws.specs.Standing.{AgreesWithData, Agrees, HeadingAgrees, StandAt, CopiesAtGates}
+use Rattle.call_cycles.specs.AtOnce.{calls_at_once}
+use Rattle.call_cycles.specs.Unguarded.{called, links}
+use Rattle.compiled_laws.specs.Assembled.{Placed, Definition, IsAssembled, calls_of}
+use Rattle.compiled_laws.specs.Standing.{AgreesWithData, Agrees, HeadingAgrees, StandAt}
 
 -- a reading of an expression is a term of its sort
 abbrev pub ReadingsHaveSorts : Type 0
 ReadingsHaveSorts = (theory : Theory) (c : Context) (vars : ℕ → Option ℕ) → AgreesWithData theory c vars →
     (e : Expression) (t : TermTree) (sort : ℕ) → IsReading c e t sort → HasSort theory vars t sort
 
+-- a construct is read as one thing only where it stands, with one list of refusals
+abbrev pub ConstructsAreOne : Type 0
+ConstructsAreOne = (s : Site) (from : ℕ) (b : Construct) → IsOne (IsRead s from b)
+
 -- Where a construct is read, and its nodes stand in a program with which its site agrees, the last of them stands for the construct: all
 -- that it speaks of is in scope, its terms have their sorts, its calls fit, and it ends as it was read to end
 abbrev pub ReadConstructsFit : Type 0
 ReadConstructsFit = (program : Program) (processes : ℕ → Functionality) (s : Site) (from : ℕ) (b : Construct) (r : Read)
     (refusals : List Refusal) (gates : List ℕ) (vars : ℕ → Option ℕ) →
-    CopiesAtGates b → IsRead s from b (Some r) refusals → Agrees program processes s gates vars → StandAt program from r.nodes →
+    IsRead s from b (Some r) refusals → Agrees program processes s gates vars → StandAt program from r.nodes →
     HasFunctionality program processes gates vars (root from r) r.functionality
 
 -- Where a construct is read, and its nodes stand in a program that defines the processes of its site, each of them is a construct of
@@ -53,10 +59,11 @@ RootsNameBehaviour = (program : Program) (processes : ℕ → Functionality) (s 
 abbrev pub CallsAtOnceAreWritten : Type 0
 CallsAtOnceAreWritten = (program : Program) (s : Site) (from : ℕ) (b : Construct) (r : Read) (refusals : List Refusal) →
     IsRead s from b (Some r) refusals → StandAt program from r.nodes →
-    (p : ℕ) → CallsAtOnce program p (root from r) → IsOneOf p (called_at_once s b)
+    (p : ℕ) → CallsAtOnce program p (root from r) → IsOneOf p (called (calls_at_once s b))
 
 -- A program that is put together of constructs that are read is ready: where its data is executable, its names are those that the grammar
 -- allows, and no process calls itself at once, directly or through others
 abbrev pub AssembledIsReady : Type 0
 AssembledIsReady = (program : Program) (processes : ℕ → Functionality) (ds : List Definition) (whole : Placed) →
-    IsAssembled program processes ds whole → IsExecutable program.theory → AreNamed program → AreAcyclic (links ds) → IsReady program
+    IsAssembled program processes ds whole → IsExecutable program.theory → AreNamed program → AreAcyclic (links (calls_of ds)) →
+    IsReady program

@@ -1,4 +1,3 @@
 pub mod Assembled
-pub mod AtOnce
 pub mod Laws
 pub mod Standing

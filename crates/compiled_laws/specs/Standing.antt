@@ -1,13 +1,11 @@
 -- Where the code of a construct stands in a program, and what the site of the construct says of the program.
-use Rattle.std.specs.Prelude.{◌≡◌, ℕ, ◌<◌, ◌≤◌, List, [], ◌∷◌, ◌++◌, map, length, Option, Some}
+use Rattle.std.specs.Prelude.{◌≡◌, ℕ, ◌<◌, ◌≤◌, List, ◌++◌, map, length, Option, Some}
 use Rattle.std.specs.List.{slice_get}
 use Rattle.spec_core.specs.Code.{Node, Variable, Program, process}
 use Rattle.spec_core.specs.Functionality.{Functionality, IsGateInScope}
 use Rattle.spec_core.specs.Lists.{Each}
 use Rattle.spec_core.specs.Theories.{Theory}
 use Rattle.sort_overloads.specs.Readings.{Context}
-use Rattle.constructs.specs.Constructs.{Construct, stops, exits, acts_inside, acts, chooses, asks, binds, chooses_values, chooses_gates}
-use Rattle.constructs.specs.Constructs.{composes, hides, enables, disables, calls, copies}
 use Rattle.behaviour_readings.specs.Sites.{Site, Heading, next_gate}
 
 -- these nodes stand in the program from this number on
@@ -38,26 +36,3 @@ pub record Agrees (program : Program) (processes : ℕ → Functionality) (s : S
   pub data_agrees : AgreesWithData program.theory s.context vars
   pub gates_in_scope : (g : ℕ) → s.first_gate ≤ g → g < next_gate s → IsGateInScope program gates g
   pub headings : Each (HeadingAgrees program processes) s.processes
-
--- the list has an element
-abbrev pub IsFilled : {A : Type 0} → List A → Type 0
-IsFilled [] = ⊥
-IsFilled (x ∷ xs) = Unit {0}
-
--- each `par` in the construct copies its part at one gate at least (ISO 8807, the grammar of gate declarations)
-abbrev pub CopiesAtGates : Construct → Type 0
-CopiesAtGates stops = Unit {0}
-CopiesAtGates (exits values) = Unit {0}
-CopiesAtGates (acts_inside b) = CopiesAtGates b
-CopiesAtGates (acts gate offers predicate b) = CopiesAtGates b
-CopiesAtGates (chooses place a b) = CopiesAtGates a × CopiesAtGates b
-CopiesAtGates (asks p b) = CopiesAtGates b
-CopiesAtGates (binds bindings b) = CopiesAtGates b
-CopiesAtGates (chooses_values ds b) = CopiesAtGates b
-CopiesAtGates (chooses_gates cs b) = CopiesAtGates b
-CopiesAtGates (composes place operator a b) = CopiesAtGates a × CopiesAtGates b
-CopiesAtGates (hides gates b) = CopiesAtGates b
-CopiesAtGates (enables place a ds b) = CopiesAtGates a × CopiesAtGates b
-CopiesAtGates (disables place a b) = CopiesAtGates a × CopiesAtGates b
-CopiesAtGates (calls name gates es) = Unit {0}
-CopiesAtGates (copies gate among operator b) = IsFilled among × CopiesAtGates b

@@ -1,11 +1,16 @@
 // Laws of the definitions: a call does nothing, and its contract is the law.
 
-ghost use Rattle.compiled_laws.specs.Laws.{ReadingsHaveSorts, ReadConstructsFit, ReadNodesFit, RootsNameBehaviour};
+ghost use Rattle.compiled_laws.specs.Laws.{ReadingsHaveSorts, ConstructsAreOne, ReadConstructsFit, ReadNodesFit, RootsNameBehaviour};
 ghost use Rattle.compiled_laws.specs.Laws.{CallsAtOnceAreWritten, AssembledIsReady};
 
 /// A reading of an expression is a term of its sort.
 pub fn readings_have_sorts()
     ensures { ReadingsHaveSorts }
+{}
+
+/// A construct is read as one thing where it stands, or as nothing, and has one list of refusals.
+pub fn constructs_are_one()
+    ensures { ConstructsAreOne }
 {}
 
 /// Where a construct is read, the last of its nodes stands for it wherever its site agrees with the program: what it speaks of is in scope,

@@ -1,0 +1,14 @@
+// Laws of the definitions: a call does nothing, and its contract is the law.
+
+ghost use Rattle.specification_laws.specs.Laws.{SpecificationsAreOne, CompiledIsReady};
+
+/// A specification over its data comes to one program, or to none, and has one list of refusals. So it isn't both compiled and refused.
+pub fn specifications_are_one()
+    ensures { SpecificationsAreOne }
+{}
+
+/// A specification that is accepted, over executable data, is compiled to a program that is ready to run: all that it names is there and
+/// fits, and no process calls itself before any action.
+pub fn compiled_is_ready()
+    ensures { CompiledIsReady }
+{}

@@ -1,0 +1,4 @@
+// Laws of compiled specifications.
+#![tactic(auto)]
+
+pub mod laws;
