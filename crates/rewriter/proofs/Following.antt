@@ -1,5 +1,6 @@
 -- Lists whose elements are exchanged one by one for others that stand for the same.
-use Rattle.std.proofs.Common.{ℕ, zero, suc, ◌≡◌, ◌<◌, ◌≤◌, ◌+◌, List, [], ◌∷◌, ◌++◌, length, map, take, get_or, reverse, refl, sym, ap, subst, ◌∙◌, arith}
+use Rattle.std.proofs.Common.{ℕ, zero, suc, ◌≡◌, ◌<◌, ◌≤◌, ◌+◌, List, [], ◌∷◌, ◌++◌, length, map, take, get_or, reverse, refl, sym, ap}
+use Rattle.std.proofs.Common.{subst, ◌∙◌, arith}
 use Rattle.std.proofs.lemmas.List.{map-append, reverse-append, reverse-reverse}
 use Rattle.spec_core.specs.Lists.{Each}
 use Rattle.spec_core.specs.Theories.{Theory}
@@ -65,7 +66,8 @@ all_held theory rows (Call op k ∷ todo) e = (tt, all_held theory rows todo e.1
 all_held theory rows (Decide i k ∷ todo) e = (tt, all_held theory rows todo e.1)
 
 -- where nodes stand for values, so do their copies
-pub copied_values : (theory : Theory) (old new : List Node) → ((n : ℕ) → IsNode new n → (i : ℕ) × IsNode old i × (tree_at new n ≡ tree_at old i)) →
+pub copied_values : (theory : Theory) (old new : List Node) →
+    ((n : ℕ) → IsNode new n → (i : ℕ) × IsNode old i × (tree_at new n ≡ tree_at old i)) →
     AreValues theory old → AreValues theory new
 copied_values theory old new others values n h =
     let k = others n h in

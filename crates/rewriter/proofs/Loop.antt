@@ -76,16 +76,6 @@ pub if_ok_both : {A E : Type 0} {P Q R : A → Type 0} (r : Result A E) → ((x 
 if_ok_both (Ok x) f p q = f x p q
 if_ok_both (Err e) f p q = tt
 
-pub if_ok_five : {A E : Type 0} {P Q R S T : A → Type 0} (r : Result A E) → ((x : A) → P x → Q x → R x → S x → T x) → IfOk r P →
-    IfOk r Q → IfOk r R → IfOk r S → IfOk r T
-if_ok_five (Ok x) f p q u v = f x p q u v
-if_ok_five (Err e) f p q u v = tt
-
-pub if_ok_four : {A E : Type 0} {P Q R T : A → Type 0} (r : Result A E) → ((x : A) → P x → Q x → R x → T x) → IfOk r P → IfOk r Q →
-    IfOk r R → IfOk r T
-if_ok_four (Ok x) f p q u = f x p q u
-if_ok_four (Err e) f p q u = tt
-
 pub if_ok_one : {A E : Type 0} {P R : A → Type 0} (r : Result A E) → ((x : A) → P x → R x) → IfOk r P → IfOk r R
 if_ok_one (Ok x) f p = f x p
 if_ok_one (Err e) f p = tt

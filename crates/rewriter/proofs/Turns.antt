@@ -123,18 +123,3 @@ module _ (theory : Theory) (ex : IsExecutable theory) (t : TermTree) (ground : I
       (subst (λ u. Keeps (Through (Evaluating theory u) (λ w. Comes theory [] (w ∷ []))) 0 (Comes theory (plan s t []) []) 0)
       (ground_instance s t ground)
       (planned theory ex s t (λ x o. absurd (no_variable t ground x o)) [] [] 0))
-
-  -- at the end: the one value is the term's, after so many uses
-  pub ended : (v : TermTree) (uses : ℕ) → Keeps (Evaluating theory t) 0 (Comes theory [] (v ∷ [])) uses → Evaluates theory t v uses
-  ended v uses k =
-      let x = k.back v 0 (refl, refl) in
-      let e : x.0 ≡ uses = omega (arith, x.2) in
-      subst (λ n. Evaluates theory t v n) e x.1
-
-  -- what takes too many uses from some state takes too many from the start
-  pub beyond : (Q : Outcome → Type 0) (uses budget : ℕ) → Keeps (Evaluating theory t) 0 Q uses → Exceeds Q uses budget →
-      IsBeyond theory t budget
-  beyond Q uses budget k h v n p =
-      let x = k.on v n p in
-      let y = h v x.0 x.1 in
-      omega (arith, x.2, y)

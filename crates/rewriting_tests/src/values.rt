@@ -1,0 +1,202 @@
+// Values, and how many uses of equations they take.
+
+use crate::answers::value_answer;
+use crate::data::{NUMBERS, read_data, scope, term};
+use spec_core::items::Op;
+use spec_core::memory::Memory;
+use spec_core::term::Term;
+use std::alloc::Global;
+use std::test::Fail;
+
+// A term, a budget, and what the value is.
+type Case = (&'static str, u64, &'static str);
+
+// A call of ack over 2 and 3 takes 44 uses. The others are worked out beside them.
+const COSTS: [Case; 14] = [
+    ("Succ(0)", 0, "Succ 0"),
+    ("dup(0)", 0, "spent"),
+    ("dup(0)", 1, "0"),
+    ("ack(0,0)", 1, "Succ 0"),
+    // one use for 0 and one for each successor
+    ("dup(Succ(0))", 1, "spent"),
+    ("dup(Succ(0))", 2, "Succ Succ 0"),
+    ("dup(dup(Succ(0)))", 4, "spent"),
+    ("dup(dup(Succ(0)))", 5, "Succ Succ Succ Succ 0"),
+    ("ack(Succ(Succ(0)),Succ(Succ(Succ(0))))", 43, "spent"),
+    (
+        "ack(Succ(Succ(0)),Succ(Succ(Succ(0))))",
+        44,
+        "Succ Succ Succ Succ Succ Succ Succ Succ Succ 0",
+    ),
+    (
+        "ack(Succ(Succ(0)),Succ(Succ(Succ(0))))",
+        4_294_967_296,
+        "Succ Succ Succ Succ Succ Succ Succ Succ Succ 0",
+    ),
+    ("first(Succ(0),0)", 1, "Succ 0"),
+    // the second argument is evaluated, though it isn't used
+    ("first(0,dup(Succ(0)))", 2, "spent"),
+    ("first(0,dup(Succ(0)))", 3, "0"),
+];
+
+// Equations with premises.
+const PREMISES: [Case; 12] = [
+    // less(1, 0) is false after 1; then not(less(1, 0)) is true after 2; then the second equation is used
+    ("max(Succ(0),0)", 3, "spent"),
+    ("max(Succ(0),0)", 4, "Succ 0"),
+    // less(0, 1) is true after 1, and the first equation is used
+    ("max(0,Succ(0))", 1, "spent"),
+    ("max(0,Succ(0))", 2, "Succ 0"),
+    // less(1, 1) is less(0, 0), false after 2; not(..) is true after 3
+    ("max(Succ(0),Succ(0))", 5, "spent"),
+    ("max(Succ(0),Succ(0))", 6, "Succ 0"),
+    // the first premise of the first two equations fails after 1 each, so that zero isn't asked; that of the third holds after 1
+    ("pick(Succ(0),0)", 3, "spent"),
+    ("pick(Succ(0),0)", 4, "0"),
+    // less(1, 2) is true after 2 and zero(1) false after 1, which is asked by both
+    ("pick(Succ(0),Succ(Succ(0)))", 6, "spent"),
+    ("pick(Succ(0),Succ(Succ(0)))", 7, "Succ 0"),
+    // both premises of the first equation hold, each after 1
+    ("pick(0,Succ(0))", 2, "spent"),
+    ("pick(0,Succ(0))", 3, "0"),
+];
+
+// Lists: one use for each list, one for each number's zero, and one for each and.
+const LISTS: [Case; 6] = [
+    ("lows(nil)", 1, "true"),
+    ("lows(cons(0,nil))", 3, "spent"),
+    ("lows(cons(0,nil))", 4, "true"),
+    ("lows(cons(0,cons(Succ(0),nil)))", 6, "spent"),
+    ("lows(cons(0,cons(Succ(0),nil)))", 7, "false"),
+    ("cons(dup(Succ(0)),nil)", 2, "cons Succ Succ 0 nil"),
+];
+
+fn answer(alloc: Global, text: &str, budget: u64) -> Result<String, Memory> {
+    let algebra = read_data(alloc, &NUMBERS)?;
+    let call = term(alloc, &scope(alloc, &NUMBERS)?, text)?;
+    value_answer(alloc, &algebra, &call, budget)
+}
+
+#[test]
+fn values_take_just_so_many_uses(rt: HostRuntime) -> Result<(), Fail> {
+    for (text, budget, due) in &COSTS {
+        let found = answer(rt.alloc(), text, *budget)?;
+        assert_eq!(rt; found.as_str(), *due, "at {text} with {budget}");
+    }
+    Ok(())
+}
+
+#[test]
+fn premises_are_asked_in_order(rt: HostRuntime) -> Result<(), Fail> {
+    for (text, budget, due) in &PREMISES {
+        let found = answer(rt.alloc(), text, *budget)?;
+        assert_eq!(rt; found.as_str(), *due, "at {text} with {budget}");
+    }
+    Ok(())
+}
+
+#[test]
+fn lists_are_evaluated(rt: HostRuntime) -> Result<(), Fail> {
+    for (text, budget, due) in &LISTS {
+        let found = answer(rt.alloc(), text, *budget)?;
+        assert_eq!(rt; found.as_str(), *due, "at {text} with {budget}");
+    }
+    Ok(())
+}
+
+// The numbers of operations of the data.
+const SUCC: Op = Op(1);
+
+const DUP: Op = Op(7);
+
+const ODD: Op = Op(8);
+
+const FIRST: Op = Op(9);
+
+/// The operation so many times over the term.
+pub fn times(alloc: Global, op: Op, count: u32, inner: Term) -> Result<Term, Memory> {
+    let mut term = inner;
+    for _ in 0..count {
+        term = Term::App(op, vec![in alloc; term]?);
+    }
+    Ok(term)
+}
+
+fn number(alloc: Global, count: u32) -> Result<Term, Memory> {
+    times(alloc, SUCC, count, Term::App(Op(0), Vec::new(alloc)))
+}
+
+fn large_answer(alloc: Global, call: &Term, budget: u64) -> Result<String, Memory> {
+    let algebra = read_data(alloc, &NUMBERS)?;
+    value_answer(alloc, &algebra, call, budget)
+}
+
+// dup of n takes n + 1 uses. So dup 15 times over 1, which is 32,768, takes 2^15 - 1 + 15 uses, and 16 times takes 2^16 - 1 + 16; that
+// is 65,536, which has one symbol too many. The last dup has its uses before it makes a number.
+#[test]
+fn a_value_may_be_too_large(rt: HostRuntime) -> Result<(), Fail> {
+    let alloc = rt.alloc();
+    let fifteen = times(alloc, DUP, 15, number(alloc, 1)?)?;
+    assert_eq!(rt; large_answer(alloc, &fifteen, 32_781)?.as_str(), "spent");
+    assert_eq!(rt;
+        large_answer(alloc, &fifteen, 32_782)?.as_str(),
+        "32769 symbols"
+    );
+    let sixteen = times(alloc, DUP, 16, number(alloc, 1)?)?;
+    assert_eq!(rt; large_answer(alloc, &sixteen, 65_550)?.as_str(), "spent");
+    assert_eq!(rt;
+        large_answer(alloc, &sixteen, 65_551)?.as_str(),
+        "too large"
+    );
+    assert_eq!(rt;
+        large_answer(alloc, &sixteen, 4_294_967_296)?.as_str(),
+        "too large"
+    );
+    Ok(())
+}
+
+// odd of n is 2n + 1 and takes n + 1 uses. So odd 16 times over 0 is 65,535, which has 65,536 symbols, as deep as they are many.
+#[test]
+fn a_value_has_at_most_65536_symbols(rt: HostRuntime) -> Result<(), Fail> {
+    let alloc = rt.alloc();
+    let largest = times(alloc, ODD, 16, number(alloc, 0)?)?;
+    assert_eq!(rt; large_answer(alloc, &largest, 65_534)?.as_str(), "spent");
+    assert_eq!(rt;
+        large_answer(alloc, &largest, 65_535)?.as_str(),
+        "65536 symbols"
+    );
+    let one_more = times(alloc, SUCC, 1, largest)?;
+    assert_eq!(rt;
+        large_answer(alloc, &one_more, 65_535)?.as_str(),
+        "too large"
+    );
+    Ok(())
+}
+
+// Two arguments of which one is too large and the other takes too many uses: the one that comes first is answered.
+#[test]
+fn the_first_cause_is_answered(rt: HostRuntime) -> Result<(), Fail> {
+    let alloc = rt.alloc();
+    let ack = "ack(Succ(Succ(Succ(0))),Succ(Succ(Succ(Succ(Succ(Succ(0)))))))";
+    for (large_first, due) in &[(true, "too large"), (false, "spent")] {
+        let large = times(alloc, DUP, 16, number(alloc, 1)?)?;
+        let long = term(alloc, &scope(alloc, &NUMBERS)?, ack)?;
+        let call = if *large_first {
+            Term::App(FIRST, vec![in alloc; large, long]?)
+        } else {
+            Term::App(FIRST, vec![in alloc; long, large]?)
+        };
+        let found = large_answer(alloc, &call, 70_000)?;
+        assert_eq!(rt; found.as_str(), *due);
+    }
+    Ok(())
+}
+
+// ack of 3 and 6 is 509 after 172,233 uses.
+#[test]
+fn longer_evaluations_are_exact(rt: HostRuntime) -> Result<(), Fail> {
+    let ack = "ack(Succ(Succ(Succ(0))),Succ(Succ(Succ(Succ(Succ(Succ(0)))))))";
+    assert_eq!(rt; answer(rt.alloc(), ack, 172_232)?.as_str(), "spent");
+    assert_eq!(rt; answer(rt.alloc(), ack, 172_233)?.as_str(), "510 symbols");
+    Ok(())
+}
