@@ -59,3 +59,5 @@ data_in text tokens types theory lexed read of_types = record { types = types; r
 
 pub executable_in : (text : List ℕ) (tokens : List Token) (types : List TypeDef) (theory : Theory) → IsLexed text tokens → AreTypesOf tokens types → IsDataOf types theory → IsExecutable theory → IsExecutableIn text theory
 executable_in text tokens types theory lexed read of_types executable = record { data_of = data_in text tokens types theory lexed read of_types; executable = executable }
+
+pub ruleset stages = (not_parsed, types_in, data_in, executable_in)

@@ -31,7 +31,8 @@ in_line_0 t = record { kind = t.kind; place = record { line = 0; column = t.plac
 pub record AreLibraryTypes (text : List ℕ) (types : List TypeDef) : Type 0 where
   pub tokens : List Token
   pub lexed : Tokenizes text tokens
-  pub read : IsParsedBetween (repeated (part type_definition)) (map in_line_0 tokens) 0 (repeated_tree (map type_def_tree types)) (length tokens)
+  pub read : IsParsedBetween (repeated (part type_definition)) (map in_line_0 tokens) 0 (repeated_tree (map type_def_tree types))
+      (length tokens)
 
 -- those of some texts, in their order
 abbrev pub AreTakenIn : List (List ℕ) → List TypeDef → Type 0

@@ -44,9 +44,9 @@ fn data_of(alloc: Global, types: &[TypeDef]) -> Result<DataSpec, FrontFault>
     Ok(algebra)
 }
 
-/// The data of a text with these tokens, which can be run. Or the first refusal of the text, if a part of the front end refuses it before its
-/// behaviour is compiled.
-#[tactic(auto, using(crate::proofs::Refusing::not_parsed, crate::proofs::Refusing::types_in, crate::proofs::Refusing::data_in, crate::proofs::Refusing::executable_in))]
+/// The data of a text with these tokens, which can be run. Or the first refusal of the text, if a part of the front end refuses it before
+/// its behaviour is compiled.
+#[tactic(auto, using(crate::proofs::Refusing::stages))]
 pub fn data(alloc: Global, text: &[u8], tokens: &[Token]) -> Result<DataSpec, FrontFault>
     requires lexed { IsLexed text.now tokens.now }
     ensures executable { IfOk result (λ d. IsExecutableIn text.now (theory_of d)) }
