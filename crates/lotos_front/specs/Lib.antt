@@ -1,0 +1,6 @@
+pub mod Accepted
+pub mod FirstRefusals
+pub mod Libraries
+pub mod Parsed
+pub mod Stages
+pub mod Types
