@@ -103,9 +103,11 @@ copy_nodes gates part g (a ∷ b ∷ others) = copy_nodes gates part g (b ∷ ot
     ++ (relabelled part g a ∷ parallel gates (suc part + length (copy_nodes gates part g (b ∷ others)))
     (part + length (copy_nodes gates part g (b ∷ others))) ∷ [])
 
+-- copies of a part, which stand for the part; copies of nothing are `stop`
 abbrev pub copied : ℕ → ℕ → Option Synchronised → Option (List ℕ) → Option Read → Option Read
-copied from g (Some gates) (Some among) (Some r) =
-    Some (record { nodes = r.nodes ++ copy_nodes gates (root from r) g among; functionality = r.functionality })
+copied from g (Some gates) (Some []) (Some r) = Some (single stop noexit)
+copied from g (Some gates) (Some (a ∷ among)) (Some r) =
+    Some (record { nodes = r.nodes ++ copy_nodes gates (root from r) g (a ∷ among); functionality = r.functionality })
 copied from g _ _ _ = None
 
 -- in this site, a construct whose nodes begin at this number is read as this, if nothing hinders it, and these are its refusals
