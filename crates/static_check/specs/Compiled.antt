@@ -3,6 +3,7 @@ use Rattle.std.specs.Prelude.{ℕ, ◌≡◌, List, [], ◌∷◌, ◌++◌, map
 use Rattle.std.specs.List.{range_with_len}
 use Rattle.lotos_ast.specs.declared.refusal.Refusal.{Refusal}
 use Rattle.lotos_ast.specs.declared.spec.Spec.{Spec}
+use Rattle.lotos_ast.specs.FirstRefusals.{first_refusal}
 use Rattle.constructs.specs.Written.{gates_in, behaviour_written}
 use Rattle.spec_core.specs.Code.{Node, process, Program}
 use Rattle.spec_core.specs.Theories.{Theory}
@@ -82,3 +83,10 @@ pub record IsJudged (theory : Theory) (spec : Spec) (program : Option Program) (
 -- a specification that is accepted is compiled to this program
 abbrev pub IsCompiled : Theory → Spec → Program → Type 0
 IsCompiled theory spec program = IsJudged theory spec (Some program) []
+
+-- the first of all refusals of a specification over its data
+pub record IsFirstRefusal (theory : Theory) (spec : Spec) (r : Refusal) : Type 0 where
+  pub program : Option Program
+  pub refusals : List Refusal
+  pub judged : IsJudged theory spec program refusals
+  pub first : first_refusal refusals ≡ Some r
