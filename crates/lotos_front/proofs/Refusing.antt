@@ -1,10 +1,12 @@
 -- Each part of the front end with those before it.
-use Rattle.std.proofs.Common.{ℕ, ◌≡◌, sym, subst, List, [], Some}
+use Rattle.std.proofs.Common.{ℕ, ◌≡◌, map, sym, subst, List, [], Some}
 use Rattle.lotos_ast.specs.declared.refusal.Refusal.{Refusal}
 use Rattle.lotos_ast.specs.declared.spec.Spec.{Spec}
 use Rattle.lotos_ast.specs.declared.token.Token.{Token}
 use Rattle.lotos_ast.specs.declared.types.TypeDef.{TypeDef}
 use Rattle.lotos_ast.specs.FirstRefusals.{first_refusal}
+use Rattle.lotos_ast.specs.SpecTrees.{spec_tree}
+use Rattle.lotos_ast.specs.TypeTrees.{type_def_tree}
 use Rattle.lotos_ast.specs.Tokenizes.{IsUnreadable}
 use Rattle.spec_core.specs.Executable.{IsExecutable}
 use Rattle.spec_core.specs.Order.{IsDecreasing}
@@ -30,8 +32,8 @@ unreadable text r h = lexing h
 pub no_specification : (text : List ℕ) (tokens : List Token) (r other : Refusal) → IsNoSpecification tokens r → other ≡ in_text text r → IsUnparsed text tokens other
 no_specification text tokens r other h e = subst (IsUnparsed text tokens) (sym e) (unparsed r h)
 
-pub types_read : (tokens : List Token) (spec : Spec) (own all : List TypeDef) → IsSpecification tokens spec → own ≡ types.types_in spec → AreWithLibrary own all → AreTypesOf tokens all
-types_read tokens spec own all read is h = record { spec = spec; read = read; with_library = subst (λ z. AreWithLibrary z all) is h }
+pub types_read : (tokens : List Token) (spec : Spec) (own all : List TypeDef) → IsSpecification tokens spec → map type_def_tree own ≡ types.types_in (spec_tree spec) → AreWithLibrary own all → AreTypesOf tokens all
+types_read tokens spec own all read is h = record { tree = spec_tree spec; read = read; own = own; trees = is; with_library = h }
 
 pub not_parsed : (text : List ℕ) (tokens : List Token) (r : Refusal) → IsLexed text tokens → IsUnparsed text tokens r → IsFirstDataRefusal text r
 not_parsed text tokens r lexed h = parsing tokens lexed h
