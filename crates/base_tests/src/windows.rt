@@ -137,3 +137,33 @@ fn lists_come_by_size_and_then_by_number(rt: HostRuntime) -> Result<(), Fail> {
     assert!(rt; is_window(alloc, &ten, &due, false)?);
     Ok(())
 }
+
+// The operations of numbers and of lists of numbers, which are of the sorts 0 and 1.
+const NUMBER_LISTS: [(&str, &[Sort], Sort); 4] = [
+    ("0", &[], Sort(0)),
+    ("Succ", &[Sort(0)], Sort(0)),
+    ("Cons", &[Sort(0), Sort(1)], Sort(1)),
+    ("Nil", &[], Sort(1)),
+];
+
+// Lists of numbers: one of one symbol, none of two, and of each further number of symbols as many as of the two before together. So
+// there are 233 of at most 13 symbols, and the next 144 have 14.
+#[test]
+fn hundreds_of_lists_are_found(rt: HostRuntime) -> Result<(), Fail> {
+    let alloc = rt.alloc();
+    let algebra = DataSpec {
+        signature: Signature {
+            sorts: names(alloc, &["Nat", "List"])?,
+            ops: operations(alloc, &NUMBER_LISTS)?,
+        },
+        equations: Vec::new(alloc),
+    };
+    assert!(rt; algebra.signature.ops.len() < 9);
+    let found = window(alloc, &algebra, Sort(1), 256)?;
+    assert_eq!(rt; found.values.len(), 256);
+    assert!(rt; !found.complete);
+    assert_eq!(rt; found.values[232].size(), 13);
+    assert_eq!(rt; found.values[233].size(), 14);
+    assert_eq!(rt; found.values[255].size(), 14);
+    Ok(())
+}

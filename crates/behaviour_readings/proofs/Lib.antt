@@ -1,4 +1,7 @@
 pub mod Headings
+pub mod Known
+pub mod Numbered
+pub mod Offered
 pub mod Reading
 pub mod Scopes
 pub mod Single

@@ -1,5 +1,5 @@
 -- What single values are read as.
-use Rattle.std.proofs.Common.{ℕ, ◌≡◌, sym, subst, List, ◌++◌, Option, Some, None}
+use Rattle.std.proofs.Common.{ℕ, ◌≡◌, sym, subst, List, ◌++◌, Option, Some, None, append_assoc, if◌then◌else◌, Bool, true, false, refl, ◌∙◌, ap}
 use Rattle.std.specs.Prelude.{option_map}
 use Rattle.lotos_ast.specs.declared.behaviour.ExitValue.{ExitValue}
 use Rattle.lotos_ast.specs.declared.behaviour.ExitValue.TheVariants.{Any}
@@ -14,7 +14,11 @@ use Rattle.sort_overloads.specs.Expressions.{expression}
 use Rattle.sort_overloads.specs.Judged.{Adds}
 use Rattle.sort_overloads.specs.Listed.{Typed}
 use Rattle.sort_overloads.specs.Refused.{unknowns, unknown_sort}
-use Rattle.behaviour_readings.specs.Calls.{IsValueRead, sorted, unsorted}
+use Rattle.lotos_ast.specs.declared.behaviour.Binding.{Binding}
+use Rattle.spec_core.specs.Terms.{TermTree}
+use Rattle.equation_readings.specs.Variables.{sort_named}
+use Rattle.sort_overloads.specs.Refused.{is_sort_known}
+use Rattle.behaviour_readings.specs.Calls.{IsValueRead, sorted, unsorted, IsBindingRead, bound, bound_to}
 use Rattle.behaviour_readings.specs.Offers.{IsExpressionRead, IsExitValueRead, any, value}
 use Rattle.behaviour_readings.specs.Sites.{Site, sort_of}
 
@@ -58,3 +62,48 @@ exit_unread s place e old new h = added_as old new (λ rs p. value e None rs p) 
 pub exit_read : (s : Site) (place : Place) (e : Expr) (x : Typed) (old new : List Refusal) → Adds (IsExpressionRead s None e (Some x)) old new
     → Adds (IsExitValueRead s (ExitValue.Value place e) (Some (exit_given x.term, x.sort))) old new
 exit_read s place e x old new h = added_as old new (λ rs p. value e (Some x) rs p) h
+
+-- a binding, whose sort is asked for first
+
+pub binding_unsorted : (s : Site) (n : ℕ) (b : Binding) (old mid new : List Refusal) → None ≡ sort_of s b.sort
+    → mid ≡ old ++ unknown_sort s.context b.sort → new ≡ mid ++ unknowns s.context (expression (expr_tree b.value))
+    → Adds (IsBindingRead s (n, b) None) old new
+binding_unsorted s n b old mid new is first second = record {
+  refusals = unknown_sort s.context b.sort ++ unknowns s.context (expression (expr_tree b.value));
+  such = bound b None (unknowns s.context (expression (expr_tree b.value))) (subst (λ o. IsValueRead s o b.value None (unknowns s.context (expression (expr_tree b.value)))) is (unsorted b.value));
+  behind = second ∙ ap (λ z. z ++ unknowns s.context (expression (expr_tree b.value))) first ∙ append_assoc old (unknown_sort s.context b.sort) (unknowns s.context (expression (expr_tree b.value)));
+}
+
+binding_as : (s : Site) (n : ℕ) (b : Binding) (sort : ℕ) (t : Option TermTree) (old mid new : List Refusal) → Some sort ≡ sort_of s b.sort
+    → mid ≡ old ++ unknown_sort s.context b.sort → Adds (IsValueRead s (Some sort) b.value t) mid new
+    → Adds (IsBindingRead s (n, b) (option_map (bound_to s n b) t)) old new
+binding_as s n b sort t old mid new is first h = record {
+  refusals = unknown_sort s.context b.sort ++ h.refusals;
+  such = bound b t h.refusals (subst (λ o. IsValueRead s o b.value t h.refusals) is h.such);
+  behind = h.behind ∙ ap (λ z. z ++ h.refusals) first ∙ append_assoc old (unknown_sort s.context b.sort) h.refusals;
+}
+
+pub binding_unread : (s : Site) (n : ℕ) (b : Binding) (sort : ℕ) (old mid new : List Refusal) → Some sort ≡ sort_of s b.sort
+    → mid ≡ old ++ unknown_sort s.context b.sort → Adds (IsValueRead s (Some sort) b.value None) mid new
+    → Adds (IsBindingRead s (n, b) None) old new
+binding_unread s n b sort old mid new is first h = binding_as s n b sort None old mid new is first h
+
+pub named_sort : (s : Site) (t : Token) (sort : ℕ) → Some sort ≡ sort_of s t → sort_named s.context.sorts t.text ≡ sort
+named_sort s t sort is = by_test (is_sort_known s.context t.text) refl
+  where
+    same : Some sort ≡ Some (sort_named s.context.sorts t.text) → sort_named s.context.sorts t.text ≡ sort
+    same e = cc
+
+    differ : Some sort ≡ None → ⊥
+    differ e = cc
+
+    by_test : (b : Bool) → is_sort_known s.context t.text ≡ b → sort_named s.context.sorts t.text ≡ sort
+    by_test true e = same (is ∙ ap (λ b. if b then Some (sort_named s.context.sorts t.text) else None) e)
+    by_test false e = absurd (differ (is ∙ ap (λ b. if b then Some (sort_named s.context.sorts t.text) else None) e))
+
+pub binding_read : (s : Site) (n : ℕ) (b : Binding) (sort : ℕ) (t : TermTree) (old mid new : List Refusal) → Some sort ≡ sort_of s b.sort
+    → mid ≡ old ++ unknown_sort s.context b.sort → Adds (IsValueRead s (Some sort) b.value (Some t)) mid new
+    → Adds (IsBindingRead s (n, b) (Some (record { variable = record { number = n; sort = sort }; term = t }))) old new
+binding_read s n b sort t old mid new is first h =
+    subst (λ z. Adds (IsBindingRead s (n, b) (Some (record { variable = record { number = n; sort = z }; term = t }))) old new) (named_sort s b.sort sort is)
+    (binding_as s n b sort (Some t) old mid new is first h)

@@ -47,6 +47,15 @@ sort_of s t = if is_sort_known s.context t.text then Some (sort_named s.context.
 abbrev pub process_named : Site → Token → Option Heading
 process_named s t = find (λ p. is_same_name p.name t.text) s.processes
 
+-- with the sorts and operations alone, and these processes; the next gate has this number
+abbrev pub bare : Context → ℕ → List Heading → Site
+bare c first_gate processes = record {
+  context = record { sorts = c.sorts; operations = c.operations; variables = [] };
+  gates = [];
+  first_gate = first_gate;
+  processes = processes;
+}
+
 -- with further gates, and with further variables
 
 abbrev pub with_gates : Site → List Token → Site

@@ -1,12 +1,14 @@
 -- What the definitions see of the values of the code.
-use Rattle.std.specs.Prelude.{Option, ℕ, List, map, option_map}
+use Rattle.std.specs.Prelude.{Option, ℕ, List, map, option_map, Vec}
 use Rattle.std.specs.List.{slice_get, filter_map}
+use Rattle.std.specs.declared.alloc.Global.{Global}
 use Rattle.spec_core.specs.Numbers.{sort_number}
 use Rattle.spec_core.specs.Functionality as core
+use Rattle.spec_core.specs.declared.code.ActField.{ActField}
 use Rattle.spec_core.specs.declared.code.ExitField.{ExitField}
 use Rattle.spec_core.specs.declared.items.Sort.{Sort}
 use Rattle.spec_core.specs.Code as code
-use Rattle.spec_core.specs.Code.{node_of}
+use Rattle.spec_core.specs.Code.{node_of, action_field_of}
 use Rattle.behaviour_readings.specs.Outputs as outputs
 use Rattle.behaviour_readings.specs.Sites as sites
 use Rattle.behaviour_readings.specs.declared.functionality.Functionality.{Functionality}
@@ -40,3 +42,7 @@ exit_value_at v = (code.exit_value_of v.0, v.1.0)
 
 abbrev pub sort_if_known : Option Sort → Option ℕ
 sort_if_known sort = option_map sort_number sort
+
+-- the fields of an offer
+abbrev pub fields_of : Vec ActField Global → List code.ActionField
+fields_of fields = map action_field_of fields.items

@@ -2,6 +2,7 @@
 
 ghost use Rattle.std.specs.Prelude.{◌≡◌, ◌++◌, ◌+◌, IfOk, OnOk, map, length, option_map};
 ghost use Rattle.std.specs.List.{flat_map};
+ghost use Rattle.spec_core.specs.Code.{variable_of};
 ghost use Rattle.spec_core.specs.Numbers.{gate_number};
 ghost use Rattle.equation_readings.specs.Variables.{all_variables};
 ghost use Rattle.sort_overloads.specs.Refused.{unknown_sort};
@@ -14,7 +15,7 @@ use lotos_ast::declaration::Declaration;
 use lotos_ast::names::Names;
 use lotos_ast::refusal::{Refusal, RefusalKind};
 use lotos_ast::token::Token;
-use spec_core::items::Gate;
+use spec_core::items::{Gate, Sort};
 use spec_core::memory::Memory;
 use std::alloc::Global;
 use type_names::duplicates::add_names_twice;
@@ -74,6 +75,39 @@ pub fn put_declarations(
         site.put_variables(alloc, &declaration.names, &declaration.sort)?;
     }
     Ok(())
+}
+
+// Whether the sorts of declarations are all known.
+#[tactic(auto, using(crate::proofs::Known::unknown_at, crate::proofs::Known::known_next, crate::proofs::Known::known_all))]
+fn are_known(site: &Site<'_>, declared: &[Declaration]) -> bool
+    ensures { result ≡ declarations.are_known site.now declared.now }
+{
+    for declaration in declared {
+        if !site.knows_sort(&declaration.sort) {
+            return false;
+        }
+    }
+    true
+}
+
+/// Puts the variables of declarations into scope. They are answered as code has them, where all their sorts are known.
+#[tactic(auto, using(crate::proofs::Known::declared_known, crate::proofs::Known::declared_unknown))]
+pub fn put_declared(
+    alloc: Global,
+    site: &mut Site<'_>,
+    declared: &[Declaration],
+) -> Result<Option<Vec<(u32, Sort)>>, Memory>
+    ensures variables { IfOk result (λ found. option_map (λ vars. map variable_of vars.items) found
+        ≡ declarations.declared_variables site.old declared.now) }
+    ensures site { OnOk result (site.new ≡ with_variables site.old (all_variables site.old.context.sorts declared.now)) }
+{
+    let first = site.variables();
+    put_declarations(alloc, site, declared)?;
+    if are_known(site, declared) {
+        Ok(Some(site.variables_from(alloc, first)?))
+    } else {
+        Ok(None)
+    }
 }
 
 /// Refuses gates that aren't in scope (22 UnknownGate).

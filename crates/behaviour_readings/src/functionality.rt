@@ -1,12 +1,14 @@
 // How behaviours may end.
 
-ghost use Rattle.std.specs.Prelude.{◌≡◌, map, option_map, nat_eq};
+ghost use Rattle.std.specs.Prelude.{◌≡◌, IfOk, map, option_map, nat_eq};
 ghost use Rattle.std.specs.Cmp.Lexicographic.{pointwise};
 ghost use Rattle.spec_core.specs.Numbers.{sort_number};
 ghost use Rattle.behaviour_readings.specs.Joins.{if_same, either, both};
 ghost use Rattle.behaviour_readings.specs.Views.{functionality_of};
 
 use spec_core::items::Sort;
+use spec_core::memory::Memory;
+use std::alloc::Global;
 
 /// How a behaviour may end.
 #[derive(Drop)]
@@ -15,6 +17,18 @@ pub enum Functionality {
     NoExit,
     /// With values of these sorts.
     Exits(Vec<Sort>),
+}
+
+impl Functionality {
+    /// An equal functionality.
+    pub fn copy(&self, alloc: Global) -> Result<Functionality, Memory>
+        ensures { IfOk result (λ copied. functionality_of copied ≡ functionality_of self.now) }
+    {
+        match self {
+            Functionality::NoExit => Ok(Functionality::NoExit),
+            Functionality::Exits(sorts) => Ok(Functionality::Exits(Vec::from_slice(alloc, sorts)?)),
+        }
+    }
 }
 
 /// Whether two lists of sorts are equal. It takes no memory.

@@ -2,6 +2,7 @@
 #![tactic(auto)]
 
 pub mod declarations;
+pub mod fields;
 pub mod functionality;
 pub mod heading;
 pub mod output;

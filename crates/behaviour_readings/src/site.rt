@@ -1,19 +1,23 @@
 // What is in scope.
 
-ghost use Rattle.std.specs.Prelude.{◌≡◌, ◌<◌, ◌^◌, ◌+◌, ◌++◌, [], ◌∷◌, Some, None, IfOk, OnOk, length, map, option_map};
+ghost use Rattle.std.specs.Prelude.{◌≡◌, ◌<◌, ◌^◌, ◌+◌, ◌-◌, ◌++◌, [], ◌∷◌, Some, None, IfOk, OnOk, length, map, drop, option_map, vec_len};
 ghost use Rattle.std.specs.Prelude.{if◌then◌else◌};
 ghost use Rattle.std.specs.List.{find, list_any};
 ghost use Rattle.lotos_ast.specs.declared.token.Token.{Token};
 ghost use Rattle.lotos_ast.specs.ExpressionTrees.{expr_tree};
 ghost use Rattle.sort_overloads.specs.Expressions.{expression};
+ghost use Rattle.sort_overloads.specs.Indexes.{IsIndexOf};
 ghost use Rattle.sort_overloads.specs.Judged.{Adds, typed_if_read};
 ghost use Rattle.sort_overloads.specs.Listed.{is_same_name};
 ghost use Rattle.sort_overloads.specs.Refused.{is_sort_known, unknowns, unknown_sort};
+ghost use Rattle.sort_overloads.specs.Views.{context_of, declared_of};
+ghost use Rattle.spec_core.specs.Code.{variable_of};
 ghost use Rattle.spec_core.specs.Numbers.{sort_number};
+ghost use Rattle.spec_core.specs.Theories.{operations_of};
 ghost use Rattle.equation_readings.specs.Equalities.{premise_if_read};
 ghost use Rattle.equation_readings.specs.Premisses.{IsPremissJudged};
 ghost use Rattle.equation_readings.specs.Variables.{sort_named};
-ghost use Rattle.behaviour_readings.specs.Declarations.{of_one_sort};
+ghost use Rattle.behaviour_readings.specs.Declarations.{of_one_sort, numbered_from};
 ghost use Rattle.behaviour_readings.specs.Offers.{IsExpressionRead};
 ghost use Rattle.behaviour_readings.specs.Sites as sites;
 ghost use Rattle.behaviour_readings.specs.Views.{heading_of, headings_at};
@@ -50,7 +54,7 @@ pub struct Site<'a> {
     /// All processes.
     headings: &'a [Heading],
     /// The numbers of those that can be called, of which an earlier one hides a later one.
-    visible: &'a [usize],
+    visible: Vec<usize>,
 }
 
 impl<'a> Model for Site<'a> {
@@ -67,7 +71,7 @@ impl<'a> Model for Site<'a> {
       context = context_of s.scope;
       gates = map (λ t. t.now.text) s.gates.items;
       first_gate = s.first_gate;
-      processes = headings_at s.headings.now s.visible.now;
+      processes = headings_at s.headings.now s.visible.items;
     } };
 
     ghost invariant = { λ s. (vec_len s.scope.signature.ops < 2 ^ 32) × (vec_len s.scope.signature.sorts < 2 ^ 32 - 1)
@@ -129,7 +133,50 @@ fn process_named<'h>(
     None
 }
 
+// The variables from this place on, as code has them.
+#[tactic(auto, using(crate::proofs::Numbered::numbered_next, crate::proofs::Numbered::numbered_all))]
+fn numbered(alloc: Global, variables: &[Variable], first: usize) -> Result<Vec<(u32, Sort)>, Memory>
+    requires { length variables.now < 2 ^ 32 }
+    ensures { IfOk result (λ all. map variable_of all.items ≡ numbered_from first (drop first (map declared_of variables.now))) }
+{
+    let mut all = Vec::new(alloc);
+    for i in first..variables.len() {
+        all.push((i as u32, variables[i].sort))?;
+    }
+    Ok(all)
+}
+
 impl<'a> Site<'a> {
+    /// Where no gate is in scope, and no process. It takes no memory.
+    pub fn new(alloc: Global, scope: Scope, index: NameIndex) -> Site<'a>
+        requires few_operations { vec_len scope.signature.ops < 2 ^ 32 }
+        requires few_sorts { vec_len scope.signature.sorts < 2 ^ 32 - 1 }
+        requires few_variables { vec_len scope.vars < 2 ^ 32 }
+        requires index { IsIndexOf index (operations_of scope.signature) }
+        ensures { result ≡ record { context = context_of scope; gates = []; first_gate = 0; processes = [] } }
+    {
+        Site {
+            scope,
+            index,
+            gates: Vec::new(alloc),
+            first_gate: 0,
+            headings: &[],
+            visible: Vec::new(alloc),
+        }
+    }
+
+    /// Goes to where no variable and no gate is in scope: the next gate has this number, and the processes of these numbers can be called.
+    /// It takes no memory.
+    pub fn go(&mut self, first_gate: u32, headings: &'a [Heading], visible: Vec<usize>)
+        ensures { self.new ≡ sites.bare self.old.context first_gate (headings_at headings.now visible.items) }
+    {
+        self.scope.vars.truncate(0);
+        self.gates.truncate(0);
+        self.first_gate = first_gate;
+        self.headings = headings;
+        self.visible = visible;
+    }
+
     /// The number of the gate of a name, if it is in scope. It takes no memory.
     pub fn gate(&self, name: &Token) -> Option<u32>
         ensures { result ≡ sites.gate_number self.now name.now }
@@ -141,7 +188,7 @@ impl<'a> Site<'a> {
     pub fn process(&self, name: &Token) -> Option<&'a Heading>
         ensures { option_map (λ h. heading_of h.now) result ≡ sites.process_named self.now name.now }
     {
-        process_named(self.headings, self.visible, name)
+        process_named(self.headings, &self.visible, name)
     }
 
     /// The sort of a name, if it is known. It takes no memory.
@@ -153,6 +200,13 @@ impl<'a> Site<'a> {
         } else {
             None
         }
+    }
+
+    /// Whether the sort of a name is known. It takes no memory.
+    pub fn knows_sort(&self, name: &Token) -> bool
+        ensures { result ≡ is_sort_known self.now.context name.now.text }
+    {
+        has_sort(&self.scope.signature.sorts, name.text.as_str())
     }
 
     /// The one reading of an expression, of the wanted sort if there is one. Where it hasn't just one, its refusals are added.
@@ -214,6 +268,13 @@ impl<'a> Site<'a> {
         self.scope.vars.len()
     }
 
+    /// The variables in scope from this place on, as code has them.
+    pub fn variables_from(&self, alloc: Global, first: usize) -> Result<Vec<(u32, Sort)>, Memory>
+        ensures { IfOk result (λ all. map variable_of all.items ≡ numbered_from first (drop first self.now.context.variables)) }
+    {
+        numbered(alloc, &self.scope.vars, first)
+    }
+
     /// How many gates are in scope. It takes no memory.
     pub fn gates(&self) -> usize
         ensures { result ≡ length self.now.gates }
@@ -240,13 +301,22 @@ impl<'a> Site<'a> {
     {
         let number = Sort(sort_named(&self.scope.signature.sorts, sort.text.as_str()) as u32);
         for name in names {
-            self.put_variable(alloc, name, number)?;
+            self.push_variable(alloc, name, number)?;
         }
         Ok(())
     }
 
-    // Puts a variable into scope.
-    fn put_variable(&mut self, alloc: Global, name: &Token, sort: Sort) -> Result<(), Memory>
+    /// Puts a variable into scope, behind those that are there. Where its sort isn't known, its number is that behind the last.
+    pub fn put_variable(&mut self, alloc: Global, name: &Token, sort: &Token) -> Result<(), Memory>
+        ensures { OnOk result (self.new ≡ sites.with_variables self.old
+            (record { name = name.now.text; sort = sort_named self.old.context.sorts sort.now.text } ∷ [])) }
+    {
+        let number = Sort(sort_named(&self.scope.signature.sorts, sort.text.as_str()) as u32);
+        self.push_variable(alloc, name, number)
+    }
+
+    // Puts a variable of this sort into scope.
+    fn push_variable(&mut self, alloc: Global, name: &Token, sort: Sort) -> Result<(), Memory>
         ensures { OnOk result (self.new ≡ sites.with_variables self.old (record { name = name.now.text; sort = sort.0 } ∷ [])) }
     {
         if self.scope.vars.len() >= 4_294_967_295 {

@@ -69,8 +69,8 @@ fn exit_value(
     }
 }
 
-// These and one more, where all are there.
-fn with_one<T: Drop>(all: Option<Vec<T>>, one: Option<T>) -> Result<Option<Vec<T>>, Memory>
+/// These and one more, where all are there.
+pub fn with_one<T: Drop>(all: Option<Vec<T>>, one: Option<T>) -> Result<Option<Vec<T>>, Memory>
     ensures { IfOk result (λ found. option_map (λ v. v.items) found
         ≡ all_before (option_map (λ v. v.items) all) (option_map (λ x. x ∷ []) one)) }
 {

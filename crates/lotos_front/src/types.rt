@@ -3,10 +3,11 @@
 ghost use Rattle.std.specs.Prelude.{◌≡◌, ◌++◌, ◌≤◌, IfOk, OnOk, length, map};
 ghost use Rattle.lotos_ast.specs.Refusals.{IfRefused};
 ghost use Rattle.lotos_ast.specs.Tokenizes.{text_limit};
-ghost use Rattle.type_contents.specs.Lists.{listed};
+ghost use Rattle.lotos_ast.specs.SpecTrees.{where_item_tree, process_tree, items_tree, spec_tree};
+ghost use Rattle.lotos_ast.specs.TypeTrees.{type_def_tree};
 ghost use Rattle.lotos_front.specs.Parsed.{IsUnparsed};
 ghost use Rattle.lotos_front.specs.Types as types;
-ghost use Rattle.lotos_front.specs.Types.{AreTypesOf, joined, item_types, process_types};
+ghost use Rattle.lotos_front.specs.Types.{AreTypesOf, item_types, process_types, where_types};
 
 use crate::libraries::with_library;
 use crate::parsed::parse;
@@ -22,7 +23,7 @@ use std::alloc::Global;
 // Adds the types of a `where` part, if there is one.
 #[cycle(where_parts)]
 fn add_items(all: &mut Vec<TypeDef>, items: Option<Vec<WhereItem>>) -> Result<(), Memory>
-    ensures { OnOk result (all.new.items ≡ all.old.items ++ joined (map item_types (listed items))) }
+    ensures { OnOk result (map type_def_tree all.new.items ≡ map type_def_tree all.old.items ++ where_types (items_tree items)) }
 {
     match items {
         None => Ok(()),
@@ -38,7 +39,7 @@ fn add_items(all: &mut Vec<TypeDef>, items: Option<Vec<WhereItem>>) -> Result<()
 // Adds the types of an item: a type, or those of a process.
 #[cycle(where_parts)]
 fn add_item(all: &mut Vec<TypeDef>, item: WhereItem) -> Result<(), Memory>
-    ensures { OnOk result (all.new.items ≡ all.old.items ++ item_types item) }
+    ensures { OnOk result (map type_def_tree all.new.items ≡ map type_def_tree all.old.items ++ item_types (where_item_tree item)) }
 {
     match item {
         WhereItem::Types(definition) => {
@@ -52,7 +53,7 @@ fn add_item(all: &mut Vec<TypeDef>, item: WhereItem) -> Result<(), Memory>
 // Adds the types of the `where` part of a process.
 #[cycle(where_parts)]
 fn add_process(all: &mut Vec<TypeDef>, process: Process) -> Result<(), Memory>
-    ensures { OnOk result (all.new.items ≡ all.old.items ++ process_types process) }
+    ensures { OnOk result (map type_def_tree all.new.items ≡ map type_def_tree all.old.items ++ process_types (process_tree process)) }
 {
     let Process {
         place: _,
@@ -77,8 +78,9 @@ fn let_go(
 ) {}
 
 // The types of a specification: the global ones, then those of its `where` parts.
+#[tactic(auto, using(crate::proofs::Collected::globals))]
 fn types_in(spec: Spec) -> Result<Vec<TypeDef>, Memory>
-    ensures { IfOk result (λ all. all.items ≡ types.types_in spec) }
+    ensures { IfOk result (λ all. map type_def_tree all.items ≡ types.types_in (spec_tree spec)) }
 {
     let Spec {
         place: _,

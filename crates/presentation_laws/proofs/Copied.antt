@@ -92,7 +92,7 @@ module _ (types : List TypeDef) (h : IsUnrefused types) where
       (each-from (λ e. IsOf types k (moved_equation sorts operations e)) own
       (λ e i. moved-fits k e (each-one (EquationFits (read_theory (own_context types k))) own e (bodies-fit (own_context types k) tt (bodies d) own rs read) i))))
 
-  own-at : (es : List (TypeDef × Content)) (found : List (List ConditionalEquation)) (rs : List Refusal) → Gathers (IsOwnOf (all_sorts types) (all_operations types)) es found rs →
+  pub own-at : (es : List (TypeDef × Content)) (found : List (List ConditionalEquation)) (rs : List Refusal) → Gathers (IsOwnOf (all_sorts types) (all_operations types)) es found rs →
       (k : ℕ) (e : TypeDef × Content) (o : List ConditionalEquation) → slice_get es k ≡ Some e → slice_get found k ≡ Some o → (r : List Refusal) × AreRead (all_sorts types) (all_operations types) e.1.items (bodies e.0) o r
   own-at es found rs none k e o at of = absurd (none-some e at)
   own-at es found rs (further x xs ys all r refusals p more) k e o at of = by-own p k at of (λ j g. own-at xs all refusals more j e o g)
@@ -160,7 +160,7 @@ module _ (types : List TypeDef) (h : IsUnrefused types) where
 
     -- what is brought in
 
-    in-source : (n : ℕ) (source : Token) (e : ConditionalEquation) → IsOneOf e (source_in_order types (equations_within n) source) → (k : ℕ) × IsOneOf e (slice_index_or (equations_within n) k no_equations).brought
+    pub in-source : (n : ℕ) (source : Token) (e : ConditionalEquation) → IsOneOf e (source_in_order types (equations_within n) source) → (k : ℕ) × IsOneOf e (slice_index_or (equations_within n) k no_equations).brought
     in-source n source e i = by-type (gathered-from found (range_with_len 0 (length types)) e (once-from is_same_equation (flat_map found (range_with_len 0 (length types))) e i))
       where
         found : ℕ → List ConditionalEquation
@@ -200,10 +200,10 @@ module _ (types : List TypeDef) (h : IsUnrefused types) where
     brought-by-body n k before place name (Renamed p source pairs) o at of e i = copied-names n before source (copy_numbers types [] pairs) e i
     brought-by-body n k before place name (Actualized p source actuals pairs) o at of e i = copied-names n before source (copy_numbers types (formals_of types (contents types) source) pairs) e i
 
-    round-at : (n k : ℕ) → IsMadeAt no_equations (made_from types (equations_within n)) (zip types own) (equations_within (suc n)) k
+    pub round-at : (n k : ℕ) → IsMadeAt no_equations (made_from types (equations_within n)) (zip types own) (equations_within (suc n)) k
     round-at n k = made-at no_equations (made_from types (equations_within n)) (zip types own) (equations_within (suc n)) refl k
 
-    first-round : (k : ℕ) → IsMadeAt no_equations (λ (d : TypeDef × List ConditionalEquation). no_equations) (zip types own) (equations_within 0) k
+    pub first-round : (k : ℕ) → IsMadeAt no_equations (λ (d : TypeDef × List ConditionalEquation). no_equations) (zip types own) (equations_within 0) k
     first-round k = made-at no_equations (λ (d : TypeDef × List ConditionalEquation). no_equations) (zip types own) (equations_within 0) refl k
 
     pub all-of : (n : ℕ) → AreOf n

@@ -3,10 +3,13 @@ mod Copied
 mod Covered
 mod Items
 mod Membership
+pub mod Named
 mod Ordered
 mod Placed
 pub mod Presented
 mod Read
+mod Spelled
 mod Typed
+mod Variables
 mod Walking
 mod WellMade

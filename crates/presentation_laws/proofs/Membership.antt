@@ -174,7 +174,7 @@ one-more-unlike same (y ∷ ys) x h e = (each-more same y ys x h.0 e.0, one-more
     each-more same y [] x h e = (e, tt)
     each-more same y (z ∷ zs) x h e = (h.0, each-more same y zs x h.1 e)
 
-none-same : {A : Type 0} (p : A → Bool) (xs : List A) → list_any p xs ≡ false → Each (λ y. p y ≡ true → ⊥) xs
+pub none-same : {A : Type 0} (p : A → Bool) (xs : List A) → list_any p xs ≡ false → Each (λ y. p y ≡ true → ⊥) xs
 none-same p [] e = tt
 none-same p (x ∷ xs) e = by-test (p x) refl (λ h. none-same p xs h)
   where

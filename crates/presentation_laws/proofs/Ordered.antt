@@ -44,13 +44,13 @@ in-ordered count table among content k x within named has h = in-firsts (flat_ma
 
 -- what is there in order, a type brings in
 pub ordered-from : (count : ℕ) (table : List (List Described)) (among : List ℕ) (content : List Item) (d : Described) → IsOneOf d (in_order count table among content) →
-    (k : ℕ) × IsOneOf d (slice_index_or table k [])
+    (k : ℕ) × IsOneOf d (slice_index_or table k []) × (is_in content d.item ≡ true)
 ordered-from count table among content d h = by-type (gathered-from (brought_by table among content) (range_with_len 0 count) d (firsts-from (flat_map (brought_by table among content) (range_with_len 0 count)) d h))
   where
-    by-type : (k : ℕ) × IsOneOf k (range_with_len 0 count) × IsOneOf d (brought_by table among content k) → (k : ℕ) × IsOneOf d (slice_index_or table k [])
+    by-type : (k : ℕ) × IsOneOf k (range_with_len 0 count) × IsOneOf d (brought_by table among content k) → (k : ℕ) × IsOneOf d (slice_index_or table k []) × (is_in content d.item ≡ true)
     by-type (k, within, i) =
         let r = kept-from (λ e. is_in content e.item) d (slice_index_or table k []) (passed-from (list_any (nat_eq k) among) d (filter (λ e. is_in content e.item) (slice_index_or table k [])) i) in
-        (k, r.0)
+        (k, r.0, r.1)
 
 -- the image of what is there is itself, or is brought in
 pub newly-copied : (f : Described → List Described) (all : List Described) (d : Described) (renaming : Renaming) → IsOneOf d all → f d ≡ new_image (described_image renaming) d →

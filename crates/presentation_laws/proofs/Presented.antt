@@ -85,17 +85,17 @@ placed all n x at = number-in (map item_of all) x n at
 
 module _ (types : List TypeDef) (h : IsUnrefused types) where
   -- the type of this number isn't formal
-  abbrev IsData : ℕ → Type 0
+  abbrev pub IsData : ℕ → Type 0
   IsData k = (slice_get (formal_types types) k ≡ Some false) × (slice_get (contents types) k ≡ Some (slice_index_or (contents types) k no_content))
 
-  data-has : (k : ℕ) (x : Item) → IsData k → IsOneOf x (items_at types k) → is_data types x ≡ true
+  pub data-has : (k : ℕ) (x : Item) → IsData k → IsOneOf x (items_at types k) → is_data types x ≡ true
   data-has k x d i =
       let c = slice_index_or (contents types) k no_content in
       in-any (λ (e : Bool × Content). not e.0 && is_in e.1.items x) (false, c) (zip (formal_types types) (contents types))
       (number-in (zip (formal_types types) (contents types)) (false, c) k (paired (formal_types types) (contents types) k false c d.0 d.1)) (among-is (items_at types k) x i)
 
   -- what belongs to the data, a type has that isn't formal
-  of-type : (x : Item) → is_data types x ≡ true → (k : ℕ) × IsData k × IsOneOf x (items_at types k)
+  pub of-type : (x : Item) → is_data types x ≡ true → (k : ℕ) × IsData k × IsOneOf x (items_at types k)
   of-type x e = by-pair (any-in (λ (e : Bool × Content). not e.0 && is_in e.1.items x) (zip (formal_types types) (contents types)) e)
     where
       by-number : (p : Bool × Content) → (not p.0 && is_in p.1.items x) ≡ true → (k : ℕ) × (slice_get (zip (formal_types types) (contents types)) k ≡ Some p) → (k : ℕ) × IsData k × IsOneOf x (items_at types k)
@@ -119,7 +119,7 @@ module _ (types : List TypeDef) (h : IsUnrefused types) where
     operation_number_of = new_number (data_numbers types).operations
 
     module _ (k : ℕ) (d : IsData k) where
-      sort-described : (name : List ℕ) → IsDescribed (all_sorts types) (sort_item name) → IsOneOf (sort_item name) (items_at types k) → IsDescribed (data_sorts types) (sort_item name)
+      pub sort-described : (name : List ℕ) → IsDescribed (all_sorts types) (sort_item name) → IsOneOf (sort_item name) (items_at types k) → IsDescribed (data_sorts types) (sort_item name)
       sort-described name i has = in-passing (λ e. is_data types e.item) (all_sorts types) (sort_item name) i (λ e is. ap (is_data types) is ∙ data-has k (sort_item name) d has)
 
       -- a number of a sort of the data

@@ -113,7 +113,7 @@ at-place declared (y ∷ ys) all x h = by-variable (all y (inl refl)) (λ i. at-
     by-variable (v, at) next h =
         ap (λ zs. slice_get zs (position_or_len (nat_eq x) (y ∷ ys))) (kept-first (slice_get declared y) v rest at) ∙ by-test v at next h (nat_eq x y) refl
 
-found-in : (declared : List Declared) (numbers : List ℕ) (v : Declared) → IsOneOf v (variables_at declared numbers) → IsOneOf v declared
+pub found-in : (declared : List Declared) (numbers : List ℕ) (v : Declared) → IsOneOf v (variables_at declared numbers) → IsOneOf v declared
 found-in declared [] v h = absurd h
 found-in declared (y ∷ ys) v h = by-option (slice_get declared y) refl (found-in declared ys v) h
   where
@@ -233,12 +233,12 @@ module _ (c : Context) where
 
 -- what is read
 
-gathered-each : {A B : Type 0} (P : A → List B → List Refusal → Type 0) (Q : B → Type 0) → ((x : A) (ys : List B) (rs : List Refusal) → P x ys rs → Each Q ys) →
+pub gathered-each : {A B : Type 0} (P : A → List B → List Refusal → Type 0) (Q : B → Type 0) → ((x : A) (ys : List B) (rs : List Refusal) → P x ys rs → Each Q ys) →
     (xs : List A) (ys : List B) (rs : List Refusal) → Gathers P xs ys rs → Each Q ys
 gathered-each P Q h xs ys rs none = tt
 gathered-each P Q h xs ys rs (further x others some all r refusals p more) = each-append Q some all (h x some r p) (gathered-each P Q h others all refusals more)
 
-read-each : {B : Type 0} (P : Option B → List Refusal → Type 0) (Q : B → Type 0) → ((found : Option B) (rs : List Refusal) → P found rs → IfSome found Q) →
+pub read-each : {B : Type 0} (P : Option B → List Refusal → Type 0) (Q : B → Type 0) → ((found : Option B) (rs : List Refusal) → P found rs → IfSome found Q) →
     (ys : List B) (rs : List Refusal) → IfRead P ys rs → Each Q ys
 read-each {B = B} P Q h ys rs (found, is, p) = subst (λ zs. Each Q zs) (sym is) (by-option found (h found rs p))
   where
@@ -246,7 +246,7 @@ read-each {B = B} P Q h ys rs (found, is, p) = subst (λ zs. Each Q zs) (sym is)
     by-option None q = tt
     by-option (Some x) q = (q, tt)
 
-unless-each : {B : Type 0} (declared : List Refusal) (P : List B → List Refusal → Type 0) (Q : B → Type 0) → ((found : List B) (rs : List Refusal) → declared ≡ [] → P found rs → Each Q found) →
+pub unless-each : {B : Type 0} (declared : List Refusal) (P : List B → List Refusal → Type 0) (Q : B → Type 0) → ((found : List B) (rs : List Refusal) → declared ≡ [] → P found rs → Each Q found) →
     (found : List B) (rs : List Refusal) → UnlessRefused declared P found rs → Each Q found
 unless-each declared P Q h found rs (refused_before r others e) = tt
 unless-each declared P Q h found rs (judged some refusals e p) = h some refusals e p

@@ -47,21 +47,21 @@ IsOperationKind ItemKind.Sort = ⊥
 IsOperationKind ItemKind.Prefix = Unit {0}
 IsOperationKind ItemKind.Infix = Unit {0}
 
-kind-is : (o : OperationName) → IsOperationKind (kind_of o)
+pub kind-is : (o : OperationName) → IsOperationKind (kind_of o)
 kind-is (Prefix place name) = tt
 kind-is (Infix place name) = tt
 
-some-sorts : (k : ItemKind) (sorts : List (List ℕ)) → IsOperationKind k → IsMadeAs k sorts → 0 < length sorts
+pub some-sorts : (k : ItemKind) (sorts : List (List ℕ)) → IsOperationKind k → IsMadeAs k sorts → 0 < length sorts
 some-sorts ItemKind.Sort sorts o h = absurd o
 some-sorts ItemKind.Prefix sorts o h = h
 some-sorts ItemKind.Infix sorts o h = h
 
-as-operation : (k : ItemKind) (sorts : List (List ℕ)) → IsOperationKind k → 0 < length sorts → IsMadeAs k sorts
+pub as-operation : (k : ItemKind) (sorts : List (List ℕ)) → IsOperationKind k → 0 < length sorts → IsMadeAs k sorts
 as-operation ItemKind.Sort sorts o h = absurd o
 as-operation ItemKind.Prefix sorts o h = h
 as-operation ItemKind.Infix sorts o h = h
 
-same-kind-is : (j k : ItemKind) → is_same_kind j k ≡ true → IsOperationKind j → IsOperationKind k
+pub same-kind-is : (j k : ItemKind) → is_same_kind j k ≡ true → IsOperationKind j → IsOperationKind k
 same-kind-is ItemKind.Sort k e o = absurd o
 same-kind-is ItemKind.Prefix ItemKind.Sort e o = absurd (cc)
 same-kind-is ItemKind.Prefix ItemKind.Prefix e o = tt
@@ -71,7 +71,7 @@ same-kind-is ItemKind.Infix ItemKind.Prefix e o = tt
 same-kind-is ItemKind.Infix ItemKind.Infix e o = tt
 
 -- an item that isn't a sort
-operation-kind : (k : ItemKind) → is_same_kind k ItemKind.Sort ≡ false → IsOperationKind k
+pub operation-kind : (k : ItemKind) → is_same_kind k ItemKind.Sort ≡ false → IsOperationKind k
 operation-kind ItemKind.Sort e = absurd (cc)
 operation-kind ItemKind.Prefix e = tt
 operation-kind ItemKind.Infix e = tt
@@ -126,7 +126,7 @@ named (m ∷ ms) h n (inl e) = subst (λ z. IsOperationKind z.old_kind × IsOper
 named (m ∷ ms) h n (inr i) = named ms h.1 n i
 
 -- an operation that gets a name is one, by a name that is one's
-given : (news : List NewOperation) (x : Item) (n : NewOperation) → NamesOperations news → for_operation news x ≡ Some n → IsOperationKind x.kind × IsOperationKind n.new_kind
+pub given : (news : List NewOperation) (x : Item) (n : NewOperation) → NamesOperations news → for_operation news x ≡ Some n → IsOperationKind x.kind × IsOperationKind n.new_kind
 given news x n h e =
     let f : IsOneOf n news × (renames x n ≡ true) = find-passes (renames x) news n e in
     let k : IsOperationKind n.old_kind × IsOperationKind n.new_kind = named news h n f.0 in
@@ -209,10 +209,10 @@ AreMade table = (k : ℕ) (d : Described) → IsOneOf d (slice_index_or table k 
 
 source-made : (types : List TypeDef) (table : List (List Described)) → AreMade table → (source : Token) (d : Described) → IsOneOf d (source_in_order types table source) → IsWellMade d.item
 source-made types table h source d i =
-    let r : (k : ℕ) × IsOneOf d (slice_index_or table k []) = ordered-from (length types) table (itself_and_parts types source) (items_of types (contents types) source) d i in
+    let r = ordered-from (length types) table (itself_and_parts types source) (items_of types (contents types) source) d i in
     h r.0 d r.1
 
-kept-only : (b : Bool) (e : Described) (xs : List Described) → IsOneOf e (cond b [] xs) → IsOneOf e xs
+pub kept-only : (b : Bool) (e : Described) (xs : List Described) → IsOneOf e (cond b [] xs) → IsOneOf e xs
 kept-only true e xs h = absurd h
 kept-only false e xs h = h
 
@@ -251,7 +251,7 @@ round-made types (suc n) k d i = by-type (made-at [] (brings types (rounds [] (b
     by-type (made e at is) h = by-definition h e (subst (λ zs. IsOneOf d zs) is i)
     by-type (past at is) h = absurd (subst (λ zs. IsOneOf d zs) is i)
 
-in-some : {A : Type 0} (table : List (List A)) (x : A) → IsOneOf x (flat_map (λ all. all) table) → (k : ℕ) × IsOneOf x (slice_index_or table k [])
+pub in-some : {A : Type 0} (table : List (List A)) (x : A) → IsOneOf x (flat_map (λ all. all) table) → (k : ℕ) × IsOneOf x (slice_index_or table k [])
 in-some [] x h = absurd h
 in-some (xs ∷ table) x h = elim (in-either x xs (flat_map (λ all. all) table) h) [
   | inl i ↦ (zero, i)

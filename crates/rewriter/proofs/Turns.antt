@@ -5,11 +5,10 @@ use Rattle.spec_core.specs.Terms.{OccursInAny, IsGround, AreGround}
 use Rattle.spec_core.specs.Theories.{Premise, ConditionalEquation, Theory, OccursInPremises}
 use Rattle.spec_core.specs.Orthogonality.{HasNoLooseVariables}
 use Rattle.spec_core.specs.Executable.{IsExecutable}
-use Rattle.spec_core.specs.Budgets.{IsBeyond}
 use Rattle.spec_core.specs.Evaluation.{Evaluates, Tries, Asks, EvaluationMeets, its_value}
 use Rattle.spec_core.proofs.OneValue.{agree}
 use Rattle.rewriter.specs.Machine.{Outcome, gives, meets, Evaluating, Trying, Asking, Deciding, Through, Task, decide, plan, top, OnCall}
-use Rattle.rewriter.specs.Machine.{Comes, Keeps, Exceeds}
+use Rattle.rewriter.specs.Machine.{Comes, Keeps}
 use Rattle.rewriter.proofs.Plans.{planned}
 use Rattle.rewriter.proofs.Moves.{keep_on, through, same_asks, RestOf}
 

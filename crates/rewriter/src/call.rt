@@ -15,7 +15,7 @@ ghost use Rattle.rewriter.specs.Machine.{Keeps, Exceeds};
 ghost use Rattle.rewriter.specs.Runs.{Coming, IsReady, MeetsLarge};
 ghost use Rattle.rewriter.specs.Steps.{equation_at, IsStep, IsMatch};
 
-use crate::equations::{head_of, numbered};
+use crate::equations::{head_of, numbered, numbered_premise};
 use crate::fault::Eval;
 use crate::heads::FirstEquations;
 use crate::matching::match_all;
@@ -110,8 +110,7 @@ fn push_premise(
         ((rows : List Node) → AreNodes (theory_of algebra.now) rows bound.now place →
         Each (IsStep (theory_of algebra.now) rows) todo.old → Each (IsStep (theory_of algebra.now) rows) todo.new) }
 {
-    let equation = numbered(algebra, place);
-    let sides = &equation.premises[next];
+    let sides = numbered_premise(algebra, place, next);
     todo.push(Step::Decide(place as u32, next + 1))?;
     push_instance(todo, bound, &sides.1)?;
     push_instance(todo, bound, &sides.0)

@@ -5,7 +5,6 @@ use crate::data::{NUMBERS, read_data, scope, term};
 use crate::values::times;
 use spec_core::items::Op;
 use spec_core::memory::Memory;
-use spec_core::term::Term;
 use std::alloc::Global;
 use std::test::Fail;
 
@@ -44,39 +43,45 @@ const CASES: [Case; 14] = [
     ("true", "false", 0, "false"),
 ];
 
+fn answer(alloc: Global, case: &Case) -> Result<String, Memory> {
+    let algebra = read_data(alloc, &NUMBERS)?;
+    let left = term(alloc, &scope(alloc, &NUMBERS)?, case.0)?;
+    let right = term(alloc, &scope(alloc, &NUMBERS)?, case.1)?;
+    judge_answer(alloc, &algebra, &left, &right, case.2)
+}
+
 #[test]
 fn terms_are_equal_where_their_values_are(rt: HostRuntime) -> Result<(), Fail> {
-    let alloc = rt.alloc();
-    let algebra = read_data(alloc, &NUMBERS)?;
-    for (left, right, budget, due) in &CASES {
-        let scope = scope(alloc, &NUMBERS)?;
-        let one = term(alloc, &scope, left)?;
-        let other = term(alloc, &scope, right)?;
-        let found = judge_answer(alloc, &algebra, &one, &other, *budget)?;
-        assert_eq!(rt; found.as_str(), *due, "at {left} and {right} with {budget}");
+    for case in &CASES {
+        let found = answer(rt.alloc(), case)?;
+        assert_eq!(rt; found.as_str(), case.3, "at {} and {}", case.0, case.1);
     }
     Ok(())
 }
 
-fn over_zero(alloc: Global, op: u32, count: u32) -> Result<Term, Memory> {
-    times(alloc, Op(op), count, Term::App(Op(0), Vec::new(alloc)))
+// An operation so many times over a number, and another so many times over another number, and whether they are equal.
+type Large = ((u32, u32, u32), (u32, u32, u32), &'static str);
+
+// odd 16 times over 0 is 65,535, which has 65,536 symbols; dup 16 times over 1 has one more.
+const LARGE: [Large; 4] = [
+    ((8, 16, 0), (8, 16, 0), "true"),
+    ((8, 16, 0), (1, 0, 0), "false"),
+    ((7, 16, 1), (1, 0, 0), "too large"),
+    ((1, 0, 0), (7, 16, 1), "too large"),
+];
+
+fn large_answer(alloc: Global, case: &Large) -> Result<String, Memory> {
+    let algebra = read_data(alloc, &NUMBERS)?;
+    let left = times(alloc, Op(case.0.0), case.0.1, case.0.2)?;
+    let right = times(alloc, Op(case.1.0), case.1.1, case.1.2)?;
+    judge_answer(alloc, &algebra, &left, &right, 65_551)
 }
 
-// Two values of 65,536 symbols are compared, and one that is too large is told on either side.
 #[test]
 fn the_largest_values_are_compared(rt: HostRuntime) -> Result<(), Fail> {
-    let alloc = rt.alloc();
-    let algebra = read_data(alloc, &NUMBERS)?;
-    let largest = over_zero(alloc, 8, 16)?;
-    let zero = over_zero(alloc, 1, 0)?;
-    let larger = times(alloc, Op(1), 1, over_zero(alloc, 8, 16)?)?;
-    let same = judge_answer(alloc, &algebra, &largest, &largest, 65_535)?;
-    assert_eq!(rt; same.as_str(), "true");
-    let other = judge_answer(alloc, &algebra, &largest, &zero, 65_535)?;
-    assert_eq!(rt; other.as_str(), "false");
-    let left = judge_answer(alloc, &algebra, &larger, &zero, 65_535)?;
-    assert_eq!(rt; left.as_str(), "too large");
-    let right = judge_answer(alloc, &algebra, &zero, &larger, 65_535)?;
-    assert_eq!(rt; right.as_str(), "too large");
+    for case in &LARGE {
+        let found = large_answer(rt.alloc(), case)?;
+        assert_eq!(rt; found.as_str(), case.2);
+    }
     Ok(())
 }

@@ -113,90 +113,79 @@ const ODD: Op = Op(8);
 
 const FIRST: Op = Op(9);
 
-/// The operation so many times over the term.
-pub fn times(alloc: Global, op: Op, count: u32, inner: Term) -> Result<Term, Memory> {
-    let mut term = inner;
+/// The operation so many times over the number.
+pub fn times(alloc: Global, op: Op, count: u32, number: u32) -> Result<Term, Memory> {
+    let mut term = Term::App(Op(0), Vec::new(alloc));
+    for _ in 0..number {
+        term = Term::App(SUCC, vec![in alloc; term]?);
+    }
     for _ in 0..count {
         term = Term::App(op, vec![in alloc; term]?);
     }
     Ok(term)
 }
 
-fn number(alloc: Global, count: u32) -> Result<Term, Memory> {
-    times(alloc, SUCC, count, Term::App(Op(0), Vec::new(alloc)))
-}
-
-fn large_answer(alloc: Global, call: &Term, budget: u64) -> Result<String, Memory> {
-    let algebra = read_data(alloc, &NUMBERS)?;
-    value_answer(alloc, &algebra, call, budget)
-}
+// An operation so many times over a number, successors over that, a budget, and what the value is.
+type Large = (Op, u32, u32, u32, u64, &'static str);
 
 // dup of n takes n + 1 uses. So dup 15 times over 1, which is 32,768, takes 2^15 - 1 + 15 uses, and 16 times takes 2^16 - 1 + 16; that
-// is 65,536, which has one symbol too many. The last dup has its uses before it makes a number.
-#[test]
-fn a_value_may_be_too_large(rt: HostRuntime) -> Result<(), Fail> {
-    let alloc = rt.alloc();
-    let fifteen = times(alloc, DUP, 15, number(alloc, 1)?)?;
-    assert_eq!(rt; large_answer(alloc, &fifteen, 32_781)?.as_str(), "spent");
-    assert_eq!(rt;
-        large_answer(alloc, &fifteen, 32_782)?.as_str(),
-        "32769 symbols"
-    );
-    let sixteen = times(alloc, DUP, 16, number(alloc, 1)?)?;
-    assert_eq!(rt; large_answer(alloc, &sixteen, 65_550)?.as_str(), "spent");
-    assert_eq!(rt;
-        large_answer(alloc, &sixteen, 65_551)?.as_str(),
-        "too large"
-    );
-    assert_eq!(rt;
-        large_answer(alloc, &sixteen, 4_294_967_296)?.as_str(),
-        "too large"
-    );
-    Ok(())
+// is 65,536, which has one symbol too many. The last dup has its uses before it makes a number. odd of n is 2n + 1 and takes n + 1 uses.
+// So odd 16 times over 0 is 65,535, which has 65,536 symbols and is as deep.
+const SIZES: [Large; 8] = [
+    (DUP, 15, 1, 0, 32_781, "spent"),
+    (DUP, 15, 1, 0, 32_782, "32769 symbols"),
+    (DUP, 16, 1, 0, 65_550, "spent"),
+    (DUP, 16, 1, 0, 65_551, "too large"),
+    (DUP, 16, 1, 0, 4_294_967_296, "too large"),
+    (ODD, 16, 0, 0, 65_534, "spent"),
+    (ODD, 16, 0, 0, 65_535, "65536 symbols"),
+    (ODD, 16, 0, 1, 65_535, "too large"),
+];
+
+fn large_answer(alloc: Global, case: &Large) -> Result<String, Memory> {
+    let algebra = read_data(alloc, &NUMBERS)?;
+    let mut call = times(alloc, case.0, case.1, case.2)?;
+    for _ in 0..case.3 {
+        call = Term::App(SUCC, vec![in alloc; call]?);
+    }
+    value_answer(alloc, &algebra, &call, case.4)
 }
 
-// odd of n is 2n + 1 and takes n + 1 uses. So odd 16 times over 0 is 65,535, which has 65,536 symbols, as deep as they are many.
 #[test]
 fn a_value_has_at_most_65536_symbols(rt: HostRuntime) -> Result<(), Fail> {
-    let alloc = rt.alloc();
-    let largest = times(alloc, ODD, 16, number(alloc, 0)?)?;
-    assert_eq!(rt; large_answer(alloc, &largest, 65_534)?.as_str(), "spent");
-    assert_eq!(rt;
-        large_answer(alloc, &largest, 65_535)?.as_str(),
-        "65536 symbols"
-    );
-    let one_more = times(alloc, SUCC, 1, largest)?;
-    assert_eq!(rt;
-        large_answer(alloc, &one_more, 65_535)?.as_str(),
-        "too large"
-    );
-    Ok(())
-}
-
-// Two arguments of which one is too large and the other takes too many uses: the one that comes first is answered.
-#[test]
-fn the_first_cause_is_answered(rt: HostRuntime) -> Result<(), Fail> {
-    let alloc = rt.alloc();
-    let ack = "ack(Succ(Succ(Succ(0))),Succ(Succ(Succ(Succ(Succ(Succ(0)))))))";
-    for (large_first, due) in &[(true, "too large"), (false, "spent")] {
-        let large = times(alloc, DUP, 16, number(alloc, 1)?)?;
-        let long = term(alloc, &scope(alloc, &NUMBERS)?, ack)?;
-        let call = if *large_first {
-            Term::App(FIRST, vec![in alloc; large, long]?)
-        } else {
-            Term::App(FIRST, vec![in alloc; long, large]?)
-        };
-        let found = large_answer(alloc, &call, 70_000)?;
-        assert_eq!(rt; found.as_str(), *due);
+    for case in &SIZES {
+        let found = large_answer(rt.alloc(), case)?;
+        assert_eq!(rt; found.as_str(), case.5);
     }
     Ok(())
 }
 
 // ack of 3 and 6 is 509 after 172,233 uses.
+const LONG: &str = "ack(Succ(Succ(Succ(0))),Succ(Succ(Succ(Succ(Succ(Succ(0)))))))";
+
+// What comes of two arguments of which one is too large after 65,551 uses and the other takes 172,233, with a budget of 70,000.
+fn causes_answer(alloc: Global, large_first: bool) -> Result<String, Memory> {
+    let algebra = read_data(alloc, &NUMBERS)?;
+    let large = times(alloc, DUP, 16, 1)?;
+    let long = term(alloc, &scope(alloc, &NUMBERS)?, LONG)?;
+    let call = if large_first {
+        Term::App(FIRST, vec![in alloc; large, long]?)
+    } else {
+        Term::App(FIRST, vec![in alloc; long, large]?)
+    };
+    value_answer(alloc, &algebra, &call, 70_000)
+}
+
+#[test]
+fn the_first_cause_is_answered(rt: HostRuntime) -> Result<(), Fail> {
+    assert_eq!(rt; causes_answer(rt.alloc(), true)?.as_str(), "too large");
+    assert_eq!(rt; causes_answer(rt.alloc(), false)?.as_str(), "spent");
+    Ok(())
+}
+
 #[test]
 fn longer_evaluations_are_exact(rt: HostRuntime) -> Result<(), Fail> {
-    let ack = "ack(Succ(Succ(Succ(0))),Succ(Succ(Succ(Succ(Succ(Succ(0)))))))";
-    assert_eq!(rt; answer(rt.alloc(), ack, 172_232)?.as_str(), "spent");
-    assert_eq!(rt; answer(rt.alloc(), ack, 172_233)?.as_str(), "510 symbols");
+    assert_eq!(rt; answer(rt.alloc(), LONG, 172_232)?.as_str(), "spent");
+    assert_eq!(rt; answer(rt.alloc(), LONG, 172_233)?.as_str(), "510 symbols");
     Ok(())
 }

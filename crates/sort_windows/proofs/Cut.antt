@@ -1,6 +1,6 @@
 -- The first values of a closed window with room for one more.
-use Rattle.std.proofs.Common.{ℕ, zero, suc, ◌≡◌, ◌<◌, ◌≤◌, ◌+◌, ◌⊎◌, inl, inr, List, [], ◌∷◌, length, take, get_or, refl, sym, subst, arith}
-use Rattle.std.proofs.Common.{IsTrue}
+use Rattle.std.proofs.Common.{ℕ, zero, suc, ◌≡◌, ◌<◌, ◌≤◌, ◌+◌, ◌⊎◌, inl, inr, List, [], ◌∷◌, length, take, get_or, refl, sym, subst}
+use Rattle.std.proofs.Common.{arith, IsTrue}
 use Rattle.std.proofs.Math.Dec.{leb}
 use Rattle.std.proofs.lemmas.Bool.{leb-true, le-leb, cases_order}
 use Rattle.std.proofs.lemmas.List.{length-take, take_all}

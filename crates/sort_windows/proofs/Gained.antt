@@ -6,9 +6,9 @@ use Rattle.std.specs.List.{insert}
 use Rattle.spec_core.specs.Lists.{Each, IsOneOf}
 use Rattle.spec_core.specs.Theories.{Theory}
 use Rattle.spec_core.specs.Windows.{IsBefore, IsInOrder, IsMember}
-use Rattle.sort_windows.specs.Found.{AreWindows, IsMissing, IsPlaceOf, HaveGained}
+use Rattle.std.proofs.Common.{MatchOption, Option, Some, None, Bool, true, false, ◌||◌, IsTrue, IsFalse, Result, Ok, Err, IfOk, refl}
+use Rattle.sort_windows.specs.Found.{AreWindows, IsPlaceOf, HaveGained, windows_of}
 use Rattle.sort_windows.proofs.Order.{each_implied, before_onward, before_or_after}
-use Rattle.sort_windows.proofs.Reached.{missing_is_member}
 
 pub each_take : {A : Type 0} (P : A → Type 0) (n : ℕ) (xs : List A) → Each P xs → Each P (take n xs)
 each_take P zero [] h = tt
@@ -77,13 +77,12 @@ each_window P limit sort v windows now g before gained s = go (cases_order s sor
     go (inr (inr h)) = other (λ e. omega arith)
 
 pub windows_with_more : (theory : Theory) (limit sort : ℕ) (v : List ℕ) (windows now : ℕ → List (List ℕ)) →
-    AreWindows theory limit windows → IsMissing theory windows sort v → HaveGained limit sort v windows now →
+    AreWindows theory limit windows → IsMember theory sort v → HaveGained limit sort v windows now →
     AreWindows theory limit now
 windows_with_more theory limit sort v windows now h m g = record {
   members =
       each_window (λ s xs. Each (IsMember theory s) xs) limit sort v windows now g h.members (λ place p.
-      each_take _ limit _
-      (each_insert _ (windows sort) place v (h.members sort) (missing_is_member theory windows h.members sort v m)));
+      each_take _ limit _ (each_insert _ (windows sort) place v (h.members sort) m));
   in_order =
       each_window (λ s xs. IsInOrder xs) limit sort v windows now g h.in_order
       (λ place p. in_order_take limit _ (in_order_insert (windows sort) place v (h.in_order sort) p.before p.after));
@@ -97,3 +96,23 @@ pub place_at_front_of : (v x : List ℕ) (xs : List (List ℕ)) →
 place_at_front_of v x [] within at order not_before new = absurd (omega arith)
 place_at_front_of v x (y ∷ xs) within at order not_before new =
     place_at_front v y xs order (subst (λ z. IsBefore z v → ⊥) at not_before) new
+
+-- windows of which one has gained a value, or which are as before
+pub filled : {E : Type 0} (theory : Theory) (limit sort : ℕ) (v : List ℕ) (old new : List (List (List ℕ))) (r : Result Bool E) →
+    AreWindows theory limit (windows_of old) → IsMember theory sort v →
+    IfOk r (λ g. IsTrue g → HaveGained limit sort v (windows_of old) (windows_of new)) → IfOk r (λ g. IsFalse g → new ≡ old) →
+    IfOk r (λ g. AreWindows theory limit (windows_of new))
+filled theory limit sort v old new (Ok true) h m g s = windows_with_more theory limit sort v (windows_of old) (windows_of new) h m (g refl)
+filled theory limit sort v old new (Ok false) h m g s = subst (λ all. AreWindows theory limit (windows_of all)) (sym (s refl)) h
+filled theory limit sort v old new (Err e) h m g s = tt
+
+pub both_false : (a b : Bool) → IsFalse (a || b) → IsFalse a × IsFalse b
+both_false true b h = cc
+both_false false b h = (refl, h)
+
+-- what holds of an answer that is there
+pub of_some : {A : Type 0} (P : Type 0) (Q : A → Type 0) (o : Option A) (x : A) → MatchOption o P Q → o ≡ Some x → Q x
+of_some P Q o x h e = subst (λ z. MatchOption z P Q) e h
+
+pub of_none : {A : Type 0} (P : Type 0) (Q : A → Type 0) (o : Option A) → MatchOption o P Q → o ≡ None → P
+of_none P Q o h e = subst (λ z. MatchOption z P Q) e h

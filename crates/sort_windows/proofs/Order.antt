@@ -1,6 +1,8 @@
 -- The order of windows.
-use Rattle.std.proofs.Common.{ℕ, ◌≡◌, ◌<◌, ◌⊎◌, inl, inr, List, [], ◌∷◌, ◌++◌, length, map, refl, ap, sym, subst, ◌∙◌, arith, length-append}
+use Rattle.std.proofs.Common.{ℕ, suc, ◌≡◌, ◌<◌, ◌≤◌, ◌-◌, Some, ◌⊎◌, inl, inr, List, [], ◌∷◌, ◌++◌, length, map, refl, ap, sym, subst}
+use Rattle.std.proofs.Common.{◌∙◌, arith, length-append}
 use Rattle.std.proofs.lemmas.Bool.{cases_order}
+use Rattle.std.specs.List.{slice_get}
 use Rattle.spec_core.specs.Lists.{Each, IsOneOf}
 use Rattle.spec_core.specs.Windows.{IsLess, IsBefore, IsInOrder}
 
@@ -132,3 +134,17 @@ same_or_shorter (x ∷ xs) (y ∷ ys) h k (inr s, e) = go (same_or_shorter (x �
     go : (x ∷ xs ≡ ys) ⊎ (length (x ∷ xs) < length ys) → (x ∷ xs ≡ y ∷ ys) ⊎ (length (x ∷ xs) < length (y ∷ ys))
     go (inl t) = inr (let e : length (x ∷ xs) ≡ length ys = ap length t in omega (arith, e))
     go (inr t) = inr (omega arith)
+
+before_length : (xs ys : List ℕ) → IsBefore xs ys → length xs ≤ length ys
+before_length xs ys (inl h) = omega arith
+before_length xs ys (inr h) = let e = h.0 in omega (arith, e)
+
+-- no list of a window is longer than the last one
+pub none_longer : (xs : List (List ℕ)) (last : List ℕ) →
+    IsInOrder xs → slice_get xs (length xs - 1) ≡ Some last → Each (λ w. length w ≤ length last) xs
+none_longer [] last h e = tt
+none_longer (x ∷ []) last h e = let q : x ≡ last = cc in (omega (arith, ap length q), tt)
+none_longer (x ∷ y ∷ ys) last h e =
+    let i : length (x ∷ y ∷ ys) - 1 ≡ suc (length (y ∷ ys) - 1) = omega arith in
+    let r = none_longer (y ∷ ys) last h.1 (sym (ap (slice_get (x ∷ y ∷ ys)) i) ∙ e) in
+    (omega (arith, before_length x y h.0.0, r.0), r)

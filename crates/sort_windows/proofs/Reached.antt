@@ -1,15 +1,15 @@
 -- Where each constructor over values of the windows is found, each value is.
 use Rattle.std.proofs.Common.{ℕ, ◌≡◌, ◌<◌, ◌≤◌, ◌⊎◌, inl, inr, List, [], ◌∷◌, ◌++◌, length, map, refl, ap, sym, subst, ◌∙◌, arith}
-use Rattle.std.proofs.Common.{append_assoc, Option, Some, None}
+use Rattle.std.proofs.Common.{append_assoc, length-append, Option, Some, None}
 use Rattle.std.proofs.lemmas.List.{append-nil, length-map}
 use Rattle.std.specs.List.{slice_get}
 use Rattle.spec_core.specs.Lists.{Each, IsOneOf}
 use Rattle.spec_core.specs.Terms.{TermTree, TermTrees, variable, apply, no_terms, and_term, preorder, preorders}
-use Rattle.spec_core.specs.Theories.{Theory}
+use Rattle.spec_core.specs.Theories.{Operation, Theory}
 use Rattle.spec_core.specs.Sorts.{OnSome, HasSort, HaveSorts, no_variables}
-use Rattle.spec_core.specs.Constructors.{IsConstructed, AreConstructed}
+use Rattle.spec_core.specs.Constructors.{IsConstructor, IsConstructed, AreConstructed}
 use Rattle.spec_core.specs.Windows.{IsBefore, IsInOrder, IsMember}
-use Rattle.sort_windows.specs.Found.{IsFound, IsClosedFrom, IsClosed, Continues, IsMissing, AreWindows}
+use Rattle.sort_windows.specs.Found.{IsFound, IsClosedFrom, IsClosed, BeginsMembers, AreWindows}
 use Rattle.sort_windows.proofs.Order.{before_onward, before_inside, each_implied, each_one, each_of_map, in_order_inside, same_or_shorter}
 
 -- all lists are of the window, or one lies beyond it
@@ -92,28 +92,37 @@ module _ (theory : Theory) (limit : ℕ) (windows : ℕ → List (List ℕ)) (cl
   pub value_found : (s : ℕ) (v : List ℕ) → IsMember theory s v → IsFound limit (windows s) v
   value_found s v m = subst (IsFound limit (windows s)) (sym m.1) (term_found m.0 s m.2 m.3)
 
--- a list that continues another by members is that of terms
-continued_by_terms : (theory : Theory) (windows : ℕ → List (List ℕ)) →
-    ((s : ℕ) → Each (IsMember theory s) (windows s)) → (args : List ℕ) (p v : List ℕ) → Continues windows args p v →
-    (ts : TermTrees) × (v ≡ p ++ preorders ts) × HaveSorts theory no_variables ts args × AreConstructed theory ts
-continued_by_terms theory windows members [] p v c = (no_terms, c ∙ sym (append-nil p), tt, tt)
-continued_by_terms theory windows members (a ∷ args) p v c =
-    let m : IsMember theory a c.0 = each_one (IsMember theory a) (windows a) c.0 (members a) c.1 in
-    let r = continued_by_terms theory windows members args (p ++ c.0) v c.2 in
-    (and_term m.0 r.0, r.1 ∙ append_assoc p c.0 (preorders r.0) ∙ ap (λ w. p ++ (w ++ preorders r.0)) m.1, (m.2, r.2), (m.3, r.3))
+begins_by : (theory : Theory) (sort : ℕ) (args : List ℕ) (p : List ℕ) →
+    ((ts : TermTrees) → HaveSorts theory no_variables ts args → AreConstructed theory ts → IsMember theory sort (p ++ preorders ts)) →
+    BeginsMembers theory sort args p
+begins_by theory sort [] p f = subst (IsMember theory sort) (append-nil p) (f no_terms tt tt)
+begins_by theory sort (a ∷ args) p f = λ v m.
+    begins_by theory sort args (p ++ v)
+    (λ ts h c.
+    let e : p ++ preorders (and_term m.0 ts) ≡ (p ++ v) ++ preorders ts =
+    sym (append_assoc p (preorder m.0) (preorders ts)) ∙ ap (λ w. (p ++ w) ++ preorders ts) (sym m.1) in
+    subst (IsMember theory sort) e (f (and_term m.0 ts) (m.2, h) (m.3, c)))
 
--- a missing value is a value of the sort
-pub missing_is_member : (theory : Theory) (windows : ℕ → List (List ℕ)) →
-    ((s : ℕ) → Each (IsMember theory s) (windows s)) → (sort : ℕ) (v : List ℕ) → IsMissing theory windows sort v →
-    IsMember theory sort v
-missing_is_member theory windows members sort v m =
-    let d =
-    some_both (λ d. (d.result ≡ sort) × Continues windows d.args (m.operation ∷ []) v) (slice_get theory.operations m.operation)
-    m.declared in
-    let r = continued_by_terms theory windows members d.0.args (m.operation ∷ []) v d.2.1 in (
-      apply m.operation r.0,
-      r.1,
-      subst (λ o. OnSome o (λ e. (e.result ≡ sort) × HaveSorts theory no_variables r.0 e.args)) (sym d.1)
-          (d.2.0, r.2),
-      (m.constructor, r.3),
-    )
+-- a constructor begins the values that it makes
+pub begins_members : (theory : Theory) (f : ℕ) (d : Operation) →
+    IsConstructor theory f → slice_get theory.operations f ≡ Some d → BeginsMembers theory d.result d.args (f ∷ [])
+begins_members theory f d c e =
+    begins_by theory d.result d.args (f ∷ [])
+    (λ ts h k. (
+      apply f ts,
+      refl,
+      subst (λ o. OnSome o (λ x. (x.result ≡ d.result) × HaveSorts theory no_variables ts x.args)) (sym e) (refl, h),
+      (c, k),
+    ))
+
+every : {A : Type 0} {P : A → Type 0} → ((x : A) → P x) → (xs : List A) → Each P xs
+every f [] = tt
+every f (x ∷ xs) = (f x, every f xs)
+
+-- where a window is full of shorter lists, all that continue a list are found there
+pub shorter_closed : (limit : ℕ) (windows : ℕ → List (List ℕ)) (sort : ℕ) (args : List ℕ) (front : List ℕ) →
+    length (windows sort) ≡ limit → Each (λ w. length w < length front) (windows sort) → IsClosedFrom limit windows sort args front
+shorter_closed limit windows sort [] front full h = inr (full, each_implied (λ w k. inl k) (windows sort) h)
+shorter_closed limit windows sort (a ∷ args) front full h =
+    every (λ v. shorter_closed limit windows sort args (front ++ v) full
+    (each_implied (λ w k. omega (arith, k, length-append front v)) (windows sort) h)) (windows a)

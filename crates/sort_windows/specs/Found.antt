@@ -3,7 +3,6 @@ use Rattle.std.specs.Prelude.{ℕ, ◌≡◌, ◌⊎◌, ◌≤◌, List, [], �
 use Rattle.std.specs.List.{slice_get, slice_index_or, insert}
 use Rattle.spec_core.specs.Lists.{Each, IsOneOf}
 use Rattle.spec_core.specs.Theories.{Operation, Theory}
-use Rattle.spec_core.specs.Sorts.{OnSome}
 use Rattle.spec_core.specs.Constructors.{IsConstructor}
 use Rattle.spec_core.specs.Windows.{IsBefore, IsInOrder, IsMember}
 
@@ -25,17 +24,10 @@ IsClosed theory limit windows =
     slice_get theory.operations f ≡ Some d →
     IsClosedFrom limit windows d.result d.args (f ∷ [])
 
--- the list continues the first one by a value of the window of each of these sorts
-abbrev pub Continues : (ℕ → List (List ℕ)) → List ℕ → List ℕ → List ℕ → Type 0
-Continues windows [] front v = v ≡ front
-Continues windows (a ∷ args) front v = (w : List ℕ) × IsOneOf w (windows a) × Continues windows args (front ++ w) v
-
--- a constructor over values of the windows, which the window of its result's sort does not have
-pub record IsMissing (theory : Theory) (windows : ℕ → List (List ℕ)) (sort : ℕ) (v : List ℕ) : Type 0 where
-  pub operation : ℕ
-  pub constructor : IsConstructor theory operation
-  pub declared : OnSome (slice_get theory.operations operation) (λ d. (d.result ≡ sort) × Continues windows d.args (operation ∷ []) v)
-  pub new : IsOneOf v (windows sort) → ⊥
+-- each list that continues this one by a value of each of these sorts is a value of the sort
+abbrev pub BeginsMembers : Theory → ℕ → List ℕ → List ℕ → Type 0
+BeginsMembers theory sort [] front = IsMember theory sort front
+BeginsMembers theory sort (a ∷ args) front = (v : List ℕ) → IsMember theory a v → BeginsMembers theory sort args (front ++ v)
 
 -- values of the sorts, in order and no more than the limit of each
 pub record AreWindows (theory : Theory) (limit : ℕ) (windows : ℕ → List (List ℕ)) : Type 0 where

@@ -5,8 +5,7 @@ ghost use Rattle.spec_core.specs.Theories.{theory_of};
 ghost use Rattle.spec_core.specs.Windows.{IsWindow};
 ghost use Rattle.sort_windows.specs.Found.{IsClosed, AreWindows, windows_of};
 
-use crate::growth::add_value;
-use crate::missing::{find_missing, values_of};
+use crate::filling::{fill_windows, values_of};
 use crate::ordered::OrderedValues;
 use spec_core::equation::DataSpec;
 use spec_core::items::Sort;
@@ -17,8 +16,8 @@ use std::alloc::Global;
 
 /// The first `k` values of a sort, by number of symbols and then by their operations' numbers, and whether there are no more.
 /// A window of 0 values is empty, and complete where the sort has none. The one error is want of memory; it is also given after
-/// 2^64 values were put into the windows, which no machine reaches. It is slow: after each new value it goes over all
-/// constructors and all their arguments in the windows again, from the first.
+/// 2^64 rounds over the constructors, which no machine reaches. A round goes over all constructors and their arguments in the windows
+/// that aren't too long to come, and puts into the windows what isn't there; the last one finds nothing more.
 pub fn window(alloc: Global, algebra: &DataSpec, sort: Sort, k: u32) -> Result<Window, Memory>
     requires few { vec_len algebra.now.signature.ops < 2 ^ 32 }
     ensures window { IfOk result (λ w. IsWindow (theory_of algebra.now) sort.0 k w.values.items w.complete) }
@@ -43,10 +42,9 @@ fn closed_windows(
 {
     let mut windows = Vec::new(alloc);
     for _turn in 0..u64::MAX {
-        let found = find_missing(alloc, algebra, &windows, limit)?;
-        match found {
-            None => return Ok(windows),
-            Some(missing) => add_value(alloc, &mut windows, missing, limit)?,
+        let grown = fill_windows(alloc, algebra, &mut windows, limit)?;
+        if !grown {
+            return Ok(windows);
         }
     }
     Err(Memory)

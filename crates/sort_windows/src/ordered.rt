@@ -1,6 +1,6 @@
 // Values in order.
 
-ghost use Rattle.std.specs.Prelude.{◌≡◌, ◌↔◌, [], IsTrue, OnOk};
+ghost use Rattle.std.specs.Prelude.{◌≡◌, ◌<◌, ◌↔◌, [], IsTrue, OnOk, length};
 ghost use Rattle.spec_core.specs.Lists.{Each, IsOneOf};
 ghost use Rattle.spec_core.specs.Windows.{IsBefore, IsInOrder};
 ghost use Rattle.sort_windows.specs.Found.{IsFound, IsPlaceOf, HasGained};
@@ -59,6 +59,20 @@ pub fn is_found(values: &[Value], limit: usize, value: &Value) -> bool
     ensures decides { IsTrue result ↔ IsFound limit values.now value.now }
 {
     is_one_of(value, values) || values.len() == limit && all_before(values, value)
+}
+
+/// Whether there are as many values as the limit, all with fewer symbols than this one. It takes no memory.
+pub fn are_shorter(values: &[Value], limit: usize, value: &Value) -> bool
+    requires in_order { IsInOrder values.now }
+    ensures shorter { IsTrue result → (length values.now ≡ limit) × Each (λ w. length w < length value.now) values.now }
+{
+    if values.len() != limit {
+        return false;
+    }
+    match values.last() {
+        None => true,
+        Some(last) => last.size() < value.size(),
+    }
 }
 
 // How many of the values come before this one, which is not among them.

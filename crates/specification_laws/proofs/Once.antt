@@ -1,8 +1,13 @@
 -- A specification over its data is judged in one way only.
-use Rattle.std.proofs.Common.{ℕ, ◌≡◌, ◌+◌, List, ◌++◌, map, refl, sym, ap, subst, ◌∙◌}
-use Rattle.std.specs.Prelude.{Option, option_map}
+use Rattle.std.proofs.Common.{ℕ, ◌≡◌, ◌+◌, List, [], ◌++◌, map, refl, sym, ap, subst, ◌∙◌}
+use Rattle.std.specs.Prelude.{Option, Some, option_map}
+use Rattle.std.proofs.lemmas.Option.{none-some, same_Some}
 use Rattle.lotos_ast.specs.declared.refusal.Refusal.{Refusal}
+use Rattle.lotos_ast.specs.declared.spec.Spec.{Spec}
+use Rattle.lotos_ast.specs.FirstRefusals.{first_refusal}
 use Rattle.constructs.specs.Written.{behaviour_written}
+use Rattle.spec_core.specs.Code.{Program}
+use Rattle.spec_core.specs.Theories.{Theory}
 use Rattle.behaviour_readings.specs.Joins.{after}
 use Rattle.behaviour_readings.specs.ReadsAll.{before}
 use Rattle.behaviour_readings.specs.Readings.{IsRead}
@@ -11,8 +16,8 @@ use Rattle.process_table.specs.Processes.{Entry, entries}
 use Rattle.call_cycles.specs.Unguarded.{unguarded_refusals}
 use Rattle.compiled_laws.proofs.Once.{of-two, construct-one}
 use Rattle.static_check.specs.Bodies.{Setting, Placed, placed, body_site, ending_refusals, AreBodiesRead, none_left, one_more, calls_from}
-use Rattle.static_check.specs.Compiled.{data_context, setting, start_site, program_if_read}
-use Rattle.specification_laws.specs.Laws.{SpecificationsAreOne}
+use Rattle.static_check.specs.Compiled.{data_context, setting, start_site, program_if_read, IsCompiled, IsFirstRefusal}
+use Rattle.specification_laws.specs.Laws.{SpecificationsAreOne, AnswersAreOne}
 
 bodies-one : {all : Setting} {number from end stop : ℕ} {es : List Entry} {f g : Option (List Placed)} {rs ss : List Refusal} →
     AreBodiesRead all number from end es f rs → AreBodiesRead all number from stop es g ss → (end ≡ stop) × ((f ≡ g) × (rs ≡ ss))
@@ -42,3 +47,22 @@ specifications_one theory spec f g rs ss h k =
           ++ (ending_refusals spec.name.place (declared (data_context theory) spec.functionality) start ++ cycles))))) bodies.1 start
           ∙ sym k.are_refusals,
     )
+
+module _ (theory : Theory) (spec : Spec) where
+  program-one : (program other : Program) → IsCompiled theory spec program → IsCompiled theory spec other → program ≡ other
+  program-one program other h k = same_Some program other (specifications_one theory spec (Some program) (Some other) [] [] h k).0
+
+  refusal-one : (r s : Refusal) → IsFirstRefusal theory spec r → IsFirstRefusal theory spec s → r ≡ s
+  refusal-one r s h k =
+      same_Some r s (sym h.first ∙ ap first_refusal (specifications_one theory spec h.program k.program h.refusals k.refusals h.judged k.judged).1 ∙ k.first)
+
+  not-both : (program : Program) (r : Refusal) → IsCompiled theory spec program → IsFirstRefusal theory spec r → ⊥
+  not-both program r h k =
+      none-some r (ap first_refusal (specifications_one theory spec (Some program) k.program [] k.refusals h k.judged).1 ∙ k.first)
+
+pub answers_one : AnswersAreOne
+answers_one theory spec = record {
+  one_program = program-one theory spec;
+  one_refusal = refusal-one theory spec;
+  not_both = not-both theory spec;
+}

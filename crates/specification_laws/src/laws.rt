@@ -1,10 +1,15 @@
 // Laws of the definitions: a call does nothing, and its contract is the law.
 
-ghost use Rattle.specification_laws.specs.Laws.{SpecificationsAreOne, CompiledIsReady};
+ghost use Rattle.specification_laws.specs.Laws.{SpecificationsAreOne, AnswersAreOne, CompiledIsReady};
 
-/// A specification over its data comes to one program, or to none, and has one list of refusals. So it isn't both compiled and refused.
+/// A specification over its data comes to one program, or to none, and has one list of refusals.
 pub fn specifications_are_one()
     ensures { SpecificationsAreOne }
+{}
+
+/// A specification over its data is compiled to one program, or one refusal of it is the first, and never both.
+pub fn answers_are_one()
+    ensures { AnswersAreOne }
 {}
 
 /// A specification that is accepted, over executable data, is compiled to a program that is ready to run: all that it names is there and

@@ -1,1 +1,5 @@
+pub mod Endings
 pub mod First
+pub mod Judged
+pub mod OneByOne
+pub mod Sites

@@ -1,3 +1,5 @@
 pub mod Bodies
 pub mod Compiled
 pub mod Laws
+pub mod Steps
+pub mod Views

@@ -10,8 +10,8 @@ use Rattle.value_nodes.specs.declared.node.Node.{Node}
 use Rattle.value_nodes.specs.declared.node.Node.TheVariants.{One, More}
 use Rattle.spec_core.specs.declared.items.Op.{Op}
 use Rattle.value_nodes.specs.Sizes.{symbols}
-use Rattle.value_nodes.specs.Nodes.{arguments, node_tree, trees_of, tree_at, IsMade, IsSeen, IsNode, IsLonger}
-use Rattle.value_nodes.specs.Copies.{copy_at, AreCopies}
+use Rattle.value_nodes.specs.Nodes.{arguments, node_tree, trees_of, tree_at, IsSeen, IsNode, IsLonger}
+use Rattle.value_nodes.specs.Copies.{copy_at, AreCopies, IsRowOf}
 use Rattle.value_nodes.proofs.Nodes.{trees-length}
 
 nothing_yet : (m i : ℕ) → copy_at (replicate m None) i ≡ None
@@ -94,20 +94,27 @@ next_there P old new (Some x) d r e q h u = subst P (sym u) (each_less P new x (
 in_trees : (rows : List Node) (n : ℕ) → IsNode rows n → n < length (trees_of rows)
 in_trees rows n h = let l = trees-length [] rows in omega (arith, l, h)
 
-module _ (old new : List Node) (copies : List (Option ℕ)) (h : AreCopies old new copies) (node : ℕ) where
+module _ (old new : List Node) (copies : List (Option ℕ)) (h : AreCopies old new copies) where
+  -- what a node is made of has a place among the copies, and what is read there is the number of its copy
+  pub part_there : (i : ℕ) → i < length (trees_of old) → i < length copies
+  part_there i l = let n = trees-length [] old in let e = h.one_each in omega (arith, l, n, e)
+
+  pub part_read : (i : ℕ) (o : Option ℕ) → i < length (trees_of old) → o ≡ slice_index_or copies i o → copy_at copies i ≡ o
+  part_read i o l e = read_copy copies i o (part_there i l) e
+
   -- the node of an operation, over the copy of its argument
-  pub one_copied : (op : Op) (size arg n : ℕ) → IsSeen (trees_of old) node (One op size arg) → copy_at copies arg ≡ Some n →
-      IsMade (trees_of new) (One op size n) × (node_tree (trees_of new) (One op size n) ≡ tree_at old node)
-  one_copied op size arg n s q =
+  pub one_copied : (node : ℕ) (op : Op) (size arg n : ℕ) → IsSeen (trees_of old) node (One op size arg) →
+      copy_at copies arg ≡ Some n → IsRowOf old new node (One op size n)
+  one_copied node op size arg n s q =
       let k = h.same arg n q in
-      let e : node_tree (trees_of new) (One op size n) ≡ tree_at old node = ap (λ t. apply op.0 (and_term t no_terms)) k.1 ∙ sym s.1 in
+      let e : node_tree (trees_of new) (One op size n) ≡ tree_at old node =
+      ap (λ t. apply op.0 (and_term t no_terms)) k.1 ∙ sym s.1 in
       ((in_trees new n k.0, s.2 ∙ ap symbols (sym e), s.3), e)
 
   -- over the copies of its first argument and of the node with the others
-  pub more_copied : (op : Op) (size arg rest n m : ℕ) → IsSeen (trees_of old) node (More op size arg rest) → copy_at copies arg ≡ Some n →
-      copy_at copies rest ≡ Some m →
-      IsMade (trees_of new) (More op size n m) × (node_tree (trees_of new) (More op size n m) ≡ tree_at old node)
-  more_copied op size arg rest n m s q r =
+  pub more_copied : (node : ℕ) (op : Op) (size arg rest n m : ℕ) → IsSeen (trees_of old) node (More op size arg rest) →
+      copy_at copies arg ≡ Some n → copy_at copies rest ≡ Some m → IsRowOf old new node (More op size n m)
+  more_copied node op size arg rest n m s q r =
       let k = h.same arg n q in
       let l = h.same rest m r in
       let e : node_tree (trees_of new) (More op size n m) ≡ tree_at old node =

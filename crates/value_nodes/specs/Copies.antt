@@ -2,7 +2,7 @@
 use Rattle.std.specs.Prelude.{ℕ, ◌≡◌, List, Option, Some, None, length}
 use Rattle.std.specs.List.{slice_index_or}
 use Rattle.value_nodes.specs.declared.node.Node.{Node}
-use Rattle.value_nodes.specs.Nodes.{tree_at, IsNode}
+use Rattle.value_nodes.specs.Nodes.{node_tree, trees_of, tree_at, IsMade, IsNode}
 
 -- the number of a node's copy, where it has one
 abbrev pub copy_at : List (Option ℕ) → ℕ → Option ℕ
@@ -13,3 +13,7 @@ pub record AreCopies (old new : List Node) (copies : List (Option ℕ)) : Type 0
   pub one_each : length copies ≡ length old
   pub same : (i n : ℕ) → copy_at copies i ≡ Some n → IsNode new n × (tree_at new n ≡ tree_at old i)
   pub no_other : (n : ℕ) → IsNode new n → (i : ℕ) × IsNode old i × (tree_at new n ≡ tree_at old i)
+
+-- the row may follow in the new table, where it stands for the term of the old one's node
+abbrev pub IsRowOf : List Node → List Node → ℕ → Node → Type 0
+IsRowOf old new node row = IsMade (trees_of new) row × (node_tree (trees_of new) row ≡ tree_at old node)

@@ -2,8 +2,8 @@
 
 ghost use Rattle.std.specs.Prelude.{◌≡◌, [], IfOk, OnOk};
 ghost use Rattle.spec_core.specs.Lists.{Each};
-ghost use Rattle.value_nodes.specs.Copies.{AreCopies};
-ghost use Rattle.value_nodes.specs.Nodes.{node_tree, trees_of, tree_at, IsMade, IsNode, IsLonger};
+ghost use Rattle.value_nodes.specs.Copies.{AreCopies, IsRowOf};
+ghost use Rattle.value_nodes.specs.Nodes.{tree_at, IsNode, IsLonger};
 
 use crate::node::{Node, Nodes};
 use spec_core::memory::Memory;
@@ -113,8 +113,7 @@ impl Copies {
     fn keep(&mut self, from: &Nodes, into: &mut Nodes, node: u32, row: Node) -> Result<(), Memory>
         requires copies { AreCopies from.now into.old self.old }
         requires there { IsNode from.now node }
-        requires made { IsMade (trees_of into.old) row }
-        requires tree { node_tree (trees_of into.old) row ≡ tree_at from.now node }
+        requires row { IsRowOf from.now into.old node row }
         ensures copies { OnOk result (AreCopies from.now into.new self.new) }
         ensures longer { OnOk result (IsLonger into.old into.new) }
     {

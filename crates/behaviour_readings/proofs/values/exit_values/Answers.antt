@@ -1,7 +1,7 @@
 use Rattle.behaviour_readings.specs.Offers.{IsExitValueRead}
 use Rattle.behaviour_readings.specs.Views.{exit_value_at}
 use Rattle.behaviour_readings.proofs.Together.{begun, next}
-use Rattle.std.proofs.Common.{subst, sym, ap, map, Some, [], ◌∙◌}
+use Rattle.std.proofs.Common.{subst, sym, map, Some, []}
 use Rattle.std.specs.Prelude.{option_map}
 use Rattle.sort_overloads.specs.Judged.{Adds}
 use Rattle.behaviour_readings.specs.Offers.{AreExitValuesRead}

@@ -6,7 +6,7 @@ pub returns : goal.returns
 returns c = record {
   gained =
       on_ok_implied c.insert.result
-      (gained_at c.args.limit c.args.missing.sort.0 c.args.missing.value c.make_room.new.windows.items _ c.index_mut.result.now
+      (gained_at c.args.limit c.args.sort.0 c.args.value c.make_room.new.windows.items _ c.index_mut.result.now
       c.insert.new.self c.in_ok-make_room.ensures.room c.index_mut.ensures.value c.in_ok-make_room.ensures.same)
       c.insert.ensures.gained;
 }

@@ -1,0 +1,13 @@
+// Laws of the definitions: a call does nothing, and its contract is the law.
+
+ghost use Rattle.named_types.specs.Laws.{TypesAreNamed, SpecificationsAreNamed};
+
+/// Types that are read from tokens which are named have names that the grammar allows.
+pub fn types_are_named()
+    ensures { TypesAreNamed }
+{}
+
+/// So have the gates and the global types of a specification.
+pub fn specifications_are_named()
+    ensures { SpecificationsAreNamed }
+{}

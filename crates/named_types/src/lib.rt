@@ -1,0 +1,4 @@
+// Laws of the names in types that are read.
+#![tactic(auto)]
+
+pub mod laws;

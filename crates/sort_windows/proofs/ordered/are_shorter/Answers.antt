@@ -1,0 +1,16 @@
+use Rattle.std.proofs.Common.{rules, ◌≡◌, ◌<◌, ◌-◌, length, Some, arith}
+use Rattle.std.specs.List.{slice_get}
+use Rattle.sort_windows.proofs.Order.{each_implied, none_longer}
+use Rattle.sort_windows.proofs.ordered.are_shorter.Goals as goal
+
+pub returns-in-Some : goal.returns-in-Some
+returns-in-Some c = record {
+  shorter = λ h.
+      let l : c.size.result < c.size-in-Some.result = search (h, rules) in
+      let last : slice_get c.args.values.now (length c.args.values.now - 1) ≡ Some c.in-Some.last.now = search rules in
+      let full : length c.args.values.now ≡ c.args.limit = search rules in (
+        full,
+        each_implied (λ w k. omega (arith, k, l, c.size.ensures.counted, c.size-in-Some.ensures.counted)) c.args.values.now
+            (none_longer c.args.values.now c.in-Some.last.now c.requires.in_order last),
+      );
+}

@@ -1,0 +1,96 @@
+-- What a specification comes to.
+use Rattle.std.proofs.Common.{ℕ, ◌≡◌, ◌∙◌, ◌<◌, ◌≤◌, ◌+◌, refl, sym, ap, subst, arith, List, [], ◌∷◌, ◌++◌, length, drop, map, append_assoc, Option, Some, None}
+use Rattle.std.specs.Prelude.{option_map}
+use Rattle.lotos_ast.specs.declared.refusal.Refusal.{Refusal}
+use Rattle.lotos_ast.specs.declared.spec.Spec.{Spec}
+use Rattle.constructs.specs.Written.{gates_in, behaviour_written}
+use Rattle.spec_core.specs.Code.{Node, Program}
+use Rattle.spec_core.specs.Functionality.{Functionality}
+use Rattle.spec_core.specs.Theories.{Theory}
+use Rattle.sort_overloads.specs.Readings.{Context}
+use Rattle.behaviour_readings.specs.Joins.{Read, root}
+use Rattle.behaviour_readings.specs.Outputs.{Output, nodes_of}
+use Rattle.process_table.specs.Headings.{declared, table_refusals, opening_refusals}
+use Rattle.process_table.specs.Processes.{Entry, entries}
+use Rattle.call_cycles.specs.declared.call.Call.{Call}
+use Rattle.call_cycles.specs.Unguarded.{unguarded_refusals}
+use Rattle.static_check.specs.Bodies.{Setting, Placed, placed, ending_refusals, AreBodiesRead, calls_from}
+use Rattle.static_check.specs.Compiled.{data_context, setting, start_site, process_nodes, body_nodes, program_if_read, IsJudged}
+use Rattle.static_check.specs.Steps.{AreReadSoFar, IsStartRead, program_with, program_with_if}
+
+after_front : {A : Type 0} (xs ys : List A) → drop (length xs) (xs ++ ys) ≡ ys
+after_front [] ys = refl
+after_front (x ∷ xs) ys = after_front xs ys
+
+-- the program is that of the bodies and of the specification's behaviour
+is_program : (theory : Theory) (spec : Spec) (processes from : ℕ) (old code : List Node) (bodies : Option (List Placed)) (start : Option Read) → processes ≡ length old
+    → ((bs : List Placed) → bodies ≡ Some bs → code ≡ (old ++ body_nodes bs) ++ nodes_of start) → processes ≡ length (entries spec)
+    → program_with_if theory spec processes (option_map (process_nodes (setting theory spec) (entries spec)) bodies) code (option_map (root from) start)
+    ≡ program_if_read theory spec bodies from start
+is_program theory spec processes from old code None start first behind many = refl
+is_program theory spec processes from old code (Some bs) None first behind many = refl
+is_program theory spec processes from old code (Some bs) (Some r) first behind many =
+    let nodes = process_nodes (setting theory spec) (entries spec) bs in
+    let rest : drop processes code ≡ body_nodes bs ++ r.nodes =
+    ap (λ n. drop n code) first ∙ ap (drop (length old)) (behind bs refl ∙ append_assoc old (body_nodes bs) r.nodes) ∙ after_front old (body_nodes bs ++ r.nodes) in
+    ap (λ c. Some (record { theory = theory; code = nodes ++ c; start = root from r; gates = map (λ t. t.text) (gates_in spec.gates); processes = processes })) rest
+    ∙ ap (λ n. Some (record { theory = theory; code = nodes ++ (body_nodes bs ++ r.nodes); start = root from r; gates = map (λ t. t.text) (gates_in spec.gates); processes = n })) many
+
+regrouped : (a b c d e f : List Refusal) → ((((a ++ b) ++ c) ++ (d ++ e)) ++ f) ≡ a ++ (b ++ (c ++ (d ++ (e ++ f))))
+regrouped a b c d e f = simp append_assoc
+
+pub judged : (theory : Theory) (spec : Spec) (first bodies last : Output) (nodes : Option (List Node)) (start : Option ℕ) (processes : ℕ) (program : Option Program)
+    (refusals : List Refusal) → length first.code ≡ length (entries spec)
+    → first.refusals ≡ opening_refusals (data_context theory) spec ++ table_refusals (data_context theory) (entries spec)
+    → AreReadSoFar (setting theory spec) (entries spec) first bodies nodes
+    → IsStartRead (start_site (setting theory spec) spec) (behaviour_written spec.behaviour) bodies last
+    (ending_refusals spec.name.place (declared (data_context theory) spec.functionality)) start
+    → refusals ≡ last.refusals ++ unguarded_refusals (map (λ e. e.process.name.text) (entries spec)) (calls_from (setting theory spec) 0 (entries spec))
+    → processes ≡ length (entries spec) → program ≡ program_with_if theory spec processes nodes last.code start → IsJudged theory spec program refusals
+judged theory spec first bodies last nodes start processes program refusals places opening h s cycles many made =
+    let end = ending_refusals spec.name.place (declared (data_context theory) spec.functionality) s.read in
+    record {
+      bodies = h.bodies;
+      body_refusals = h.refusals;
+      from = length bodies.code;
+      are_read = subst (λ n. AreBodiesRead (setting theory spec) 0 n (length bodies.code) (entries spec) h.bodies h.refusals) places h.are_read;
+      start = s.read;
+      start_refusals = s.refusals;
+      is_read = s.such;
+      is_program =
+          made ∙ ap (λ z. program_with_if theory spec processes z last.code start) h.made
+          ∙ ap (λ z. program_with_if theory spec processes (option_map (process_nodes (setting theory spec) (entries spec)) h.bodies) last.code z) s.made
+          ∙ is_program theory spec processes (length bodies.code) first.code last.code h.bodies s.read (many ∙ sym places)
+          (λ bs is. s.code ∙ ap (λ c. c ++ nodes_of s.read) (h.code bs is)) many;
+      are_refusals =
+          cycles ∙ ap (λ z. z ++ unguarded_refusals (map (λ e. e.process.name.text) (entries spec)) (calls_from (setting theory spec) 0 (entries spec)))
+          (s.refused ∙ ap (λ z. z ++ (s.refusals ++ end)) (h.refused ∙ ap (λ z. z ++ h.refusals) opening))
+          ∙ regrouped (opening_refusals (data_context theory) spec) (table_refusals (data_context theory) (entries spec)) h.refusals s.refusals end
+          (unguarded_refusals (map (λ e. e.process.name.text) (entries spec)) (calls_from (setting theory spec) 0 (entries spec)));
+    }
+
+-- the same, by what the values of the program are
+pub judged_by : (theory : Theory) (spec : Spec) (c d e : Context) (g : ℕ) (t : List Entry) (first bodies last : Output) (nodes : Option (List Node)) (start : Option ℕ)
+    (processes : ℕ) (program : Option Program) (refusals : List Refusal) (f : Option Functionality) (calls : List (List Call))
+    → c ≡ data_context theory → d ≡ data_context theory → e ≡ data_context theory → g ≡ length (gates_in spec.gates) → t ≡ entries spec
+    → length first.code ≡ length t → first.refusals ≡ opening_refusals c spec ++ table_refusals c t
+    → AreReadSoFar (record { context = d; gates = g; table = t }) t first bodies nodes → f ≡ declared c spec.functionality
+    → IsStartRead (start_site (record { context = e; gates = g; table = t }) spec) (behaviour_written spec.behaviour) bodies last (ending_refusals spec.name.place f) start
+    → calls ≡ calls_from (record { context = d; gates = g; table = t }) 0 t
+    → refusals ≡ last.refusals ++ unguarded_refusals (map (λ e. e.process.name.text) t) calls
+    → processes ≡ length t → program ≡ program_with_if theory spec processes nodes last.code start → IsJudged theory spec program refusals
+judged_by theory spec c d e g t first bodies last nodes start processes program refusals f calls cis dis eis gis tis places opening h fis s made cycles many put =
+    let all : Context → Setting = λ x. record { context = x; gates = g; table = t } in
+    let whole : (x : Context) → x ≡ data_context theory → all x ≡ setting theory spec =
+    λ x q. ap all q ∙ ap (λ n. record { context = data_context theory; gates = n; table = t }) gis
+    ∙ ap (λ es. record { context = data_context theory; gates = length (gates_in spec.gates); table = es }) tis in
+    let names : List Entry → List (List ℕ) = λ es. map (λ e. e.process.name.text) es in
+    judged theory spec first bodies last nodes start processes program refusals (places ∙ ap length tis)
+    (opening ∙ ap (λ z. opening_refusals z spec ++ table_refusals z t) cis ∙ ap (λ es. opening_refusals (data_context theory) spec ++ table_refusals (data_context theory) es) tis)
+    (subst (λ es. AreReadSoFar (setting theory spec) es first bodies nodes) tis (subst (λ a. AreReadSoFar a t first bodies nodes) (whole d dis) h))
+    (subst (λ m. IsStartRead (start_site (setting theory spec) spec) (behaviour_written spec.behaviour) bodies last (ending_refusals spec.name.place m) start)
+    (fis ∙ ap (λ z. declared z spec.functionality) cis)
+    (subst (λ a. IsStartRead (start_site a spec) (behaviour_written spec.behaviour) bodies last (ending_refusals spec.name.place f) start) (whole e eis) s))
+    (cycles ∙ ap (λ z. last.refusals ++ unguarded_refusals (names t) z) (made ∙ ap (λ a. calls_from a 0 t) (whole d dis))
+    ∙ ap (λ es. last.refusals ++ unguarded_refusals (names es) (calls_from (setting theory spec) 0 es)) tis)
+    (many ∙ ap length tis) put

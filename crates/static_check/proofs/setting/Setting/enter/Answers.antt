@@ -1,0 +1,19 @@
+use Rattle.std.proofs.Common.{◌∙◌, ◌∷◌, ap, map}
+use Rattle.sort_overloads.proofs.ByOperations.{ok_implied}
+use Rattle.equation_readings.specs.Variables.{all_variables}
+use Rattle.behaviour_readings.specs.Sites.{with_gates, with_variables}
+use Rattle.process_table.specs.Processes.{visible_in}
+use Rattle.process_table.specs.Views.{entry_of}
+use Rattle.static_check.proofs.Sites.{body_entered}
+use Rattle.static_check.proofs.setting.Setting.enter.Goals as goal
+
+pub returns : goal.returns
+returns c =
+    let table = map entry_of c.args.self.now.table.now in
+    ok_implied c.put_declarations.result
+    (λ h. body_entered c.args.site.now c.go.new.self c.put_gates.new.self c.put_declarations.new.site c.args.self.now.gates table c.args.number (entry_of c.args.entry.now)
+    c.args.self.now.headings.now c.in_ok-all.all.items c.requires.headings
+    (c.in_ok-all.ensures ∙ ap (λ xs. visible_in table (c.args.number ∷ xs)) c.deref.ensures.value) c.go.ensures
+    (c.in_ok-put_gates.ensures ∙ ap (with_gates c.go.new.self) c.gates_of.ensures)
+    (h ∙ ap (λ ds. with_variables c.put_gates.new.self (all_variables c.put_gates.new.self.context.sorts ds)) c.parameters_of.ensures))
+    c.put_declarations.ensures

@@ -1,0 +1,63 @@
+// Behaviours end as they are declared to, or never.
+
+ghost use Rattle.std.specs.Prelude.{◌≡◌, ◌++◌, OnOk, Option, option_map};
+ghost use Rattle.behaviour_readings.specs.Joins.{Read};
+ghost use Rattle.behaviour_readings.specs.Views.{functionality_of, output_of};
+ghost use Rattle.static_check.specs.Bodies as bodies;
+ghost use Rattle.static_check.specs.Bodies.{ending_refusals};
+
+use behaviour_readings::functionality::{Functionality, are_same};
+use behaviour_readings::output::Output;
+use lotos_ast::place::Place;
+use lotos_ast::refusal::RefusalKind;
+use spec_core::memory::Memory;
+use std::alloc::Global;
+
+// Whether a behaviour that ends in one way may be declared to end in another.
+fn may_end(found: &Functionality, declared: &Functionality) -> bool
+    ensures { result ≡ bodies.may_end (functionality_of found.now) (functionality_of declared.now) }
+{
+    match found {
+        Functionality::NoExit => true,
+        Functionality::Exits(sorts) => match declared {
+            Functionality::NoExit => false,
+            Functionality::Exits(others) => are_same(sorts, others),
+        },
+    }
+}
+
+// Refuses what stands at a place, unless this holds.
+fn refuse_unless(alloc: Global, holds: bool, place: Place, out: &mut Output) -> Result<(), Memory>
+    ensures code { OnOk result ((output_of out.new).code ≡ (output_of out.old).code) }
+    ensures refusals { OnOk result ((output_of out.new).refusals ≡ (output_of out.old).refusals ++ bodies.refused_unless holds place) }
+{
+    if holds {
+        Ok(())
+    } else {
+        out.refuse(alloc, RefusalKind::WrongFunctionality, place)
+    }
+}
+
+/// Refuses a behaviour that may end otherwise than it is declared to (25 WrongFunctionality), at the name that is declared. Where it isn't
+/// read, or what is declared isn't known, nothing is refused.
+#[tactic(auto, using(crate::proofs::Endings::none_declared, crate::proofs::Endings::none_read, crate::proofs::Endings::both_known))]
+pub fn add_ending(
+    alloc: Global,
+    place: Place,
+    declared: &Option<Functionality>,
+    found: &Option<Functionality>,
+    out: &mut Output,
+) -> Result<(), Memory>
+    ensures code { OnOk result ((output_of out.new).code ≡ (output_of out.old).code) }
+    ensures refusals { OnOk result ((x : Option Read) → option_map functionality_of found.now ≡ option_map (λ r. r.functionality) x →
+        (output_of out.new).refusals
+        ≡ (output_of out.old).refusals ++ ending_refusals place (option_map functionality_of declared.now) x) }
+{
+    match declared {
+        None => Ok(()),
+        Some(declared) => match found {
+            None => Ok(()),
+            Some(found) => refuse_unless(alloc, may_end(found, declared), place, out),
+        },
+    }
+}

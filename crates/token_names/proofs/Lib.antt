@@ -1,0 +1,3 @@
+mod Bytes
+pub mod Tokens
+mod Words

@@ -1,0 +1,4 @@
+// Laws of the names in a text.
+#![tactic(auto)]
+
+pub mod laws;
