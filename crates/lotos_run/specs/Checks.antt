@@ -2,7 +2,7 @@
 use Rattle.std.specs.Prelude.{ℕ, ◌≡◌, List, codes, take}
 use Rattle.lotos_ast.specs.declared.refusal.Refusal.{Refusal}
 use Rattle.lotos_outside.specs.Shelf.{OnFetched}
-use Rattle.lotos_front.specs.Accepted.{IsAccepted, IsFirstRefusal}
+use Rattle.lotos_front.specs.Answers.{IsAccepted, IsFirstRefusal}
 use Rattle.spec_core.specs.Code.{Program}
 use Rattle.lotos_run.specs.declared.status.Status.{Status}
 use Rattle.lotos_run.specs.declared.status.Status.TheVariants.{Done, Refused, ReadFault}
