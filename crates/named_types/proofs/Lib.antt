@@ -1,2 +1,3 @@
 mod Trees
 pub mod Types
+pub mod WhereParts

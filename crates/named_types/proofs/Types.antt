@@ -232,7 +232,7 @@ body-named (Actualized place source actuals p) h =
     let c = parts b.1 in
     pairs-named p (parts c.1).1
 
-type-named : (d : TypeDef) → IsTreeOf (part type_definition) (type_def_tree d) → IsTypeNamed d
+pub type-named : (d : TypeDef) → IsTreeOf (part type_definition) (type_def_tree d) → IsTypeNamed d
 type-named (Library place names) h = tt
 type-named (Definition place n body) h =
     let a = parts (parts (parts h)) in

@@ -12,6 +12,7 @@ use Rattle.spec_core.specs.Lists.{Each}
 use Rattle.constructs.specs.Written.{gates_in}
 use Rattle.presentation_laws.specs.NamedTypes.{IsNamed, IsTypeNamed}
 use Rattle.token_names.specs.Tokens.{IsTokenNamed}
+use Rattle.lotos_front.specs.Types.{AreTypesOf}
 
 -- types that are read one after another
 abbrev pub TypesAreNamed : Type 0
@@ -22,3 +23,7 @@ TypesAreNamed = (tokens : List Token) (from after : ℕ) (types : List TypeDef) 
 abbrev pub SpecificationsAreNamed : Type 0
 SpecificationsAreNamed = (tokens : List Token) (spec : Spec) → Each IsTokenNamed tokens →
     IsParsed (part specification) tokens (spec_tree spec) [] → Each IsNamed (gates_in spec.gates) × Each IsTypeNamed spec.types.items
+
+-- the types of a text: those of `where` parts too, and those that it takes in of the library
+abbrev pub TextTypesAreNamed : Type 0
+TextTypesAreNamed = (tokens : List Token) (types : List TypeDef) → Each IsTokenNamed tokens → AreTypesOf tokens types → Each IsTypeNamed types

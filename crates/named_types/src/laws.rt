@@ -1,6 +1,6 @@
 // Laws of the definitions: a call does nothing, and its contract is the law.
 
-ghost use Rattle.named_types.specs.Laws.{TypesAreNamed, SpecificationsAreNamed};
+ghost use Rattle.named_types.specs.Laws.{TypesAreNamed, SpecificationsAreNamed, TextTypesAreNamed};
 
 /// Types that are read from tokens which are named have names that the grammar allows.
 pub fn types_are_named()
@@ -10,4 +10,9 @@ pub fn types_are_named()
 /// So have the gates and the global types of a specification.
 pub fn specifications_are_named()
     ensures { SpecificationsAreNamed }
+{}
+
+/// So have all types of a text.
+pub fn text_types_are_named()
+    ensures { TextTypesAreNamed }
 {}
