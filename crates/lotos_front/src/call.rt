@@ -24,5 +24,6 @@ pub fn accept(alloc: Global, text: &[u8]) -> Result<Checked, FrontFault>
     let tokens = lex(alloc, text)?;
     let algebra = data(alloc, text, &tokens)?;
     let spec = parse(alloc, text, &tokens)?;
-    compile(alloc, &spec, &algebra)
+    let checked = compile(alloc, &spec, &algebra)?;
+    Ok(checked)
 }
