@@ -1,5 +1,4 @@
 pub mod Accepted
-pub mod Answers
 pub mod FirstRefusals
 pub mod Libraries
 pub mod Parsed

@@ -1,5 +1,3 @@
-pub mod CheckTexts
-pub mod Checks
 pub mod Commands
 pub mod Due
 pub mod Outside

@@ -2,8 +2,6 @@
 #![tactic(auto)]
 
 mod answer;
-mod check;
-mod check_text;
 mod command;
 mod due;
 mod run;
