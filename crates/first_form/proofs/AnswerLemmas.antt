@@ -3,7 +3,8 @@ use Rattle.std.proofs.Common.{◌≡◌, ℕ, ◌+◌, ◌<◌, false, List, [],
 use Rattle.std.proofs.Common.{arith, append_assoc}
 use Rattle.std.proofs.lemmas.List.{map-append, length-append, length-map}
 use Rattle.spec_core.specs.declared.items.Gate.{Gate}
-use Rattle.rule_model.specs.Behaviours.{Behaviour}
+use Rattle.spec_core.specs.Code.{Program}
+use Rattle.first_form.specs.Plain.{PlainBehaviour, meaning}
 use Rattle.rule_model.specs.Answers.{taken, deadlock, stalls, beyond, not_now, ended, spent, too_large, limit}
 use Rattle.rule_model.specs.Events.{OfferName, Event, pended, acted, replied, stalled, left}
 use Rattle.rule_model.specs.States.{PendingOffer, start_state}
@@ -43,7 +44,7 @@ numbered-append n (x ∷ xs) wish =
     (numbered-append (n + 1) xs wish ∙ ap (λ (k : ℕ). numbered (n + 1) xs ++ wished k wish ∷ []) e)
 
 -- the entry that answers makes no offer
-no_offer : (b : Behaviour) (gate : Gate) (number steps : ℕ) (event : Event) (rest : Behaviour) (later : ℕ) →
+no_offer : (b : PlainBehaviour) (gate : Gate) (number steps : ℕ) (event : Event) (rest : PlainBehaviour) (later : ℕ) →
     IsAnswer b gate number steps event rest later → offers_in (event ∷ []) ≡ []
 no_offer b gate number steps (acted action d by) rest later h = refl
 no_offer b gate number steps (replied client other answer) rest later h = refl
@@ -52,7 +53,7 @@ no_offer b gate number steps (pended client other offer ask) rest later h = absu
 no_offer b gate number steps (left client) rest later h = absurd h
 
 -- and answers just client 1's offer of this number
-one_answer : (b : Behaviour) (gate : Gate) (number steps : ℕ) (event : Event) (rest : Behaviour) (later : ℕ) →
+one_answer : (b : PlainBehaviour) (gate : Gate) (number steps : ℕ) (event : Event) (rest : PlainBehaviour) (later : ℕ) →
     IsAnswer b gate number steps event rest later → answered_in (event ∷ []) ≡ (1, number) ∷ []
 one_answer b gate number steps (acted action d None) rest later h = absurd (no_name (1, number) h.1)
   where
@@ -85,8 +86,8 @@ more_offers done gate number counted =
 
 -- the session goes on behind one offer more and its answer
 pub session_goes_on :
-    (gates : ℕ) (start : Behaviour) (done : List Gate) (old new : List Event) (b : Behaviour) (number steps : ℕ) (gate : Gate)
-    (rest : Behaviour) (later : ℕ) →
+    (gates : ℕ) (start : PlainBehaviour) (done : List Gate) (old new : List Event) (b : PlainBehaviour) (number steps : ℕ) (gate : Gate)
+    (rest : PlainBehaviour) (later : ℕ) →
     gate.0 < gates → IsSessionSoFar gates start done old b number steps → AppendsAnswer old new b gate (number + 1) steps rest later →
     IsSessionSoFar gates start (done ++ gate ∷ []) new rest (number + 1) later
 session_goes_on gates start done old new b number steps gate rest later within h appends =
@@ -95,12 +96,12 @@ session_goes_on gates start done old new b number steps gate rest later within h
     let wishes : List PendingOffer = numbered 1 (map plain_wish done) in
     let made : PendingOffer = wished (number + 1) (plain_wish gate) in
     record {
-      goes = λ result_sort.
+      goes = λ program same.
           subst
-          (λ (l : List Event). GoesOn result_sort gates (start_state start (1 ∷ [])) (done ++ gate ∷ []) l rest (number + 1) later)
+          (λ (l : List Event). GoesOn program (start_state (meaning start) (1 ∷ [])) (done ++ gate ∷ []) l rest (number + 1) later)
           (sym appends.1)
-          (one_more result_sort gates (start_state start (1 ∷ [])) done old b number steps gate event rest later within
-          (h.goes result_sort) appends.2);
+          (one_more program (start_state (meaning start) (1 ∷ [])) done old b number steps gate event rest later
+          (subst (λ (n : ℕ). gate.0 < n) (sym same) within) (h.goes program same) appends.2);
       counted = omega (arith, h.counted, length-append done (gate ∷ []));
       offers =
           ap offers_in appends.1
@@ -118,9 +119,9 @@ session_goes_on gates start done old new b number steps gate rest later within h
     }
 
 -- the session before the first offer
-pub session_begins : (gates : ℕ) (start : Behaviour) → IsSessionSoFar gates start [] [] start 0 0
+pub session_begins : (gates : ℕ) (start : PlainBehaviour) → IsSessionSoFar gates start [] [] start 0 0
 session_begins gates start = record {
-  goes = λ result_sort. begins result_sort gates start;
+  goes = λ program same. begins program start;
   counted = refl;
   offers = refl;
   answers = refl;

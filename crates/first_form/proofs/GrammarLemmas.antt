@@ -4,7 +4,7 @@ use Rattle.std.proofs.Common.{nat_eq, refl, ap, sym, ◌∙◌, subst, append_as
 use Rattle.std.proofs.lemmas.Bool.{eqb-true}
 use Rattle.std.proofs.lemmas.List.{append-nil}
 use Rattle.spec_core.specs.declared.items.Gate.{Gate}
-use Rattle.rule_model.specs.Behaviours.{Behaviour, stop, act, choice}
+use Rattle.first_form.specs.Plain.{PlainBehaviour, stop, act, choice}
 use Rattle.first_form.specs.declared.token.Token.{Token}
 use Rattle.first_form.specs.declared.token.Token.TheVariants.{Identifier, Stop, Semicolon, Brackets, Fixed}
 use Rattle.first_form.specs.declared.token.Mark.{Mark}
@@ -14,7 +14,7 @@ use Rattle.first_form.specs.FirstForm.{FirstForm, gate_at, same_mark, chain, or_
 use Rattle.first_form.specs.Grammar.{SpellsUnary, SpellsBehaviour}
 
 -- the prefixes of an alternative are read one after another
-pub record ReadsUnary (gates : List (List ℕ)) (b : Behaviour) (first : List Token) : Type 0 where
+pub record ReadsUnary (gates : List (List ℕ)) (b : PlainBehaviour) (first : List Token) : Type 0 where
   pub prefixes : List Gate
   pub is : b ≡ chain prefixes
   pub reads : (before : List Gate) (tail : List Token) →
@@ -25,7 +25,7 @@ one_more : (gates : List (List ℕ)) (word : List ℕ) (gate : Gate) (before : L
     read_alternatives gates before (Identifier word ∷ Semicolon ∷ ts) ≡ read_alternatives gates (before ++ gate ∷ []) ts
 one_more gates word gate before ts e = ap (λ (o : Option Gate). on_gate o (λ g. read_alternatives gates (before ++ g ∷ []) ts)) e
 
-reads_unary : (gates : List (List ℕ)) (b : Behaviour) (first : List Token) → SpellsUnary gates b first → ReadsUnary gates b first
+reads_unary : (gates : List (List ℕ)) (b : PlainBehaviour) (first : List Token) → SpellsUnary gates b first → ReadsUnary gates b first
 reads_unary gates stop first e = record {
   prefixes = [];
   is = refl;
@@ -50,15 +50,15 @@ reads_unary gates (choice left right) first h = absurd h
 abbrev pub the_end : List Token
 the_end = Fixed Endspec ∷ []
 
-abbrev pub formed : List (List ℕ) → Behaviour → FirstForm
+abbrev pub formed : List (List ℕ) → PlainBehaviour → FirstForm
 formed gates b = record { gates = gates; behaviour = b }
 
 -- one alternative is a behaviour
-one_alternative : (gates : List (List ℕ)) (b : Behaviour) (body : List Token) →
+one_alternative : (gates : List (List ℕ)) (b : PlainBehaviour) (body : List Token) →
     ReadsUnary gates b body → read_alternatives gates [] (body ++ the_end) ≡ Some (formed gates b)
-one_alternative gates b body r = r.reads [] the_end ∙ ap (λ (x : Behaviour). Some (formed gates x)) (sym r.is)
+one_alternative gates b body r = r.reads [] the_end ∙ ap (λ (x : PlainBehaviour). Some (formed gates x)) (sym r.is)
 
-pub reads_behaviour : (gates : List (List ℕ)) (b : Behaviour) (body : List Token) →
+pub reads_behaviour : (gates : List (List ℕ)) (b : PlainBehaviour) (body : List Token) →
     SpellsBehaviour gates b body → read_alternatives gates [] (body ++ the_end) ≡ Some (formed gates b)
 reads_behaviour gates stop body h = one_alternative gates stop body (reads_unary gates stop body h)
 reads_behaviour gates (act gate rest) body h = one_alternative gates (act gate rest) body (reads_unary gates (act gate rest) body h)
@@ -68,7 +68,7 @@ reads_behaviour gates (choice left right) body h =
     ∙ ap (read_alternatives gates []) (append_assoc h.0 (Brackets ∷ h.1) the_end)
     ∙ r.reads [] (Brackets ∷ (h.1 ++ the_end))
     ∙ ap (option_map (or_chain r.prefixes)) (reads_behaviour gates right h.1 h.4)
-    ∙ ap (λ (x : Behaviour). Some (formed gates (choice x right))) (sym r.is)
+    ∙ ap (λ (x : PlainBehaviour). Some (formed gates (choice x right))) (sym r.is)
 
 -- marks with one number are one
 mark_at : ℕ → Mark
@@ -103,7 +103,7 @@ pub record ReadsAs (gates : List (List ℕ)) (before : List Gate) (ts : List Tok
   pub spelled : SpellsUnary gates (chain prefixes) first
   pub behind :
       (ts ≡ first ++ the_end) × (form.behaviour ≡ chain (before ++ prefixes))
-      ⊎ (others : List Token) × (right : Behaviour) × (ts ≡ first ++ Brackets ∷ (others ++ the_end)) ×
+      ⊎ (others : List Token) × (right : PlainBehaviour) × (ts ≡ first ++ Brackets ∷ (others ++ the_end)) ×
       SpellsBehaviour gates right others × (form.behaviour ≡ choice (chain (before ++ prefixes)) right)
 
 -- the whole of a behaviour was read
@@ -121,14 +121,14 @@ whole_of gates ts form r =
       | inl e ↦ (
         r.first,
         e.0,
-        subst (λ (b : Behaviour). SpellsBehaviour gates b r.first) (sym e.1)
+        subst (λ (b : PlainBehaviour). SpellsBehaviour gates b r.first) (sym e.1)
             (unary_is_behaviour gates r.prefixes r.first r.spelled),
         r.same,
       )
       | inr e ↦ (
         r.first ++ Brackets ∷ e.0,
         e.2 ∙ sym (append_assoc r.first (Brackets ∷ e.0) the_end),
-        subst (λ (b : Behaviour). SpellsBehaviour gates b (r.first ++ Brackets ∷ e.0)) (sym e.4) (r.first, e.0, refl, r.spelled, e.3),
+        subst (λ (b : PlainBehaviour). SpellsBehaviour gates b (r.first ++ Brackets ∷ e.0)) (sym e.4) (r.first, e.0, refl, r.spelled, e.3),
         r.same,
       )
     ]

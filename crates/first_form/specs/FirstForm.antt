@@ -6,7 +6,7 @@ use Rattle.std.specs.Prelude.{ℕ, List, [], ◌∷◌, ◌++◌, Bool, true, �
 use Rattle.std.specs.Prelude.{nat_eq, position, length, ◌<◌}
 use Rattle.std.specs.List.{list_any}
 use Rattle.spec_core.specs.declared.items.Gate.{Gate}
-use Rattle.rule_model.specs.Behaviours.{Behaviour, stop, act, choice}
+use Rattle.first_form.specs.Plain.{PlainBehaviour, stop, act, choice}
 use Rattle.first_form.specs.declared.token.Token.{Token}
 use Rattle.first_form.specs.declared.token.Token.TheVariants.{Identifier, Stop, Semicolon, Brackets, Fixed}
 use Rattle.first_form.specs.declared.token.Mark.{Mark}
@@ -18,7 +18,7 @@ use Rattle.first_form.specs.Tokens.{tokens_of}
 -- a specification of the first form: its gates as its heading spells them, and its behaviour
 pub record FirstForm : Type 0 where
   pub gates : List (List ℕ)
-  pub behaviour : Behaviour
+  pub behaviour : PlainBehaviour
 
 -- the gate that a word names: the first one of that name
 abbrev pub gate_at : List (List ℕ) → List ℕ → Option Gate
@@ -59,7 +59,7 @@ abbrev pub named : List Token → (List ℕ → List Token → Option FirstForm)
 named (Identifier word ∷ ts) rest = rest word ts
 named _ rest = None
 
-abbrev pub chain : List Gate → Behaviour
+abbrev pub chain : List Gate → PlainBehaviour
 chain [] = stop
 chain (gate ∷ gates) = act gate (chain gates)
 

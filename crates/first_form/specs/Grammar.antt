@@ -5,7 +5,7 @@
 --   beh   = una ["[]" beh]
 --   una   = ID ";" una | "stop"
 use Rattle.std.specs.Prelude.{ℕ, ◌≡◌, ◌≤◌, ◌⊎◌, List, [], ◌∷◌, ◌++◌, true, Some, codes, length}
-use Rattle.rule_model.specs.Behaviours.{Behaviour, stop, act, choice}
+use Rattle.first_form.specs.Plain.{PlainBehaviour, stop, act, choice}
 use Rattle.first_form.specs.declared.token.Token.{Token}
 use Rattle.first_form.specs.declared.token.Token.TheVariants.{Identifier, Stop, Semicolon, Brackets, Fixed}
 use Rattle.first_form.specs.declared.token.Mark.TheVariants.{Specification, Noexit, Library, Endlib, Behaviour as BehaviourWord, Endspec}
@@ -15,7 +15,7 @@ use Rattle.first_form.specs.Tokens.{tokens_of}
 use Rattle.first_form.specs.FirstForm.{FirstForm, gate_at, all_differ, first_form}
 
 -- una: prefixes at gates of the heading, and stop
-abbrev pub SpellsUnary : List (List ℕ) → Behaviour → List Token → Type 0
+abbrev pub SpellsUnary : List (List ℕ) → PlainBehaviour → List Token → Type 0
 SpellsUnary gates stop ts = ts ≡ Stop ∷ []
 SpellsUnary gates (act gate rest) ts =
     (word : List ℕ) × (more : List Token) × (ts ≡ Identifier word ∷ Semicolon ∷ more) × (gate_at gates word ≡ Some gate) ×
@@ -23,7 +23,7 @@ SpellsUnary gates (act gate rest) ts =
 SpellsUnary gates (choice left right) ts = ⊥
 
 -- beh: alternatives, grouped to the right
-abbrev pub SpellsBehaviour : List (List ℕ) → Behaviour → List Token → Type 0
+abbrev pub SpellsBehaviour : List (List ℕ) → PlainBehaviour → List Token → Type 0
 SpellsBehaviour gates stop ts = SpellsUnary gates stop ts
 SpellsBehaviour gates (act gate rest) ts = SpellsUnary gates (act gate rest) ts
 SpellsBehaviour gates (choice left right) ts =

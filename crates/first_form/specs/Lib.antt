@@ -1,5 +1,6 @@
 pub mod Letters
 pub mod Tokens
+pub mod Plain
 pub mod FirstForm
 pub mod Steps
 pub mod Script

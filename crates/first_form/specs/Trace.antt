@@ -12,7 +12,8 @@ use Rattle.rule_model.specs.declared.rules.Slot.{Slot}
 use Rattle.rule_model.specs.declared.rules.Slot.TheVariants.{Of, Mark, Blank}
 use Rattle.rule_model.specs.declared.reply.LimitKind.{LimitKind}
 use Rattle.rule_model.specs.declared.reply.LimitKind.TheVariants.{Steps, Spread, Offers}
-use Rattle.rule_model.specs.Derivations.{Derivation, pre, chl, chr}
+use Rattle.rule_model.specs.Derivations.{Derivation, pre, int, exiting, chl, chr, val, gate, guard, letting, parl, parr, both, hiding, pass}
+use Rattle.rule_model.specs.Derivations.{enstep, enend, disstep, disend, distake, calling, rel}
 use Rattle.rule_model.specs.Answers.{Answer, taken, deadlock, stalls, beyond, not_now, ended, spent, too_large, limit}
 use Rattle.rule_model.specs.Events.{OfferName, Event, pended, acted, replied, stalled, left, Ending, exits, deadlocked, waiting}
 use Rattle.rule_model.specs.Events.{ends_beyond, ends_spent, ends_too_large, ends_at_limit}
@@ -55,7 +56,7 @@ module _ (names : Names) where
   abbrev pub action_text : Action → List ℕ
   action_text Inner = codes "i"
   action_text (Exit values) = codes "exit" ++ values_text values
-  action_text (At gate values) = names.gate gate ++ values_text values
+  action_text (At place values) = names.gate place ++ values_text values
 
   abbrev pub slot_text : Slot → List ℕ
   slot_text (Of value) = names.value value
@@ -67,10 +68,29 @@ module _ (names : Names) where
   slots_text [] = []
   slots_text (slot ∷ slots) = codes "[" ++ slot_text slot ++ flat_map (λ other. codes "," ++ slot_text other) slots ++ codes "]"
 
+  -- a tree: the word of its rule, its values, and the trees of its parts in brackets
   abbrev pub tree_text : Derivation → List ℕ
   tree_text (pre slots) = codes "pre" ++ slots_text slots
+  tree_text int = codes "int"
+  tree_text (exiting slots) = codes "exit" ++ slots_text slots
   tree_text (chl d) = codes "chl(" ++ tree_text d ++ codes ")"
   tree_text (chr d) = codes "chr(" ++ tree_text d ++ codes ")"
+  tree_text (val slot d) = codes "val" ++ slots_text (slot ∷ []) ++ codes "(" ++ tree_text d ++ codes ")"
+  tree_text (gate place d) = codes "gate[" ++ decimal place ++ codes "](" ++ tree_text d ++ codes ")"
+  tree_text (guard d) = codes "guard(" ++ tree_text d ++ codes ")"
+  tree_text (letting d) = codes "let(" ++ tree_text d ++ codes ")"
+  tree_text (parl d) = codes "parl(" ++ tree_text d ++ codes ")"
+  tree_text (parr d) = codes "parr(" ++ tree_text d ++ codes ")"
+  tree_text (both d e) = codes "both(" ++ tree_text d ++ codes "," ++ tree_text e ++ codes ")"
+  tree_text (hiding d) = codes "hide(" ++ tree_text d ++ codes ")"
+  tree_text (pass d) = codes "pass(" ++ tree_text d ++ codes ")"
+  tree_text (enstep d) = codes "enstep(" ++ tree_text d ++ codes ")"
+  tree_text (enend d) = codes "enend(" ++ tree_text d ++ codes ")"
+  tree_text (disstep d) = codes "disstep(" ++ tree_text d ++ codes ")"
+  tree_text (disend d) = codes "disend(" ++ tree_text d ++ codes ")"
+  tree_text (distake d) = codes "distake(" ++ tree_text d ++ codes ")"
+  tree_text (calling d) = codes "call(" ++ tree_text d ++ codes ")"
+  tree_text (rel d) = codes "rel(" ++ tree_text d ++ codes ")"
 
   -- The word of a reply. That an offer was taken, and that it was stalled, are lines of their own.
   abbrev pub answer_word : Answer → List ℕ
@@ -109,18 +129,36 @@ module _ (names : Names) where
 
 -- Gates have the names of the heading. No sort, term or value occurs in the logs that are written here.
 abbrev pub names_of : List (List ℕ) → Names
-names_of gates = record { gate = λ gate. slice_index_or gates gate.0 []; sort = λ sort. []; term = λ term. []; value = λ value. [] }
+names_of gates = record { gate = λ place. slice_index_or gates place.0 []; sort = λ sort. []; term = λ term. []; value = λ value. [] }
 
--- no value stands in the tree
+-- the tree of a step of prefixes and choices
 abbrev pub IsPlainTree : Derivation → Type 0
 IsPlainTree (pre slots) = slots ≡ []
 IsPlainTree (chl d) = IsPlainTree d
 IsPlainTree (chr d) = IsPlainTree d
+IsPlainTree int = ⊥
+IsPlainTree (exiting slots) = ⊥
+IsPlainTree (val slot d) = ⊥
+IsPlainTree (gate place d) = ⊥
+IsPlainTree (guard d) = ⊥
+IsPlainTree (letting d) = ⊥
+IsPlainTree (parl d) = ⊥
+IsPlainTree (parr d) = ⊥
+IsPlainTree (both d e) = ⊥
+IsPlainTree (hiding d) = ⊥
+IsPlainTree (pass d) = ⊥
+IsPlainTree (enstep d) = ⊥
+IsPlainTree (enend d) = ⊥
+IsPlainTree (disstep d) = ⊥
+IsPlainTree (disend d) = ⊥
+IsPlainTree (distake d) = ⊥
+IsPlainTree (calling d) = ⊥
+IsPlainTree (rel d) = ⊥
 
 abbrev pub IsPlainAction : Action → Type 0
 IsPlainAction Inner = ⊥
 IsPlainAction (Exit values) = ⊥
-IsPlainAction (At gate values) = values ≡ []
+IsPlainAction (At place values) = values ≡ []
 
 abbrev pub IsPlainAnswer : Answer → Type 0
 IsPlainAnswer (deadlock at) = Unit {0}

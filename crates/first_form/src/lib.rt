@@ -3,6 +3,7 @@
 
 pub mod laws;
 mod pieces;
+pub mod plain;
 pub mod script;
 mod session;
 pub mod specification;

@@ -3,19 +3,19 @@
 ghost use Rattle.std.specs.Prelude.{◌≡◌, ◌+◌, ◌<◌, ◌≤◌, ◌^◌, ◌++◌, ◌∷◌, [], IfOk, OnOk, Some, length, map, All, false};
 ghost use Rattle.spec_core.specs.declared.items.Gate.{Gate};
 ghost use Rattle.rule_model.specs.declared.action.Action.TheVariants.{At};
-ghost use Rattle.rule_model.specs.Behaviours.{behaviour_of};
 ghost use Rattle.rule_model.specs.Derivations.{derivation_of};
 ghost use Rattle.rule_model.specs.Answers.{deadlock};
 ghost use Rattle.rule_model.specs.Events.{event_of, ending_of, acted, replied, stalled};
 ghost use Rattle.rule_model.specs.Logs.{events_of};
+ghost use Rattle.first_form.specs.Plain.{plain_of};
 ghost use Rattle.first_form.specs.Session.{EndsIn, IsSession, WasDriven};
 ghost use Rattle.first_form.specs.Trace.{IsPlain, IsPlainEnd, IsPlainTree};
 ghost use Rattle.first_form.specs.Walk.{IsAnswer, AppendsAnswer};
 
+use crate::plain::PlainBeh;
 use crate::token::Word;
 use crate::walk::{Step, first_step, is_stuck};
 use rule_model::action::{Action, Values};
-use rule_model::beh::Beh;
 use rule_model::log::{End, Entry, Log};
 use rule_model::offer::{Fields, Offer};
 use rule_model::reply::Reply;
@@ -27,7 +27,7 @@ use std::alloc::Global;
 #[derive(Drop)]
 struct Settled {
     entry: Entry,
-    rest: Beh,
+    rest: PlainBeh,
     actions: u64,
 }
 
@@ -37,7 +37,7 @@ fn taken(alloc: Global, step: Step, gate: Gate, number: u64, actions: u64) -> Se
     requires plain { IsPlainTree (derivation_of step.rules) }
     ensures plain { IsPlain (event_of result.entry) }
     ensures entry { event_of result.entry ≡ acted (At gate []) (derivation_of step.rules) (Some (1, number)) }
-    ensures rest { behaviour_of result.rest ≡ behaviour_of step.rest }
+    ensures rest { plain_of result.rest ≡ plain_of step.rest }
     ensures counted { result.actions ≡ actions + 1 }
 {
     let Step { rules, rest } = step;
@@ -50,10 +50,10 @@ fn taken(alloc: Global, step: Step, gate: Gate, number: u64, actions: u64) -> Se
 }
 
 // Nothing can be done any more.
-fn dead(from: Beh, number: u64, actions: u64) -> Settled
+fn dead(from: PlainBeh, number: u64, actions: u64) -> Settled
     ensures entry { event_of result.entry ≡ replied 1 number (deadlock actions) }
     ensures plain { IsPlain (event_of result.entry) }
-    ensures rest { behaviour_of result.rest ≡ behaviour_of from }
+    ensures rest { plain_of result.rest ≡ plain_of from }
     ensures counted { result.actions ≡ actions }
 {
     Settled {
@@ -64,10 +64,10 @@ fn dead(from: Beh, number: u64, actions: u64) -> Settled
 }
 
 // The offer can't be taken.
-fn stalls(alloc: Global, from: Beh, number: u64, actions: u64) -> Result<Settled, Memory>
+fn stalls(alloc: Global, from: PlainBeh, number: u64, actions: u64) -> Result<Settled, Memory>
     ensures entry { IfOk result (λ s. event_of s.entry ≡ stalled ((1, number) ∷ [])) }
     ensures plain { IfOk result (λ s. IsPlain (event_of s.entry)) }
-    ensures rest { IfOk result (λ s. behaviour_of s.rest ≡ behaviour_of from) }
+    ensures rest { IfOk result (λ s. plain_of s.rest ≡ plain_of from) }
     ensures counted { IfOk result (λ s. s.actions ≡ actions) }
 {
     let names = vec![in alloc; (1, number)]?;
@@ -81,14 +81,14 @@ fn stalls(alloc: Global, from: Beh, number: u64, actions: u64) -> Result<Settled
 // The answer to client 1's offer of this number at the gate, after so many actions.
 fn settle(
     alloc: Global,
-    from: Beh,
+    from: PlainBeh,
     gate: Gate,
     number: u64,
     actions: u64,
 ) -> Result<Settled, Memory>
     requires { actions + 1 < 2 ^ 64 }
     ensures answer { IfOk result (λ s.
-        IsAnswer (behaviour_of from) gate number actions (event_of s.entry) (behaviour_of s.rest) s.actions) }
+        IsAnswer (plain_of from) gate number actions (event_of s.entry) (plain_of s.rest) s.actions) }
     ensures counted { IfOk result (λ s. s.actions ≤ actions + 1) }
     ensures plain { IfOk result (λ s. IsPlain (event_of s.entry)) }
 {
@@ -108,14 +108,14 @@ fn settle(
 fn answer(
     alloc: Global,
     log: &mut Log,
-    from: Beh,
+    from: PlainBeh,
     gate: Gate,
     number: u64,
     actions: u64,
-) -> Result<(Beh, u64), Memory>
+) -> Result<(PlainBeh, u64), Memory>
     requires { actions + 1 < 2 ^ 64 }
     ensures answer { IfOk result
-        (λ r. AppendsAnswer (events_of log.old) (events_of log.new) (behaviour_of from) gate number actions (behaviour_of r.0) r.1) }
+        (λ r. AppendsAnswer (events_of log.old) (events_of log.new) (plain_of from) gate number actions (plain_of r.0) r.1) }
     ensures counted { IfOk result (λ r. r.1 ≤ actions + 1) }
     ensures plain { All IsPlain (events_of log.old) → OnOk result (All IsPlain (events_of log.new)) }
 {
@@ -133,9 +133,14 @@ fn answer(
 
 // The session so far of client 1 with these wishes, and what is left of the behaviour.
 #[tactic(auto, using(crate::proofs::AnswerLemmas::session_begins, crate::proofs::AnswerLemmas::session_goes_on))]
-fn drive(alloc: Global, start: Beh, gates: &[Word], wishes: &[Gate]) -> Result<(Log, Beh), Memory>
+fn drive(
+    alloc: Global,
+    start: PlainBeh,
+    gates: &[Word],
+    wishes: &[Gate],
+) -> Result<(Log, PlainBeh), Memory>
     requires { All (λ gate. gate.0 < length gates.now) wishes.now }
-    ensures driven { IfOk result (λ r. WasDriven (length gates.now) (behaviour_of start) wishes.now (events_of r.0) (behaviour_of r.1)) }
+    ensures driven { IfOk result (λ r. WasDriven (length gates.now) (plain_of start) wishes.now (events_of r.0) (plain_of r.1)) }
     ensures plain { IfOk result (λ r. All IsPlain (events_of r.0)) }
 {
     let mut log = Log::new(alloc);
@@ -152,8 +157,8 @@ fn drive(alloc: Global, start: Beh, gates: &[Word], wishes: &[Gate]) -> Result<(
 }
 
 /// How a session ends that leaves this behaviour.
-fn end_of(rest: &Beh) -> End
-    ensures end { EndsIn (behaviour_of rest.now) (ending_of result) }
+fn end_of(rest: &PlainBeh) -> End
+    ensures end { EndsIn (plain_of rest.now) (ending_of result) }
     ensures plain { IsPlainEnd (ending_of result) }
 {
     if is_stuck(rest) {
@@ -166,12 +171,12 @@ fn end_of(rest: &Beh) -> End
 /// The log of the session of client 1 with these wishes, and how it ends.
 pub fn session(
     alloc: Global,
-    start: Beh,
+    start: PlainBeh,
     gates: &[Word],
     wishes: &[Gate],
 ) -> Result<(Log, End), Memory>
     requires { All (λ gate. gate.0 < length gates.now) wishes.now }
-    ensures session { IfOk result (λ r. IsSession (length gates.now) (behaviour_of start) wishes.now (events_of r.0) (ending_of r.1)) }
+    ensures session { IfOk result (λ r. IsSession (length gates.now) (plain_of start) wishes.now (events_of r.0) (ending_of r.1)) }
     ensures plain { IfOk result (λ r. All IsPlain (events_of r.0)) }
     ensures plain_end { IfOk result (λ r. IsPlainEnd (ending_of r.1)) }
 {

@@ -3,7 +3,7 @@
 ghost use Rattle.std.specs.Prelude.{◌≡◌, ◌<◌, ◌≤◌, length, ◌∷◌, [], ℕ, List, Option, Some, None, IfOk, OnOk, IfSome, IsErrOf, position};
 ghost use Rattle.std.specs.List.{list_any};
 ghost use Rattle.first_form.specs.Letters.{same_word};
-ghost use Rattle.rule_model.specs.Behaviours.{behaviour_of, choice};
+ghost use Rattle.first_form.specs.Plain.{plain_of, choice};
 ghost use Rattle.first_form.specs.declared.token.Token.TheVariants.{Identifier, Stop, Fixed};
 ghost use Rattle.first_form.specs.Steps.{Takes, IsNoStep};
 ghost use Rattle.first_form.specs.declared.token.Token.{Token};
@@ -13,9 +13,9 @@ ghost use Rattle.first_form.specs.FirstForm.{read_types, read_library, read_kind
 ghost use Rattle.first_form.specs.Forms.{form_of};
 
 use crate::pieces::{is_same_word, tokens};
+use crate::plain::PlainBeh;
 use crate::stack::Tokens;
 use crate::token::{Mark, Token, Word};
-use rule_model::beh::Beh;
 use spec_core::items::Gate;
 use spec_core::memory::Memory;
 use std::alloc::{AllocError, AllocFailed, Global};
@@ -236,12 +236,12 @@ fn kind(gates: &[Word], tokens: &mut Tokens) -> Result<(), ReadFault>
 }
 
 // The prefixes before stop.
-fn prefixed(alloc: Global, prefixes: &[Gate]) -> Result<Beh, Memory>
-    ensures { IfOk result (λ b. behaviour_of b ≡ chain prefixes.now) }
+fn prefixed(alloc: Global, prefixes: &[Gate]) -> Result<PlainBeh, Memory>
+    ensures { IfOk result (λ b. plain_of b ≡ chain prefixes.now) }
 {
     match prefixes {
-        [] => Ok(Beh::Stop),
-        [gate, others @ ..] => Beh::act(alloc, *gate, prefixed(alloc, others)?),
+        [] => Ok(PlainBeh::Stop),
+        [gate, others @ ..] => PlainBeh::act(alloc, *gate, prefixed(alloc, others)?),
     }
 }
 
@@ -306,9 +306,9 @@ fn alternatives(
     gates: &[Word],
     mut prefixes: Vec<Gate>,
     tokens: &mut Tokens,
-) -> Result<Beh, ReadFault>
+) -> Result<PlainBeh, ReadFault>
     ensures ok { IfOk result
-        (λ b. read_alternatives gates.now prefixes.items tokens.old ≡ Some (record { gates = gates.now; behaviour = behaviour_of b })) }
+        (λ b. read_alternatives gates.now prefixes.items tokens.old ≡ Some (record { gates = gates.now; behaviour = plain_of b })) }
     ensures unfit { IsErrOf result ReadFault.Unfit → read_alternatives gates.now prefixes.items tokens.old ≡ None }
 {
     match next_step(tokens)? {
@@ -325,19 +325,19 @@ fn alternatives(
 }
 
 // The choice between the prefixes before stop and the others.
-fn either(alloc: Global, prefixes: &[Gate], others: Beh) -> Result<Beh, ReadFault>
-    ensures ok { IfOk result (λ b. behaviour_of b ≡ choice (chain prefixes.now) (behaviour_of others)) }
+fn either(alloc: Global, prefixes: &[Gate], others: PlainBeh) -> Result<PlainBeh, ReadFault>
+    ensures ok { IfOk result (λ b. plain_of b ≡ choice (chain prefixes.now) (plain_of others)) }
     ensures fits { IsErrOf result ReadFault.Unfit → ⊥ }
 {
     let first = prefixed(alloc, prefixes)?;
-    Ok(Beh::choice(alloc, first, others)?)
+    Ok(PlainBeh::choice(alloc, first, others)?)
 }
 
 /// A specification of the first form: its gates as its heading spells them, and its behaviour.
 #[derive(Drop)]
 pub struct Specification {
     pub gates: Vec<Word>,
-    pub behaviour: Beh,
+    pub behaviour: PlainBeh,
 }
 
 // Takes the heading up to its name.

@@ -1,13 +1,12 @@
 // Steps of prefixes and choices.
 
 ghost use Rattle.std.specs.Prelude.{◌≡◌, ◌+◌, ◌<◌, ◌^◌, IfOk, IfSome, IfNone, MatchBool, true, false};
-ghost use Rattle.rule_model.specs.Behaviours.{behaviour_of, act};
 ghost use Rattle.rule_model.specs.Derivations.{derivation_of, chl, chr};
-ghost use Rattle.rule_model.specs.Derives.{NoStep, SomeStep};
 ghost use Rattle.first_form.specs.Trace.{IsPlainTree};
-ghost use Rattle.first_form.specs.Walk.{IsFirstAt, IsNeverAt};
+ghost use Rattle.first_form.specs.Plain.{plain_of, act};
+ghost use Rattle.first_form.specs.Walk.{IsFirstAt, IsNeverAt, IsStuck, CanStep};
 
-use rule_model::beh::Beh;
+use crate::plain::PlainBeh;
 use rule_model::rules::{Rules, Slots};
 use spec_core::items::Gate;
 use spec_core::memory::Memory;
@@ -17,15 +16,20 @@ use std::alloc::Global;
 #[derive(Drop)]
 pub struct Step {
     pub rules: Rules,
-    pub rest: Beh,
+    pub rest: PlainBeh,
 }
 
 // The step of a prefix.
 #[tactic(auto, using(crate::proofs::WalkLemmas::prefix_steps, crate::proofs::WalkLemmas::never_of_prefix))]
-fn prefix_step(alloc: Global, gate: Gate, rest: &Beh, wanted: Gate) -> Result<Option<Step>, Memory>
+fn prefix_step(
+    alloc: Global,
+    gate: Gate,
+    rest: &PlainBeh,
+    wanted: Gate,
+) -> Result<Option<Step>, Memory>
     ensures some { IfOk result
-        (λ o. IfSome o (λ s. IsFirstAt (act gate (behaviour_of rest.now)) wanted (derivation_of s.rules) (behaviour_of s.rest))) }
-    ensures none { IfOk result (λ o. IfNone o (IsNeverAt (act gate (behaviour_of rest.now)) wanted)) }
+        (λ o. IfSome o (λ s. IsFirstAt (act gate (plain_of rest.now)) wanted (derivation_of s.rules) (plain_of s.rest))) }
+    ensures none { IfOk result (λ o. IfNone o (IsNeverAt (act gate (plain_of rest.now)) wanted)) }
     ensures plain { IfOk result (λ o. IfSome o (λ s. IsPlainTree (derivation_of s.rules))) }
 {
     if gate == wanted {
@@ -40,7 +44,7 @@ fn prefix_step(alloc: Global, gate: Gate, rest: &Beh, wanted: Gate) -> Result<Op
 // The step of a choice by its left side.
 fn left_step(alloc: Global, part: Step) -> Result<Step, Memory>
     ensures tree { IfOk result (λ s. derivation_of s.rules ≡ chl (derivation_of part.rules)) }
-    ensures rest { IfOk result (λ s. behaviour_of s.rest ≡ behaviour_of part.rest) }
+    ensures rest { IfOk result (λ s. plain_of s.rest ≡ plain_of part.rest) }
 {
     let Step { rules, rest } = part;
     Ok(Step {
@@ -52,7 +56,7 @@ fn left_step(alloc: Global, part: Step) -> Result<Step, Memory>
 // The step of a choice by its right side.
 fn right_step(alloc: Global, part: Step) -> Result<Step, Memory>
     ensures tree { IfOk result (λ s. derivation_of s.rules ≡ chr (derivation_of part.rules)) }
-    ensures rest { IfOk result (λ s. behaviour_of s.rest ≡ behaviour_of part.rest) }
+    ensures rest { IfOk result (λ s. plain_of s.rest ≡ plain_of part.rest) }
 {
     let Step { rules, rest } = part;
     Ok(Step {
@@ -63,15 +67,15 @@ fn right_step(alloc: Global, part: Step) -> Result<Step, Memory>
 
 /// The first step at the gate.
 #[tactic(auto, using(crate::proofs::WalkLemmas::first_steps))]
-pub fn first_step(alloc: Global, from: &Beh, gate: Gate) -> Result<Option<Step>, Memory>
-    ensures some { IfOk result (λ o. IfSome o (λ s. IsFirstAt (behaviour_of from.now) gate (derivation_of s.rules) (behaviour_of s.rest))) }
-    ensures none { IfOk result (λ o. IfNone o (IsNeverAt (behaviour_of from.now) gate)) }
+pub fn first_step(alloc: Global, from: &PlainBeh, gate: Gate) -> Result<Option<Step>, Memory>
+    ensures some { IfOk result (λ o. IfSome o (λ s. IsFirstAt (plain_of from.now) gate (derivation_of s.rules) (plain_of s.rest))) }
+    ensures none { IfOk result (λ o. IfNone o (IsNeverAt (plain_of from.now) gate)) }
     ensures plain { IfOk result (λ o. IfSome o (λ s. IsPlainTree (derivation_of s.rules))) }
 {
     match from {
-        Beh::Stop => Ok(None),
-        Beh::Act { gate: at, rest } => prefix_step(alloc, *at, rest, gate),
-        Beh::Choice(left, right) => match first_step(alloc, left, gate)? {
+        PlainBeh::Stop => Ok(None),
+        PlainBeh::Act { gate: at, rest } => prefix_step(alloc, *at, rest, gate),
+        PlainBeh::Choice(left, right) => match first_step(alloc, left, gate)? {
             Some(step) => Ok(Some(left_step(alloc, step)?)),
             None => match first_step(alloc, right, gate)? {
                 Some(step) => Ok(Some(right_step(alloc, step)?)),
@@ -83,13 +87,13 @@ pub fn first_step(alloc: Global, from: &Beh, gate: Gate) -> Result<Option<Step>,
 
 /// Whether the behaviour has no step.
 #[tactic(auto, using(crate::proofs::WalkLemmas::stuck_steps))]
-pub fn is_stuck(from: &Beh) -> bool
-    ensures { MatchBool result (NoStep (behaviour_of from.now)) (SomeStep (behaviour_of from.now)) }
+pub fn is_stuck(from: &PlainBeh) -> bool
+    ensures { MatchBool result (IsStuck (plain_of from.now)) (CanStep (plain_of from.now)) }
 {
     match from {
-        Beh::Stop => true,
-        Beh::Act { .. } => false,
-        Beh::Choice(left, right) => {
+        PlainBeh::Stop => true,
+        PlainBeh::Act { .. } => false,
+        PlainBeh::Choice(left, right) => {
             if is_stuck(left) {
                 is_stuck(right)
             } else {

@@ -1,6 +1,7 @@
 -- Logs that are derivations: each entry is possible in the state before it; and legal logs, in which each reply is justified too.
-use Rattle.std.specs.Prelude.{ℕ, ◌+◌, ◌<◌, ◌≡◌, List, [], ◌∷◌, Option, Some, None, Contains, map}
+use Rattle.std.specs.Prelude.{ℕ, ◌+◌, ◌<◌, ◌≡◌, List, [], ◌∷◌, Option, Some, None, Contains, map, length}
 use Rattle.std.specs.List.Sorted.{IsStrictlyIncreasing}
+use Rattle.spec_core.specs.Code.{Program}
 use Rattle.rule_model.specs.declared.action.Action.{Action}
 use Rattle.rule_model.specs.declared.offer.Offer.{Offer}
 use Rattle.rule_model.specs.Behaviours.{Behaviour}
@@ -47,23 +48,23 @@ IsReplyAt (spent at term) n = at ≡ n
 IsReplyAt (too_large at term) n = at ≡ n
 IsReplyAt (limit at kind) n = at ≡ n
 
--- no step meets one of these offers
-abbrev pub NoneMet : (ℕ → ℕ) → State → List PendingOffer → Type 0
-NoneMet result_sort s offers = (p : PendingOffer) → Contains offers p → NeverMeets result_sort s.behaviour p.offer
+module _ (program : Program) where
+  -- no step meets one of these offers
+  abbrev pub NoneMet : State → List PendingOffer → Type 0
+  NoneMet s offers = (p : PendingOffer) → Contains offers p → NeverMeets program s.behaviour p.offer
 
-module _ (result_sort : ℕ → ℕ) (gates : ℕ) where
   -- who takes part in an action: nobody in one that isn't seen, and else a client whose pending offer it meets
   abbrev pub IsAgreed : State → Action → Option OfferName → Type 0
   IsAgreed s action None = IsUnseen action
-  IsAgreed s action (Some name) = IsPendingAnd s name (Meets result_sort action)
+  IsAgreed s action (Some name) = IsPendingAnd s name (Meets program.theory action)
 
-  -- the entry is possible in the state s, which becomes t; the specification has so many gates
+  -- the entry is possible in the state s, which becomes t
   abbrev pub IsPossible : State → Event → State → Type 0
   IsPossible s (pended client number offer ask) t =
-      Contains s.open_clients client × IsIdle s client × (number ≡ s.made client + 1) × (offer.gate.0 < gates) ×
+      Contains s.open_clients client × IsIdle s client × (number ≡ s.made client + 1) × (offer.gate.0 < length program.gates) ×
       (t ≡ after_offer s client number offer ask)
   IsPossible s (acted action d by) t =
-      (rest : Behaviour) × Derives s.behaviour d action rest × IsAgreed s action by × (t ≡ after_action s action by rest)
+      (rest : Behaviour) × Derives program s.behaviour d action rest × IsAgreed s action by × (t ≡ after_action s action by rest)
   IsPossible s (replied client number answer) t =
       IsPending s (client, number) × IsReplyAt answer s.actions × (t ≡ after_reply s (client, number))
   IsPossible s (stalled names) t = (names ≡ [] → ⊥) × NamesAll s names × (t ≡ after_stall s)
@@ -78,9 +79,9 @@ module _ (result_sort : ℕ → ℕ) (gates : ℕ) where
   --   deadlock: no rule gives a step;
   --   stall: each open client has an offer pending, no step is unseen, and none meets a pending offer.
   abbrev pub Justifies : State → Event → Type 0
-  Justifies s (replied client number (deadlock at)) = NoStep s.behaviour
+  Justifies s (replied client number (deadlock at)) = NoStep program s.behaviour
   Justifies s (replied client number answer) = ⊥
-  Justifies s (stalled names) = AllWait s × NoUnseenStep s.behaviour × NoneMet result_sort s s.pending
+  Justifies s (stalled names) = AllWait s × NoUnseenStep program s.behaviour × NoneMet s s.pending
   Justifies s (pended client number offer ask) = Unit {0}
   Justifies s (acted action d by) = Unit {0}
   Justifies s (left client) = Unit {0}

@@ -1,9 +1,14 @@
 pub mod Behaviours
+pub mod Constructs
 pub mod Derivations
+pub mod Actions
+pub mod Substitution
+pub mod Code
+pub mod Fields
+pub mod Derives
 pub mod Answers
 pub mod Events
 pub mod Logs
-pub mod Derives
 pub mod Meets
 pub mod States
 pub mod Legal

@@ -6,5 +6,7 @@ pub mod beh;
 pub mod laws;
 pub mod log;
 pub mod offer;
+pub mod parts;
 pub mod reply;
 pub mod rules;
+pub mod view;

@@ -1,6 +1,6 @@
 // What happens in a session.
 
-ghost use Rattle.std.specs.Prelude.{◌≡◌, ◌++◌, ◌∷◌, [], OnOk, OnErr, map};
+ghost use Rattle.std.specs.Prelude.{◌≡◌, ◌++◌, ◌∷◌, [], IfOk, OnOk, OnErr, map};
 ghost use Rattle.rule_model.specs.Events.{event_of};
 
 use crate::action::Action;
@@ -27,6 +27,31 @@ pub enum Entry {
     Leave(u32),
 }
 
+impl Entry {
+    /// An equal entry.
+    pub fn copy(&self, alloc: Global) -> Result<Entry, Memory>
+        ensures equal { IfOk result (λ entry. event_of entry ≡ event_of self.now) }
+    {
+        match self {
+            Entry::Pend(client, number, offer, ask) => {
+                let offer = offer.copy(alloc)?;
+                Ok(Entry::Pend(*client, *number, offer, *ask))
+            }
+            Entry::Act(action, rules, by) => {
+                let action = action.copy(alloc)?;
+                let rules = rules.copy(alloc)?;
+                Ok(Entry::Act(action, rules, *by))
+            }
+            Entry::Reply(client, number, reply) => {
+                let reply = reply.copy(alloc)?;
+                Ok(Entry::Reply(*client, *number, reply))
+            }
+            Entry::Stall(names) => Ok(Entry::Stall(Vec::from_slice(alloc, names)?)),
+            Entry::Leave(client) => Ok(Entry::Leave(*client)),
+        }
+    }
+}
+
 /// What happened, in order, which contracts see as the list of its events.
 #[derive(Drop)]
 pub struct Log {
@@ -50,6 +75,17 @@ impl Log {
         ensures { map event_of result.now ≡ events_of self.now }
     {
         self.entries.as_slice()
+    }
+
+    /// An equal log.
+    pub fn copy(&self, alloc: Global) -> Result<Log, Memory>
+        ensures equal { IfOk result (λ log. events_of log ≡ events_of self.now) }
+    {
+        let mut entries = Vec::new(alloc);
+        for entry in &self.entries {
+            entries.push(entry.copy(alloc)?)?;
+        }
+        Ok(Log { entries })
     }
 
     /// Adds an entry.

@@ -1,7 +1,7 @@
 use Rattle.std.proofs.Common.{◌+◌, ℕ, List, [], take, length, arith, sym, subst, All}
 use Rattle.std.proofs.lemmas.List.{take_more}
 use Rattle.spec_core.specs.declared.items.Gate.{Gate}
-use Rattle.rule_model.specs.Behaviours.{behaviour_of}
+use Rattle.first_form.specs.Plain.{plain_of}
 use Rattle.rule_model.specs.Events.{Event}
 use Rattle.rule_model.specs.Logs.{events_of}
 use Rattle.first_form.specs.Trace.{IsPlain}
@@ -14,9 +14,9 @@ loop-gate-init c = record {
   so_far =
       subst
       (λ (log : List Event).
-      IsSessionSoFar (length c.args.gates.now) (behaviour_of c.args.start) [] log (behaviour_of c.args.start) 0 0)
+      IsSessionSoFar (length c.args.gates.now) (plain_of c.args.start) [] log (plain_of c.args.start) 0 0)
       (sym c.new-log.ensures)
-      (session_begins (length c.args.gates.now) (behaviour_of c.args.start));
+      (session_begins (length c.args.gates.now) (plain_of c.args.start));
   plain = subst (All IsPlain) (sym c.new-log.ensures) (λ k d within. absurd (omega arith));
   counted = omega arith;
   fewer = omega arith;
@@ -29,12 +29,12 @@ loop-gate-preserved c =
     record {
       so_far =
           subst (λ (done : List Gate).
-          IsSessionSoFar gates (behaviour_of c.args.start) done (events_of c.answer.new.log) (behaviour_of c.in_ok-rest.rest)
+          IsSessionSoFar gates (plain_of c.args.start) done (events_of c.answer.new.log) (plain_of c.in_ok-rest.rest)
           (c.loop-gate.number + 1) c.in_ok-rest.later)
           (sym (take_more c.args.wishes.now i _ c.loop-gate-test.true))
-          (session_goes_on gates (behaviour_of c.args.start) (take i c.args.wishes.now) (events_of c.loop-gate.log)
-          (events_of c.answer.new.log) (behaviour_of c.loop-gate.from) c.loop-gate.number c.loop-gate.actions _
-          (behaviour_of c.in_ok-rest.rest) c.in_ok-rest.later
+          (session_goes_on gates (plain_of c.args.start) (take i c.args.wishes.now) (events_of c.loop-gate.log)
+          (events_of c.answer.new.log) (plain_of c.loop-gate.from) c.loop-gate.number c.loop-gate.actions _
+          (plain_of c.in_ok-rest.rest) c.in_ok-rest.later
           (c.requires i _ c.loop-gate-test.true) c.loop-gate.invariant.so_far c.in_ok-rest.ensures.answer);
       plain = c.in_ok-rest.ensures.plain c.loop-gate.invariant.plain;
       counted = omega (arith, c.loop-gate.invariant.counted);

@@ -1,5 +1,5 @@
 use Rattle.std.proofs.Common.{◌≡◌, ◌≤◌, length, take, All}
-use Rattle.rule_model.specs.Behaviours.{behaviour_of}
+use Rattle.first_form.specs.Plain.{plain_of}
 use Rattle.rule_model.specs.Logs.{events_of}
 use Rattle.first_form.specs.Trace.{IsPlain}
 use Rattle.first_form.specs.Session.{IsSessionSoFar}
@@ -8,7 +8,7 @@ use Rattle.first_form.proofs.session.drive.Given as goal
 abbrev pub invariant-loop-gate : goal.invariant-loop-gate
 invariant-loop-gate l = record {
   so_far :
-      IsSessionSoFar (length l.gates) (behaviour_of l.fn.start) (take l.gate-index l.wishes) (events_of l.log) (behaviour_of l.from)
+      IsSessionSoFar (length l.gates) (plain_of l.fn.start) (take l.gate-index l.wishes) (events_of l.log) (plain_of l.from)
       l.number l.actions;
   plain : All IsPlain (events_of l.log);
   counted : l.number ≡ l.gate-index;

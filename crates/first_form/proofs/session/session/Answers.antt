@@ -1,5 +1,5 @@
 use Rattle.std.proofs.Common.{rules, length}
-use Rattle.rule_model.specs.Behaviours.{behaviour_of}
+use Rattle.first_form.specs.Plain.{plain_of}
 use Rattle.rule_model.specs.Events.{ending_of}
 use Rattle.rule_model.specs.Logs.{events_of}
 use Rattle.first_form.proofs.WholeSession.{nobody_there, client_leaves}
@@ -7,11 +7,11 @@ use Rattle.first_form.proofs.session.session.Goals as goal
 
 pub returns-then-is_empty-clause-session : goal.returns-then-is_empty-clause-session
 returns-then-is_empty-clause-session c =
-    nobody_there (length c.args.gates.now) (behaviour_of c.args.start) c.args.wishes.now (events_of c.new.result)
+    nobody_there (length c.args.gates.now) (plain_of c.args.start) c.args.wishes.now (events_of c.new.result)
     (ending_of c.end_of-end.result) (search rules) c.new.ensures c.end_of-end.ensures.end
 
 pub returns-clause-session : goal.returns-clause-session
 returns-clause-session c =
-    client_leaves (length c.args.gates.now) (behaviour_of c.args.start) c.args.wishes.now (events_of c.in_ok-log.log)
-    (events_of c.push.new.self) (behaviour_of c.in_ok-log.rest) (ending_of c.end_of-end-2.result) (search rules)
+    client_leaves (length c.args.gates.now) (plain_of c.args.start) c.args.wishes.now (events_of c.in_ok-log.log)
+    (events_of c.push.new.self) (plain_of c.in_ok-log.rest) (ending_of c.end_of-end-2.result) (search rules)
     c.in_ok-log.ensures.driven c.in_ok-push.ensures.ok c.end_of-end-2.ensures.end
