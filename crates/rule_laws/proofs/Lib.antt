@@ -1,0 +1,4 @@
+pub mod Determined
+pub mod OneStep
+pub mod Rows
+pub mod Spelling

@@ -1,0 +1,4 @@
+// What follows from the inference rules.
+#![tactic(auto)]
+
+pub mod laws;
