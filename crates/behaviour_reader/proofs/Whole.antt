@@ -204,37 +204,40 @@ refused_behind : (r0 r1 r2 r3 ra rb rj : List Refusal) → r1 ≡ r0 ++ ra → r
 refused_behind r0 r1 r2 r3 ra rb rj one two three =
     three ∙ ap (λ z. z ++ rj) (two ∙ ap (λ z. z ++ rb) one ∙ append_assoc r0 ra rb) ∙ append_assoc r0 (ra ++ rb) rj
 
-pub choice_read : (s : Site) (place : Place) (a b : Construct) (o0 o1 o2 o3 : Output) (p q : ReadPart) (ends : Option Functionality)
+-- two parts of which no more is refused than that they may not stand together
+joined_read : (whole : Construct) (j : Joining) (s : Site) (place : Place) (a b : Construct) (o0 o1 o2 o3 : Output) (p q : ReadPart) (ends : Option Functionality)
+    → ((x y : Option Read) (ra rb : List Refusal) → IsRead s (length o0.code) a x ra → IsRead s (after (length o0.code) x) b y rb →
+    IsRead s (length o0.code) whole (joined_as (length o0.code) (Some j) x y) ((ra ++ rb) ++ joining_refusals place (Some j) x y))
     → IsPartRead s a o0 o1 p → IsPartRead s b o1 o2 q
-    → ((base : List Node) (x y : Option Read) → StandBoth base x y o2.code p q → AreJoined base place (Some in_choice) x y o2 o3 ends)
-    → HasRead (λ from. IsRead s from (chooses place a b)) o0 o3 ends
-choice_read s place a b o0 o1 o2 o3 p q ends hp hq join =
-    let h = both s a s b place (Some in_choice) o0 o1 o1 o2 o3 p q ends hp refl hq join in
-    let rj = joining_refusals place (Some in_choice) h.first h.second in
+    → ((base : List Node) (x y : Option Read) → StandBoth base x y o2.code p q → AreJoined base place (Some j) x y o2 o3 ends)
+    → HasRead (λ from. IsRead s from whole) o0 o3 ends
+joined_read whole j s place a b o0 o1 o2 o3 p q ends such hp hq join =
+    let h = both s a s b place (Some j) o0 o1 o1 o2 o3 p q ends hp refl hq join in
+    let rj = joining_refusals place (Some j) h.first h.second in
     record {
-      read = joined_as (length o0.code) (Some in_choice) h.first h.second;
+      read = joined_as (length o0.code) (Some j) h.first h.second;
       refusals = (h.first_refusals ++ h.second_refusals) ++ rj;
-      such = chosen_either place a b h.first h.second h.first_refusals h.second_refusals h.first_such h.second_such;
+      such = such h.first h.second h.first_refusals h.second_refusals h.first_such h.second_such;
       code = h.joined.stands.behind;
       refused = refused_behind o0.refusals o1.refusals o2.refusals o3.refusals h.first_refusals h.second_refusals rj h.first_refused h.second_refused h.joined.refused;
       ends = h.joined.stands.found;
     }
 
+pub choice_read : (s : Site) (place : Place) (a b : Construct) (o0 o1 o2 o3 : Output) (p q : ReadPart) (ends : Option Functionality)
+    → IsPartRead s a o0 o1 p → IsPartRead s b o1 o2 q
+    → ((base : List Node) (x y : Option Read) → StandBoth base x y o2.code p q → AreJoined base place (Some in_choice) x y o2 o3 ends)
+    → HasRead (λ from. IsRead s from (chooses place a b)) o0 o3 ends
+choice_read s place a b o0 o1 o2 o3 p q ends =
+    joined_read (chooses place a b) in_choice s place a b o0 o1 o2 o3 p q ends
+    (λ x y ra rb first second. chosen_either place a b x y ra rb first second)
+
 pub disable_read : (s : Site) (place : Place) (a b : Construct) (o0 o1 o2 o3 : Output) (p q : ReadPart) (ends : Option Functionality)
     → IsPartRead s a o0 o1 p → IsPartRead s b o1 o2 q
     → ((base : List Node) (x y : Option Read) → StandBoth base x y o2.code p q → AreJoined base place (Some in_disabling) x y o2 o3 ends)
     → HasRead (λ from. IsRead s from (disables place a b)) o0 o3 ends
-disable_read s place a b o0 o1 o2 o3 p q ends hp hq join =
-    let h = both s a s b place (Some in_disabling) o0 o1 o1 o2 o3 p q ends hp refl hq join in
-    let rj = joining_refusals place (Some in_disabling) h.first h.second in
-    record {
-      read = joined_as (length o0.code) (Some in_disabling) h.first h.second;
-      refusals = (h.first_refusals ++ h.second_refusals) ++ rj;
-      such = disabled_by place a b h.first h.second h.first_refusals h.second_refusals h.first_such h.second_such;
-      code = h.joined.stands.behind;
-      refused = refused_behind o0.refusals o1.refusals o2.refusals o3.refusals h.first_refusals h.second_refusals rj h.first_refused h.second_refused h.joined.refused;
-      ends = h.joined.stands.found;
-    }
+disable_read s place a b o0 o1 o2 o3 p q ends =
+    joined_read (disables place a b) in_disabling s place a b o0 o1 o2 o3 p q ends
+    (λ x y ra rb first second. disabled_by place a b x y ra rb first second)
 
 composed_as : (from : ℕ) (gates : Option Synchronised) (x y : Option Read) → joined_as from (option_map in_parallel gates) x y ≡ composed from gates x y
 composed_as from None x y = refl

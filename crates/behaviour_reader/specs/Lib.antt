@@ -1,3 +1,4 @@
 pub mod Frames
+pub mod Overs
 pub mod Parts
 pub mod Views

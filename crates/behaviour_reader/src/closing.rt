@@ -119,6 +119,7 @@ fn close_copies(
 }
 
 /// Puts what stands around a part behind its nodes, if the part is read.
+#[inline(never)]
 pub fn close(
     alloc: Global,
     opened: Opened,

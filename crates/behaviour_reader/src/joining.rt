@@ -140,6 +140,7 @@ fn ready(
 /// Puts out what stands behind two parts. Where they may not stand together, that is refused at this place (25 WrongFunctionality); there, and
 /// where something else hinders it, nothing is left of them.
 #[tactic(auto, using(crate::proofs::Joined::none_joined, crate::proofs::Joined::some_joined))]
+#[inline(never)]
 pub fn join(
     alloc: Global,
     place: Place,

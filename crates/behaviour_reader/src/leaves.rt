@@ -49,6 +49,7 @@ fn put_single(
 
 /// `stop`.
 #[tactic(auto, using(crate::proofs::Whole::stop_read))]
+#[inline(never)]
 pub fn read_stop(out: &mut Output) -> Result<Option<Functionality>, Memory>
     ensures { IfOk result (λ found. (s : sites.Site) → HasRead (λ from. IsRead s from stops) (output_of out.old) (output_of out.new)
         (option_map functionality_of found)) }
@@ -94,6 +95,7 @@ fn put_exit_if(
 }
 
 /// The end with values.
+#[inline(never)]
 pub fn read_exit(
     alloc: Global,
     site: &Site<'_>,
@@ -177,6 +179,7 @@ fn read_call_of(
 }
 
 /// A process with actual gates and values.
+#[inline(never)]
 pub fn read_call(
     alloc: Global,
     site: &Site<'_>,

@@ -12,5 +12,6 @@ pub mod mark;
 pub mod names;
 pub mod opened;
 pub mod opening;
+pub mod over;
 pub mod read_part;
 pub mod reader;

@@ -12,6 +12,7 @@ ghost use Rattle.behaviour_readings.specs.Sites.{next_gate, with_gates};
 ghost use Rattle.behaviour_readings.specs.Views.{fields_of, output_of};
 ghost use Rattle.behaviour_reader.specs.Frames as frames;
 ghost use Rattle.behaviour_reader.specs.Frames.{value_layer, in_parallel, in_enabling, layers_if, action_if, copies_if};
+ghost use Rattle.behaviour_reader.specs.Overs.{whole_of};
 ghost use Rattle.behaviour_reader.specs.Parts.{Opens, OpensChoices, OpensRight};
 ghost use Rattle.behaviour_reader.specs.Views.{maker_of, frame_of, joining_of};
 
@@ -22,6 +23,7 @@ use crate::layer::Layer;
 use crate::mark::Mark;
 use crate::names::{add_bound_twice, add_chosen_twice, add_gates_twice, add_offered_twice};
 use crate::opened::{Opened, OpenedRight};
+use crate::over::Over;
 use behaviour_readings::declarations::{
     add_declaration_refusals, add_unknown_gate, add_unknown_gates, gates_named, put_declared,
 };
@@ -40,8 +42,8 @@ use spec_core::memory::Memory;
 use spec_core::term::Term;
 use std::alloc::Global;
 
-/// `i`.
-pub fn open_inner(alloc: Global, site: &Site<'_>, out: &Output) -> Result<Opened, Memory>
+// `i`.
+fn open_inner(alloc: Global, site: &Site<'_>, out: &Output) -> Result<Opened, Memory>
     ensures { IfOk result (λ o. Opens site.now acts_inside (output_of out.now) (output_of out.now) site.now o) }
 {
     let mark = Mark::of(site, out);
@@ -75,8 +77,8 @@ fn action_frame(
     }
 }
 
-/// An action, whose variables what follows it sees.
-pub fn open_action(
+// An action, whose variables what follows it sees.
+fn open_action(
     alloc: Global,
     site: &mut Site<'_>,
     gate: &Token,
@@ -108,8 +110,8 @@ fn guard_frame(alloc: Global, found: Option<(Term, Term)>) -> Result<Frame, Memo
     }
 }
 
-/// A condition.
-pub fn open_guard(
+// A condition.
+fn open_guard(
     alloc: Global,
     site: &Site<'_>,
     condition: &Premiss,
@@ -134,8 +136,8 @@ fn let_frame(alloc: Global, found: Option<Vec<(u32, Sort, Term)>>) -> Result<Fra
     }
 }
 
-/// A `let`, whose values don't see its variables.
-pub fn open_let(
+// A `let`, whose values don't see its variables.
+fn open_let(
     alloc: Global,
     site: &mut Site<'_>,
     from: &[Binding],
@@ -173,8 +175,8 @@ fn values_frame(alloc: Global, vars: Option<Vec<(u32, Sort)>>) -> Result<Frame, 
     }
 }
 
-/// A choice of values.
-pub fn open_values(
+// A choice of values.
+fn open_values(
     alloc: Global,
     site: &mut Site<'_>,
     declared: &[Declaration],
@@ -239,8 +241,8 @@ fn put_choices<'a>(
     Ok(all)
 }
 
-/// A choice of gates.
-pub fn open_gates<'a>(
+// A choice of gates.
+fn open_gates<'a>(
     alloc: Global,
     site: &mut Site<'a>,
     choices: &'a [GateChoice],
@@ -255,8 +257,8 @@ pub fn open_gates<'a>(
     Ok(Opened { mark, frame })
 }
 
-/// Gates that can't be seen.
-pub fn open_hide<'a>(
+// Gates that can't be seen.
+fn open_hide<'a>(
     alloc: Global,
     site: &mut Site<'a>,
     gates: &'a [Token],
@@ -294,8 +296,8 @@ fn copies_frame(
     }
 }
 
-/// Copies of a part at several gates.
-pub fn open_copies<'a>(
+// Copies of a part at several gates.
+fn open_copies<'a>(
     alloc: Global,
     site: &mut Site<'a>,
     gate: &'a Token,
@@ -314,6 +316,36 @@ pub fn open_copies<'a>(
     Ok(Opened { mark, frame })
 }
 
+/// A construct over one part: what is read of it before the part.
+#[inline(never)]
+pub fn open<'a>(
+    alloc: Global,
+    site: &mut Site<'a>,
+    over: Over<'a>,
+    out: &mut Output,
+) -> Result<Opened, Memory>
+    ensures { IfOk result (λ o. Opens site.old (whole_of over.entry) (output_of out.old) (output_of out.new) site.new o) }
+{
+    match over {
+        Over::Inner => open_inner(alloc, site, out),
+        Over::Act {
+            gate,
+            offers,
+            predicate,
+        } => open_action(alloc, site, gate, offers, predicate, out),
+        Over::Guard(condition) => open_guard(alloc, site, condition, out),
+        Over::Let(bindings) => open_let(alloc, site, bindings, out),
+        Over::Values(declarations) => open_values(alloc, site, declarations, out),
+        Over::Gates(choices) => open_gates(alloc, site, choices, out),
+        Over::Hide(gates) => open_hide(alloc, site, gates, out),
+        Over::Par {
+            gate,
+            gates,
+            operator,
+        } => open_copies(alloc, site, gate, gates, operator, out),
+    }
+}
+
 // What stands behind two parts side by side.
 fn parallel_joining(gates: Option<GateSet>) -> Option<Joining>
     ensures { option_map joining_of result ≡ option_map in_parallel (option_map synchronised_of gates) }
@@ -325,6 +357,7 @@ fn parallel_joining(gates: Option<GateSet>) -> Option<Joining>
 }
 
 /// What stands behind two parts side by side, where the gates at which they synchronise are in scope.
+#[inline(never)]
 pub fn open_parallel(
     alloc: Global,
     site: &Site<'_>,
@@ -353,6 +386,7 @@ fn enable_joining(vars: Option<Vec<(u32, Sort)>>) -> Option<Joining>
 }
 
 /// The variables that the right part of an enabling sees.
+#[inline(never)]
 pub fn open_right(
     alloc: Global,
     site: &mut Site<'_>,

@@ -1,33 +1,36 @@
 // Constructs are read where they stand.
+//
+// The functions that call each other keep little while they do, and none of them is merged with another: what stands before and behind the
+// parts of a construct is read and put out by functions that return before the parts are read, or are called behind them.
 
 ghost use Rattle.std.specs.Prelude.{◌≡◌, IfOk, OnOk, option_map};
-ghost use Rattle.constructs.specs.Constructs as written;
+ghost use Rattle.constructs.specs.Constructs.{chooses, composes, enables, disables};
 ghost use Rattle.constructs.specs.Views.{construct_of};
-ghost use Rattle.behaviour_readings.specs.Outputs as outputs;
 ghost use Rattle.behaviour_readings.specs.Outputs.{HasRead};
 ghost use Rattle.behaviour_readings.specs.Readings.{IsRead};
-ghost use Rattle.behaviour_readings.specs.Sites as sites;
 ghost use Rattle.behaviour_readings.specs.Views.{functionality_of, output_of};
-ghost use Rattle.behaviour_reader.specs.Parts.{Opens, IsPartRead};
+ghost use Rattle.behaviour_reader.specs.Overs.{whole_of};
+ghost use Rattle.behaviour_reader.specs.Parts.{IsPartRead};
 
 use crate::closing::close;
 use crate::joining::{Joining, join};
 use crate::leaves::{read_call, read_exit, read_stop};
-use crate::opened::Opened;
-use crate::opening::{
-    open_action, open_copies, open_gates, open_guard, open_hide, open_inner, open_let,
-    open_parallel, open_right, open_values,
-};
+use crate::opening::{open, open_parallel, open_right};
+use crate::over::Over;
 use crate::read_part::ReadPart;
 use behaviour_readings::functionality::Functionality;
 use behaviour_readings::output::Output;
 use behaviour_readings::site::Site;
 use constructs::construct::Construct;
+use lotos_ast::behaviour::Operator;
+use lotos_ast::declaration::Declaration;
+use lotos_ast::place::Place;
 use spec_core::memory::Memory;
 use std::alloc::Global;
 
 /// A construct where it stands: its nodes are put behind those that are there, its refusals behind those before, and it is answered how it
 /// ends, if nothing hinders it. The site is found again as it was.
+#[inline(never)]
 #[cycle(reading)]
 pub fn read<'a>(
     alloc: Global,
@@ -47,41 +50,35 @@ pub fn read<'a>(
             gates,
             values,
         } => read_call(alloc, site, name, gates, values, out),
-        Construct::Inner { rest } => {
-            let opened = open_inner(alloc, site, out)?;
-            read_inside(alloc, site, opened, rest, out)
-        }
+        Construct::Inner { rest } => read_around(alloc, site, Over::Inner, rest, out),
         Construct::Act {
             gate,
             offers,
             predicate,
             rest,
         } => {
-            let opened = open_action(alloc, site, gate, offers, *predicate, out)?;
-            read_inside(alloc, site, opened, rest, out)
+            let over = Over::Act {
+                gate: *gate,
+                offers: *offers,
+                predicate: *predicate,
+            };
+            read_around(alloc, site, over, rest, out)
         }
         Construct::Guard { condition, inner } => {
-            let opened = open_guard(alloc, site, condition, out)?;
-            read_inside(alloc, site, opened, inner, out)
+            read_around(alloc, site, Over::Guard(*condition), inner, out)
         }
         Construct::Let { bindings, inner } => {
-            let opened = open_let(alloc, site, bindings, out)?;
-            read_inside(alloc, site, opened, inner, out)
+            read_around(alloc, site, Over::Let(*bindings), inner, out)
         }
         Construct::Values {
             declarations,
             inner,
-        } => {
-            let opened = open_values(alloc, site, declarations, out)?;
-            read_inside(alloc, site, opened, inner, out)
-        }
+        } => read_around(alloc, site, Over::Values(*declarations), inner, out),
         Construct::Gates { choices, inner } => {
-            let opened = open_gates(alloc, site, choices, out)?;
-            read_inside(alloc, site, opened, inner, out)
+            read_around(alloc, site, Over::Gates(*choices), inner, out)
         }
         Construct::Hide { gates, inner } => {
-            let opened = open_hide(alloc, site, gates, out)?;
-            read_inside(alloc, site, opened, inner, out)
+            read_around(alloc, site, Over::Hide(*gates), inner, out)
         }
         Construct::Par {
             gate,
@@ -89,65 +86,56 @@ pub fn read<'a>(
             operator,
             inner,
         } => {
-            let opened = open_copies(alloc, site, gate, gates, operator, out)?;
-            read_inside(alloc, site, opened, inner, out)
+            let over = Over::Par {
+                gate: *gate,
+                gates: *gates,
+                operator: *operator,
+            };
+            read_around(alloc, site, over, inner, out)
         }
         Construct::Choice { place, left, right } => {
-            let first = read_part(alloc, site, left, out)?;
-            let second = read_part(alloc, site, right, out)?;
-            join(alloc, *place, Some(Joining::Choice), first, second, out)
+            read_choice(alloc, site, *place, left, right, out)
         }
         Construct::Disable { place, left, right } => {
-            let first = read_part(alloc, site, left, out)?;
-            let second = read_part(alloc, site, right, out)?;
-            join(alloc, *place, Some(Joining::Disable), first, second, out)
+            read_disable(alloc, site, *place, left, right, out)
         }
         Construct::Parallel {
             place,
             operator,
             left,
             right,
-        } => {
-            let joining = open_parallel(alloc, site, operator, out)?;
-            let first = read_part(alloc, site, left, out)?;
-            let second = read_part(alloc, site, right, out)?;
-            join(alloc, *place, joining, first, second, out)
-        }
+        } => read_parallel(alloc, site, *place, operator, left, right, out),
         Construct::Enable {
             place,
             left,
             accepts,
             right,
-        } => {
-            let first = read_part(alloc, site, left, out)?;
-            let opened = open_right(alloc, site, accepts, out)?;
-            let second = read_part(alloc, site, right, out)?;
-            site.leave(opened.mark.variables, opened.mark.gates);
-            join(alloc, *place, opened.joining, first, second, out)
-        }
+        } => read_enable(alloc, site, *place, left, accepts, right, out),
     }
 }
 
-// The part of a construct that is opened, and what stands around it.
+// A construct over one part.
+#[inline(never)]
 #[cycle(reading)]
-fn read_inside<'a>(
+fn read_around<'a>(
     alloc: Global,
     site: &mut Site<'a>,
-    opened: Opened,
+    over: Over<'a>,
     part: &Construct<'a>,
     out: &mut Output,
 ) -> Result<Option<Functionality>, Memory>
-    ensures read { IfOk result (λ found. (s : sites.Site) (whole : written.Construct → written.Construct) (old : outputs.Output) →
-        Opens s whole old (output_of out.old) site.old opened →
-        HasRead (λ from. IsRead s from (whole (construct_of part.now))) old (output_of out.new) (option_map functionality_of found)) }
-    ensures site { OnOk result (site.new ≡ sites.with_first site.old opened.mark.variables opened.mark.gates) }
+    ensures read { IfOk result (λ found. HasRead (λ from. IsRead site.old from (whole_of over.entry (construct_of part.now)))
+        (output_of out.old) (output_of out.new) (option_map functionality_of found)) }
+    ensures site { OnOk result (site.new ≡ site.old) }
 {
+    let opened = open(alloc, site, over, out)?;
     let found = read(alloc, site, part, out)?;
     site.leave(opened.mark.variables, opened.mark.gates);
     close(alloc, opened, found, out)
 }
 
 // One of two parts.
+#[inline(never)]
 #[cycle(reading)]
 fn read_part<'a>(
     alloc: Global,
@@ -162,4 +150,89 @@ fn read_part<'a>(
     let ends = read(alloc, site, part, out)?;
     let last = out.last()?;
     Ok(ReadPart { from, last, ends })
+}
+
+// A choice of two parts.
+#[inline(never)]
+#[cycle(reading)]
+fn read_choice<'a>(
+    alloc: Global,
+    site: &mut Site<'a>,
+    place: Place,
+    left: &Construct<'a>,
+    right: &Construct<'a>,
+    out: &mut Output,
+) -> Result<Option<Functionality>, Memory>
+    ensures read { IfOk result (λ found. HasRead (λ from. IsRead site.old from (chooses place (construct_of left.now)
+        (construct_of right.now))) (output_of out.old) (output_of out.new) (option_map functionality_of found)) }
+    ensures site { OnOk result (site.new ≡ site.old) }
+{
+    let first = read_part(alloc, site, left, out)?;
+    let second = read_part(alloc, site, right, out)?;
+    join(alloc, place, Some(Joining::Choice), first, second, out)
+}
+
+// A part, and one that may break into it.
+#[inline(never)]
+#[cycle(reading)]
+fn read_disable<'a>(
+    alloc: Global,
+    site: &mut Site<'a>,
+    place: Place,
+    left: &Construct<'a>,
+    right: &Construct<'a>,
+    out: &mut Output,
+) -> Result<Option<Functionality>, Memory>
+    ensures read { IfOk result (λ found. HasRead (λ from. IsRead site.old from (disables place (construct_of left.now)
+        (construct_of right.now))) (output_of out.old) (output_of out.new) (option_map functionality_of found)) }
+    ensures site { OnOk result (site.new ≡ site.old) }
+{
+    let first = read_part(alloc, site, left, out)?;
+    let second = read_part(alloc, site, right, out)?;
+    join(alloc, place, Some(Joining::Disable), first, second, out)
+}
+
+// Two parts beside each other.
+#[inline(never)]
+#[cycle(reading)]
+fn read_parallel<'a>(
+    alloc: Global,
+    site: &mut Site<'a>,
+    place: Place,
+    operator: &Operator,
+    left: &Construct<'a>,
+    right: &Construct<'a>,
+    out: &mut Output,
+) -> Result<Option<Functionality>, Memory>
+    ensures read { IfOk result (λ found. HasRead (λ from. IsRead site.old from (composes place operator.now (construct_of left.now)
+        (construct_of right.now))) (output_of out.old) (output_of out.new) (option_map functionality_of found)) }
+    ensures site { OnOk result (site.new ≡ site.old) }
+{
+    let joining = open_parallel(alloc, site, operator, out)?;
+    let first = read_part(alloc, site, left, out)?;
+    let second = read_part(alloc, site, right, out)?;
+    join(alloc, place, joining, first, second, out)
+}
+
+// A part, and what follows when it ends.
+#[inline(never)]
+#[cycle(reading)]
+fn read_enable<'a>(
+    alloc: Global,
+    site: &mut Site<'a>,
+    place: Place,
+    left: &Construct<'a>,
+    accepts: &[Declaration],
+    right: &Construct<'a>,
+    out: &mut Output,
+) -> Result<Option<Functionality>, Memory>
+    ensures read { IfOk result (λ found. HasRead (λ from. IsRead site.old from (enables place (construct_of left.now) accepts.now
+        (construct_of right.now))) (output_of out.old) (output_of out.new) (option_map functionality_of found)) }
+    ensures site { OnOk result (site.new ≡ site.old) }
+{
+    let first = read_part(alloc, site, left, out)?;
+    let opened = open_right(alloc, site, accepts, out)?;
+    let second = read_part(alloc, site, right, out)?;
+    site.leave(opened.mark.variables, opened.mark.gates);
+    join(alloc, place, opened.joining, first, second, out)
 }
