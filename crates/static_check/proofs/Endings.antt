@@ -1,5 +1,5 @@
 -- How a behaviour may end.
-use Rattle.std.proofs.Common.{◌≡◌, ◌∙◌, sym, ap, List, [], ◌++◌, append-nil, Option, Some, None}
+use Rattle.std.proofs.Common.{◌≡◌, ◌∙◌, sym, ap, List, ◌++◌, append-nil, Option, Some, None}
 use Rattle.std.specs.Prelude.{option_map}
 use Rattle.lotos_ast.specs.declared.place.Place.{Place}
 use Rattle.lotos_ast.specs.declared.refusal.Refusal.{Refusal}

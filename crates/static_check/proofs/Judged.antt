@@ -1,5 +1,5 @@
 -- What a specification comes to.
-use Rattle.std.proofs.Common.{ℕ, ◌≡◌, ◌∙◌, ◌<◌, ◌≤◌, ◌+◌, refl, sym, ap, subst, arith, List, [], ◌∷◌, ◌++◌, length, drop, map, append_assoc, Option, Some, None}
+use Rattle.std.proofs.Common.{ℕ, ◌≡◌, ◌∙◌, refl, sym, ap, subst, List, [], ◌∷◌, ◌++◌, length, drop, map, append_assoc, Option, Some, None}
 use Rattle.std.specs.Prelude.{option_map}
 use Rattle.lotos_ast.specs.declared.refusal.Refusal.{Refusal}
 use Rattle.lotos_ast.specs.declared.spec.Spec.{Spec}
@@ -14,9 +14,9 @@ use Rattle.process_table.specs.Headings.{declared, table_refusals, opening_refus
 use Rattle.process_table.specs.Processes.{Entry, entries}
 use Rattle.call_cycles.specs.declared.call.Call.{Call}
 use Rattle.call_cycles.specs.Unguarded.{unguarded_refusals}
-use Rattle.static_check.specs.Bodies.{Setting, Placed, placed, ending_refusals, AreBodiesRead, calls_from}
+use Rattle.static_check.specs.Bodies.{Setting, Placed, ending_refusals, AreBodiesRead, calls_from}
 use Rattle.static_check.specs.Compiled.{data_context, setting, start_site, process_nodes, body_nodes, program_if_read, IsJudged}
-use Rattle.static_check.specs.Steps.{AreReadSoFar, IsStartRead, program_with, program_with_if}
+use Rattle.static_check.specs.Steps.{AreReadSoFar, IsStartRead, program_with_if}
 
 after_front : {A : Type 0} (xs ys : List A) → drop (length xs) (xs ++ ys) ≡ ys
 after_front [] ys = refl

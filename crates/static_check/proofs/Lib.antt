@@ -1,5 +1,7 @@
+pub mod AllRead
 pub mod Endings
 pub mod First
 pub mod Judged
 pub mod OneByOne
 pub mod Sites
+pub mod Unrefused

@@ -1,12 +1,12 @@
 -- Bodies are read one after another.
-use Rattle.std.proofs.Common.{ℕ, zero, suc, pred, ◌≡◌, ◌∙◌, ◌<◌, ◌≤◌, ◌+◌, refl, sym, ap, subst, add-one, arith, List, [], ◌∷◌, ◌++◌, length, get_or, take, drop, map, append_assoc, append-nil, Option, Some, None}
+use Rattle.std.proofs.Common.{ℕ, zero, suc, pred, ◌≡◌, ◌∙◌, ◌<◌, ◌≤◌, ◌+◌, refl, sym, ap, subst, arith, List, [], ◌∷◌, ◌++◌, length, get_or, take, drop, map, append_assoc, append-nil, Option, Some, None}
 use Rattle.std.specs.Prelude.{option_map}
-use Rattle.std.specs.List.{range_with_len, slice_get}
+use Rattle.std.specs.List.{slice_get}
 use Rattle.std.proofs.lemmas.List.{length-append, length-map, length-take-le, map-append}
-use Rattle.std.proofs.lemmas.Option.{slice_get-map, get_or_from_slice_get}
+use Rattle.std.proofs.lemmas.Option.{slice_get-map}
 use Rattle.lotos_ast.specs.declared.refusal.Refusal.{Refusal}
 use Rattle.constructs.specs.Constructs.{Construct}
-use Rattle.spec_core.specs.Code.{Node, process}
+use Rattle.spec_core.specs.Code.{Node}
 use Rattle.spec_core.specs.Functionality.{Functionality}
 use Rattle.sort_overloads.specs.Readings.{Context}
 use Rattle.sort_overloads.proofs.Loops.{taken-next, taken-all, dropped-next, dropped-all}
@@ -16,7 +16,6 @@ use Rattle.behaviour_readings.specs.Joins.{Read, root, after}
 use Rattle.behaviour_readings.specs.Outputs.{Output, nodes_of, HasRead}
 use Rattle.behaviour_readings.specs.ReadsAll.{before, all_before}
 use Rattle.behaviour_readings.specs.Readings.{IsRead}
-use Rattle.behaviour_readings.specs.Sites as sites
 use Rattle.behaviour_readings.specs.Sites.{Site}
 use Rattle.behaviour_readings.specs.declared.heading.Heading.{Heading}
 use Rattle.behaviour_readings.specs.Views.{heading_of, functionality_of}

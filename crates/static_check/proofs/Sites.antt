@@ -6,13 +6,12 @@ use Rattle.lotos_ast.specs.declared.spec.Spec.{Spec}
 use Rattle.constructs.specs.Written.{gates_in}
 use Rattle.sort_overloads.specs.Readings.{Context}
 use Rattle.equation_readings.specs.Variables.{all_variables}
-use Rattle.behaviour_readings.specs.Sites as sites
 use Rattle.behaviour_readings.specs.Sites.{Site, bare, with_gates, with_variables}
 use Rattle.behaviour_readings.specs.declared.heading.Heading.{Heading}
 use Rattle.behaviour_readings.specs.Views.{heading_of, headings_at}
 use Rattle.process_table.specs.Headings.{headings_from}
 use Rattle.process_table.specs.Processes.{Entry, visible_in}
-use Rattle.static_check.specs.Bodies.{Setting, body_site}
+use Rattle.static_check.specs.Bodies.{body_site}
 use Rattle.static_check.specs.Compiled.{start_site}
 use Rattle.static_check.specs.Views.{data_of}
 

@@ -16,9 +16,7 @@ use Rattle.constructs.specs.Constructs.{Construct}
 use Rattle.constructs.specs.Written.{gates_in}
 use Rattle.process_table.specs.Headings.{declared, headings_from}
 use Rattle.process_table.specs.Processes.{Entry}
-use Rattle.call_cycles.specs.declared.call.Call.{Call}
-use Rattle.call_cycles.specs.AtOnce.{calls_at_once}
-use Rattle.static_check.specs.Bodies.{Setting, Placed, placed, body_site, ending_refusals, AreBodiesRead, calls_from}
+use Rattle.static_check.specs.Bodies.{Setting, Placed, placed, body_site, ending_refusals, AreBodiesRead}
 use Rattle.static_check.specs.Compiled.{process_node, process_nodes, body_nodes}
 use Rattle.static_check.specs.declared.setting.Setting as code
 

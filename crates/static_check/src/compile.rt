@@ -26,7 +26,7 @@ pub fn compile(alloc: Global, spec: &Spec, algebra: &DataSpec) -> Result<Checked
         Some(refusal) => Err(FrontFault::Refused(refusal)),
         None => match program {
             Some(checked) => Ok(checked),
-            None => Err(FrontFault::Memory),
+            None => unreachable!(),
         },
     }
 }
