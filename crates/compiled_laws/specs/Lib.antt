@@ -1,3 +1,4 @@
 pub mod Assembled
 pub mod Laws
+pub mod Names
 pub mod Standing

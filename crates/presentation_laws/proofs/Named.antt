@@ -30,7 +30,7 @@ use Rattle.type_contents.specs.FormalTypes.{formal_types}
 use Rattle.type_equations.specs.Own.{AreOwnEquations}
 use Rattle.presentation_laws.specs.Laws.{PresentationsAreNamed}
 use Rattle.presentation_laws.specs.NamedTypes.{IsTypeNamed}
-use Rattle.presentation_laws.specs.Names.{IsDataNamed}
+use Rattle.compiled_laws.specs.Names.{IsDataNamed}
 use Rattle.presentation_laws.proofs.Closed.{IsUnrefused, unrefused, closed}
 use Rattle.presentation_laws.proofs.Covered.{items_at, sort-covered}
 use Rattle.presentation_laws.proofs.Items.{IsDescribed, described, number-there}

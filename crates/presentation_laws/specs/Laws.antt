@@ -7,7 +7,7 @@ use Rattle.spec_core.specs.Theories.{Theory}
 use Rattle.flattening.specs.Refusals.{refusals_of}
 use Rattle.data_presentation.specs.Presentations.{IsPresentation}
 use Rattle.presentation_laws.specs.NamedTypes.{IsTypeNamed}
-use Rattle.presentation_laws.specs.Names.{IsDataNamed}
+use Rattle.compiled_laws.specs.Names.{IsDataNamed}
 
 -- Where nothing is refused of types, their data presentation fits together: each operation is over sorts of the data, and each equation's
 -- sides and premises are terms of one sort over its variables. Their numbers must fit 32 bits

@@ -24,7 +24,8 @@ use Rattle.compiled_laws.proofs.Readiness.{ready}
 use Rattle.static_check.specs.Bodies.{Setting, Placed, ending_refusals, calls_from}
 use Rattle.static_check.specs.Compiled.{data_context, setting, start_site, assembled, program_if_read}
 use Rattle.specification_laws.specs.Laws.{CompiledIsReady}
-use Rattle.specification_laws.specs.Names.{IsDataNamed, AreGatesNamed}
+use Rattle.compiled_laws.specs.Names.{IsDataNamed}
+use Rattle.specification_laws.specs.Names.{AreGatesNamed}
 use Rattle.specification_laws.proofs.Assembled.{ends_as, whole, is_assembled}
 use Rattle.specification_laws.proofs.Bodies.{definitions, AreDefined, defined}
 use Rattle.specification_laws.proofs.Known.{none_of_each}

@@ -8,7 +8,8 @@ use Rattle.spec_core.specs.Ready.{IsReady}
 use Rattle.spec_core.specs.Theories.{Theory}
 use Rattle.equation_readings.specs.Laws.{IsOne}
 use Rattle.static_check.specs.Compiled.{IsJudged, IsCompiled, IsFirstRefusal}
-use Rattle.specification_laws.specs.Names.{IsDataNamed, AreGatesNamed}
+use Rattle.compiled_laws.specs.Names.{IsDataNamed}
+use Rattle.specification_laws.specs.Names.{AreGatesNamed}
 
 -- a specification over its data comes to one program only, with one list of refusals
 abbrev pub SpecificationsAreOne : Type 0

@@ -1,19 +1,8 @@
--- Names that the data and the heading of a specification have (ISO 8807, lexical tokens; and this profile).
-use Rattle.std.specs.Prelude.{length}
+-- Names that the heading of a specification has (ISO 8807, lexical tokens; and this profile).
 use Rattle.lotos_ast.specs.declared.spec.Spec.{Spec}
 use Rattle.constructs.specs.Written.{gates_in}
-use Rattle.spec_core.specs.Lists.{Each, NoTwo}
-use Rattle.spec_core.specs.Names.{IsSameName, IsIdentifier, IsOperationName}
-use Rattle.spec_core.specs.Ready.{IsSameOperation}
-use Rattle.spec_core.specs.Theories.{Theory}
-
--- each name in the data is one that the grammar allows there, and no two items share what tells them apart
-pub record IsDataNamed (theory : Theory) : Type 0 where
-  pub sorts : Each IsIdentifier theory.sorts
-  pub operations : Each (λ d. IsOperationName (length d.args) d.name) theory.operations
-  pub variables : Each (λ e. Each IsIdentifier e.names) theory.equations
-  pub sorts_differ : NoTwo IsSameName theory.sorts
-  pub operations_differ : NoTwo IsSameOperation theory.operations
+use Rattle.spec_core.specs.Lists.{Each}
+use Rattle.spec_core.specs.Names.{IsIdentifier}
 
 -- each gate in the heading has a name that the grammar allows
 abbrev pub AreGatesNamed : Spec → Type 0
