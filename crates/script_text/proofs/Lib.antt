@@ -1,0 +1,15 @@
+pub mod Digits
+pub mod Few
+pub mod FieldTrees
+pub mod FieldMeanings
+pub mod FirstLines
+pub mod Grouping
+pub mod LineGrammar
+pub mod OneReadings
+pub mod OneScript
+pub mod OneTerm
+pub mod Reading
+pub mod Rows
+pub mod TheScript
+pub mod TheTerm
+pub mod WholeTexts

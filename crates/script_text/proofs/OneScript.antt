@@ -1,0 +1,247 @@
+-- A text spells one script or has one fault.
+use Rattle.std.proofs.Common.{ℕ, suc, ◌≡◌, ◌+◌, ◌-◌, ◌≤◌, ◌<◌, List, [], ◌∷◌, ◌++◌, false, ◌||◌, Option, Some, None, inl, inr, length, refl, sym, subst, ap, ◌∙◌, arith}
+use Rattle.std.specs.Prelude.{option_to_list, is_none}
+use Rattle.std.specs.List.{list_any, position_or_len}
+use Rattle.std.specs.Str.Lines.{lines}
+use Rattle.std.proofs.lemmas.Bool.Decides.{nat_tests}
+use Rattle.lotos_ast.specs.declared.text_kind.TextKind.{TextKind}
+use Rattle.spec_core.specs.Code.{Program}
+use Rattle.spec_core.specs.Lists.{Each, OneOf}
+use Rattle.spec_core.specs.Theories.{Theory}
+use Rattle.sort_overloads.specs.Listed.{is_same_name}
+use Rattle.sort_overloads.specs.Readings.{Context}
+use Rattle.script_text.specs.Faults.{IsFaultOf, no_client, no_gate, no_sort, no_term, IsLineFault, no_line, by_meaning}
+use Rattle.script_text.specs.Laws.{OneScript, OneScriptFault, ScriptOrFault}
+use Rattle.script_text.specs.Meanings.{context_in, first_named, has_unknown_sort, HasUnclearTerm, FieldMeans, FieldsMean, LineMeans}
+use Rattle.script_text.specs.Numbers.{client_within, client_of, number_behind}
+use Rattle.script_text.specs.Scripts.{LineSays, nothing_said, wish_said, LinesSay, no_lines, more_lines, by_client, SpellsScript, FieldFits, WishFits, too_long, at_line}
+use Rattle.script_text.specs.Wishes.{WishedField, gives, takes, Wished, ClientWish}
+use Rattle.script_text.specs.Written.{Field, given, taken, Line, IsLine, skipped, says, line_in}
+use Rattle.script_text.proofs.FirstLines.{some_at}
+use Rattle.script_text.proofs.Grouping.{few_clients, of_each}
+use Rattle.script_text.proofs.OneReadings.{reading_sorts_known, reading_sort}
+use Rattle.script_text.proofs.WholeTexts.{one_text}
+
+some_one : {A : Type 0} {x y : A} → Some x ≡ Some y → x ≡ y
+some_one h = cc
+
+-- a line says one thing
+one_line : (text : List ℕ) (l m : Line) → IsLine text (Some l) → IsLine text (Some m) → l ≡ m
+one_line text l m (says x _ h i e) (says y _ k j f) = some_one (sym e ∙ ap line_in (one_text i j) ∙ f)
+
+never_both : (text : List ℕ) (l : Line) → IsLine text None → IsLine text (Some l) → ⊥
+never_both text l (skipped h) (says x _ k i e) = cc
+
+-- and means one thing
+one_field : (c : Context) (f : Field) (w v : WishedField) → FieldMeans c f w → FieldMeans c f v → w ≡ v
+one_field c (given e) (gives t) (gives u) h k = ap gives ((k.1.only t h.0 tt h.1.reading).0)
+one_field c (given e) (gives t) (takes s) h k = absurd k
+one_field c (given e) (takes s) v h k = absurd h
+one_field c (taken name) (gives t) v h k = absurd h
+one_field c (taken name) (takes s) (gives t) h k = absurd k
+one_field c (taken name) (takes s) (takes r) h k = ap takes (some_one (sym h ∙ k))
+
+one_list : (c : Context) (fs : List Field) (ws vs : List WishedField) → FieldsMean c fs ws → FieldsMean c fs vs → ws ≡ vs
+one_list c [] [] [] h k = refl
+one_list c [] [] (v ∷ vs) h k = absurd k
+one_list c [] (w ∷ ws) vs h k = absurd h
+one_list c (f ∷ fs) [] vs h k = absurd h
+one_list c (f ∷ fs) (w ∷ ws) [] h k = absurd k
+one_list c (f ∷ fs) (w ∷ ws) (v ∷ vs) h k =
+    ap (λ z. z ∷ ws) (one_field c f w v h.0 k.0) ∙ ap (λ z. v ∷ z) (one_list c fs ws vs h.1 k.1)
+
+same_wish : (x y : ClientWish) → x.client ≡ y.client → x.wish.ask ≡ y.wish.ask → x.wish.gate ≡ y.wish.gate → x.wish.fields ≡ y.wish.fields → x ≡ y
+same_wish x y a b c d =
+    ap (λ k. record { client = k; wish = x.wish }) a
+    ∙ ap (λ k. record { client = y.client; wish = record { ask = k; gate = x.wish.gate; fields = x.wish.fields } }) b
+    ∙ ap (λ k. record { client = y.client; wish = record { ask = y.wish.ask; gate = k; fields = x.wish.fields } }) c
+    ∙ ap (λ k. record { client = y.client; wish = record { ask = y.wish.ask; gate = y.wish.gate; fields = k } }) d
+
+one_meaning : (c : Context) (gates : List (List ℕ)) (l : Line) (x y : ClientWish) → LineMeans c gates l x → LineMeans c gates l y → x ≡ y
+one_meaning c gates l x y h k =
+    same_wish x y (some_one (sym h.client ∙ k.client)) (h.ask ∙ sym k.ask) (some_one (sym h.gate ∙ k.gate))
+    (one_list c l.fields x.wish.fields y.wish.fields h.fields k.fields)
+
+one_saying : (c : Context) (gates : List (List ℕ)) (text : List ℕ) (x y : Option ClientWish) → LineSays c gates text x → LineSays c gates text y →
+    x ≡ y
+one_saying c gates text _ _ (nothing_said h) (nothing_said k) = refl
+one_saying c gates text _ _ (nothing_said h) (wish_said m y k i) = absurd (never_both text m h k)
+one_saying c gates text _ _ (wish_said l x h i) (nothing_said k) = absurd (never_both text l k h)
+one_saying c gates text _ _ (wish_said l x h i) (wish_said m y k j) =
+    ap Some (one_meaning c gates l x y i (subst (λ z. LineMeans c gates z y) (sym (one_line text l m h k)) j))
+
+one_list_of_wishes : (c : Context) (gates : List (List ℕ)) (texts : List (List ℕ)) (said others : List ClientWish) → LinesSay c gates texts said →
+    LinesSay c gates texts others → said ≡ others
+one_list_of_wishes c gates [] _ _ no_lines no_lines = refl
+one_list_of_wishes c gates (text ∷ texts) all more (more_lines x said h i e) (more_lines y others k j f) =
+    e ∙ ap (λ z. option_to_list z ++ said) (one_saying c gates text x y h k)
+    ∙ ap (λ z. option_to_list y ++ z) (one_list_of_wishes c gates texts said others i j) ∙ sym f
+
+pub one_script : OneScript
+one_script program text clients others h k =
+    h.each_client
+    ∙ ap by_client (one_list_of_wishes (context_in program.theory) program.gates (lines text) h.said k.said h.say k.say)
+    ∙ sym k.each_client
+
+-- what is wrong with what a line says is wrong with nothing that means something
+field_known : (c : Context) (f : Field) (w : WishedField) → FieldMeans c f w → has_unknown_sort c f ≡ false
+field_known c (given e) (gives t) h = reading_sorts_known c e t h.0 h.1.reading
+field_known c (given e) (takes s) h = absurd h
+field_known c (taken name) (gives t) h = absurd h
+field_known c (taken name) (takes s) h = ap is_none h
+
+fields_known : (c : Context) (fs : List Field) (ws : List WishedField) → FieldsMean c fs ws → list_any (has_unknown_sort c) fs ≡ false
+fields_known c [] ws h = refl
+fields_known c (f ∷ fs) [] h = absurd h
+fields_known c (f ∷ fs) (w ∷ ws) h =
+    ap (λ b. b || list_any (has_unknown_sort c) fs) (field_known c f w h.0) ∙ fields_known c fs ws h.1
+
+field_clear : (c : Context) (f : Field) (w : WishedField) → FieldMeans c f w → HasUnclearTerm c f → ⊥
+field_clear c (given e) (gives t) h k = k.none t h.0 h.1
+field_clear c (given e) (takes s) h k = h
+field_clear c (taken name) w h k = k
+
+fields_clear : (c : Context) (fs : List Field) (ws : List WishedField) → FieldsMean c fs ws → OneOf (HasUnclearTerm c) fs → ⊥
+fields_clear c [] ws h k = k
+fields_clear c (f ∷ fs) [] h k = h
+fields_clear c (f ∷ fs) (w ∷ ws) h (inl k) = field_clear c f w h.0 k
+fields_clear c (f ∷ fs) (w ∷ ws) h (inr k) = fields_clear c fs ws h.1 k
+
+apart : {A : Type 0} {o : Option A} {x : A} → o ≡ Some x → o ≡ None → ⊥
+apart h k = cc
+
+meaning_or_fault : (c : Context) (gates : List (List ℕ)) (l : Line) (x : ClientWish) (kind : TextKind) → LineMeans c gates l x →
+    IsFaultOf c gates l kind → ⊥
+meaning_or_fault c gates l x _ h (no_client k) = apart h.client k
+meaning_or_fault c gates l x _ h (no_gate n i k) = apart h.gate k
+meaning_or_fault c gates l x _ h (no_sort n g i j k) = let known = fields_known c l.fields x.wish.fields h.fields in cc
+meaning_or_fault c gates l x _ h (no_term n g i j k m) = fields_clear c l.fields x.wish.fields h.fields m
+
+saying_or_fault : (c : Context) (gates : List (List ℕ)) (text : List ℕ) (x : Option ClientWish) (kind : TextKind) → LineSays c gates text x →
+    IsLineFault c gates text kind → ⊥
+saying_or_fault c gates text _ _ (nothing_said h) (no_line k) = k.none None h
+saying_or_fault c gates text _ _ (nothing_said h) (by_meaning m k i) = never_both text m h k
+saying_or_fault c gates text _ _ (wish_said l x h i) (no_line k) = k.none (Some l) h
+saying_or_fault c gates text _ kind (wish_said l x h i) (by_meaning m k j) =
+    meaning_or_fault c gates l x kind i (subst (λ z. IsFaultOf c gates z kind) (sym (one_line text l m h k)) j)
+
+one_fault_of : (c : Context) (gates : List (List ℕ)) (l : Line) (kind other : TextKind) → IsFaultOf c gates l kind → IsFaultOf c gates l other →
+    kind ≡ other
+one_fault_of c gates l _ _ (no_client h) (no_client k) = refl
+one_fault_of c gates l _ _ (no_client h) (no_gate n i k) = absurd (apart i h)
+one_fault_of c gates l _ _ (no_client h) (no_sort n g i j k) = absurd (apart i h)
+one_fault_of c gates l _ _ (no_client h) (no_term n g i j k m) = absurd (apart i h)
+one_fault_of c gates l _ _ (no_gate n i h) (no_client k) = absurd (apart i k)
+one_fault_of c gates l _ _ (no_gate n i h) (no_gate m j k) = refl
+one_fault_of c gates l _ _ (no_gate n i h) (no_sort m g j o k) = absurd (apart o h)
+one_fault_of c gates l _ _ (no_gate n i h) (no_term m g j o k q) = absurd (apart o h)
+one_fault_of c gates l _ _ (no_sort n g i j h) (no_client k) = absurd (apart i k)
+one_fault_of c gates l _ _ (no_sort n g i j h) (no_gate m o k) = absurd (apart j k)
+one_fault_of c gates l _ _ (no_sort n g i j h) (no_sort m q o r k) = refl
+one_fault_of c gates l _ _ (no_sort n g i j h) (no_term m q o r k s) = absurd (cc)
+one_fault_of c gates l _ _ (no_term n g i j h t) (no_client k) = absurd (apart i k)
+one_fault_of c gates l _ _ (no_term n g i j h t) (no_gate m o k) = absurd (apart j k)
+one_fault_of c gates l _ _ (no_term n g i j h t) (no_sort m q o r k) = absurd (cc)
+one_fault_of c gates l _ _ (no_term n g i j h t) (no_term m q o r k s) = refl
+
+one_line_fault : (c : Context) (gates : List (List ℕ)) (text : List ℕ) (kind other : TextKind) → IsLineFault c gates text kind →
+    IsLineFault c gates text other → kind ≡ other
+one_line_fault c gates text _ _ (no_line h) (no_line k) = refl
+one_line_fault c gates text _ _ (no_line h) (by_meaning m k j) = absurd (h.none (Some m) k)
+one_line_fault c gates text _ _ (by_meaning l h i) (no_line k) = absurd (k.none (Some l) h)
+one_line_fault c gates text kind other (by_meaning l h i) (by_meaning m k j) =
+    one_fault_of c gates l kind other i (subst (λ z. IsFaultOf c gates z other) (sym (one_line text l m h k)) j)
+
+-- a line at fault stands among none that say something
+faultless : (c : Context) (gates : List (List ℕ)) (before : List (List ℕ)) (text : List ℕ) (rest : List (List ℕ)) (said : List ClientWish)
+    (kind : TextKind) → LinesSay c gates (before ++ text ∷ rest) said → IsLineFault c gates text kind → ⊥
+faultless c gates [] text rest said kind (more_lines x others h i e) k = saying_or_fault c gates text x kind h k
+faultless c gates (b ∷ before) text rest said kind (more_lines x others h i e) k = faultless c gates before text rest others kind i k
+
+-- the first line at fault is one only
+one_place : (c : Context) (gates : List (List ℕ)) (b d : List (List ℕ)) (t u : List ℕ) (r s : List (List ℕ)) (said others : List ClientWish)
+    (kind other : TextKind) → b ++ t ∷ r ≡ d ++ u ∷ s → LinesSay c gates b said → LinesSay c gates d others → IsLineFault c gates t kind →
+    IsLineFault c gates u other → (length b ≡ length d) × (kind ≡ other)
+one_place c gates [] [] t u r s said others kind other e h k i j =
+    let same : t ≡ u = cc in (refl, one_line_fault c gates t kind other i (subst (λ z. IsLineFault c gates z other) (sym same) j))
+one_place c gates [] (v ∷ d) t u r s said others kind other e h (more_lines x more k l f) i j =
+    let same : t ≡ v = cc in absurd (saying_or_fault c gates v x kind k (subst (λ z. IsLineFault c gates z kind) same i))
+one_place c gates (v ∷ b) [] t u r s said others kind other e (more_lines x more h l f) k i j =
+    let same : u ≡ v = cc in absurd (saying_or_fault c gates v x other h (subst (λ z. IsLineFault c gates z other) same j))
+one_place c gates (v ∷ b) (w ∷ d) t u r s said others kind other e (more_lines x more h l f) (more_lines y most k m g) i j =
+    let tails : b ++ t ∷ r ≡ d ++ u ∷ s = cc in
+    let both = one_place c gates b d t u r s more most kind other tails l m i j in (ap suc both.0, both.1)
+
+pub one_script_fault : OneScriptFault
+one_script_fault program text _ _ _ _ (too_long h e f) (too_long k g i) = (e ∙ sym g, f ∙ sym i)
+one_script_fault program text _ _ _ _ (too_long h a b) (at_line n k e f) = absurd (omega (arith, h, k))
+one_script_fault program text _ _ _ _ (at_line n h e f) (too_long k a b) = absurd (omega (arith, h, k))
+one_script_fault program text line other kind another (at_line n h e f) (at_line m k g i) =
+    let both = one_place (context_in program.theory) program.gates f.before i.before f.text i.text f.behind i.behind f.said i.said kind another
+    (sym f.parts ∙ i.parts) f.say i.say f.fault i.fault in
+    (e ∙ ap (λ z. z + 1) (f.counted ∙ both.0 ∙ sym i.counted) ∙ sym g, both.1)
+
+pub script_or_fault : ScriptOrFault
+script_or_fault program text clients _ _ h (too_long k a b) = let s = h.short in absurd (omega (arith, s, k))
+script_or_fault program text clients line kind h (at_line n k e f) =
+    faultless (context_in program.theory) program.gates f.before f.text f.behind h.said kind
+    (subst (λ z. LinesSay (context_in program.theory) program.gates z h.said) f.parts h.say) f.fault
+
+-- what a script says fits the specification
+within : (n k : ℕ) → client_within n ≡ Some k → k ≤ 64
+within n k h = grind (arith, nat_tests)
+
+client_few : (digits : List ℕ) (k : ℕ) → client_of digits ≡ Some k → k ≤ 64
+client_few [] k h = absurd (cc)
+client_few (d ∷ ds) k h = within (number_behind (d - 48) ds) k h
+
+named_below : (name : List ℕ) (names : List (List ℕ)) (n : ℕ) → first_named name names ≡ Some n → n < length names
+named_below name names n h =
+    let r = some_at (position_or_len (λ other. is_same_name other name) names) (length names) n h in omega (arith, r.0, r.1)
+
+field_fits : (theory : Theory) (f : Field) (w : WishedField) → FieldMeans (context_in theory) f w → FieldFits theory w
+field_fits theory (given e) (gives t) h = (h.0, reading_sort theory e t h.0 h.1.reading)
+field_fits theory (given e) (takes s) h = absurd h
+field_fits theory (taken name) (gives t) h = absurd h
+field_fits theory (taken name) (takes s) h = named_below name.text theory.sorts s h
+
+fields_fit : (theory : Theory) (fs : List Field) (ws : List WishedField) → FieldsMean (context_in theory) fs ws → Each (FieldFits theory) ws
+fields_fit theory [] [] h = tt
+fields_fit theory [] (w ∷ ws) h = absurd h
+fields_fit theory (f ∷ fs) [] h = absurd h
+fields_fit theory (f ∷ fs) (w ∷ ws) h = (field_fits theory f w h.0, fields_fit theory fs ws h.1)
+
+pub record Right (program : Program) (x : ClientWish) : Type 0 where
+  pub few : x.client ≤ 64
+  pub fits : WishFits program x.wish
+
+each_right : (program : Program) (x : Option ClientWish) (said : List ClientWish) (text : List ℕ) →
+    LineSays (context_in program.theory) program.gates text x → Each (Right program) said → Each (Right program) (option_to_list x ++ said)
+each_right program _ said text (nothing_said h) k = k
+each_right program _ said text (wish_said l x h i) k = (
+  record {
+    few = client_few l.client x.client i.client;
+    fits = record { gate = named_below l.gate program.gates x.wish.gate i.gate; fields = fields_fit program.theory l.fields x.wish.fields i.fields };
+  },
+  k,
+)
+
+all_right : (program : Program) (texts : List (List ℕ)) (said : List ClientWish) → LinesSay (context_in program.theory) program.gates texts said →
+    Each (Right program) said
+all_right program [] _ no_lines = tt
+all_right program (text ∷ texts) all (more_lines x said h i e) =
+    subst (Each (Right program)) (sym e) (each_right program x said text h (all_right program texts said i))
+
+each_of : {A : Type 0} {P Q : A → Type 0} (xs : List A) → ((x : A) → P x → Q x) → Each P xs → Each Q xs
+each_of [] f h = tt
+each_of (x ∷ xs) f h = (f x h.0, each_of xs f h.1)
+
+pub script_fits : (program : Program) (text : List ℕ) (clients : List (List Wished)) → SpellsScript program text clients →
+    Each (Each (WishFits program)) clients
+script_fits program text clients h =
+    subst (Each (Each (WishFits program))) (sym h.each_client)
+    (of_each (WishFits program) h.said (each_of h.said (λ x r. r.fits) (all_right program (lines text) h.said h.say)))
+
+pub script_few : (program : Program) (text : List ℕ) (clients : List (List Wished)) → SpellsScript program text clients → length clients ≤ 64
+script_few program text clients h =
+    subst (λ z. length z ≤ 64) (sym h.each_client) (few_clients h.said (each_of h.said (λ x r. r.few) (all_right program (lines text) h.said h.say)))

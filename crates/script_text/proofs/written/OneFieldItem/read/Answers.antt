@@ -1,0 +1,21 @@
+use Rattle.std.proofs.Common.{rules}
+use Rattle.token_cursor.proofs.Steps.{steps}
+use Rattle.script_text.proofs.written.OneFieldItem.read.Goals as goal
+
+pub returns-in_err-pass-clause-halts : goal.returns-in_err-pass-clause-halts
+returns-in_err-pass-clause-halts c = search (steps, rules)
+
+pub returns-in_err-value-clause-halts : goal.returns-in_err-value-clause-halts
+returns-in_err-value-clause-halts c = search (steps, rules)
+
+pub returns-in_ok-value-clause-read : goal.returns-in_ok-value-clause-read
+returns-in_ok-value-clause-read c = search (steps, rules)
+
+pub returns-in_err-pass-2-clause-halts : goal.returns-in_err-pass-2-clause-halts
+returns-in_err-pass-2-clause-halts c = search (steps, rules)
+
+pub returns-in_err-sort-clause-halts : goal.returns-in_err-sort-clause-halts
+returns-in_err-sort-clause-halts c = search (steps, rules)
+
+pub returns-in_ok-sort-clause-read : goal.returns-in_ok-sort-clause-read
+returns-in_ok-sort-clause-read c = search (steps, rules)

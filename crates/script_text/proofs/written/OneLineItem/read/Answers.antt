@@ -1,0 +1,21 @@
+use Rattle.std.proofs.Common.{rules}
+use Rattle.token_cursor.proofs.Steps.{steps}
+use Rattle.script_text.proofs.written.OneLineItem.read.Goals as goal
+
+pub returns-in_err-client-clause-halts : goal.returns-in_err-client-clause-halts
+returns-in_err-client-clause-halts c = search (steps, rules)
+
+pub returns-in_err-pass-clause-halts : goal.returns-in_err-pass-clause-halts
+returns-in_err-pass-clause-halts c = search (steps, rules)
+
+pub returns-in_err-word-clause-halts : goal.returns-in_err-word-clause-halts
+returns-in_err-word-clause-halts c = search (steps, rules)
+
+pub returns-in_err-gate-clause-halts : goal.returns-in_err-gate-clause-halts
+returns-in_err-gate-clause-halts c = search (steps, rules)
+
+pub returns-in_err-fields-clause-halts : goal.returns-in_err-fields-clause-halts
+returns-in_err-fields-clause-halts c = search (steps, rules)
+
+pub returns-clause-read : goal.returns-clause-read
+returns-clause-read c = search (steps, rules)

@@ -1,0 +1,12 @@
+pub mod Answers
+pub mod Faults
+pub mod Laws
+pub mod LineEnds
+pub mod Meanings
+pub mod Numbers
+pub mod Scripts
+pub mod Terms
+pub mod Texts
+pub mod Views
+pub mod Wishes
+pub mod Written
