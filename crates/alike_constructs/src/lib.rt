@@ -1,0 +1,4 @@
+// Laws of constructs that are alike.
+#![tactic(auto)]
+
+pub mod laws;

@@ -1,0 +1,4 @@
+// Laws of specifications that are alike.
+#![tactic(auto)]
+
+pub mod laws;

@@ -1,0 +1,7 @@
+pub mod Contents
+pub mod Copies
+pub mod Equations
+pub mod Lists
+pub mod Names
+pub mod Own
+pub mod Presented

@@ -1,0 +1,4 @@
+// Laws of types that are alike.
+#![tactic(auto)]
+
+pub mod laws;

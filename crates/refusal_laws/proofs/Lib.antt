@@ -1,0 +1,6 @@
+mod Cover
+mod Decrease
+mod Faults
+mod Firsts
+mod Search
+mod Shape

@@ -1,0 +1,4 @@
+// Laws of what is refused of data.
+#![tactic(auto)]
+
+pub mod laws;

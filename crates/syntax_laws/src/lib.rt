@@ -1,0 +1,4 @@
+// Laws of syntax trees.
+#![tactic(auto)]
+
+pub mod laws;
