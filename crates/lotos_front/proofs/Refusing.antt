@@ -18,7 +18,11 @@ use Rattle.data_presentation.specs.Presentations as presentation
 use Rattle.equation_check.specs.Shape as equations
 use Rattle.path_order.specs.Decrease as order
 use Rattle.cover_check.specs.Refused as cover
+use Rattle.spec_core.specs.Code.{Program}
+use Rattle.static_check.specs.Compiled.{IsCompiled}
+use Rattle.static_check.specs.Compiled as static
 use Rattle.lotos_front.specs.Accepted.{IsExecutableIn}
+use Rattle.lotos_front.specs.Answers.{IsAccepted, IsFirstRefusal, of_data, of_behaviour}
 use Rattle.lotos_front.specs.FirstRefusals.{IsFirstDataRefusal, lexing, parsing, flattening, overloads, shape, decrease, covering}
 use Rattle.lotos_front.specs.Libraries.{AreWithLibrary}
 use Rattle.lotos_front.specs.Parsed.{IsSpecification, IsLexed, IsUnparsed, unparsed, in_text}
@@ -63,3 +67,21 @@ pub executable_in : (text : List ℕ) (tokens : List Token) (types : List TypeDe
 executable_in text tokens types theory lexed read of_types executable = record { data_of = data_in text tokens types theory lexed read of_types; executable = executable }
 
 pub ruleset stages = (not_parsed, types_in, data_in, executable_in)
+
+pub refused_in_data : (text : List ℕ) (r : Refusal) → IsFirstDataRefusal text r → IsFirstRefusal text r
+refused_in_data text r h = of_data h
+
+pub refused_unparsed : (text : List ℕ) (tokens : List Token) (r : Refusal) → IsLexed text tokens → IsUnparsed text tokens r → IsFirstRefusal text r
+refused_unparsed text tokens r lexed h = of_data (parsing tokens lexed h)
+
+pub refused_in_behaviour : (text : List ℕ) (tokens : List Token) (spec : Spec) (theory : Theory) (r : Refusal) → IsLexed text tokens →
+    IsSpecification tokens spec → IsExecutableIn text theory → static.IsFirstRefusal theory spec r → IsFirstRefusal text r
+refused_in_behaviour text tokens spec theory r lexed read executable h =
+    of_behaviour spec theory (record { tokens = tokens; lexed = lexed; read = read }) executable h
+
+pub accepted : (text : List ℕ) (tokens : List Token) (spec : Spec) (theory : Theory) (program : Program) → IsLexed text tokens →
+    IsSpecification tokens spec → IsExecutableIn text theory → IsCompiled theory spec program → IsAccepted text program
+accepted text tokens spec theory program lexed read executable compiled =
+    record { spec = spec; spelled = record { tokens = tokens; lexed = lexed; read = read }; theory = theory; executable = executable; compiled = compiled }
+
+pub ruleset answers = (refused_in_data, refused_unparsed, refused_in_behaviour, accepted)

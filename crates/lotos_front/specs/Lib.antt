@@ -1,4 +1,5 @@
 pub mod Accepted
+pub mod Answers
 pub mod FirstRefusals
 pub mod Libraries
 pub mod Parsed
