@@ -1,0 +1,40 @@
+// Laws of the definitions: a call does nothing, and its contract is the law.
+
+ghost use Rattle.accepted_laws.specs.Laws.{AcceptedIsReady, DataAnswersAreOne};
+
+use alike_types::laws::{the_same_is_presented, the_same_is_read, the_same_is_refused};
+use lotos_ast::laws::{reading_has_at_most_one_result, tokens_are_determined};
+use named_types::laws::{specifications_are_named, text_types_are_named};
+use presentation_laws::laws::presentations_are_named;
+use refusal_laws::laws::{cover_has_one_answer, decrease_has_one_answer, shape_has_one_answer};
+use specification_laws::laws::compiled_is_ready;
+use token_names::laws::tokens_are_named;
+use type_equations::laws::own_equations_are_one;
+
+/// A text that is accepted is compiled to a program that is ready to run: its data are executable, all that it names is there and fits, and
+/// no process calls itself before any action.
+pub fn accepted_is_ready()
+    ensures { AcceptedIsReady }
+{
+    tokens_are_named();
+    text_types_are_named();
+    specifications_are_named();
+    presentations_are_named();
+    compiled_is_ready();
+}
+
+/// The data of a text that can be run are one, or one refusal of them is the first, and never both.
+#[tactic(auto, using(crate::proofs::Data::data_answers_one))]
+pub fn data_answers_are_one()
+    ensures { DataAnswersAreOne }
+{
+    tokens_are_determined();
+    reading_has_at_most_one_result();
+    shape_has_one_answer();
+    decrease_has_one_answer();
+    cover_has_one_answer();
+    own_equations_are_one();
+    the_same_is_refused();
+    the_same_is_read();
+    the_same_is_presented();
+}

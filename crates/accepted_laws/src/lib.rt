@@ -1,0 +1,4 @@
+// Laws of accepted texts.
+#![tactic(auto)]
+
+pub mod laws;
