@@ -1,3 +1,5 @@
+pub mod CheckTexts
+pub mod Checks
 pub mod Commands
 pub mod Due
 pub mod Outside

@@ -1,11 +1,16 @@
 -- What is known of the outside of a call.
 use Rattle.std.specs.Prelude.{ℕ, List, Option}
+use Rattle.lotos_outside.specs.Shelf.{Notes}
 
 -- of the shelf: its files, where it tells them, and the names whose fetch failed, before the call and after it
 pub record Shelved : Type 0 where
   pub files : Option (List ℕ → Option (List ℕ))
   pub failed_before : List (List ℕ)
   pub failed_after : List (List ℕ)
+
+-- the fetch of this name failed in the call
+abbrev pub IsUnread : Shelved → List ℕ → Type 0
+IsUnread shelf name = Notes shelf.failed_before shelf.failed_after name
 
 -- of the shelf, and of what the sink had taken, before the call and after it, where it tells that
 pub record Outside : Type 0 where

@@ -1,18 +1,14 @@
 -- What is due for `run`. The specification is fetched and read before the script.
 use Rattle.std.specs.Prelude.{ℕ, ◌≡◌, ◌⊎◌, List, None, codes, take, IsSomeAnd}
-use Rattle.lotos_outside.specs.Shelf.{OnFetched, Notes}
+use Rattle.lotos_outside.specs.Shelf.{OnFetched}
 use Rattle.first_form.specs.FirstForm.{FirstForm, first_form}
 use Rattle.first_form.specs.Script.{first_script}
 use Rattle.first_form.specs.Written.{IsTraceOf}
 use Rattle.lotos_run.specs.declared.status.Status.{Status}
 use Rattle.lotos_run.specs.declared.status.Status.TheVariants.{Done, ReadFault, NotBuilt}
-use Rattle.lotos_run.specs.Outside.{Shelved}
+use Rattle.lotos_run.specs.Outside.{Shelved, IsUnread}
 
 module _ (shelf : Shelved) where
-  -- the fetch of this name failed in the call
-  abbrev pub IsUnread : List ℕ → Type 0
-  IsUnread name = Notes shelf.failed_before shelf.failed_after name
-
   -- the file of this name was fetched, and its first 4,097 bytes are a specification of the first form, of which the fact holds
   abbrev pub OnSpecification : List ℕ → (FirstForm → Type 0) → Type 0
   OnSpecification name P = OnFetched shelf.files name (λ bytes. IsSomeAnd (first_form (take 4097 bytes)) P)
@@ -31,7 +27,7 @@ module _ (shelf : Shelved) where
   --   not built: the script isn't of the form
   abbrev pub IsDueForScript : FirstForm → List ℕ → Status → List ℕ → Type 0
   IsDueForScript form script Done text = OnFetched shelf.files script (λ bytes. IsTraceOf form (take 65537 bytes) text)
-  IsDueForScript form script ReadFault text = (text ≡ codes "read fault\n") × IsUnread script
+  IsDueForScript form script ReadFault text = (text ≡ codes "read fault\n") × IsUnread shelf script
   IsDueForScript form script NotBuilt text = (text ≡ codes "not built\n") × IsNoScript script form
   IsDueForScript form script _ text = ⊥
 
@@ -43,7 +39,7 @@ module _ (shelf : Shelved) where
   IsRunDue specification script Done text =
       OnSpecification specification (λ form. OnFetched shelf.files script (λ bytes. IsTraceOf form (take 65537 bytes) text))
   IsRunDue specification script ReadFault text =
-      (text ≡ codes "read fault\n") × (IsUnread specification ⊎ IsUnread script × OnSpecification specification (λ form. Unit {0}))
+      (text ≡ codes "read fault\n") × (IsUnread shelf specification ⊎ IsUnread shelf script × OnSpecification specification (λ form. Unit {0}))
   IsRunDue specification script NotBuilt text =
       (text ≡ codes "not built\n") × (IsNoSpecification specification ⊎ OnSpecification specification (IsNoScript script))
   IsRunDue specification script _ text = ⊥

@@ -1,11 +1,12 @@
 -- How a call ends.
 use Rattle.std.specs.Prelude.{ℕ}
 use Rattle.lotos_run.specs.declared.status.Status.{Status}
-use Rattle.lotos_run.specs.declared.status.Status.TheVariants.{Done, Usage, ReadFault, WriteFault, Memory, NotBuilt}
+use Rattle.lotos_run.specs.declared.status.Status.TheVariants.{Done, Refused, Usage, ReadFault, WriteFault, Memory, NotBuilt}
 
 -- the number with which the program ends
 abbrev pub number_of : Status → ℕ
 number_of Done = 0
+number_of Refused = 1
 number_of Usage = 2
 number_of ReadFault = 3
 number_of WriteFault = 4

@@ -2,7 +2,7 @@
 
 ghost use Rattle.std.specs.Prelude.{◌≡◌, map, option_map, string_bytes};
 ghost use Rattle.lotos_run.specs.Commands as commands;
-ghost use Rattle.lotos_run.specs.Commands.{command_named, command_of, run_of};
+ghost use Rattle.lotos_run.specs.Commands.{check_of, command_named, command_of, run_of};
 
 use first_form::script::does_begin_with;
 
@@ -13,6 +13,10 @@ pub enum Command<'w> {
     Run {
         specification: &'w str,
         script: &'w str,
+    },
+    /// Whether a specification is accepted.
+    Check {
+        specification: &'w str,
     },
 }
 
@@ -44,6 +48,23 @@ fn run(words: &[String]) -> Option<Command<'_>>
     }
 }
 
+// What `check` is told by the words behind it.
+fn check(words: &[String]) -> Option<Command<'_>>
+    ensures { option_map command_named result ≡ check_of (map string_bytes words.now) }
+{
+    match words {
+        [specification] => {
+            let specification = specification.as_str();
+            if is_name(specification) {
+                Some(Command::Check { specification })
+            } else {
+                None
+            }
+        }
+        _ => None,
+    }
+}
+
 /// The command that words name, if they name one.
 pub fn read_command(words: &[String]) -> Option<Command<'_>>
     ensures { option_map command_named result ≡ command_of (map string_bytes words.now) }
@@ -51,6 +72,7 @@ pub fn read_command(words: &[String]) -> Option<Command<'_>>
     match words {
         [name, words @ ..] => match name.as_str() {
             "run" => run(words),
+            "check" => check(words),
             _ => None,
         },
         [] => None,

@@ -6,6 +6,7 @@ ghost use Rattle.lotos_run.specs.Due.{IsDue};
 ghost use Rattle.lotos_run.specs.Outside.{shelved};
 
 use crate::answer::{Answer, with_text};
+use crate::check::check;
 use crate::command::{Command, read_command};
 use crate::run::run;
 use crate::status::Status;
@@ -30,5 +31,6 @@ pub fn due_answer<F: Shelf>(
                 script,
             },
         ) => run(alloc, shelf, specification, script),
+        Some(Command::Check { specification }) => check(alloc, shelf, specification),
     }
 }

@@ -2,6 +2,8 @@
 #![tactic(auto)]
 
 mod answer;
+mod check;
+mod check_text;
 mod command;
 mod due;
 mod run;

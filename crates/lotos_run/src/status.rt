@@ -7,6 +7,8 @@ ghost use Rattle.std.specs.Prelude.{◌≡◌};
 pub enum Status {
     /// The command was carried out.
     Done,
+    /// The specification is refused.
+    Refused,
     /// The words are no call.
     Usage,
     /// A file that the words name could not be read.
@@ -28,6 +30,7 @@ impl Status {
     {
         match self {
             Status::Done => 0,
+            Status::Refused => 1,
             Status::Usage => 2,
             Status::ReadFault => 3,
             Status::WriteFault => 4,
