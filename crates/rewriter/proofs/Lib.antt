@@ -7,6 +7,7 @@ pub mod Matches
 pub mod Moves
 pub mod Outcomes
 pub mod Plans
+pub mod Sides
 pub mod Slices
 pub mod Tops
 pub mod Turns

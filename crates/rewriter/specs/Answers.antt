@@ -3,6 +3,8 @@ use Rattle.std.specs.Prelude.{ℕ, ◌≡◌, ◌≤◌, List}
 use Rattle.spec_core.specs.Terms.{TermTree, preorder}
 use Rattle.spec_core.specs.Theories.{Theory}
 use Rattle.spec_core.specs.Values.{HasValue}
+use Rattle.rewriter.specs.declared.fault.Side.{Side}
+use Rattle.rewriter.specs.declared.fault.Side.TheVariants.{Left, Right}
 use Rattle.spec_core.specs.Evaluation.{Evaluates, EvaluationMeets}
 use Rattle.value_nodes.specs.Sizes.{IsTooLarge}
 
@@ -26,3 +28,8 @@ pub record IsWithin (theory : Theory) (t : TermTree) (budget : ℕ) : Type 0 whe
   pub evaluates : Evaluates theory t value uses
   pub enough : uses ≤ budget
   pub small : MeetsTooLarge theory t → ⊥
+
+-- the term at a side
+abbrev pub at_side : Side → TermTree → TermTree → TermTree
+at_side Left left right = left
+at_side Right left right = right

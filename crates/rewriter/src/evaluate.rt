@@ -7,10 +7,10 @@ ghost use Rattle.spec_core.specs.Executable.{IsExecutable};
 ghost use Rattle.spec_core.specs.Sorts.{FitsGround};
 ghost use Rattle.spec_core.specs.Terms.{term_of};
 ghost use Rattle.spec_core.specs.Theories.{theory_of};
-ghost use Rattle.rewriter.specs.Answers.{SpellsValue, MeetsTooLarge, IsWithin};
+ghost use Rattle.rewriter.specs.Answers.{SpellsValue, MeetsTooLarge, IsWithin, at_side};
 
 use crate::equations::most_variables;
-use crate::fault::Eval;
+use crate::fault::{Eval, Side, SideFault};
 use crate::heads::FirstEquations;
 use crate::run::run;
 use crate::step::{Todo, push_instance};
@@ -36,8 +36,44 @@ pub fn value(alloc: Global, algebra: &DataSpec, term: &Term, budget: u64) -> Res
     evaluate(alloc, algebra, term, budget)
 }
 
-/// Whether two ground terms are equal: whether they have one value, each with at most `budget` uses of equations. A cause is one of
-/// either term; the left one is evaluated first.
+/// Whether two ground terms are equal: whether they have one value, each with at most `budget` uses of equations. The left one is evaluated
+/// first, and the first that has no value is answered, with its cause.
+pub fn compare(
+    alloc: Global,
+    algebra: &DataSpec,
+    left: &Term,
+    right: &Term,
+    budget: u64,
+) -> Result<bool, SideFault>
+    requires executable { IsExecutable (theory_of algebra.now) }
+    requires left { FitsGround (theory_of algebra.now) (term_of left.now) }
+    requires right { FitsGround (theory_of algebra.now) (term_of right.now) }
+    ensures decides { IfOk result (λ same. IsTrue same ↔ Equal (theory_of algebra.now) (term_of left.now) (term_of right.now)) }
+    ensures spent { IfErr result (λ e. e.cause ≡ Eval.Spent →
+        IsBeyond (theory_of algebra.now) (at_side e.side (term_of left.now) (term_of right.now)) budget) }
+    ensures too_large { IfErr result (λ e. e.cause ≡ Eval.TooLarge →
+        MeetsTooLarge (theory_of algebra.now) (at_side e.side (term_of left.now) (term_of right.now))) }
+    ensures complete { IsWithin (theory_of algebra.now) (term_of left.now) budget →
+        IsWithin (theory_of algebra.now) (term_of right.now) budget →
+        IfErr result (λ e. e.cause ≡ Eval.Memory) }
+{
+    match value(alloc, algebra, left, budget) {
+        Err(cause) => Err(SideFault {
+            side: Side::Left,
+            cause,
+        }),
+        Ok(left_value) => match value(alloc, algebra, right, budget) {
+            Err(cause) => Err(SideFault {
+                side: Side::Right,
+                cause,
+            }),
+            Ok(right_value) => Ok(left_value.same(&right_value)),
+        },
+    }
+}
+
+/// The same, with the cause alone, which is one of either term.
+#[tactic(auto, using(crate::proofs::Sides::either))]
 pub fn judge(
     alloc: Global,
     algebra: &DataSpec,
@@ -59,9 +95,10 @@ pub fn judge(
         IsWithin (theory_of algebra.now) (term_of right.now) budget →
         IfErr result (λ e. e ≡ Eval.Memory) }
 {
-    let left_value = value(alloc, algebra, left, budget)?;
-    let right_value = value(alloc, algebra, right, budget)?;
-    Ok(left_value.same(&right_value))
+    match compare(alloc, algebra, left, right, budget) {
+        Ok(same) => Ok(same),
+        Err(SideFault { side: _, cause }) => Err(cause),
+    }
 }
 
 // Begins with the steps of the term, runs them to their end, and spells what they come to.

@@ -19,6 +19,24 @@ pub enum Eval {
     Memory,
 }
 
+/// Which of two terms.
+#[derive(Clone, Copy, Debug, PartialEq, Eq)]
+pub enum Side {
+    /// The first of them.
+    Left,
+    /// The second of them.
+    Right,
+}
+
+/// Why two terms aren't compared: the one that has no value, and why.
+#[derive(Clone, Copy, Debug, PartialEq, Eq)]
+pub struct SideFault {
+    /// Which of the terms it is.
+    pub side: Side,
+    /// Why it has none.
+    pub cause: Eval,
+}
+
 impl fmt::Display for Eval {
     fn fmt<W: fmt::Write>(&self, f: &mut fmt::Formatter<W>) -> fmt::Result {
         match self {

@@ -12,5 +12,5 @@ mod run;
 mod step;
 mod values;
 
-pub use evaluate::{judge, value};
-pub use fault::Eval;
+pub use evaluate::{compare, judge, value};
+pub use fault::{Eval, Side, SideFault};
