@@ -1,0 +1,3 @@
+mod Settings
+mod Short
+mod Values

@@ -1,0 +1,59 @@
+-- The commands, and the words that name them (this profile): the command, then names of files or terms, none of which begins with -, and then
+-- options.
+use Rattle.std.specs.Prelude.{ℕ, ◌==◌, List, [], ◌∷◌, Bool, true, not, if◌then◌else◌, Option, None, option_map, codes}
+use Rattle.std.specs.List.{list_all}
+use Rattle.std.specs.Str.{bytes_eq}
+use Rattle.spec_core.specs.declared.settings.Settings.{Settings}
+use Rattle.command_words.specs.declared.command.Command as words
+use Rattle.command_words.specs.declared.command.Command.TheVariants.{Run, Check, Equal}
+use Rattle.command_words.specs.declared.option.OptionName.{OptionName}
+use Rattle.command_words.specs.declared.option.OptionName.TheVariants.{Budget}
+use Rattle.command_words.specs.Options.{settings_of}
+
+pub data Command : Type 0 where
+  -- a session of the specification in the first file, whose client makes the offers of the script in the second
+  run : List ℕ → List ℕ → Command
+  -- whether the specification in the file is accepted
+  check : List ℕ → Command
+  -- whether two terms of the specification in the file are equal, with so many uses of equations for each
+  equal : List ℕ → List ℕ → List ℕ → ℕ → Command
+
+-- a word doesn't begin with -
+abbrev pub is_name : List ℕ → Bool
+is_name [] = true
+is_name (byte ∷ bytes) = not (byte == 45)
+
+-- what options set, behind words that are names
+abbrev pub set_behind : List (List ℕ) → List OptionName → List (List ℕ) → Option Settings
+set_behind names options words = if list_all is_name names then settings_of options words else None
+
+-- what each command is told by the words behind it
+
+abbrev pub run_of : List (List ℕ) → Option Command
+run_of (specification ∷ script ∷ words) =
+    option_map (λ settings. run specification script) (set_behind (specification ∷ script ∷ []) [] words)
+run_of _ = None
+
+abbrev pub check_of : List (List ℕ) → Option Command
+check_of (specification ∷ words) = option_map (λ settings. check specification) (set_behind (specification ∷ []) [] words)
+check_of _ = None
+
+abbrev pub equal_of : List (List ℕ) → Option Command
+equal_of (specification ∷ first ∷ second ∷ words) =
+    option_map (λ settings. equal specification first second settings.budget)
+    (set_behind (specification ∷ first ∷ second ∷ []) (Budget ∷ []) words)
+equal_of _ = None
+
+-- the command that words name, if they name one
+abbrev pub command_of : List (List ℕ) → Option Command
+command_of (name ∷ words) = if bytes_eq name (codes "run") then run_of words
+    else if bytes_eq name (codes "check") then check_of words
+    else if bytes_eq name (codes "equal") then equal_of words
+    else None
+command_of [] = None
+
+-- what a value of the program stands for
+abbrev pub command_named : words.Command → Command
+command_named (Run specification script) = run specification.now script.now
+command_named (Check specification) = check specification.now
+command_named (Equal specification first second budget) = equal specification.now first.now second.now budget

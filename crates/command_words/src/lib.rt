@@ -1,0 +1,7 @@
+// The words of a call: which command they name, and what they tell it.
+#![tactic(auto)]
+
+mod command;
+mod option;
+
+pub use command::{Command, read_command};
