@@ -1,10 +1,11 @@
 -- Which status a call ends with, and which text it brings.
 use Rattle.std.specs.Prelude.{ℕ, ◌≡◌, List, Option, Some, None, codes}
+use Rattle.command_words.specs.Commands.{Command, run, check, equal}
 use Rattle.lotos_outside.specs.Sink.{with_more, AppendsPrefix}
 use Rattle.lotos_run.specs.declared.status.Status.{Status}
 use Rattle.lotos_run.specs.declared.status.Status.TheVariants.{Usage}
 use Rattle.lotos_run.specs.Checks.{IsCheckDue}
-use Rattle.lotos_run.specs.Commands.{Command, run, check}
+use Rattle.lotos_run.specs.Equals.{IsEqualDue}
 use Rattle.lotos_run.specs.Outside.{Shelved, Outside}
 use Rattle.lotos_run.specs.Runs.{IsRunDue}
 
@@ -18,6 +19,7 @@ abbrev pub IsDue : Shelved → Option Command → Status → List ℕ → Type 0
 IsDue shelf None status text = IsUsageDue status text
 IsDue shelf (Some (run specification script)) status text = IsRunDue shelf specification script status text
 IsDue shelf (Some (check specification)) status text = IsCheckDue shelf specification status text
+IsDue shelf (Some (equal specification first second budget)) status text = IsEqualDue shelf specification first second budget status text
 
 -- the status is due, and the text that is due with it was written
 abbrev pub IsAnswered : Outside → Option Command → Status → Type 0

@@ -1,7 +1,8 @@
 pub mod CheckTexts
 pub mod Checks
-pub mod Commands
 pub mod Due
+pub mod EqualTexts
+pub mod Equals
 pub mod Outside
 pub mod Runs
 pub mod Statuses

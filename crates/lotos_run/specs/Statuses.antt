@@ -1,7 +1,8 @@
 -- How a call ends.
 use Rattle.std.specs.Prelude.{ℕ}
 use Rattle.lotos_run.specs.declared.status.Status.{Status}
-use Rattle.lotos_run.specs.declared.status.Status.TheVariants.{Done, Refused, Usage, ReadFault, WriteFault, Memory, NotBuilt}
+use Rattle.lotos_run.specs.declared.status.Status.TheVariants.{Done, Refused, Usage, ReadFault, WriteFault, Memory, Spent, Limit}
+use Rattle.lotos_run.specs.declared.status.Status.TheVariants.{ScriptRefused, NotBuilt}
 
 -- the number with which the program ends
 abbrev pub number_of : Status → ℕ
@@ -11,6 +12,9 @@ number_of Usage = 2
 number_of ReadFault = 3
 number_of WriteFault = 4
 number_of Memory = 5
+number_of Spent = 6
+number_of Limit = 7
+number_of ScriptRefused = 8
 number_of NotBuilt = 10
 
 -- a status that is due and whose whole text was written; any other is none of these

@@ -1,15 +1,16 @@
 // What is due for the words of a call.
 
 ghost use Rattle.std.specs.Prelude.{IfOk, map, string_bytes};
-ghost use Rattle.lotos_run.specs.Commands.{command_of};
+ghost use Rattle.command_words.specs.Commands.{command_of};
 ghost use Rattle.lotos_run.specs.Due.{IsDue};
 ghost use Rattle.lotos_run.specs.Outside.{shelved};
 
 use crate::answer::{Answer, with_text};
 use crate::check::check;
-use crate::command::{Command, read_command};
+use crate::equal::equal;
 use crate::run::run;
 use crate::status::Status;
+use command_words::{Command, read_command};
 use lotos_outside::shelf::Shelf;
 use spec_core::memory::Memory;
 use std::alloc::Global;
@@ -32,5 +33,13 @@ pub fn due_answer<F: Shelf>(
             },
         ) => run(alloc, shelf, specification, script),
         Some(Command::Check { specification }) => check(alloc, shelf, specification),
+        Some(
+            Command::Equal {
+                specification,
+                first,
+                second,
+                budget,
+            },
+        ) => equal(alloc, shelf, specification, first, second, budget),
     }
 }

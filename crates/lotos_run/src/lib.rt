@@ -4,15 +4,16 @@
 mod answer;
 mod check;
 mod check_text;
-mod command;
 mod due;
+mod equal;
+mod equal_text;
 mod run;
 pub mod status;
 
 ghost use Rattle.std.specs.Prelude.{◌≡◌, map, string_bytes};
 ghost use Rattle.lotos_outside.specs.Counts.{Rose};
 ghost use Rattle.lotos_outside.specs.Sink.{with_more, AppendsPrefix};
-ghost use Rattle.lotos_run.specs.Commands.{command_of};
+ghost use Rattle.command_words.specs.Commands.{command_of};
 ghost use Rattle.lotos_run.specs.Due.{IsAnswered, IsCutShort};
 ghost use Rattle.lotos_run.specs.Outside.{outside};
 ghost use Rattle.lotos_run.specs.Statuses.{IsFinal};
@@ -42,6 +43,7 @@ fn write<O: Sink>(out: &mut O, status: Status, text: &[u8]) -> Status
 ///
 /// `words` are the words behind the program's name, `shelf` is where files are fetched, and all texts go to `out`. No command reads `input`
 /// yet. Want of memory may come at any time; nothing is said of its cause, nor of what was written then.
+#[tactic(auto, using(crate::proofs::Final::due_final))]
 pub fn lotos_main<R: AllocGlobal, F: Shelf, I: Source, O: Sink>(
     rt: &R,
     words: &[String],

@@ -17,6 +17,12 @@ pub enum Status {
     WriteFault,
     /// Want of memory.
     Memory,
+    /// A term has no value within the budget.
+    Spent,
+    /// A value has more symbols than are allowed.
+    Limit,
+    /// A script or a term is not as it has to be.
+    ScriptRefused,
     /// The files use what the program can't run yet.
     NotBuilt,
 }
@@ -35,6 +41,9 @@ impl Status {
             Status::ReadFault => 3,
             Status::WriteFault => 4,
             Status::Memory => 5,
+            Status::Spent => 6,
+            Status::Limit => 7,
+            Status::ScriptRefused => 8,
             Status::NotBuilt => 10,
         }
     }

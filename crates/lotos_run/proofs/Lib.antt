@@ -1,0 +1,2 @@
+mod Equals
+mod Final
