@@ -7,7 +7,6 @@ use lotos_ast::place::Place;
 use lotos_ast::token::Token;
 
 /// A construct of behaviour over its parts. What it holds beside them is that of the syntax tree.
-#[derive(Drop)]
 pub enum Construct<'a> {
     /// `stop`
     Stop,
@@ -90,4 +89,68 @@ pub enum Construct<'a> {
         operator: &'a Operator,
         inner: Box<Construct<'a>>,
     },
+}
+
+// Constructs behind each other may be as many as constructs may be nested. They are let go one after another, but for what stands at the
+// left of an operator.
+impl Drop for Construct<'_> {
+    fn drop(mut self) {
+        loop {
+            match self {
+                Construct::Stop => return,
+                Construct::Exit { values: _ } => return,
+                Construct::Call {
+                    name: _,
+                    gates: _,
+                    values: _,
+                } => return,
+                Construct::Inner { rest } => self = Box::into_inner(rest),
+                Construct::Act {
+                    gate: _,
+                    offers: _,
+                    predicate: _,
+                    rest,
+                } => self = Box::into_inner(rest),
+                Construct::Guard {
+                    condition: _,
+                    inner,
+                } => self = Box::into_inner(inner),
+                Construct::Let { bindings: _, inner } => self = Box::into_inner(inner),
+                Construct::Values {
+                    declarations: _,
+                    inner,
+                } => self = Box::into_inner(inner),
+                Construct::Gates { choices: _, inner } => self = Box::into_inner(inner),
+                Construct::Hide { gates: _, inner } => self = Box::into_inner(inner),
+                Construct::Par {
+                    gate: _,
+                    gates: _,
+                    operator: _,
+                    inner,
+                } => self = Box::into_inner(inner),
+                Construct::Choice {
+                    place: _,
+                    left: _,
+                    right,
+                } => self = Box::into_inner(right),
+                Construct::Disable {
+                    place: _,
+                    left: _,
+                    right,
+                } => self = Box::into_inner(right),
+                Construct::Parallel {
+                    place: _,
+                    operator: _,
+                    left: _,
+                    right,
+                } => self = Box::into_inner(right),
+                Construct::Enable {
+                    place: _,
+                    left: _,
+                    accepts: _,
+                    right,
+                } => self = Box::into_inner(right),
+            }
+        }
+    }
 }

@@ -21,7 +21,6 @@ use spec_core::memory::Memory;
 use std::alloc::Global;
 
 /// A behaviour, and what follows it when it ends.
-#[derive(Drop)]
 #[cycle(behaviour)]
 pub struct Behaviour {
     /// The place of its first token.
@@ -45,7 +44,6 @@ pub struct Enabling {
 }
 
 /// A behaviour, and one that may break into it.
-#[derive(Drop)]
 #[cycle(behaviour)]
 pub struct Disable {
     /// The place of its first token.
@@ -67,7 +65,6 @@ pub struct Disabling {
 }
 
 /// A behaviour, and one beside it.
-#[derive(Drop)]
 #[cycle(behaviour)]
 pub struct Parallel {
     /// The place of its first token.
@@ -113,7 +110,6 @@ pub enum Operator {
 }
 
 /// A behaviour, or another one.
-#[derive(Drop)]
 #[cycle(behaviour)]
 pub struct Choice {
     /// The place of its first token.
@@ -135,7 +131,6 @@ pub struct Choosing {
 }
 
 /// A behaviour without an operator between two parts.
-#[derive(Drop)]
 #[cycle(behaviour)]
 pub enum Unary {
     /// A behaviour under a condition.
@@ -339,6 +334,124 @@ pub struct GateChoice {
     pub gate: Token,
     /// The gates.
     pub gates: GateList,
+}
+
+// Behaviours of one level behind each other, and actions behind each other, may be as many as constructs may be nested. They are let go one
+// after another: only brackets make these functions call each other.
+
+impl Drop for Behaviour {
+    #[cycle(let_go)]
+    fn drop(mut self) {
+        loop {
+            let Behaviour {
+                place: _place,
+                first: _first,
+                rest,
+            } = self;
+            match rest {
+                None => return,
+                Some(link) => {
+                    let Enabling {
+                        place: _place,
+                        accepts: _accepts,
+                        right,
+                    } = link;
+                    self = Box::into_inner(right);
+                }
+            }
+        }
+    }
+}
+
+impl Drop for Disable {
+    #[cycle(let_go)]
+    fn drop(mut self) {
+        loop {
+            let Disable {
+                place: _place,
+                first: _first,
+                rest,
+            } = self;
+            match rest {
+                None => return,
+                Some(link) => {
+                    let Disabling {
+                        place: _place,
+                        right,
+                    } = link;
+                    self = Box::into_inner(right);
+                }
+            }
+        }
+    }
+}
+
+impl Drop for Parallel {
+    #[cycle(let_go)]
+    fn drop(mut self) {
+        loop {
+            let Parallel {
+                place: _place,
+                first: _first,
+                rest,
+            } = self;
+            match rest {
+                None => return,
+                Some(link) => {
+                    let Composing {
+                        place: _place,
+                        operator: _operator,
+                        right,
+                    } = link;
+                    self = Box::into_inner(right);
+                }
+            }
+        }
+    }
+}
+
+impl Drop for Choice {
+    #[cycle(let_go)]
+    fn drop(mut self) {
+        loop {
+            let Choice {
+                place: _place,
+                first: _first,
+                rest,
+            } = self;
+            match rest {
+                None => return,
+                Some(link) => {
+                    let Choosing {
+                        place: _place,
+                        right,
+                    } = link;
+                    self = Box::into_inner(right);
+                }
+            }
+        }
+    }
+}
+
+impl Drop for Unary {
+    #[cycle(let_go)]
+    fn drop(mut self) {
+        loop {
+            match self {
+                Unary::Guarded {
+                    place: _,
+                    guard: _,
+                    rest,
+                } => self = Box::into_inner(rest),
+                Unary::Prefixed {
+                    place: _,
+                    action: _,
+                    rest,
+                } => self = Box::into_inner(rest),
+                Unary::Atomic(_) => return,
+            }
+        }
+    }
 }
 
 impl Behaviour {
