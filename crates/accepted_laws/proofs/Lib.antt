@@ -1,3 +1,4 @@
+pub mod Answers
 pub mod Data
 pub mod Ready
 pub mod Texts

@@ -1,13 +1,16 @@
 // Laws of the definitions: a call does nothing, and its contract is the law.
 
-ghost use Rattle.accepted_laws.specs.Laws.{AcceptedIsReady, DataAnswersAreOne};
+ghost use Rattle.accepted_laws.specs.Laws.{AcceptedIsReady, AnswersAreOne, DataAnswersAreOne};
 
+use alike_specifications::laws::the_same_is_judged;
 use alike_types::laws::{the_same_is_presented, the_same_is_read, the_same_is_refused};
 use lotos_ast::laws::{reading_has_at_most_one_result, tokens_are_determined};
 use named_types::laws::{specifications_are_named, text_types_are_named};
 use presentation_laws::laws::presentations_are_named;
 use refusal_laws::laws::{cover_has_one_answer, decrease_has_one_answer, shape_has_one_answer};
+use specification_laws::laws as specifications;
 use specification_laws::laws::compiled_is_ready;
+use specification_trees::laws::tokens_determine_specifications;
 use token_names::laws::tokens_are_named;
 use type_equations::laws::own_equations_are_one;
 
@@ -37,4 +40,15 @@ pub fn data_answers_are_one()
     the_same_is_refused();
     the_same_is_read();
     the_same_is_presented();
+}
+
+/// A text is accepted with one program, or one refusal of it is the first, and never both.
+pub fn answers_are_one()
+    ensures { AnswersAreOne }
+{
+    data_answers_are_one();
+    tokens_are_determined();
+    the_same_is_judged();
+    specifications::answers_are_one();
+    tokens_determine_specifications();
 }

@@ -180,7 +180,7 @@ operation-parts-alike o p h e =
 
 -- variables
 
-declarations-alike : (d e : Declaration) → declaration_tree d ≡ declaration_tree e → AreDeclarationsAlike d e
+pub declarations-alike : (d e : Declaration) → declaration_tree d ≡ declaration_tree e → AreDeclarationsAlike d e
 declarations-alike d e k =
     let names : token_list_tree d.names.items ≡ token_list_tree e.names.items = cc in
     record { place = cc; names = tokens-one d.names.items e.names.items names; sort = cc }

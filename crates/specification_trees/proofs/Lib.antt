@@ -1,0 +1,7 @@
+mod Defined
+mod Determined
+mod Meanings
+mod OneMeaning
+mod Parts
+mod Processes
+mod Written
