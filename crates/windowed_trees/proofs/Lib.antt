@@ -1,0 +1,11 @@
+pub mod Sorts
+pub mod Standing
+pub mod Fields
+pub mod Marks
+pub mod Dropping
+pub mod Remarking
+pub mod Windows
+pub mod Seen
+pub mod Acting
+pub mod Complete
+pub mod Nothing
