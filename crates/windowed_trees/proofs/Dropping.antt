@@ -87,13 +87,14 @@ module _ (theory : Theory) (l m : MarkedAssignment) (looser : AllLooser l m) whe
   mutual
     instance_looser : (t : TermTree) → IsLooser (marked_instance theory l t) (marked_instance theory m t)
     instance_looser (variable x) = looser x
-    instance_looser (apply f ts) = applied_looser theory f (marked_instances theory l ts) (marked_instances theory m ts) (instances_looser ts)
+    instance_looser (apply f ts) =
+        applied_looser theory f (marked_instances theory l ts) (marked_instances theory m ts) (instances_looser ts)
 
     instances_looser : (ts : TermTrees) → AreLooser (marked_instances theory l ts) (marked_instances theory m ts)
     instances_looser no_terms = refl
     instances_looser (and_term t ts) =
-        joined_looser (marked_instance theory l t) (marked_instance theory m t) (marked_instances theory l ts) (marked_instances theory m ts)
-        (instance_looser t) (instances_looser ts)
+        joined_looser (marked_instance theory l t) (marked_instance theory m t) (marked_instances theory l ts)
+        (marked_instances theory m ts) (instance_looser t) (instances_looser ts)
 
   -- a predicate that may hold still may
   pub guard_looser : (p : Option Premise) → GuardMayHold theory m p → GuardMayHold theory l p

@@ -56,7 +56,8 @@ module _ (theory : Theory) (fits : FitsData theory) (w : Windows) (m : MarkedAss
       StandsForAll theory r u
   fields_stand [] [] [] l t u i h = ([], l, refl, tt, subst (λ (z : Assignment). StandsForAll theory l z) (sym h) i)
   fields_stand (give e ∷ fields) slots (v ∷ values) l t u i h =
-      let k = value_stands theory fits (marked_instance theory m e) (instance s e) h.0.0 (instance_stands theory m s stands e) h.0.1.value in
+      let at = instance_stands theory m s stands e in
+      let k = value_stands theory fits (marked_instance theory m e) (instance s e) h.0.0 at h.0.1.value in
       let rest = fields_stand fields slots values l t u i h.1 in (
         told_by k.0 ∷ rest.0,
         rest.1,
@@ -79,7 +80,8 @@ module _ (theory : Theory) (fits : FitsData theory) (w : Windows) (m : MarkedAss
       (fs : List MarkedField) × ExitMayHave theory w m fields slots fs × StandFor theory fs values
   exit_stands [] [] [] h = ([], tt, tt)
   exit_stands (exit_given e ∷ fields) slots (v ∷ values) h =
-      let k = value_stands theory fits (marked_instance theory m e) (instance s e) h.0.0 (instance_stands theory m s stands e) h.0.1.value in
+      let at = instance_stands theory m s stands e in
+      let k = value_stands theory fits (marked_instance theory m e) (instance s e) h.0.0 at h.0.1.value in
       let rest = exit_stands fields slots values h.1 in
       (told_by k.0 ∷ rest.0, ((k.0, k.1, refl), rest.1), (told_stands theory k.0 h.0.0 v k.2 h.0.1.spelled, rest.2))
   exit_stands (exit_any sort ∷ fields) (Of o ∷ slots) (v ∷ values) h =

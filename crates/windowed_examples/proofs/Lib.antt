@@ -1,0 +1,5 @@
+pub mod Shapes
+pub mod Offering
+pub mod Taking
+pub mod Ending
+pub mod Agreeing

@@ -1,0 +1,4 @@
+// Worked examples of windowed and beyond trees.
+#![tactic(auto)]
+
+pub mod laws;
