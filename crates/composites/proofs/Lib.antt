@@ -1,0 +1,7 @@
+pub mod Lists
+pub mod Tests
+pub mod Exact
+pub mod OpenFields
+pub mod Listing
+pub mod TreeLists
+pub mod Origins

@@ -1,0 +1,7 @@
+pub mod Evaluations
+pub mod Kinds
+pub mod OpenFields
+pub mod Composites
+pub mod TreeLists
+pub mod Laws
+pub mod Examples
