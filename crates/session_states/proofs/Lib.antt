@@ -1,0 +1,5 @@
+pub mod Entries
+pub mod Members
+pub mod OpenClients
+pub mod Tests
+pub mod Waiting

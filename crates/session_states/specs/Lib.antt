@@ -1,0 +1,4 @@
+pub mod Clients
+pub mod Pending
+pub mod Possible
+pub mod Views

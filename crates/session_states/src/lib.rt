@@ -1,0 +1,8 @@
+// The state of a session: who is open, what is offered, and what was done; and which entries of a log are possible in it.
+#![tactic(auto)]
+
+mod clients;
+mod meeting;
+mod naming;
+mod pending;
+pub mod state;
