@@ -1,0 +1,4 @@
+pub mod Trace
+pub mod Unfinished
+pub mod Values
+pub mod Vocabularies

@@ -1,0 +1,11 @@
+// Traces: the text of a log and of how it ended, printed and read.
+#![tactic(auto)]
+
+mod entry;
+mod pieces;
+mod print;
+mod tree;
+mod value;
+mod vocabulary;
+
+pub use print::print_log;
