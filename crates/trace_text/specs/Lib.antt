@@ -1,3 +1,5 @@
+pub mod Fits
+pub mod Laws
 pub mod Trace
 pub mod Unfinished
 pub mod Values
