@@ -1,10 +1,3 @@
-pub mod Lists
-pub mod Names
 pub mod OneLine
-pub mod OneTerm
 pub mod OneTrace
 pub mod OneTree
-pub mod OneValue
-pub mod Operations
-pub mod Runs
-pub mod Values

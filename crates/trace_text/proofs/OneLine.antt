@@ -19,13 +19,14 @@ use Rattle.rule_model.specs.declared.offer.Offer.{Offer}
 use Rattle.rule_model.specs.declared.reply.LimitKind.{LimitKind}
 use Rattle.rule_model.specs.declared.reply.LimitKind.TheVariants.{Steps, Spread, Offers}
 use Rattle.rule_model.specs.Events.{OfferName}
-use Rattle.trace_text.specs.Fits.{IsGroundList, IsClient, NameFits, ByFits, FieldFits, OfferFits, ActionFits}
+use Rattle.trace_text.specs.Fits.{IsClient, NameFits, ByFits, FieldFits, OfferFits, ActionFits}
 use Rattle.trace_text.specs.Trace.{Names, name_text, by_text, limit_word, field_text, offer_text, values_text, action_text}
-use Rattle.trace_text.specs.Values.{names_in, value_text}
-use Rattle.trace_text.proofs.Names.{EndsTerm, at_place, identifier_run, one_named, stops}
-use Rattle.trace_text.proofs.OneTerm.{one_term}
-use Rattle.trace_text.proofs.OneValue.{one_value}
-use Rattle.trace_text.proofs.Runs.{Stops, is_name_byte, one_number, one_run}
+use Rattle.trace_text.specs.Names.{names_in}
+use Rattle.value_text.specs.Values.{IsGroundList, value_text}
+use Rattle.value_text.proofs.Names.{EndsTerm, at_place, identifier_run, one_named, stops}
+use Rattle.value_text.proofs.OneTerm.{one_term}
+use Rattle.value_text.proofs.OneValue.{one_value}
+use Rattle.value_text.proofs.Runs.{Stops, is_name_byte, one_number, one_run}
 
 abbrev pub first : List ℕ → ℕ
 first [] = 0

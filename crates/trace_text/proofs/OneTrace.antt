@@ -17,8 +17,8 @@ use Rattle.trace_text.specs.Fits.{AnswerFits, EventFits, EndingFits, CountsActio
 use Rattle.trace_text.specs.Laws.{OneTrace}
 use Rattle.trace_text.specs.Trace.{Names, name_text, by_text, offer_text, action_text, tree_text, limit_word, answer_word, event_line}
 use Rattle.trace_text.specs.Trace.{end_word, line, trace_bytes}
-use Rattle.trace_text.specs.Values.{names_in}
-use Rattle.trace_text.proofs.Names.{EndsTerm}
+use Rattle.trace_text.specs.Names.{names_in}
+use Rattle.value_text.proofs.Names.{EndsTerm}
 use Rattle.trace_text.proofs.OneLine.{first, second, one_action, one_by, one_client, one_ground, one_limit, one_name, one_names, one_offer, names_text}
 use Rattle.trace_text.proofs.OneTree.{one_tree, three}
 

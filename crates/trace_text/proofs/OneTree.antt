@@ -12,11 +12,11 @@ use Rattle.rule_model.specs.Derivations.{Derivation, pre, int, exiting, chl, chr
 use Rattle.rule_model.specs.Derivations.{enstep, enend, disstep, disend, distake, calling, rel}
 use Rattle.trace_text.specs.Fits.{SlotFits, TreeFits}
 use Rattle.trace_text.specs.Trace.{Names, slot_text, slots_text, tree_text}
-use Rattle.trace_text.specs.Values.{names_in}
-use Rattle.trace_text.proofs.Names.{EndsTerm}
+use Rattle.trace_text.specs.Names.{names_in}
+use Rattle.value_text.proofs.Names.{EndsTerm}
 use Rattle.trace_text.proofs.OneLine.{first, second, one_list}
-use Rattle.trace_text.proofs.OneValue.{begins_value}
-use Rattle.trace_text.proofs.Runs.{one_number}
+use Rattle.value_text.proofs.OneValue.{begins_value}
+use Rattle.value_text.proofs.Runs.{one_number}
 
 -- the first three bytes as one number
 abbrev pub three : List ℕ → ℕ

@@ -3,8 +3,7 @@ use Rattle.std.specs.Prelude.{ℕ, ◌+◌, ◌<◌, ◌≤◌, ◌^◌, ◌≡�
 use Rattle.spec_core.specs.Code.{Program}
 use Rattle.spec_core.specs.Lists.{Each}
 use Rattle.spec_core.specs.Sorts.{FitsGround, IsDeclaredSort}
-use Rattle.spec_core.specs.Terms.{TermTree, preorder}
-use Rattle.spec_core.specs.Theories.{Theory}
+use Rattle.value_text.specs.Values.{IsGroundList}
 use Rattle.rule_model.specs.declared.action.Action.{Action}
 use Rattle.rule_model.specs.declared.action.Action.TheVariants.{Inner, Exit, At}
 use Rattle.rule_model.specs.declared.offer.Field.{Field}
@@ -18,12 +17,6 @@ use Rattle.rule_model.specs.Answers.{Answer, taken, deadlock, stalls, beyond, no
 use Rattle.rule_model.specs.Events.{OfferName, Event, pended, acted, replied, stalled, left, Ending, exits, deadlocked, waiting}
 use Rattle.rule_model.specs.Events.{ends_beyond, ends_spent, ends_too_large, ends_at_limit}
 use Rattle.rule_model.specs.Legal.{IsReplyAt}
-
--- the operations of a ground term of the data, in preorder
-pub record IsGroundList (theory : Theory) (value : List ℕ) : Type 0 where
-  pub term : TermTree
-  pub spelled : value ≡ preorder term
-  pub fits : FitsGround theory term
 
 -- a client from 1 to 64, and the number of one of its offers, from 1
 abbrev pub IsClient : ℕ → Type 0

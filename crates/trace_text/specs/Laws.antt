@@ -6,7 +6,7 @@ use Rattle.spec_core.specs.Sorts.{FitsData}
 use Rattle.rule_model.specs.Events.{Event, Ending}
 use Rattle.trace_text.specs.Fits.{HasTrace}
 use Rattle.trace_text.specs.Trace.{trace_bytes}
-use Rattle.trace_text.specs.Values.{names_in}
+use Rattle.trace_text.specs.Names.{names_in}
 
 -- over data that fit, with names as the grammar has them, a text is the trace of one log and one end at most
 abbrev pub OneTrace : Type 0

@@ -1,6 +1,4 @@
 pub mod Fits
 pub mod Laws
+pub mod Names
 pub mod Trace
-pub mod Unfinished
-pub mod Values
-pub mod Vocabularies

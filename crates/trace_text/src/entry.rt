@@ -5,12 +5,11 @@ ghost use Rattle.spec_core.specs.Terms.{term_of};
 ghost use Rattle.rule_model.specs.Answers.{answer_of};
 ghost use Rattle.rule_model.specs.Events.{event_of, ending_of};
 ghost use Rattle.trace_text.specs.Trace.{action_text, answer_word, end_word, event_line, field_text, line, offer_text, values_text};
-ghost use Rattle.trace_text.specs.Vocabularies.{IsWhole, names_with};
+ghost use Rattle.value_text.specs.Vocabularies.{IsWhole};
+ghost use Rattle.trace_text.specs.Names.{names_with};
 
 use crate::pieces::{put, put_by, put_limit, put_name, put_names, put_offer_word, put_place};
 use crate::tree::put_tree;
-use crate::value::{put_named, put_value};
-use crate::vocabulary::Vocabulary;
 use rule_model::action::Action;
 use rule_model::log::{End, Entry};
 use rule_model::offer::{Field, Offer};
@@ -19,6 +18,8 @@ use spec_core::memory::Memory;
 use spec_core::term::Term;
 use spec_core::term_text::term_text;
 use spec_core::value::Value;
+use value_text::value::{put_named, put_value};
+use value_text::vocabulary::Vocabulary;
 
 // Appends a field of an offer.
 fn put_field(out: &mut String, vocabulary: &Vocabulary, field: &Field) -> Result<(), Memory>

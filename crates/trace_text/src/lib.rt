@@ -6,7 +6,5 @@ pub mod laws;
 mod pieces;
 mod print;
 mod tree;
-mod value;
-mod vocabulary;
 
 pub use print::print_log;

@@ -5,16 +5,17 @@ ghost use Rattle.spec_core.specs.Code.{program_of};
 ghost use Rattle.rule_model.specs.Events.{event_of, ending_of};
 ghost use Rattle.rule_model.specs.Logs.{events_of};
 ghost use Rattle.trace_text.specs.Trace.{end_word, line, trace_bytes};
-ghost use Rattle.trace_text.specs.Values.{names_in};
-ghost use Rattle.trace_text.specs.Vocabularies.{IsWhole, names_with};
+ghost use Rattle.trace_text.specs.Names.{names_in};
+ghost use Rattle.value_text.specs.Vocabularies.{IsWhole};
+ghost use Rattle.trace_text.specs.Names.{names_with};
 
 use crate::entry::{put_end_word, put_line};
 use crate::pieces::put;
-use crate::vocabulary::Vocabulary;
 use rule_model::log::{End, Entry, Log};
 use spec_core::code::Checked;
 use spec_core::memory::Memory;
 use std::alloc::Global;
+use value_text::vocabulary::Vocabulary;
 
 // Appends a line for each entry.
 fn put_lines(out: &mut String, vocabulary: &Vocabulary, entries: &[Entry]) -> Result<(), Memory>

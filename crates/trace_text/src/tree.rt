@@ -3,13 +3,14 @@
 ghost use Rattle.std.specs.Prelude.{◌≡◌, ◌++◌, ◌∷◌, [], OnOk, codes, flat_map, string_bytes};
 ghost use Rattle.rule_model.specs.Derivations.{derivation_of};
 ghost use Rattle.trace_text.specs.Trace.{slot_text, slots_text, tree_text};
-ghost use Rattle.trace_text.specs.Vocabularies.{IsWhole, names_with};
+ghost use Rattle.value_text.specs.Vocabularies.{IsWhole};
+ghost use Rattle.trace_text.specs.Names.{names_with};
 
 use crate::pieces::{put, put_place};
-use crate::value::put_value;
-use crate::vocabulary::Vocabulary;
 use rule_model::rules::{Rules, Slot};
 use spec_core::memory::Memory;
+use value_text::value::put_value;
+use value_text::vocabulary::Vocabulary;
 
 // Appends a chosen value.
 fn put_slot(out: &mut String, vocabulary: &Vocabulary, slot: &Slot) -> Result<(), Memory>

@@ -1,7 +1,7 @@
 use Rattle.std.proofs.Common.{◌≡◌, ◌++◌, flat_map, map, string_bytes, take}
 use Rattle.rule_model.specs.Events.{event_of}
 use Rattle.trace_text.specs.Trace.{line}
-use Rattle.trace_text.specs.Vocabularies.{names_with}
+use Rattle.trace_text.specs.Names.{names_with}
 use Rattle.trace_text.proofs.print.put_lines.Given as goal
 
 abbrev pub invariant-loop-entry : goal.invariant-loop-entry

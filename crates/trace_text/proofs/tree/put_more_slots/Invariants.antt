@@ -1,6 +1,6 @@
 use Rattle.std.proofs.Common.{◌≡◌, ◌++◌, codes, flat_map, string_bytes, take}
 use Rattle.trace_text.specs.Trace.{slot_text}
-use Rattle.trace_text.specs.Vocabularies.{names_with}
+use Rattle.trace_text.specs.Names.{names_with}
 use Rattle.trace_text.proofs.tree.put_more_slots.Given as goal
 
 abbrev pub invariant-loop-slot : goal.invariant-loop-slot

@@ -1,0 +1,5 @@
+// Values as text.
+#![tactic(auto)]
+
+pub mod value;
+pub mod vocabulary;

@@ -1,0 +1,84 @@
+// The names of a specification, for printing.
+
+ghost use Rattle.std.specs.Prelude.{◌≡◌, IfOk, Some, count_by, map};
+ghost use Rattle.std.specs.List.{slice_get};
+ghost use Rattle.spec_core.specs.Code.{program_of};
+ghost use Rattle.spec_core.specs.Theories.{Operation, operation_of};
+ghost use Rattle.spec_core.specs.TermText.{shares};
+ghost use Rattle.value_text.specs.Values.{is_shared, sharing};
+ghost use Rattle.value_text.specs.Vocabularies.{IsWhole, theory_in};
+
+use spec_core::code::Checked;
+use spec_core::items::Op;
+use spec_core::memory::Memory;
+use spec_core::signature::{OpDecl, same_sorts};
+use std::alloc::Global;
+
+// A specification, and for each of its operations whether another one shares its name and its argument sorts.
+#[derive(Drop)]
+pub struct Vocabulary<'a> {
+    pub checked: &'a Checked,
+    pub shared: Vec<bool>,
+}
+
+impl<'a> Vocabulary<'a> {
+    pub fn new(alloc: Global, checked: &'a Checked) -> Result<Vocabulary<'a>, Memory>
+        ensures whole { IfOk result IsWhole }
+        ensures same { IfOk result (λ v. program_of v.checked.now ≡ program_of checked.now) }
+    {
+        let shared = flags(alloc, &checked.algebra.signature.ops)?;
+        Ok(Vocabulary { checked, shared })
+    }
+
+    // Whether more than one operation has the name and the argument sorts of this one.
+    pub fn is_shared(&self, op: Op) -> bool
+        requires whole { IsWhole self.now }
+        ensures { (d : Operation) → slice_get (theory_in self.now).operations op.0 ≡ Some d →
+            result ≡ is_shared (theory_in self.now).operations d }
+    {
+        let place = op.0 as usize;
+        place < self.shared.len() && self.shared[place]
+    }
+}
+
+// For each operation, whether another one shares its name and its argument sorts.
+fn flags(alloc: Global, declarations: &[OpDecl]) -> Result<Vec<bool>, Memory>
+    ensures { IfOk result (λ flags. flags.items ≡ sharing (map operation_of declarations.now)) }
+{
+    let mut flags = Vec::new(alloc);
+    for declaration in declarations {
+        flags.push(is_shared(declarations, declaration))?;
+    }
+    Ok(flags)
+}
+
+// Whether more than one operation has the name and the argument sorts of this one.
+fn is_shared(declarations: &[OpDecl], declaration: &OpDecl) -> bool
+    ensures { result ≡ is_shared (map operation_of declarations.now) (operation_of declaration.now) }
+{
+    count_sharing(declarations, declaration) > 1
+}
+
+// How many operations share name and argument sorts with this one.
+fn count_sharing(declarations: &[OpDecl], declaration: &OpDecl) -> usize
+    ensures { result ≡ count_by (shares (operation_of declaration.now)) (map operation_of declarations.now) }
+{
+    let mut count = 0;
+    for other in declarations {
+        if share(declaration, other) {
+            count += 1;
+        }
+    }
+    count
+}
+
+// Whether two operations share name and argument sorts.
+fn share(declaration: &OpDecl, other: &OpDecl) -> bool
+    ensures { result ≡ shares (operation_of declaration.now) (operation_of other.now) }
+{
+    declaration
+        .name
+        .as_str()
+        .eq_ignore_ascii_case(other.name.as_str())
+        && same_sorts(&declaration.args, &other.args)
+}
