@@ -1,0 +1,4 @@
+// What follows from the rules of terms in the places of variables.
+#![tactic(auto)]
+
+pub mod laws;
