@@ -1,0 +1,4 @@
+pub mod Parts
+pub mod Stacks
+pub mod Values
+pub mod Laws
