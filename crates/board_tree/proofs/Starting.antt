@@ -1,0 +1,32 @@
+-- The tree of a specification's behaviour.
+use Rattle.std.proofs.Common.{ℕ, ◌≡◌, List, [], refl, sym, subst, ◌∙◌}
+use Rattle.spec_core.specs.Code.{Program}
+use Rattle.spec_core.specs.Ready.{IsReady}
+use Rattle.rule_model.specs.Behaviours.{Behaviour}
+use Rattle.rule_model.specs.Code.{StandsAt, IsStart}
+use Rattle.code_behaviours.specs.Parts.{behaviour_at}
+use Rattle.code_behaviours.specs.Values.{assignment}
+use Rattle.code_behaviours.proofs.Standing.{behaviours_stand}
+use Rattle.substitution_laws.proofs.Nothing.{empty_substitutions_change_nothing}
+use Rattle.board_tree.specs.Generations.{IsFresh, IsSound, ArePlaced}
+use Rattle.board_tree.specs.Origins.{scoped}
+use Rattle.board_tree.specs.Shapes.{Shape, AllWait}
+
+-- without values a behaviour of the code is itself
+pub scoped_nothing : (program : Program) (n : ℕ) → scoped program n [] ≡ behaviour_at program n
+unfolding assignment
+scoped_nothing program n = empty_substitutions_change_nothing (assignment program.theory []) (λ x. refl) (behaviour_at program n)
+
+pub start_stands : (program : Program) (b : Behaviour) → IsReady program → b ≡ scoped program program.start [] → IsStart program b
+start_stands program b ready e =
+    subst (StandsAt program program.start) (sym (e ∙ scoped_nothing program program.start))
+    (behaviours_stand program ready program.start ready.start)
+
+pub fresh_sound : (place : List ℕ) (low high : ℕ) (t : Shape) → IsFresh place low high t → IsSound t high
+fresh_sound place low high t f = record { apart = f.apart; below = λ up n s. (f.new up n s).below }
+
+pub fresh_placed : (place : List ℕ) (low high : ℕ) (t : Shape) → IsFresh place low high t → ArePlaced place t
+fresh_placed place low high t f up n s = (f.new up n s).placed
+
+pub fresh_waits : (place : List ℕ) (low high : ℕ) (t : Shape) → IsFresh place low high t → AllWait t
+fresh_waits place low high t f up n s = (f.new up n s).waits

@@ -1,0 +1,6 @@
+pub mod Origins
+pub mod Rests
+pub mod Shapes
+pub mod Generations
+pub mod Posting
+pub mod Views

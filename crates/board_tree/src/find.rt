@@ -1,0 +1,67 @@
+// Nodes found by their generations, and expanded.
+
+ghost use Rattle.std.specs.Prelude.{◌≡◌, IfSome, IfNone, None, Some};
+ghost use Rattle.board_tree.specs.Posting.{is_there, posted_first};
+ghost use Rattle.board_tree.specs.Rests.{ways_of};
+ghost use Rattle.board_tree.specs.Shapes.{shape_of, held_of, node_at};
+
+use crate::branch::Branch;
+use crate::expansion::Expansion;
+use crate::node::Node;
+use crate::origin::Gen;
+
+impl Branch {
+    /// The node of this generation, the first from the left. It takes no memory.
+    pub fn node_at(&self, generation: Gen) -> Option<&Node>
+        ensures some { IfSome result (λ n. node_at generation.0 (shape_of self.now) ≡ Some (held_of n.now)) }
+        ensures none { IfNone result (node_at generation.0 (shape_of self.now) ≡ None) }
+    {
+        match self {
+            Branch::Leaf(node) => {
+                if node.generation.0 == generation.0 {
+                    Some(node)
+                } else {
+                    None
+                }
+            }
+            Branch::Ended => None,
+            Branch::Over(_, part) => part.node_at(generation),
+            Branch::Between(_, left, right) => match left.node_at(generation) {
+                Some(node) => Some(node),
+                None => right.node_at(generation),
+            },
+        }
+    }
+
+    /// Whether a node has this generation. It takes no memory.
+    pub fn has(&self, generation: Gen) -> bool
+        ensures has { result ≡ is_there (node_at generation.0 (shape_of self.now)) }
+    {
+        match self.node_at(generation) {
+            Some(_) => true,
+            None => false,
+        }
+    }
+
+    /// Expands the first node of this generation, from the left. It takes no memory.
+    pub fn post(&mut self, generation: Gen, work: Expansion)
+        ensures posted { shape_of self.new ≡ posted_first generation.0 (ways_of work) (shape_of self.old) }
+    {
+        match self {
+            Branch::Leaf(node) => {
+                if node.generation.0 == generation.0 {
+                    node.work = Some(work)
+                }
+            }
+            Branch::Ended => {}
+            Branch::Over(_, part) => part.post(generation, work),
+            Branch::Between(_, left, right) => {
+                if left.has(generation) {
+                    left.post(generation, work)
+                } else {
+                    right.post(generation, work)
+                }
+            }
+        }
+    }
+}

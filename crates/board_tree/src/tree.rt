@@ -1,0 +1,144 @@
+// The tree of a board.
+
+ghost use Rattle.std.specs.Prelude.{◌≡◌, [], IfOk, IfSome, IfNone, None};
+ghost use Rattle.spec_core.specs.Code.{Program, program_of};
+ghost use Rattle.spec_core.specs.Ready.{IsReady};
+ghost use Rattle.rule_model.specs.Behaviours.{behaviour_of};
+ghost use Rattle.rule_model.specs.Code.{IsStart};
+ghost use Rattle.board_tree.specs.Generations.{AreApart, ArePlaced};
+ghost use Rattle.board_tree.specs.Rests.{ways_of};
+ghost use Rattle.board_tree.specs.Shapes.{stands_for, held_of, posted, Lives, IsNodeOf, IsRight, IsWorkFor, AllWait};
+ghost use Rattle.board_tree.specs.Views.{shape};
+
+use crate::branch::Branch;
+use crate::expansion::Expansion;
+use crate::fresh::Fresh;
+use crate::node::Node;
+use crate::origin::Gen;
+use crate::ready::Ready;
+use crate::unfold::unfold;
+use rule_model::beh::Beh;
+use spec_core::code::Checked;
+use spec_core::memory::Memory;
+use std::alloc::Global;
+use std::marker::Model;
+
+/// The behaviour that a board has reached, as a tree of operators over nodes. No two of its nodes have one generation, and each one's place
+/// is where it stands.
+#[derive(Drop)]
+pub struct Tree {
+    root: Branch,
+    next: u128,
+    gone: Vec<Gen>,
+    came: Vec<Gen>,
+    ready: Option<Ready>,
+}
+
+impl Model for Tree {
+    ghost use Rattle.std.specs.Prelude.{[]};
+    ghost use Rattle.std.specs.Coded.{codes};
+    ghost use Rattle.board_tree.specs.contracts.branch.Branch as b;
+    ghost use Rattle.board_tree.specs.contracts.ready.Ready as r;
+    ghost use Rattle.board_tree.specs.Generations.{IsSound, ArePlaced};
+    ghost use Rattle.board_tree.specs.Shapes.{shape_of};
+    ghost use Rattle.board_tree.specs.Views.{TreeView};
+
+    ghost Value = { TreeView };
+
+    ghost coded = { Prim.hlevel (codes, b.the_row.coded, r.the_row.coded) };
+
+    ghost view = { λ t. record { root = t.root; next = t.next; gone = t.gone.items; came = t.came.items; ready = t.ready } };
+
+    ghost invariant = { λ t. IsSound (shape_of t.root) t.next × ArePlaced [] (shape_of t.root) };
+}
+
+impl Tree {
+    /// The specification's behaviour, unfolded into nodes that wait.
+    #[tactic(auto, using(crate::proofs::Starting::start_stands, crate::proofs::Starting::fresh_sound, crate::proofs::Starting::fresh_placed, crate::proofs::Starting::fresh_waits))]
+    pub fn new(alloc: Global, checked: &Checked) -> Result<Tree, Memory>
+        requires ready { IsReady (program_of checked.now) }
+        ensures start { IfOk result (λ t. IsStart (program_of checked.now) (stands_for (program_of checked.now) (shape t))) }
+        ensures wait { IfOk result (λ t. AllWait (shape t)) }
+        ensures gone { IfOk result (λ t. t.gone ≡ []) }
+        ensures came { IfOk result (λ t. t.came ≡ []) }
+    {
+        let place = Vec::new(alloc);
+        let values = Vec::new(alloc);
+        let Fresh { branch, next } = unfold(alloc, checked, checked.start, &values, 0, &place)?;
+        Ok(Tree {
+            root: branch,
+            next,
+            gone: Vec::new(alloc),
+            came: Vec::new(alloc),
+            ready: None,
+        })
+    }
+
+    /// The behaviour that the tree stands for.
+    pub fn stands(&self, alloc: Global, checked: &Checked) -> Result<Beh, Memory>
+        requires ready { IsReady (program_of checked.now) }
+        ensures stands { IfOk result (λ b. behaviour_of b ≡ stands_for (program_of checked.now) (shape self.now)) }
+    {
+        self.root.stands(alloc, checked)
+    }
+
+    /// An equal tree, which doesn't stand ready for a step.
+    pub fn copy(&self, alloc: Global) -> Result<Tree, Memory>
+        ensures shape { IfOk result (λ t. shape t ≡ shape self.now) }
+        ensures next { IfOk result (λ t. t.next ≡ self.now.next) }
+        ensures gone { IfOk result (λ t. t.gone ≡ self.now.gone) }
+        ensures came { IfOk result (λ t. t.came ≡ self.now.came) }
+    {
+        let root = self.root.copy(alloc)?;
+        let gone = Vec::from_slice(alloc, &self.gone)?;
+        let came = Vec::from_slice(alloc, &self.came)?;
+        Ok(Tree {
+            root,
+            next: self.next,
+            gone,
+            came,
+            ready: None,
+        })
+    }
+
+    /// The node of a live generation; None for any other. It takes no memory.
+    #[tactic(auto, using(crate::proofs::Finding::found_is_node, crate::proofs::Finding::none_lives))]
+    pub fn at(&self, generation: Gen) -> Option<&Node>
+        ensures some { IfSome result (λ n. IsNodeOf (shape self.now) generation.0 (held_of n.now)) }
+        ensures none { IfNone result (Lives (shape self.now) generation.0 → ⊥) }
+        ensures apart { AreApart (shape self.now) }
+        ensures placed { ArePlaced [] (shape self.now) }
+    {
+        match self.root.node_at(generation) {
+            Some(node) => Some(node),
+            None => None,
+        }
+    }
+
+    /// Expands the node of a live generation. The work is what its origin can do, if the tree is to be right. It takes no memory.
+    pub fn post(&mut self, generation: Gen, work: Expansion)
+        requires lives { Lives (shape self.old) generation.0 }
+        ensures posted { shape self.new ≡ posted generation.0 (ways_of work) (shape self.old) }
+        ensures stands { (program : Program) → stands_for program (shape self.new) ≡ stands_for program (shape self.old) }
+        ensures right { (program : Program) → IsWorkFor program (shape self.old) generation.0 (ways_of work) → IsRight program (shape self.old) → IsRight program (shape self.new) }
+        ensures next { self.new.next ≡ self.old.next }
+        ensures gone { self.new.gone ≡ self.old.gone }
+        ensures came { self.new.came ≡ self.old.came }
+    {
+        self.root.post(generation, work);
+    }
+
+    /// The generations that the last step ended; none before the first step. It takes no memory.
+    pub fn gone(&self) -> &[Gen]
+        ensures gone { result.now ≡ self.now.gone }
+    {
+        &self.gone
+    }
+
+    /// The generations that the last step began; none before the first step. It takes no memory.
+    pub fn came(&self) -> &[Gen]
+        ensures came { result.now ≡ self.now.came }
+    {
+        &self.came
+    }
+}
