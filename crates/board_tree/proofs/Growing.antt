@@ -71,6 +71,11 @@ fresh_later place low mid high t l f = record {
   new = λ up n a. new_within place mid high low high up n l (omega arith) (f.new up n a);
 }
 
+-- what is new after other new nodes is new
+pub fresh_after : (place : List ℕ) (low mid high : ℕ) (t u : Shape) → IsFresh place low mid u → IsFresh place mid high t →
+    IsFresh place low high t
+fresh_after place low mid high t u g f = fresh_later place low mid high t g.more f
+
 over_apart : (o : Unary) (x : Shape) → AreApart x → AreApart (over o x)
 over_apart o x h (under p ∷ up) (under q ∷ vp) m n a b e = let r = h up vp m n a.1 b.1 e in (over_same p q up vp (sym a.0 ∙ b.0) r.0, r.1)
   where

@@ -2,3 +2,4 @@ pub mod Finding
 pub mod Growing
 pub mod Posts
 pub mod Starting
+pub mod Tidying

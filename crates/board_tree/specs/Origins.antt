@@ -1,7 +1,7 @@
 -- Origins: places of the code with values for variables, without their places in memory.
 use Rattle.std.specs.Prelude.{ℕ, List, [], ◌∷◌, map}
 use Rattle.spec_core.specs.Code.{Program, Relabelling, relabelling_of}
-use Rattle.rule_model.specs.Behaviours.{Behaviour}
+use Rattle.rule_model.specs.Behaviours.{Behaviour, call}
 use Rattle.rule_model.specs.Substitution.{put, tidied}
 use Rattle.code_behaviours.specs.Parts.{behaviour_at}
 use Rattle.code_behaviours.specs.Values.{assignment}
@@ -28,3 +28,8 @@ relabelled_by (m ∷ pairs) b = tidied (m ∷ pairs) b
 -- the behaviour that an origin stands for
 abbrev pub meaning : Program → Source → Behaviour
 meaning program o = relabelled_by o.relabelling (scoped program o.node o.values)
+
+-- a call of a process
+abbrev pub IsCall : Behaviour → Type 0
+IsCall (call p gates terms) = Unit {0}
+IsCall _ = ⊥

@@ -31,9 +31,9 @@ new_node generation source place = record { generation = generation; source = so
 
 -- an operator over one part: a hiding, a relabelling, and an enabling over its left side, with the right side's place in the code
 pub data Unary : Type 0 where
-  hiding : List ℕ → Unary
-  relabelling : List Relabelling → Unary
-  enabling : List Variable → ℕ → List (ℕ × List ℕ) → Unary
+  hidden : List ℕ → Unary
+  relabelled : List Relabelling → Unary
+  enabled : List Variable → ℕ → List (ℕ × List ℕ) → Unary
 
 -- an operator over two parts
 pub data Binary : Type 0 where
@@ -56,9 +56,9 @@ abbrev pub held_of : Node → Held
 held_of n = record { generation = n.generation.0; source = source_of n.origin; place = n.place.items; work = work_of n.work }
 
 abbrev pub unary_of : Single → Unary
-unary_of (Hide gates) = hiding (map gate_number gates.items)
-unary_of (Relabel pairs) = relabelling (map relabelling_of pairs.items)
-unary_of (Enable vars right values) = enabling (map variable_of vars.items) right values.items
+unary_of (Hide gates) = hidden (map gate_number gates.items)
+unary_of (Relabel pairs) = relabelled (map relabelling_of pairs.items)
+unary_of (Enable vars right values) = enabled (map variable_of vars.items) right values.items
 
 abbrev pub binary_of : Double → Binary
 binary_of Choice = choosing
@@ -73,9 +73,9 @@ shape_of (Between' o p left q right) = between (binary_of o) (shape_of left) (sh
 
 -- the operator's construct over the behaviours of its parts
 abbrev pub applied : Program → Unary → Behaviour → Behaviour
-applied program (hiding gates) b = hide gates b
-applied program (relabelling pairs) b = relabel pairs b
-applied program (enabling xs right values) b =
+applied program (hidden gates) b = hide gates b
+applied program (relabelled pairs) b = relabel pairs b
+applied program (enabled xs right values) b =
     enable b xs (put (without xs (assignment program.theory values)) (behaviour_at program right))
 
 abbrev pub joined : Binary → Behaviour → Behaviour → Behaviour
