@@ -13,6 +13,7 @@ use Rattle.rule_model.specs.Behaviours.{Behaviour, stop, exit, inner, action, ch
 use Rattle.rule_model.specs.Behaviours.{hide, enable, disable, call, relabel}
 use Rattle.rule_model.specs.Derivations.{pre, exiting, val, guard, letting, calling}
 use Rattle.rule_model.specs.Substitution.{Assignment, with_term, without, put, put_in_premise, put_in_field, put_in_exit, put_in_binding}
+use Rattle.substitution_laws.specs.Closing.{IsClosing}
 use Rattle.windowed_trees.specs.Windows.{Windows}
 use Rattle.windowed_trees.specs.MarkedTerms.{MarkedTerm, plain, MarkedAssignment, unmarked, with_marked, joined, applied, marked_instance}
 use Rattle.windowed_trees.specs.MarkedTerms.{marked_instances}
@@ -22,7 +23,7 @@ use Rattle.composites.specs.OpenFields.{OpenField, blank, open_by, open_fields, 
 use Rattle.composites.specs.Composites.{Composite, from_option, under, by_hiding, by_enabling, of_choice, of_parallel, of_disable}
 use Rattle.composites.specs.Composites.{of_relabel}
 use Rattle.composites.specs.Composites.{of_gates, composites_in, below_calls}
-use Rattle.composites.specs.Laws.{IsClosing, CompositesOfOrigins}
+use Rattle.composites.specs.Laws.{CompositesOfOrigins}
 
 -- a ground term has no variable that could have a mark
 module _ (theory : Theory) (m : MarkedAssignment) where

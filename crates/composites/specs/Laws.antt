@@ -1,7 +1,6 @@
 -- What follows from the definitions.
-use Rattle.std.specs.Prelude.{ℕ, ◌≡◌, ◌⊎◌, ◌↔◌, [], Option, Bool, true}
+use Rattle.std.specs.Prelude.{ℕ, ◌≡◌, ◌↔◌, [], Option, Bool, true}
 use Rattle.spec_core.specs.Lists.{IsOneOf}
-use Rattle.spec_core.specs.Terms.{variable, IsGround}
 use Rattle.spec_core.specs.Theories.{Theory}
 use Rattle.spec_core.specs.Sorts.{FitsData}
 use Rattle.spec_core.specs.Code.{Program}
@@ -12,6 +11,7 @@ use Rattle.rule_model.specs.Behaviours.{Behaviour}
 use Rattle.rule_model.specs.Derivations.{Derivation}
 use Rattle.rule_model.specs.Derives.{Derives}
 use Rattle.rule_model.specs.Substitution.{Assignment, put}
+use Rattle.substitution_laws.specs.Closing.{IsClosing}
 use Rattle.windowed_trees.specs.Windows.{Windows, AreWindows}
 use Rattle.windowed_trees.specs.MarkedTerms.{plain, unmarked}
 use Rattle.windowed_trees.specs.Trees.{MeetsIfOffered, IsSeen, IsWindowed, IsBeyond}
@@ -68,10 +68,6 @@ EmptyListsNoStep =
     Derives program b d a c →
     MeetsIfOffered program.theory a o →
     ⊥
-
--- each variable has a ground term, or stands for itself
-abbrev pub IsClosing : Assignment → Type 0
-IsClosing s = (x : ℕ) → IsGround (s x) ⊎ (s x ≡ variable x)
 
 -- the composites of a behaviour with terms put in are those of the code with these terms for its variables
 abbrev pub CompositesOfOrigins : Type 0

@@ -4,7 +4,8 @@ use Rattle.std.proofs.lemmas.List.{get_or-map, length-map}
 use Rattle.std.proofs.lemmas.List.Elements.{All-push}
 use Rattle.rule_model.specs.declared.log.Entry.{Entry}
 use Rattle.rule_model.specs.Events.{Event, event_of, Ending}
-use Rattle.first_form.specs.Trace.{IsPlain, line, names_of, end_word, trace_bytes}
+use Rattle.trace_text.specs.Trace.{line, end_word, trace_bytes}
+use Rattle.first_form.specs.PlainLogs.{IsPlain, names_of}
 
 from_map : {A B : Type 0} (f : A → B) (P : B → Type 0) (xs : List A) → All P (map f xs) → All (λ x. P (f x)) xs
 from_map f P xs all k d within =

@@ -5,7 +5,8 @@ use Rattle.rule_model.specs.Events.{Event, Ending}
 use Rattle.first_form.specs.FirstForm.{FirstForm}
 use Rattle.first_form.specs.Script.{first_script}
 use Rattle.first_form.specs.Session.{IsSession}
-use Rattle.first_form.specs.Trace.{names_of, trace_bytes}
+use Rattle.trace_text.specs.Trace.{trace_bytes}
+use Rattle.first_form.specs.PlainLogs.{names_of}
 
 -- The text is the trace of a session of the specification with these wishes. What its log and its end are, IsSession says.
 pub record IsWritten (form : FirstForm) (wishes : List Gate) (text : List ℕ) : Type 0 where

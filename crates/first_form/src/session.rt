@@ -9,7 +9,7 @@ ghost use Rattle.rule_model.specs.Events.{event_of, ending_of, acted, replied, s
 ghost use Rattle.rule_model.specs.Logs.{events_of};
 ghost use Rattle.first_form.specs.Plain.{plain_of};
 ghost use Rattle.first_form.specs.Session.{EndsIn, IsSession, WasDriven};
-ghost use Rattle.first_form.specs.Trace.{IsPlain, IsPlainEnd, IsPlainTree};
+ghost use Rattle.first_form.specs.PlainLogs.{IsPlain, IsPlainEnd, IsPlainTree};
 ghost use Rattle.first_form.specs.Walk.{IsAnswer, AppendsAnswer};
 
 use crate::plain::PlainBeh;

@@ -5,8 +5,9 @@ ghost use Rattle.rule_model.specs.Derivations.{derivation_of};
 ghost use Rattle.rule_model.specs.Answers.{answer_of};
 ghost use Rattle.rule_model.specs.Events.{event_of, ending_of};
 ghost use Rattle.rule_model.specs.Logs.{events_of};
-ghost use Rattle.first_form.specs.Trace.{IsPlain, IsPlainEnd, IsPlainAction, IsPlainAnswer, IsPlainTree, names_of, name_text, by_text};
-ghost use Rattle.first_form.specs.Trace.{offer_word, tree_text, action_text, answer_word, event_line, line, end_word, trace_bytes};
+ghost use Rattle.first_form.specs.PlainLogs.{IsPlain, IsPlainEnd, IsPlainAction, IsPlainAnswer, IsPlainTree, names_of};
+ghost use Rattle.trace_text.specs.Trace.{name_text, by_text};
+ghost use Rattle.trace_text.specs.Trace.{offer_word, tree_text, action_text, answer_word, event_line, line, end_word, trace_bytes};
 
 use crate::token::Word;
 use rule_model::action::Action;

@@ -2,7 +2,7 @@
 
 ghost use Rattle.std.specs.Prelude.{◌≡◌, ◌+◌, ◌<◌, ◌^◌, IfOk, IfSome, IfNone, MatchBool, true, false};
 ghost use Rattle.rule_model.specs.Derivations.{derivation_of, chl, chr};
-ghost use Rattle.first_form.specs.Trace.{IsPlainTree};
+ghost use Rattle.first_form.specs.PlainLogs.{IsPlainTree};
 ghost use Rattle.first_form.specs.Plain.{plain_of, act};
 ghost use Rattle.first_form.specs.Walk.{IsFirstAt, IsNeverAt, IsStuck, CanStep};
 

@@ -4,7 +4,7 @@ use Rattle.spec_core.specs.declared.items.Gate.{Gate}
 use Rattle.first_form.specs.Plain.{plain_of}
 use Rattle.rule_model.specs.Events.{Event}
 use Rattle.rule_model.specs.Logs.{events_of}
-use Rattle.first_form.specs.Trace.{IsPlain}
+use Rattle.first_form.specs.PlainLogs.{IsPlain}
 use Rattle.first_form.specs.Session.{IsSessionSoFar}
 use Rattle.first_form.proofs.AnswerLemmas.{session_begins, session_goes_on}
 use Rattle.first_form.proofs.session.drive.Goals as goal

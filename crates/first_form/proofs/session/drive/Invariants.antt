@@ -1,7 +1,7 @@
 use Rattle.std.proofs.Common.{◌≡◌, ◌≤◌, length, take, All}
 use Rattle.first_form.specs.Plain.{plain_of}
 use Rattle.rule_model.specs.Logs.{events_of}
-use Rattle.first_form.specs.Trace.{IsPlain}
+use Rattle.first_form.specs.PlainLogs.{IsPlain}
 use Rattle.first_form.specs.Session.{IsSessionSoFar}
 use Rattle.first_form.proofs.session.drive.Given as goal
 

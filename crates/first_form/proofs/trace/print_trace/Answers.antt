@@ -1,7 +1,8 @@
 use Rattle.std.proofs.Common.{ap, ◌∙◌, List, ◌++◌, flat_map}
 use Rattle.rule_model.specs.Events.{Event, ending_of}
 use Rattle.rule_model.specs.Logs.{events_of}
-use Rattle.first_form.specs.Trace.{line, names_of}
+use Rattle.trace_text.specs.Trace.{line}
+use Rattle.first_form.specs.PlainLogs.{names_of}
 use Rattle.first_form.proofs.TraceLemmas.{all_plain, whole_trace}
 use Rattle.first_form.proofs.trace.print_trace.Goals as goal
 

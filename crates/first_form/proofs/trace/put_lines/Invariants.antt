@@ -1,6 +1,7 @@
 use Rattle.std.proofs.Common.{◌≡◌, ◌++◌, flat_map, map, take}
 use Rattle.rule_model.specs.Events.{event_of}
-use Rattle.first_form.specs.Trace.{line, names_of}
+use Rattle.trace_text.specs.Trace.{line}
+use Rattle.first_form.specs.PlainLogs.{names_of}
 use Rattle.first_form.proofs.trace.put_lines.Given as goal
 
 abbrev pub invariant-loop-entry : goal.invariant-loop-entry

@@ -1,5 +1,5 @@
 use Rattle.std.proofs.Common.{◌≡◌, ◌++◌, codes, flat_map, take}
-use Rattle.first_form.specs.Trace.{name_text}
+use Rattle.trace_text.specs.Trace.{name_text}
 use Rattle.first_form.proofs.trace.put_names.Given as goal
 
 abbrev pub invariant-loop-name : goal.invariant-loop-name
