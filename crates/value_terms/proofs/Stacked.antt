@@ -1,5 +1,6 @@
 -- What stacks of terms spell.
-use Rattle.std.proofs.Common.{ℕ, zero, suc, ◌≡◌, ◌≤◌, ◌<◌, ◌+◌, List, [], ◌∷◌, ◌++◌, Option, Some, None, IfNone, length, map, reverse, drop, get_or, refl}
+use Rattle.std.proofs.Common.{ℕ, zero, suc, ◌≡◌, ◌≤◌, ◌<◌, ◌+◌, List, [], ◌∷◌, ◌++◌, Option, Some, None, IfNone, length, map, reverse}
+use Rattle.std.proofs.Common.{drop, get_or, refl}
 use Rattle.std.proofs.Common.{sym, ap, subst, ◌∙◌, arith, append_assoc, ◌-◌}
 use Rattle.std.proofs.lemmas.List.{append-nil, length-append, length-reverse, reverse-append, drop-map}
 use Rattle.std.proofs.Math.Seq.{drop-cons}
@@ -125,7 +126,8 @@ module _ (theory : Theory) where
             (each_joined (λ t. HasArguments theory (term_of t)) left (t ∷ [])
             (each_left (λ t. HasArguments theory (term_of t)) left (reverse args) all) (
               subst (HasArguments theory) (sym is) (
-                with_count (slice_get theory.operations f) n (width (terms (map term_of args))) declared (sym counted ∙ sym (width_of args)),
+                with_count (slice_get theory.operations f) n (width (terms (map term_of args))) declared (sym counted ∙ sym (width_of
+                    args)),
                 reversed_arguments args (each_right (λ t. HasArguments theory (term_of t)) left (reverse args) all),
               ),
               tt,
@@ -201,7 +203,8 @@ module _ (theory : Theory) where
     constructed (apply f ts) sort fits h =
         on_use (slice_get theory.operations f) fits (λ d p. (h.0, all_constructed ts d.args p.1 h.1))
 
-    all_constructed : (ts : TermTrees) (sorts : List ℕ) → HaveSorts theory no_variables ts sorts → Each (IsConstructor theory) (preorders ts) →
+    all_constructed : (ts : TermTrees) (sorts : List ℕ) → HaveSorts theory no_variables ts sorts → Each (IsConstructor theory) (preorders
+        ts) →
         AreConstructed theory ts
     all_constructed no_terms sorts fits h = tt
     all_constructed (and_term t ts) [] fits h = absurd fits
