@@ -27,18 +27,18 @@ use Rattle.rule_laws.proofs.Spelling.{one_term}
 
 module _ (theory : Theory) (executable : IsExecutable theory) where
   -- a term has one value
-  one_value : (t n m : TermTree) → HasValue theory t n → HasValue theory t m → n ≡ m
+  pub one_value : (t n m : TermTree) → HasValue theory t n → HasValue theory t m → n ≡ m
   one_value t n m h k =
       (equality_is_of_values theory executable t t n m h k).0 (by_transitivity n h.equal (by_symmetry h.equal))
 
   -- a list of operations spells one term of a sort
-  one_spelled : (v : List ℕ) (n m : TermTree) (sort : ℕ) → Spells theory v n sort → Spells theory v m sort → n ≡ m
+  pub one_spelled : (v : List ℕ) (n m : TermTree) (sort : ℕ) → Spells theory v n sort → Spells theory v m sort → n ≡ m
   one_spelled v n m sort h k = one_term theory n m sort sort h.of_sort k.of_sort (sym h.spelled ∙ k.spelled)
 
   one_given : (t : TermTree) (v w : List ℕ) (n m : TermTree) → GivesValue theory t v n → GivesValue theory t w m → v ≡ w
   one_given t v w n m h k = h.spelled ∙ ap preorder (one_value t n m h.value k.value) ∙ sym k.spelled
 
-  one_filled : (s : Assignment) (fields : List ActionField) (slots : List Slot) (values others : List (List ℕ)) (t u r : Assignment) →
+  pub one_filled : (s : Assignment) (fields : List ActionField) (slots : List Slot) (values others : List (List ℕ)) (t u r : Assignment) →
       FieldsHave theory s t fields slots values u → FieldsHave theory s t fields slots others r → (values ≡ others) × (u ≡ r)
   one_filled s [] [] [] [] t u r h k = (refl, h ∙ sym k)
   one_filled s (give e ∷ fields) slots (v ∷ values) (w ∷ others) t u r h k =
@@ -59,7 +59,7 @@ module _ (theory : Theory) (executable : IsExecutable theory) where
   one_filled s (accept x ∷ fields) (Of o ∷ slots) (v ∷ values) [] t u r h k = absurd k
   one_filled s _ _ _ _ t u r h k = absurd h
 
-  one_exit : (s : Assignment) (fields : List ExitValue) (slots : List Slot) (values others : List (List ℕ)) →
+  pub one_exit : (s : Assignment) (fields : List ExitValue) (slots : List Slot) (values others : List (List ℕ)) →
       ExitHas theory s fields slots values → ExitHas theory s fields slots others → values ≡ others
   one_exit s [] [] [] [] h k = refl
   one_exit s (exit_given e ∷ fields) slots (v ∷ values) (w ∷ others) h k =
@@ -72,7 +72,7 @@ module _ (theory : Theory) (executable : IsExecutable theory) where
   one_exit s (exit_any sort ∷ fields) (Of o ∷ slots) (v ∷ values) [] h k = absurd k
   one_exit s _ _ _ _ h k = absurd h
 
-  one_binding : (s : Assignment) (bindings : List Binding) (t u r : Assignment) →
+  pub one_binding : (s : Assignment) (bindings : List Binding) (t u r : Assignment) →
       BindingsHave theory s t bindings u → BindingsHave theory s t bindings r → u ≡ r
   one_binding s [] t u r h k = h ∙ sym k
   one_binding s (b ∷ bindings) t u r h k =
@@ -80,7 +80,7 @@ module _ (theory : Theory) (executable : IsExecutable theory) where
       one_binding s bindings (with_term b.variable h.0 t) u r h.2
       (subst (λ (n : TermTree). BindingsHave theory s (with_term b.variable n t) bindings r) same k.2)
 
-  one_argument : (s : Assignment) (xs : List Variable) (terms : List TermTree) (t u r : Assignment) →
+  pub one_argument : (s : Assignment) (xs : List Variable) (terms : List TermTree) (t u r : Assignment) →
       ArgumentsHave theory s t xs terms u → ArgumentsHave theory s t xs terms r → u ≡ r
   one_argument s [] [] t u r h k = h ∙ sym k
   one_argument s (x ∷ xs) (e ∷ terms) t u r h k =
@@ -89,7 +89,7 @@ module _ (theory : Theory) (executable : IsExecutable theory) where
       (subst (λ (n : TermTree). ArgumentsHave theory s (with_term x n t) xs terms r) same k.2)
   one_argument s _ _ t u r h k = absurd h
 
-  one_handed : (xs : List Variable) (values : List (List ℕ)) (t u r : Assignment) →
+  pub one_handed : (xs : List Variable) (values : List (List ℕ)) (t u r : Assignment) →
       IsHandedOn theory t xs values u → IsHandedOn theory t xs values r → u ≡ r
   one_handed [] [] t u r h k = h ∙ sym k
   one_handed (x ∷ xs) (v ∷ values) t u r h k =
@@ -295,7 +295,7 @@ one_behaviour program n (relabel u0 u1) (relabel v0 v1) h k =
 one_behaviour program n b c h k = absurd (omega (arith, sym (tag_at program n b h) ∙ tag_at program n c k))
 
 -- one definition of a process
-one_definition : (program : Program) (p : ℕ) (gates others : List ℕ) (xs ys : List Variable) (body other : Behaviour) →
+pub one_definition : (program : Program) (p : ℕ) (gates others : List ℕ) (xs ys : List Variable) (body other : Behaviour) →
     IsDefinition program p gates xs body → IsDefinition program p others ys other → (gates ≡ others) × (xs ≡ ys) × (body ≡ other)
 one_definition program p gates others xs ys body other h k =
     let q = process_parts gates others xs ys h.part k.part (sym h.defines ∙ k.defines) in (
@@ -310,7 +310,7 @@ one_definition program p gates others xs ys body other h k =
     process_parts gates others xs ys i j e = (cc, cc, cc)
 
 -- one gate at a place
-one_gate : (gates : List ℕ) (i h j k : ℕ) → suc i ≡ suc j → slice_get gates i ≡ Some h → slice_get gates j ≡ Some k → h ≡ k
+pub one_gate : (gates : List ℕ) (i h j k : ℕ) → suc i ≡ suc j → slice_get gates i ≡ Some h → slice_get gates j ≡ Some k → h ≡ k
 one_gate gates i h j k same a b =
     let e : i ≡ j = cc in some_one h k (sym a ∙ ap (slice_get gates) e ∙ b)
   where
