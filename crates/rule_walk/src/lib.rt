@@ -1,6 +1,14 @@
 // The specification's behaviour, and the steps of behaviours by trees of inference rules.
-#![tactic(auto)]
+#![tactic(auto, using(crate::proofs::Faults::memory))]
 
 mod code;
+mod fault;
+mod fields;
+mod judge;
+pub mod laws;
+mod rows;
+mod steps;
 
 pub use code::start;
+pub use fault::FireFault;
+pub use steps::fire;

@@ -1,0 +1,119 @@
+-- Why fields, bindings and arguments have no values, where one of those before has one.
+use Rattle.std.proofs.Common.{ℕ, ◌≡◌, ◌≤◌, List, [], ◌∷◌, length, map, take, drop, get_or, ◌-◌, arith, Result, IfErr, sym, ap, subst, ◌∙◌}
+use Rattle.std.proofs.Common.{inr}
+use Rattle.std.proofs.Math.Seq.{drop-cons}
+use Rattle.std.proofs.lemmas.List.{length-drop}
+use Rattle.spec_core.proofs.Lists.{all_taken}
+use Rattle.spec_core.specs.Code.{Variable, Binding, ActionField, accept}
+use Rattle.spec_core.specs.Executable.{IsExecutable}
+use Rattle.spec_core.specs.Terms.{TermTree, instance}
+use Rattle.spec_core.specs.Theories.{Theory}
+use Rattle.spec_core.specs.Values.{HasValue}
+use Rattle.rule_laws.proofs.OneStep.{one_value, one_spelled}
+use Rattle.rule_model.specs.declared.rules.Slot.{Slot}
+use Rattle.rule_model.specs.declared.rules.Slot.TheVariants.{Of}
+use Rattle.rule_model.specs.Fields.{Spells, FieldsHave, BindingsHave, ArgumentsHave, IsHandedOn}
+use Rattle.rule_model.specs.Substitution.{Assignment, with_term}
+use Rattle.rule_walk.specs.declared.fault.FireFault.{FireFault}
+use Rattle.rule_walk.specs.Asking.{FieldsAsk, BindingsAsk, ArgumentsAsk}
+use Rattle.rule_walk.specs.Faults.{Explains, Here, IsMisfit, HasNoFields, HasNoBindings, HasNoArguments, HandsOnNothing}
+use Rattle.rule_walk.proofs.Faults.{explains_on, misfit_on, err_on}
+
+-- the others, after the first element of a list
+abbrev pub others : {A : Type 0} → List A → List A
+others xs = take (length xs - 1) (drop 1 xs)
+
+pub first_and_others : {A : Type 0} (xs : List A) (d : A) → 1 ≤ length xs → xs ≡ get_or xs 0 d ∷ others xs
+first_and_others xs d there =
+    let few : length (drop 1 xs) ≤ length xs - 1 = omega (arith, length-drop 1 xs) in
+    drop-cons xs 0 d there ∙ ap (λ ys. get_or xs 0 d ∷ ys) (sym (all_taken (drop 1 xs) (length xs - 1) few))
+
+pub split_at : {A : Type 0} (xs : List A) (x y : A) → 1 ≤ length xs → x ≡ get_or xs 0 x → x ≡ y → xs ≡ y ∷ others xs
+split_at xs x y there is same = first_and_others xs x there ∙ ap (λ z. z ∷ others xs) (sym is ∙ same)
+
+pub mapped_at : {A B : Type 0} (g : A → B) (xs : List A) (d : A) → 1 ≤ length xs → map g xs ≡ g (get_or xs 0 d) ∷ map g (others xs)
+mapped_at g xs d there = ap (map g) (first_and_others xs d there)
+
+pub mapped : {A B : Type 0} (g : A → B) (xs : List A) (x y : A) → 1 ≤ length xs → x ≡ get_or xs 0 x → x ≡ y →
+    map g xs ≡ g y ∷ map g (others xs)
+mapped g xs x y there is same = ap (map g) (split_at xs x y there is same)
+
+module _ (theory : Theory) (executable : IsExecutable theory) where
+  accepted_rest : (s t : Assignment) (x : Variable) (fields : List ActionField) (w : List ℕ) (slots : List Slot) (n : TermTree) →
+      Spells theory w n x.sort → HasNoFields theory s (with_term x n t) fields slots →
+      HasNoFields theory s t (accept x ∷ fields) (Of w ∷ slots)
+  accepted_rest s t x fields w slots n spells none [] u h = h
+  accepted_rest s t x fields w slots n spells none (v ∷ values) u h =
+      let same : h.1 ≡ n = one_spelled theory executable w h.1 n x.sort h.2 spells in
+      none values u (subst (λ (m : TermTree). FieldsHave theory s (with_term x m t) fields slots values u) same h.3)
+
+  module _ (budget : ℕ) where
+    abbrev pub NoFields : Assignment → Assignment → List ActionField → List Slot → FireFault → Type 0
+    NoFields s t fields slots = Explains theory budget (Here (HasNoFields theory s t fields slots)) (FieldsAsk theory s fields slots)
+
+    pub fields_later : (s t r : Assignment) (x : Variable) (all fields : List ActionField) (w : List ℕ) (chosen slots : List Slot)
+        (n : TermTree) (f : FireFault) → all ≡ accept x ∷ fields → chosen ≡ Of w ∷ slots → Spells theory w n x.sort →
+        r ≡ with_term x n t → NoFields s r fields slots f → NoFields s t all chosen f
+    fields_later s t r x all fields w chosen slots n f is has spells bound h =
+        subst (λ (l : List ActionField). NoFields s t l chosen f) (sym is)
+        (subst (λ (l : List Slot). NoFields s t (accept x ∷ fields) l f) (sym has)
+        (explains_on theory budget (Here (HasNoFields theory s (with_term x n t) fields slots))
+        (Here (HasNoFields theory s t (accept x ∷ fields) (Of w ∷ slots))) (FieldsAsk theory s fields slots)
+        (FieldsAsk theory s (accept x ∷ fields) (Of w ∷ slots)) f
+        (λ path k. (k.0, accepted_rest s t x fields w slots n spells k.1)) (λ y k. ((n, spells), k))
+        (subst (λ (q : Assignment). NoFields s q fields slots f) bound h)))
+
+    abbrev pub NoBindings : Assignment → Assignment → List Binding → FireFault → Type 0
+    NoBindings s t bindings = Explains theory budget (Here (HasNoBindings theory s t bindings)) (BindingsAsk theory s bindings)
+
+    pub bindings_later : {A : Type 0} (s t r : Assignment) (b : Binding) (all bindings : List Binding) (n : TermTree)
+        (result : Result A FireFault) → all ≡ b ∷ bindings → HasValue theory (instance s b.term) n → r ≡ with_term b.variable n t →
+        IfErr result (NoBindings s r bindings) → IfErr result (NoBindings s t all)
+    bindings_later {A} s t r b all bindings n result is value bound =
+        err_on result (NoBindings s r bindings) (NoBindings s t all) (λ f h.
+        subst (λ (l : List Binding). NoBindings s t l f) (sym is)
+        (explains_on theory budget (Here (HasNoBindings theory s (with_term b.variable n t) bindings))
+        (Here (HasNoBindings theory s t (b ∷ bindings))) (BindingsAsk theory s bindings) (BindingsAsk theory s (b ∷ bindings)) f
+        (λ path k. (
+          k.0,
+          λ u l.
+              k.1 u (subst (λ (m : TermTree). BindingsHave theory s (with_term b.variable m t) bindings u)
+              (one_value theory executable (instance s b.term) l.0 n l.1 value) l.2),
+        ))
+        (λ x k. inr ((n, value), k)) (subst (λ (q : Assignment). NoBindings s q bindings f) bound h)))
+
+    abbrev pub NoArguments : Assignment → Assignment → List Variable → List TermTree → FireFault → Type 0
+    NoArguments s t xs terms = Explains theory budget (Here (HasNoArguments theory s t xs terms)) (ArgumentsAsk theory s xs terms)
+
+    pub arguments_later : {A : Type 0} (s t r : Assignment) (y : Variable) (all ys : List Variable) (e : TermTree)
+        (passed terms : List TermTree) (n : TermTree) (result : Result A FireFault) → all ≡ y ∷ ys → passed ≡ e ∷ terms →
+        HasValue theory (instance s e) n → r ≡ with_term y n t → IfErr result (NoArguments s r ys terms) →
+        IfErr result (NoArguments s t all passed)
+    arguments_later {A} s t r y all ys e passed terms n result is has value bound =
+        err_on result (NoArguments s r ys terms) (NoArguments s t all passed) (λ f h.
+        subst (λ (l : List Variable). NoArguments s t l passed f) (sym is)
+        (subst (λ (l : List TermTree). NoArguments s t (y ∷ ys) l f) (sym has)
+        (explains_on theory budget (Here (HasNoArguments theory s (with_term y n t) ys terms))
+        (Here (HasNoArguments theory s t (y ∷ ys) (e ∷ terms))) (ArgumentsAsk theory s ys terms) (ArgumentsAsk theory s (y ∷ ys) (e ∷
+        terms)) f
+        (λ path k. (
+          k.0,
+          λ u l.
+              k.1 u (subst (λ (m : TermTree). ArgumentsHave theory s (with_term y m t) ys terms u)
+              (one_value theory executable (instance s e) l.0 n l.1 value) l.2),
+        ))
+        (λ x k. inr ((n, value), k)) (subst (λ (q : Assignment). NoArguments s q ys terms f) bound h))))
+
+  pub handed_later : {A : Type 0} (t r : Assignment) (y : Variable) (all ys : List Variable) (v : List ℕ) (given values : List (List ℕ))
+      (n : TermTree) (result : Result A FireFault) → all ≡ y ∷ ys → given ≡ v ∷ values → Spells theory v n y.sort → r ≡ with_term y n t →
+      IfErr result (IsMisfit (HandsOnNothing theory r ys values)) → IfErr result (IsMisfit (HandsOnNothing theory t all given))
+  handed_later {A} t r y all ys v given values n result is has spells bound =
+      err_on result (IsMisfit (HandsOnNothing theory r ys values)) (IsMisfit (HandsOnNothing theory t all given)) (λ f.
+      subst (λ (l : List Variable). IsMisfit (HandsOnNothing theory r ys values) f → IsMisfit (HandsOnNothing theory t l given) f) (sym is)
+      (subst (λ (l : List (List ℕ)). IsMisfit (HandsOnNothing theory r ys values) f → IsMisfit (HandsOnNothing theory t (y ∷ ys) l) f)
+      (sym has)
+      (misfit_on (HandsOnNothing theory r ys values) (HandsOnNothing theory t (y ∷ ys) (v ∷ values)) f
+      (λ none u h.
+      none u (subst (λ (q : Assignment). IsHandedOn theory q ys values u) (sym bound)
+      (subst (λ (m : TermTree). IsHandedOn theory (with_term y m t) ys values u)
+      (one_spelled theory executable v h.0 n y.sort h.1 spells) h.2))))))

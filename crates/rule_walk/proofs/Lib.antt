@@ -1,0 +1,9 @@
+pub mod Faults
+pub mod Filling
+pub mod Gates
+pub mod Judging
+pub mod Misfits
+pub mod NoStep
+pub mod OnePath
+pub mod PartFaults
+pub mod Values

@@ -1,0 +1,12 @@
+use Rattle.std.proofs.Common.{rules, map}
+use Rattle.spec_core.specs.Code.{program_of, variable_of}
+use Rattle.substitution.specs.Scopes.{terms_of}
+use Rattle.rule_walk.proofs.Faults.{handed_on}
+use Rattle.rule_walk.proofs.Misfits.{unhanded}
+use Rattle.rule_walk.proofs.rows.enabled.Goals as goal
+
+pub returns-in_err-more-in-Exit-clause-misfit : goal.returns-in_err-more-in-Exit-clause-misfit
+returns-in_err-more-in-Exit-clause-misfit c =
+    handed_on c.from_residual.result _ c.in_err-more-in-Exit.field-0.0 (search rules)
+    (unhanded (program_of c.args.checked.now).theory (terms_of c.args.scope.now) (map variable_of c.args.vars.now) c.args.done.action
+    c.in-Exit.values c.in_err-more-in-Exit.field-0.0 (search rules) (search rules))

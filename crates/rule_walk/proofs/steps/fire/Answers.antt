@@ -1,0 +1,20 @@
+use Rattle.std.proofs.Common.{rules}
+use Rattle.spec_core.specs.Code.{program_of}
+use Rattle.spec_core.specs.Terms.{variable}
+use Rattle.rule_model.specs.Behaviours.{behaviour_of}
+use Rattle.rule_model.specs.Derivations.{derivation_of}
+use Rattle.rule_walk.specs.Parts.{HasNone, IsUnfitAt}
+use Rattle.rule_walk.proofs.Faults.{handed_on}
+use Rattle.rule_walk.proofs.NoStep.{unfit_none}
+use Rattle.rule_walk.proofs.PartFaults.{unfit_on}
+use Rattle.rule_walk.proofs.steps.fire.Goals as goal
+
+pub returns-in_err-action-clause-no_step : goal.returns-in_err-action-clause-no_step
+returns-in_err-action-clause-no_step c =
+    handed_on c.from_residual.result _ c.in_err-action.field-0.0 (search rules)
+    (unfit_on c.in_err-action.field-0.0
+    (IsUnfitAt (program_of c.args.checked.now) variable (behaviour_of c.args.from.now) (derivation_of c.args.rules.now))
+    (λ _. HasNone (program_of c.args.checked.now) variable (behaviour_of c.args.from.now) (derivation_of c.args.rules.now))
+    (λ path.
+    unfit_none (program_of c.args.checked.now) c.requires.ready.executable path (derivation_of c.args.rules.now)
+    (behaviour_of c.args.from.now) variable) c.in_err-action.ensures.fault.unfit)

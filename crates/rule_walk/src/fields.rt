@@ -1,0 +1,273 @@
+// Values of fields, bindings and arguments.
+
+ghost use Rattle.std.specs.Prelude.{◌≡◌, ◌∷◌, ℕ, List, IfOk, IfErr, map};
+ghost use Rattle.spec_core.specs.Code.{action_field_of, exit_value_of, binding_of, variable_of, program_of};
+ghost use Rattle.spec_core.specs.Executable.{IsExecutable};
+ghost use Rattle.spec_core.specs.Terms.{TermTree, term_of};
+ghost use Rattle.rule_model.specs.declared.rules.Slot.TheVariants.{Of};
+ghost use Rattle.rule_model.specs.Fields.{Spells, FieldsHave, ExitHas, BindingsHave, ArgumentsHave, IsHandedOn};
+ghost use Rattle.substitution.specs.Scopes.{terms_of};
+ghost use Rattle.rule_walk.specs.Asking.{FieldsAsk, ExitAsks, BindingsAsk, ArgumentsAsk};
+ghost use Rattle.rule_walk.specs.Faults.{Explains, Here, IsMisfit, HasNoFields, HasNoExit, HasNoBindings, HasNoArguments};
+ghost use Rattle.rule_walk.specs.Faults.{HandsOnNothing};
+
+use crate::fault::{FireFault, unfit};
+use crate::judge::{operations_of, value_of};
+use rule_model::rules::Slot;
+use spec_core::code::{ActField, Checked, ExitField};
+use spec_core::items::Sort;
+use spec_core::memory::Memory;
+use spec_core::term::Term;
+use spec_core::value::Value;
+use std::alloc::Global;
+use substitution::scope::Scope;
+use value_terms::spelled;
+
+/// A chosen value: as the list of its operations, and as the term that they spell.
+#[derive(Drop)]
+pub struct Chosen {
+    pub ops: Value,
+    pub term: Term,
+}
+
+/// The values of an action's fields, and the terms for the variables then.
+#[derive(Drop)]
+pub struct Filled {
+    pub values: Vec<Value>,
+    pub scope: Scope,
+}
+
+// One more value in front.
+fn in_front(value: Value, filled: Filled) -> Result<Filled, Memory>
+    ensures values { IfOk result (λ f. f.values.items ≡ value ∷ filled.values.items) }
+    ensures scope { IfOk result (λ f. f.scope ≡ filled.scope) }
+{
+    let Filled { values, scope } = filled;
+    let values = before(value, values)?;
+    Ok(Filled { values, scope })
+}
+
+// One more value in front.
+fn before(value: Value, values: Vec<Value>) -> Result<Vec<Value>, Memory>
+    ensures values { IfOk result (λ all. all.items ≡ value ∷ values.items) }
+{
+    let mut all = values;
+    match all.insert(0, value) {
+        Ok(()) => Ok(all),
+        Err(_) => Err(Memory),
+    }
+}
+
+/// The value that a tree chooses, where it is one of the sort.
+pub fn choose(
+    alloc: Global,
+    checked: &Checked,
+    slot: &Slot,
+    sort: Sort,
+) -> Result<Chosen, FireFault>
+    ensures here { IfOk result (λ c. slot.now ≡ Of c.ops) }
+    ensures spelled { IfOk result (λ c. Spells (program_of checked.now).theory c.ops (term_of c.term) sort.0) }
+    ensures misfit { IfErr result
+        (IsMisfit ((w : List ℕ) (n : TermTree) → slot.now ≡ Of w → Spells (program_of checked.now).theory w n sort.0 → ⊥)) }
+{
+    match slot {
+        Slot::Of(value) => match spelled(alloc, &checked.algebra, value, sort)? {
+            None => Err(unfit(alloc)),
+            Some(term) => Ok(Chosen {
+                ops: value.copy(alloc)?,
+                term,
+            }),
+        },
+        Slot::Mark => Err(unfit(alloc)),
+        Slot::Blank => Err(unfit(alloc)),
+    }
+}
+
+/// The values of an action's fields, and the terms for the variables with those of its binders: the outer terms for the expressions, the
+/// inner ones for the fields before.
+pub fn fill(
+    alloc: Global,
+    checked: &Checked,
+    outer: &Scope,
+    inner: &Scope,
+    fields: &[ActField],
+    slots: &[Slot],
+    budget: u64,
+) -> Result<Filled, FireFault>
+    requires executable { IsExecutable (program_of checked.now).theory }
+    ensures filled { IfOk result (λ f.
+        FieldsHave (program_of checked.now).theory (terms_of outer.now) (terms_of inner.now) (map action_field_of fields.now) slots.now
+        f.values.items (terms_of f.scope)) }
+    ensures fault { IfErr result
+        (Explains (program_of checked.now).theory budget
+        (Here (HasNoFields (program_of checked.now).theory (terms_of outer.now) (terms_of inner.now) (map action_field_of fields.now)
+        slots.now))
+        (FieldsAsk (program_of checked.now).theory (terms_of outer.now) (map action_field_of fields.now) slots.now)) }
+{
+    match fields {
+        [] => match slots {
+            [] => Ok(Filled {
+                values: Vec::new(alloc),
+                scope: inner.copy(alloc)?,
+            }),
+            [_, ..] => Err(unfit(alloc)),
+        },
+        [first, rest @ ..] => match first {
+            ActField::Give(term) => {
+                let value = operations_of(alloc, checked, outer, term, budget)?;
+                let others = fill(alloc, checked, outer, inner, rest, slots, budget)?;
+                Ok(in_front(value, others)?)
+            }
+            ActField::Take(x, sort) => match slots {
+                [] => Err(unfit(alloc)),
+                [slot, left @ ..] => {
+                    let found = choose(alloc, checked, slot, *sort)?;
+                    let more = inner.with(alloc, *x, *sort, &found.term)?;
+                    let others = fill(alloc, checked, outer, &more, rest, left, budget)?;
+                    Ok(in_front(found.ops, others)?)
+                }
+            },
+        },
+    }
+}
+
+/// The values of an exit's fields.
+pub fn fill_exit(
+    alloc: Global,
+    checked: &Checked,
+    scope: &Scope,
+    fields: &[ExitField],
+    slots: &[Slot],
+    budget: u64,
+) -> Result<Vec<Value>, FireFault>
+    requires executable { IsExecutable (program_of checked.now).theory }
+    ensures filled { IfOk result (λ values.
+        ExitHas (program_of checked.now).theory (terms_of scope.now) (map exit_value_of fields.now) slots.now values.items) }
+    ensures fault { IfErr result
+        (Explains (program_of checked.now).theory budget
+        (Here (HasNoExit (program_of checked.now).theory (terms_of scope.now) (map exit_value_of fields.now) slots.now))
+        (ExitAsks (program_of checked.now).theory (terms_of scope.now) (map exit_value_of fields.now) slots.now)) }
+{
+    match fields {
+        [] => match slots {
+            [] => Ok(Vec::new(alloc)),
+            [_, ..] => Err(unfit(alloc)),
+        },
+        [first, rest @ ..] => match first {
+            ExitField::Give(term) => {
+                let value = operations_of(alloc, checked, scope, term, budget)?;
+                let others = fill_exit(alloc, checked, scope, rest, slots, budget)?;
+                Ok(before(value, others)?)
+            }
+            ExitField::Any(sort) => match slots {
+                [] => Err(unfit(alloc)),
+                [slot, left @ ..] => {
+                    let found = choose(alloc, checked, slot, *sort)?;
+                    let others = fill_exit(alloc, checked, scope, rest, left, budget)?;
+                    Ok(before(found.ops, others)?)
+                }
+            },
+        },
+    }
+}
+
+/// The terms for the variables, with the values that a `let` binds: the outer ones for its terms, the inner ones for the bindings before.
+pub fn bind(
+    alloc: Global,
+    checked: &Checked,
+    outer: &Scope,
+    inner: &Scope,
+    bindings: &[(u32, Sort, Term)],
+    budget: u64,
+) -> Result<Scope, FireFault>
+    requires executable { IsExecutable (program_of checked.now).theory }
+    ensures bound { IfOk result (λ s.
+        BindingsHave (program_of checked.now).theory (terms_of outer.now) (terms_of inner.now) (map binding_of bindings.now)
+        (terms_of s)) }
+    ensures fault { IfErr result
+        (Explains (program_of checked.now).theory budget
+        (Here (HasNoBindings (program_of checked.now).theory (terms_of outer.now) (terms_of inner.now) (map binding_of bindings.now)))
+        (BindingsAsk (program_of checked.now).theory (terms_of outer.now) (map binding_of bindings.now))) }
+{
+    match bindings {
+        [] => Ok(inner.copy(alloc)?),
+        [first, rest @ ..] => {
+            let (x, sort, term) = first;
+            let value = value_of(alloc, checked, outer, term, budget)?;
+            let more = inner.with(alloc, *x, *sort, &value)?;
+            bind(alloc, checked, outer, &more, rest, budget)
+        }
+    }
+}
+
+/// The terms for the variables of a process, with the values of a call's terms.
+pub fn bind_arguments(
+    alloc: Global,
+    checked: &Checked,
+    outer: &Scope,
+    inner: &Scope,
+    vars: &[(u32, Sort)],
+    terms: &[Term],
+    budget: u64,
+) -> Result<Scope, FireFault>
+    requires executable { IsExecutable (program_of checked.now).theory }
+    ensures bound { IfOk result (λ s.
+        ArgumentsHave (program_of checked.now).theory (terms_of outer.now) (terms_of inner.now) (map variable_of vars.now)
+        (map term_of terms.now) (terms_of s)) }
+    ensures fault { IfErr result
+        (Explains (program_of checked.now).theory budget
+        (Here (HasNoArguments (program_of checked.now).theory (terms_of outer.now) (terms_of inner.now) (map variable_of vars.now)
+        (map term_of terms.now)))
+        (ArgumentsAsk (program_of checked.now).theory (terms_of outer.now) (map variable_of vars.now) (map term_of terms.now))) }
+{
+    match vars {
+        [] => match terms {
+            [] => Ok(inner.copy(alloc)?),
+            [_, ..] => Err(unfit(alloc)),
+        },
+        [first, rest @ ..] => match terms {
+            [] => Err(unfit(alloc)),
+            [term, others @ ..] => {
+                let (x, sort) = *first;
+                let value = value_of(alloc, checked, outer, term, budget)?;
+                let more = inner.with(alloc, x, sort, &value)?;
+                bind_arguments(alloc, checked, outer, &more, rest, others, budget)
+            }
+        },
+    }
+}
+
+/// The terms for the variables, with the values of an exit for those of `accept`.
+pub fn hand_on(
+    alloc: Global,
+    checked: &Checked,
+    inner: &Scope,
+    vars: &[(u32, Sort)],
+    values: &[Value],
+) -> Result<Scope, FireFault>
+    requires executable { IsExecutable (program_of checked.now).theory }
+    ensures handed_on { IfOk result (λ s.
+        IsHandedOn (program_of checked.now).theory (terms_of inner.now) (map variable_of vars.now) values.now (terms_of s)) }
+    ensures misfit { IfErr result
+        (IsMisfit (HandsOnNothing (program_of checked.now).theory (terms_of inner.now) (map variable_of vars.now) values.now)) }
+{
+    match vars {
+        [] => match values {
+            [] => Ok(inner.copy(alloc)?),
+            [_, ..] => Err(unfit(alloc)),
+        },
+        [first, rest @ ..] => match values {
+            [] => Err(unfit(alloc)),
+            [value, others @ ..] => {
+                let (x, sort) = *first;
+                match spelled(alloc, &checked.algebra, value, sort)? {
+                    None => Err(unfit(alloc)),
+                    Some(term) => {
+                        let more = inner.with(alloc, x, sort, &term)?;
+                        hand_on(alloc, checked, &more, rest, others)
+                    }
+                }
+            }
+        },
+    }
+}

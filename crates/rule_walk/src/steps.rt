@@ -1,0 +1,344 @@
+// The step of a behaviour by a tree of inference rules.
+
+ghost use Rattle.std.specs.Prelude.{IfOk, IfErr};
+ghost use Rattle.spec_core.specs.Budgets.{IsBeyond};
+ghost use Rattle.spec_core.specs.Code.{program_of};
+ghost use Rattle.spec_core.specs.Ready.{IsReady};
+ghost use Rattle.spec_core.specs.Terms.{variable};
+ghost use Rattle.rewriter.specs.Answers.{MeetsTooLarge};
+ghost use Rattle.rule_model.specs.Behaviours.{behaviour_of};
+ghost use Rattle.rule_model.specs.Derivations.{derivation_of, val, gate, guard, letting, both, calling};
+ghost use Rattle.rule_model.specs.Derives.{Derives, DerivesWith};
+ghost use Rattle.substitution.specs.Scopes.{terms_of};
+ghost use Rattle.rule_walk.specs.Asking.{Asks};
+ghost use Rattle.rule_walk.specs.Faults.{Explains, IsFault, OnUnfit, OnSpent, OnTooLarge, Within};
+ghost use Rattle.rule_walk.specs.Parts.{HasNone, IsUnfitAt};
+
+use crate::code::{Definition, process_at};
+use crate::fault::{FireFault, below, unfit};
+use crate::fields::{bind, bind_arguments, choose};
+use crate::judge::ask_premise;
+use crate::rows;
+use crate::rows::Step;
+use rule_model::action::Action;
+use rule_model::beh::Beh;
+use rule_model::rules::{Rules, Slot};
+use spec_core::code::Checked;
+use std::alloc::Global;
+use substitution::relabelling::pairs;
+use substitution::scope::Scope;
+
+/// What a closed behaviour does by a tree, and what it becomes. Each value that the tree asks is found with at most `budget` uses of
+/// equations. A rule is tried from its own construct on: then its expressions from the left, then its parts from the left, and then the
+/// condition on their action; the first that fails is answered. It recurs as deep as the tree, and the terms, are.
+pub fn fire(
+    alloc: Global,
+    checked: &Checked,
+    from: &Beh,
+    rules: &Rules,
+    budget: u64,
+) -> Result<(Action, Beh), FireFault>
+    requires ready { IsReady (program_of checked.now) }
+    ensures derives { IfOk result (λ r.
+        Derives (program_of checked.now) (behaviour_of from.now) (derivation_of rules.now) r.0 (behaviour_of r.1)) }
+    ensures unfit { IfErr result (λ f. OnUnfit f
+        (IsUnfitAt (program_of checked.now) variable (behaviour_of from.now) (derivation_of rules.now))) }
+    ensures no_step { IfErr result (λ f. OnUnfit f
+        (λ _. HasNone (program_of checked.now) variable (behaviour_of from.now) (derivation_of rules.now))) }
+    ensures spent { IfErr result (λ f. OnSpent f (λ x.
+        Asks (program_of checked.now) variable (behaviour_of from.now) (derivation_of rules.now) x ×
+        IsBeyond (program_of checked.now).theory x budget)) }
+    ensures too_large { IfErr result (λ f. OnTooLarge f (λ x.
+        Asks (program_of checked.now) variable (behaviour_of from.now) (derivation_of rules.now) x ×
+        MeetsTooLarge (program_of checked.now).theory x)) }
+{
+    let Step { action, rest } = step(alloc, checked, &Scope::Empty, from, rules, budget)?;
+    Ok((action, rest))
+}
+
+// What a behaviour does by a tree with these terms in the places of its free variables.
+#[cycle(step)]
+fn step(
+    alloc: Global,
+    checked: &Checked,
+    scope: &Scope,
+    from: &Beh,
+    rules: &Rules,
+    budget: u64,
+) -> Result<Step, FireFault>
+    requires ready { IsReady (program_of checked.now) }
+    ensures derives { IfOk result (λ s.
+        DerivesWith (program_of checked.now) (terms_of scope.now) (behaviour_of from.now) (derivation_of rules.now) s.action
+        (behaviour_of s.rest)) }
+    ensures fault { IfErr result
+        (IsFault (program_of checked.now) budget (terms_of scope.now) (behaviour_of from.now) (derivation_of rules.now)) }
+{
+    match rules {
+        Rules::Pre(slots) => rows::prefix(alloc, checked, scope, from, slots.as_slice(), budget),
+        Rules::Int => rows::inner(alloc, scope, from),
+        Rules::Exit(slots) => rows::exits(alloc, checked, scope, from, slots.as_slice(), budget),
+        Rules::Chl(part) => match from.as_choice() {
+            None => Err(unfit(alloc)),
+            Some((left, _)) => step_in(alloc, checked, scope, left, part, budget, 0),
+        },
+        Rules::Chr(part) => match from.as_choice() {
+            None => Err(unfit(alloc)),
+            Some((_, right)) => step_in(alloc, checked, scope, right, part, budget, 0),
+        },
+        Rules::Val(slot, part) => by_value(alloc, checked, scope, from, slot, part, budget),
+        Rules::Gate(place, part) => by_gate(alloc, checked, scope, from, *place, part, budget),
+        Rules::Guard(part) => by_premise(alloc, checked, scope, from, part, budget),
+        Rules::Let(part) => by_bindings(alloc, checked, scope, from, part, budget),
+        Rules::Parl(part) => match from.as_parallel() {
+            None => Err(unfit(alloc)),
+            Some((gates, left, right)) => {
+                let done = step_in(alloc, checked, scope, left, part, budget, 0)?;
+                rows::left_alone(alloc, scope, gates, done, right)
+            }
+        },
+        Rules::Parr(part) => match from.as_parallel() {
+            None => Err(unfit(alloc)),
+            Some((gates, left, right)) => {
+                let done = step_in(alloc, checked, scope, right, part, budget, 0)?;
+                rows::right_alone(alloc, scope, gates, left, done)
+            }
+        },
+        Rules::Both(part, other) => match from.as_parallel() {
+            None => Err(unfit(alloc)),
+            Some((gates, left, right)) => {
+                let first = step_in(alloc, checked, scope, left, part, budget, 0)?;
+                let second = step_in(alloc, checked, scope, right, other, budget, 1)?;
+                rows::together(alloc, gates, first, second)
+            }
+        },
+        Rules::Hide(part) => match from.as_hide() {
+            None => Err(unfit(alloc)),
+            Some((gates, body)) => {
+                let done = step_in(alloc, checked, scope, body, part, budget, 0)?;
+                rows::hidden(alloc, gates, done)
+            }
+        },
+        Rules::Pass(part) => match from.as_hide() {
+            None => Err(unfit(alloc)),
+            Some((gates, body)) => {
+                let done = step_in(alloc, checked, scope, body, part, budget, 0)?;
+                rows::passed(alloc, gates, done)
+            }
+        },
+        Rules::Enstep(part) => match from.as_enable() {
+            None => Err(unfit(alloc)),
+            Some((left, vars, right)) => {
+                let done = step_in(alloc, checked, scope, left, part, budget, 0)?;
+                rows::still_enabling(alloc, scope, done, vars, right)
+            }
+        },
+        Rules::Enend(part) => match from.as_enable() {
+            None => Err(unfit(alloc)),
+            Some((left, vars, right)) => {
+                let done = step_in(alloc, checked, scope, left, part, budget, 0)?;
+                rows::enabled(alloc, checked, scope, done, vars, right)
+            }
+        },
+        Rules::Disstep(part) => match from.as_disable() {
+            None => Err(unfit(alloc)),
+            Some((left, right)) => {
+                let done = step_in(alloc, checked, scope, left, part, budget, 0)?;
+                rows::still_disabled(alloc, scope, done, right)
+            }
+        },
+        Rules::Disend(part) => match from.as_disable() {
+            None => Err(unfit(alloc)),
+            Some((left, _)) => {
+                let done = step_in(alloc, checked, scope, left, part, budget, 0)?;
+                rows::ended(alloc, done)
+            }
+        },
+        Rules::Distake(part) => match from.as_disable() {
+            None => Err(unfit(alloc)),
+            Some((_, right)) => step_in(alloc, checked, scope, right, part, budget, 0),
+        },
+        Rules::Call(part) => by_call(alloc, checked, scope, from, part, budget),
+        Rules::Rel(part) => match from.as_relabel() {
+            None => Err(unfit(alloc)),
+            Some((pairs, body)) => {
+                let done = step_in(alloc, checked, scope, body, part, budget, 0)?;
+                Ok(rows::relabelled(alloc, pairs, done)?)
+            }
+        },
+    }
+}
+
+// The same of a part of the tree, whose place leads the path of what doesn't fit.
+#[cycle(step)]
+fn step_in(
+    alloc: Global,
+    checked: &Checked,
+    scope: &Scope,
+    from: &Beh,
+    part: &Rules,
+    budget: u64,
+    place: u32,
+) -> Result<Step, FireFault>
+    requires ready { IsReady (program_of checked.now) }
+    ensures derives { IfOk result (λ s.
+        DerivesWith (program_of checked.now) (terms_of scope.now) (behaviour_of from.now) (derivation_of part.now) s.action
+        (behaviour_of s.rest)) }
+    ensures fault { IfErr result
+        (Explains (program_of checked.now).theory budget
+        (Within place (IsUnfitAt (program_of checked.now) (terms_of scope.now) (behaviour_of from.now) (derivation_of part.now)))
+        (Asks (program_of checked.now) (terms_of scope.now) (behaviour_of from.now) (derivation_of part.now))) }
+{
+    match step(alloc, checked, scope, from, part, budget) {
+        Ok(done) => Ok(done),
+        Err(fault) => Err(below(fault, place)),
+    }
+}
+
+// The step of a choice of a value.
+#[cycle(step)]
+fn by_value(
+    alloc: Global,
+    checked: &Checked,
+    scope: &Scope,
+    from: &Beh,
+    slot: &Slot,
+    part: &Rules,
+    budget: u64,
+) -> Result<Step, FireFault>
+    requires ready { IsReady (program_of checked.now) }
+    ensures derives { IfOk result (λ s.
+        DerivesWith (program_of checked.now) (terms_of scope.now) (behaviour_of from.now) (val slot.now (derivation_of part.now)) s.action
+        (behaviour_of s.rest)) }
+    ensures fault { IfErr result
+        (IsFault (program_of checked.now) budget (terms_of scope.now) (behaviour_of from.now) (val slot.now (derivation_of part.now))) }
+{
+    match from.as_value_choice() {
+        None => Err(unfit(alloc)),
+        Some((x, sort, body)) => {
+            let found = choose(alloc, checked, slot, sort)?;
+            let more = scope.with(alloc, x, sort, &found.term)?;
+            step_in(alloc, checked, &more, body, part, budget, 0)
+        }
+    }
+}
+
+// The step of a choice of a gate.
+#[cycle(step)]
+fn by_gate(
+    alloc: Global,
+    checked: &Checked,
+    scope: &Scope,
+    from: &Beh,
+    place: u32,
+    part: &Rules,
+    budget: u64,
+) -> Result<Step, FireFault>
+    requires ready { IsReady (program_of checked.now) }
+    ensures derives { IfOk result (λ s.
+        DerivesWith (program_of checked.now) (terms_of scope.now) (behaviour_of from.now) (gate place (derivation_of part.now)) s.action
+        (behaviour_of s.rest)) }
+    ensures fault { IfErr result
+        (IsFault (program_of checked.now) budget (terms_of scope.now) (behaviour_of from.now) (gate place (derivation_of part.now))) }
+{
+    match from.as_gate_choice() {
+        None => Err(unfit(alloc)),
+        Some((name, gates, body)) => match rows::gate_at(gates, place) {
+            None => Err(unfit(alloc)),
+            Some(actual) => {
+                let body = rows::renamed_copy(alloc, name, actual, body)?;
+                step_in(alloc, checked, scope, &body, part, budget, 0)
+            }
+        },
+    }
+}
+
+// The step of a guarded behaviour.
+#[cycle(step)]
+fn by_premise(
+    alloc: Global,
+    checked: &Checked,
+    scope: &Scope,
+    from: &Beh,
+    part: &Rules,
+    budget: u64,
+) -> Result<Step, FireFault>
+    requires ready { IsReady (program_of checked.now) }
+    ensures derives { IfOk result (λ s.
+        DerivesWith (program_of checked.now) (terms_of scope.now) (behaviour_of from.now) (guard (derivation_of part.now)) s.action
+        (behaviour_of s.rest)) }
+    ensures fault { IfErr result
+        (IsFault (program_of checked.now) budget (terms_of scope.now) (behaviour_of from.now) (guard (derivation_of part.now))) }
+{
+    match from.as_guarded() {
+        None => Err(unfit(alloc)),
+        Some((left, right, body)) => {
+            ask_premise(alloc, checked, scope, left, right, budget)?;
+            step_in(alloc, checked, scope, body, part, budget, 0)
+        }
+    }
+}
+
+// The step of a `let`.
+#[cycle(step)]
+fn by_bindings(
+    alloc: Global,
+    checked: &Checked,
+    scope: &Scope,
+    from: &Beh,
+    part: &Rules,
+    budget: u64,
+) -> Result<Step, FireFault>
+    requires ready { IsReady (program_of checked.now) }
+    ensures derives { IfOk result (λ s.
+        DerivesWith (program_of checked.now) (terms_of scope.now) (behaviour_of from.now) (letting (derivation_of part.now)) s.action
+        (behaviour_of s.rest)) }
+    ensures fault { IfErr result
+        (IsFault (program_of checked.now) budget (terms_of scope.now) (behaviour_of from.now) (letting (derivation_of part.now))) }
+{
+    match from.as_bound() {
+        None => Err(unfit(alloc)),
+        Some((bindings, body)) => {
+            let more = bind(alloc, checked, scope, scope, bindings, budget)?;
+            step_in(alloc, checked, &more, body, part, budget, 0)
+        }
+    }
+}
+
+// The step of a call.
+#[cycle(step)]
+fn by_call(
+    alloc: Global,
+    checked: &Checked,
+    scope: &Scope,
+    from: &Beh,
+    part: &Rules,
+    budget: u64,
+) -> Result<Step, FireFault>
+    requires ready { IsReady (program_of checked.now) }
+    ensures derives { IfOk result (λ s.
+        DerivesWith (program_of checked.now) (terms_of scope.now) (behaviour_of from.now) (calling (derivation_of part.now)) s.action
+        (behaviour_of s.rest)) }
+    ensures fault { IfErr result
+        (IsFault (program_of checked.now) budget (terms_of scope.now) (behaviour_of from.now) (calling (derivation_of part.now))) }
+{
+    match from.as_call() {
+        None => Err(unfit(alloc)),
+        Some((process, actual, terms)) => match process_at(alloc, checked, process)? {
+            None => Err(unfit(alloc)),
+            Some(defined) => {
+                let Definition { gates, vars, body } = defined;
+                let more = bind_arguments(
+                    alloc,
+                    checked,
+                    scope,
+                    &Scope::Empty,
+                    &vars,
+                    terms,
+                    budget,
+                )?;
+                let body = Beh::relabel(alloc, pairs(alloc, &gates, actual)?, body)?;
+                step_in(alloc, checked, &more, &body, part, budget, 0)
+            }
+        },
+    }
+}
