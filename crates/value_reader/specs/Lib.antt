@@ -1,0 +1,6 @@
+pub mod Ends
+pub mod Extents
+pub mod Items
+pub mod Spelled
+pub mod Stands
+pub mod Views

@@ -1,0 +1,9 @@
+// Values read from a text.
+#![tactic(auto)]
+
+mod extent;
+mod piece;
+mod reading;
+mod value;
+
+pub use value::read_value;
