@@ -265,3 +265,28 @@ pub second_goes : (place second : List ℕ) (low high : ℕ) (o : Binary) (x y w
     second ≡ place ++ 1 ∷ [] → s ≡ between o x y → t ≡ between o x w → Goes second low high y w → Goes place low high s t
 second_goes place second low high o x y w s t e i j a =
     both_go place (place ++ 0 ∷ []) second low low high o x y x w s t refl e i j (stays (place ++ 0 ∷ []) low x) a
+
+-- a part that goes on, and new nodes in the place of the whole
+pub fresh_after_over : (place inner : List ℕ) (low mid high : ℕ) (o : Unary) (x z s t : Shape) → s ≡ over o x → Goes inner low mid x z →
+    IsFresh place mid high t → Goes place low high s t
+fresh_after_over place inner low mid high o x z s t e g f = record {
+  advances = λ h.
+      fresh_advances place low high s t
+      (fresh_later place low mid high t (g.advances (sound_over o x low (subst (λ u. IsSound u low) e h))).more f);
+}
+
+pub fresh_after_first : (place inner : List ℕ) (low mid high : ℕ) (o : Binary) (x y z s t : Shape) → s ≡ between o x y →
+    Goes inner low mid x z → IsFresh place mid high t → Goes place low high s t
+fresh_after_first place inner low mid high o x y z s t e g f = record {
+  advances = λ h.
+      fresh_advances place low high s t
+      (fresh_later place low mid high t (g.advances (sound_first o x y low (subst (λ u. IsSound u low) e h))).more f);
+}
+
+pub fresh_after_second : (place inner : List ℕ) (low mid high : ℕ) (o : Binary) (x y z s t : Shape) → s ≡ between o x y →
+    Goes inner low mid y z → IsFresh place mid high t → Goes place low high s t
+fresh_after_second place inner low mid high o x y z s t e g f = record {
+  advances = λ h.
+      fresh_advances place low high s t
+      (fresh_later place low mid high t (g.advances (sound_second o x y low low (omega arith) (subst (λ u. IsSound u low) e h))).more f);
+}

@@ -1,5 +1,6 @@
 pub mod Finding
 pub mod Growing
+pub mod Moving
 pub mod Posts
 pub mod Starting
 pub mod Tidying

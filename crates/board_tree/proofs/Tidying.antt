@@ -62,6 +62,7 @@ relabelled_call (m ∷ pairs) b h = refl
 relabelled_call [] _ h = absurd h
 
 -- an origin under a relabelling
-pub tidied_leaf : (pairs before : List Relabelling) (b : Behaviour) → tidied pairs (relabelled_by before b) ≡ tidied (after pairs before) b
+pub tidied_leaf : (pairs before : List Relabelling) (b : Behaviour) → tidied pairs (relabelled_by before b) ≡ tidied (after pairs before)
+    b
 tidied_leaf pairs [] b = refl
 tidied_leaf pairs (m ∷ before) b = tidied_twice b pairs (m ∷ before)

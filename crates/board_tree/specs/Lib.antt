@@ -3,4 +3,5 @@ pub mod Rests
 pub mod Shapes
 pub mod Generations
 pub mod Posting
+pub mod Steps
 pub mod Views

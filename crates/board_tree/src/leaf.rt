@@ -1,0 +1,181 @@
+// A step of a node.
+
+ghost use Rattle.std.specs.Prelude.{◌≡◌, ◌∷◌, ◌↔◌, IfOk, IsTrue, Some, map};
+ghost use Rattle.spec_core.specs.Code.{program_of};
+ghost use Rattle.spec_core.specs.Ready.{IsReady};
+ghost use Rattle.rule_model.specs.Derivations.{derivation_of};
+ghost use Rattle.board_tree.specs.Generations.{IsFresh};
+ghost use Rattle.board_tree.specs.Origins.{source_of, meaning};
+ghost use Rattle.board_tree.specs.Rests.{way_of, ways_of, rows_of, slots_of, Fills};
+ghost use Rattle.board_tree.specs.Shapes.{shape_of, held_of, leaf};
+ghost use Rattle.board_tree.specs.Steps.{Acts, Moves};
+
+use crate::branch::Branch;
+use crate::expansion::{Alternative, Expansion};
+use crate::fresh::{Fresh, nothing};
+use crate::left::{done_in, unfolded_rest};
+use crate::node::Node;
+use crate::origin::Origin;
+use crate::rows::{are_filled, put_rows, put_slots};
+use rule_model::action::Action;
+use rule_model::rules::{Rules, Slot};
+use spec_core::code::Checked;
+use spec_core::memory::Memory;
+use std::alloc::Global;
+
+/// What is done, the tree after it, and the next generation.
+#[derive(Drop)]
+pub struct Advanced {
+    pub action: Action,
+    pub branch: Branch,
+    pub next: u128,
+}
+
+// Whether a tree of rules, by its rules and its chosen values, fills that of one way to act.
+fn fills(
+    alloc: Global,
+    way: &Alternative,
+    rules: &Rules,
+    rows: &[u64],
+    slots: &[Slot],
+) -> Result<bool, Memory>
+    requires rows { rows.now ≡ rows_of (derivation_of rules.now) }
+    requires slots { slots.now ≡ slots_of (derivation_of rules.now) }
+    ensures { IfOk result (λ b. IsTrue b ↔ Fills (way_of way.now).rules (derivation_of rules.now)) }
+{
+    let mut scheme = Vec::new(alloc);
+    put_rows(&way.rules, &mut scheme)?;
+    let mut blanks = Vec::new(alloc);
+    put_slots(alloc, &way.rules, &mut blanks)?;
+    Ok(scheme.as_slice() == rows && are_filled(&blanks, slots))
+}
+
+// The action and what is left of one way to act.
+#[tactic(auto, using(crate::proofs::Moving::acts_first))]
+fn acted(
+    alloc: Global,
+    checked: &Checked,
+    origin: &Origin,
+    way: &Alternative,
+    others: &[Alternative],
+    rules: &Rules,
+    slots: &[Slot],
+    next: u128,
+    place: &[u32],
+) -> Result<Advanced, Memory>
+    requires ready { IsReady (program_of checked.now) }
+    requires slots { slots.now ≡ slots_of (derivation_of rules.now) }
+    requires fills { Fills (way_of way.now).rules (derivation_of rules.now) }
+    ensures acts { IfOk result (λ a.
+        Acts (program_of checked.now) (meaning (program_of checked.now) (source_of origin.now)) (way_of way.now ∷ map way_of others.now)
+        (derivation_of rules.now) a.action (shape_of a.branch)) }
+    ensures fresh { IfOk result (λ a. IsFresh place.now next a.next (shape_of a.branch)) }
+{
+    let action = done_in(alloc, slots, &way.action)?;
+    let Fresh { branch, next } = unfolded_rest(alloc, checked, slots, &way.rest, next, place)?;
+    Ok(Advanced {
+        action,
+        branch,
+        next,
+    })
+}
+
+// The action and what is left of the first of these ways to act that the tree of rules fills.
+#[tactic(auto, using(crate::proofs::Moving::acts_none, crate::proofs::Moving::acts_later))]
+fn acted_by(
+    alloc: Global,
+    checked: &Checked,
+    origin: &Origin,
+    ways: &[Alternative],
+    rules: &Rules,
+    rows: &[u64],
+    slots: &[Slot],
+    next: u128,
+    place: &[u32],
+) -> Result<Advanced, Memory>
+    requires ready { IsReady (program_of checked.now) }
+    requires rows { rows.now ≡ rows_of (derivation_of rules.now) }
+    requires slots { slots.now ≡ slots_of (derivation_of rules.now) }
+    ensures acts { IfOk result (λ a.
+        Acts (program_of checked.now) (meaning (program_of checked.now) (source_of origin.now)) (map way_of ways.now)
+        (derivation_of rules.now) a.action (shape_of a.branch)) }
+    ensures fresh { IfOk result (λ a. IsFresh place.now next a.next (shape_of a.branch)) }
+{
+    match ways {
+        [] => {
+            let Fresh { branch, next } = nothing(next, place);
+            Ok(Advanced {
+                action: Action::Inner,
+                branch,
+                next,
+            })
+        }
+        [first, rest @ ..] => {
+            if fills(alloc, first, rules, rows, slots)? {
+                acted(
+                    alloc, checked, origin, first, rest, rules, slots, next, place,
+                )
+            } else {
+                acted_by(
+                    alloc, checked, origin, rest, rules, rows, slots, next, place,
+                )
+            }
+        }
+    }
+}
+
+// The node after a step, where it has this expansion.
+fn advance_expanded(
+    alloc: Global,
+    checked: &Checked,
+    node: &Node,
+    expansion: &Expansion,
+    rules: &Rules,
+    next: u128,
+    place: &[u32],
+) -> Result<Advanced, Memory>
+    requires ready { IsReady (program_of checked.now) }
+    requires work { (held_of node.now).work ≡ Some (ways_of expansion.now) }
+    ensures moves { IfOk result (λ a.
+        Moves (program_of checked.now) place.now (leaf (held_of node.now)) (derivation_of rules.now) a.action (shape_of a.branch) next
+        a.next) }
+{
+    let mut rows = Vec::new(alloc);
+    put_rows(rules, &mut rows)?;
+    let mut slots = Vec::new(alloc);
+    put_slots(alloc, rules, &mut slots)?;
+    let origin = &node.origin;
+    let ways = expansion.alternatives.as_slice();
+    let done = acted_by(
+        alloc, checked, origin, ways, rules, &rows, &slots, next, place,
+    )?;
+    Ok(done)
+}
+
+/// The node after a step: what is left of it, unfolded into nodes that wait.
+#[tactic(auto, using(crate::proofs::Moving::moves_waiting))]
+pub fn advance_node(
+    alloc: Global,
+    checked: &Checked,
+    node: &Node,
+    rules: &Rules,
+    next: u128,
+    place: &[u32],
+) -> Result<Advanced, Memory>
+    requires ready { IsReady (program_of checked.now) }
+    ensures moves { IfOk result (λ a.
+        Moves (program_of checked.now) place.now (leaf (held_of node.now)) (derivation_of rules.now) a.action (shape_of a.branch) next
+        a.next) }
+{
+    match &node.work {
+        None => {
+            let Fresh { branch, next } = nothing(next, place);
+            Ok(Advanced {
+                action: Action::Inner,
+                branch,
+                next,
+            })
+        }
+        Some(expansion) => advance_expanded(alloc, checked, node, expansion, rules, next, place),
+    }
+}
