@@ -1,27 +1,25 @@
 -- Steps of operators over nodes.
-use Rattle.std.proofs.Common.{ℕ, ◌≡◌, ◌⊎◌, inl, inr, ⊎_elim, List, [], ◌∷◌, ◌++◌, Option, Some, None, refl, sym, ap, subst, ◌∙◌}
+use Rattle.std.proofs.Common.{ℕ, ◌≡◌, ⊎_elim, List, [], ◌∷◌, ◌++◌, Some, None, refl, sym, ap, subst, ◌∙◌}
 use Rattle.spec_core.specs.Code.{Program, Variable, Relabelling, Synchronised}
-use Rattle.spec_core.specs.Lists.{Each}
 use Rattle.spec_core.specs.Terms.{variable}
 use Rattle.rule_model.specs.declared.action.Action.{Action}
 use Rattle.rule_model.specs.declared.action.Action.TheVariants.{Inner, Exit}
 use Rattle.rule_model.specs.Actions.{doing, kind_of, IsNoEnd, renamed_action}
-use Rattle.rule_model.specs.Behaviours.{Behaviour, choice, parallel, hide, enable, disable, relabel}
+use Rattle.rule_model.specs.Behaviours.{Behaviour, parallel, hide, enable, disable, relabel}
 use Rattle.rule_model.specs.Derivations.{Derivation, chl, chr, parl, parr, both, hiding, pass, enstep, enend, disstep, disend, distake}
 use Rattle.rule_model.specs.Derivations.{rel}
-use Rattle.rule_model.specs.Derives.{Derives}
 use Rattle.rule_model.specs.Substitution.{put, without, tidied}
 use Rattle.code_behaviours.specs.Parts.{behaviour_at}
 use Rattle.code_behaviours.specs.Values.{assignment, values_for}
 use Rattle.code_behaviours.proofs.Handing.{handed_on_values_join}
 use Rattle.substitution_laws.proofs.Nothing.{empty_many, empty_substitutions_change_nothing}
-use Rattle.board_tree.specs.Generations.{IsFresh, Goes}
+use Rattle.board_tree.specs.Generations.{IsFresh}
 use Rattle.board_tree.specs.Origins.{scoped, meaning}
-use Rattle.board_tree.specs.Rests.{Way, Fills, IsWayOf, slots_of, done_in, left_in}
+use Rattle.board_tree.specs.Rests.{Way, Fills, slots_of, done_in, left_in}
 use Rattle.board_tree.specs.Shapes.{Held, Shape, leaf, over, between, Unary, hidden, relabelled, enabled, Binary, choosing, beside}
 use Rattle.board_tree.specs.Shapes.{disabling}
 use Rattle.board_tree.specs.Shapes.{under, first_of, second_of, stands_for, IsRight, IsWorkOf}
-use Rattle.board_tree.specs.Steps.{AnyFilled, IsDone, Follows, Becomes, Moves, Acts, IsLeaf, Suits}
+use Rattle.board_tree.specs.Steps.{IsDone, Follows, Becomes, Moves, Acts, IsLeaf, Suits}
 use Rattle.board_tree.proofs.Growing.{fresh_goes, over_goes, both_go, first_goes, second_goes, fresh_after_over, fresh_after_first}
 use Rattle.board_tree.proofs.Growing.{fresh_after_second}
 

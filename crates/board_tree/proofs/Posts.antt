@@ -33,11 +33,11 @@ none_posted g ways (between o x y) h =
     ∙ ap (between o x)
     (none_posted g ways y (λ n i. h n (record { up = second_of o ∷ i.up; stands = (refl, i.stands); same = i.same })))
 
-is_there_lives : (g : ℕ) (t : Shape) (b : Bool) (o : Option Held) → node_at g t ≡ o → is_there o ≡ b → b ≡ true → Lives t g
+pub is_there_lives : (g : ℕ) (t : Shape) (b : Bool) (o : Option Held) → node_at g t ≡ o → is_there o ≡ b → b ≡ true → Lives t g
 is_there_lives g t b None e i h = let no : ⊥ = cc in absurd no
 is_there_lives g t b (Some n) e i h = record { node = n; is = found_is_node g t n e }
 
-not_there : (g : ℕ) (t : Shape) (o : Option Held) → node_at g t ≡ o → is_there o ≡ false → Lives t g → ⊥
+pub not_there : (g : ℕ) (t : Shape) (o : Option Held) → node_at g t ≡ o → is_there o ≡ false → Lives t g → ⊥
 not_there g t None e i = none_lives g t e
 not_there g t (Some n) e i = let no : ⊥ = cc in absurd no
 

@@ -1,11 +1,11 @@
 -- Relabellings one over another, tidied.
-use Rattle.std.proofs.Common.{ℕ, ◌≡◌, ◌==◌, Bool, true, false, if◌then◌else◌, List, [], ◌∷◌, ◌++◌, map, refl, sym, ap, ◌∙◌, append_assoc}
-use Rattle.spec_core.specs.Code.{Program, Relabelling}
+use Rattle.std.proofs.Common.{ℕ, ◌≡◌, ◌==◌, Bool, true, false, if◌then◌else◌, List, [], ◌∷◌, map, refl, sym, ap, ◌∙◌}
+use Rattle.spec_core.specs.Code.{Relabelling}
 use Rattle.rule_model.specs.Actions.{renamed, after}
 use Rattle.rule_model.specs.Behaviours.{Behaviour, stop, exit, inner, action, choice, guarded, bound, value_choice, gate_choice, parallel}
 use Rattle.rule_model.specs.Behaviours.{hide, enable, disable, call, relabel}
 use Rattle.rule_model.specs.Substitution.{tidied}
-use Rattle.board_tree.specs.Origins.{Source, scoped, relabelled_by, meaning, IsCall}
+use Rattle.board_tree.specs.Origins.{relabelled_by, IsCall}
 
 -- a gate's place after both relabellings
 by_both : (g : ℕ) (m : Relabelling) (pairs rest : List Relabelling) (b : Bool) →

@@ -4,4 +4,5 @@ pub mod Shapes
 pub mod Generations
 pub mod Posting
 pub mod Steps
+pub mod Differences
 pub mod Views

@@ -10,7 +10,7 @@ use Rattle.rule_model.specs.Derivations.{enstep, enend, disstep, disend, distake
 use Rattle.rule_model.specs.Derives.{Derives}
 use Rattle.board_tree.specs.Generations.{Goes}
 use Rattle.board_tree.specs.Rests.{Way, Fills, IsWayOf}
-use Rattle.board_tree.specs.Shapes.{Shape, leaf, ended, over, between, hidden, relabelled, enabled, choosing, beside, disabling}
+use Rattle.board_tree.specs.Shapes.{Shape, leaf, over, between, hidden, relabelled, enabled, choosing, beside, disabling}
 use Rattle.board_tree.specs.Shapes.{stands_for, IsRight}
 
 -- one of the ways to act is filled by the tree
@@ -51,6 +51,11 @@ pub record Moves (program : Program) (place : List ℕ) (old : Shape) (d : Deriv
     : Type 0 where
   pub becomes : Becomes program old d a new
   pub goes : Goes place low high old new
+
+-- the same by some action
+pub record Moved (program : Program) (place : List ℕ) (old : Shape) (d : Derivation) (new : Shape) (low high : ℕ) : Type 0 where
+  pub action : Action
+  pub moves : Moves program place old d action new low high
 
 -- the same of one of the ways in which a behaviour can act
 pub record Acts (program : Program) (b : Behaviour) (ways : List Way) (d : Derivation) (a : Action) (new : Shape) : Type 0 where

@@ -1,9 +1,17 @@
 -- What contracts see of a tree of the program.
-use Rattle.std.specs.Prelude.{ℕ, List, Option}
+use Rattle.std.specs.Prelude.{ℕ, ◌≡◌, ◌≤◌, List, [], Option, Some, None}
+use Rattle.spec_core.specs.Code.{Program}
+use Rattle.rule_model.specs.declared.action.Action.{Action}
+use Rattle.rule_model.specs.Behaviours.{Behaviour}
+use Rattle.rule_model.specs.Derivations.{Derivation}
+use Rattle.rule_model.specs.Derives.{Derives}
 use Rattle.board_tree.specs.declared.branch.Branch.{Branch}
 use Rattle.board_tree.specs.declared.origin.Gen.{Gen}
 use Rattle.board_tree.specs.declared.ready.Ready.{Ready}
-use Rattle.board_tree.specs.Shapes.{Shape, shape_of}
+use Rattle.board_tree.specs.Differences.{IsDifference}
+use Rattle.board_tree.specs.Generations.{Keeps}
+use Rattle.board_tree.specs.Shapes.{Shape, shape_of, stands_for, IsRight}
+use Rattle.board_tree.specs.Steps.{Moved}
 
 -- the tree, the next generation, what the last step ended and began, and the tree that stands ready for the next step
 pub record TreeView : Type 0 where
@@ -15,3 +23,22 @@ pub record TreeView : Type 0 where
 
 abbrev pub shape : TreeView → Shape
 shape v = shape_of v.root
+
+-- what stands ready is what the tree becomes by these rules, with the generations that end and begin
+abbrev pub IsReserved : Program → Shape → ℕ → Derivation → Option Ready → Type 0
+IsReserved program t next d None = ⊥
+IsReserved program t next d (Some r) =
+    Moved program [] t d (shape_of r.branch) next r.next × IsDifference r.gone.items t (shape_of r.branch) ×
+    IsDifference r.came.items (shape_of r.branch) t
+
+-- By these rules the first tree becomes the second: it then stands for what the behaviour becomes, each of its nodes was there before, with
+-- its origin, its place, the constructs above it and its work, or is new and waits, and the lists are those of the generations that ended
+-- and that began.
+pub record IsStep (program : Program) (old : Shape) (next : ℕ) (d : Derivation) (new : Shape) (later : ℕ) (gone came : List Gen)
+    : Type 0 where
+  pub stands : (a : Action) (c : Behaviour) → Derives program (stands_for program old) d a c → stands_for program new ≡ c
+  pub more : next ≤ later
+  pub keeps : Keeps [] next later old new
+  pub right : IsRight program new
+  pub ended : IsDifference gone old new
+  pub began : IsDifference came new old

@@ -1,6 +1,7 @@
 // Nodes found by their generations, and expanded.
 
-ghost use Rattle.std.specs.Prelude.{◌≡◌, IfSome, IfNone, None, Some};
+ghost use Rattle.std.specs.Prelude.{◌≡◌, ◌++◌, IfOk, IfSome, IfNone, None, Some};
+ghost use Rattle.board_tree.specs.Differences.{missing};
 ghost use Rattle.board_tree.specs.Posting.{is_there, posted_first};
 ghost use Rattle.board_tree.specs.Rests.{ways_of};
 ghost use Rattle.board_tree.specs.Shapes.{shape_of, held_of, node_at};
@@ -9,6 +10,7 @@ use crate::branch::Branch;
 use crate::expansion::Expansion;
 use crate::node::Node;
 use crate::origin::Gen;
+use spec_core::memory::Memory;
 
 impl Branch {
     /// The node of this generation, the first from the left. It takes no memory.
@@ -61,6 +63,29 @@ impl Branch {
                 } else {
                     right.post(generation, work)
                 }
+            }
+        }
+    }
+
+    /// Appends the generations of this tree's nodes that the other tree doesn't have, from the left.
+    pub fn put_missing(&self, other: &Branch, generations: &mut Vec<Gen>) -> Result<(), Memory>
+        ensures missing { IfOk result (λ _.
+            generations.new.items ≡ generations.old.items ++ missing (shape_of self.now) (shape_of other.now)) }
+    {
+        match self {
+            Branch::Leaf(node) => {
+                if other.has(node.generation) {
+                    Ok(())
+                } else {
+                    generations.push(node.generation)?;
+                    Ok(())
+                }
+            }
+            Branch::Ended => Ok(()),
+            Branch::Over(_, part) => part.put_missing(other, generations),
+            Branch::Between(_, left, right) => {
+                left.put_missing(other, generations)?;
+                right.put_missing(other, generations)
             }
         }
     }

@@ -1,7 +1,21 @@
 // A tree that stands ready.
 
+ghost use Rattle.std.specs.Prelude.{[], IfOk};
+ghost use Rattle.spec_core.specs.Code.{program_of};
+ghost use Rattle.spec_core.specs.Ready.{IsReady};
+ghost use Rattle.rule_model.specs.Derivations.{derivation_of};
+ghost use Rattle.board_tree.specs.Differences.{IsDifference};
+ghost use Rattle.board_tree.specs.Shapes.{shape_of};
+ghost use Rattle.board_tree.specs.Steps.{Moved};
+
+use crate::advance::advance;
 use crate::branch::Branch;
+use crate::fresh::Fresh;
 use crate::origin::Gen;
+use rule_model::rules::Rules;
+use spec_core::code::Checked;
+use spec_core::memory::Memory;
+use std::alloc::Global;
 
 /// The next tree, the next generation then, and the generations that end and begin.
 #[derive(Drop)]
@@ -10,4 +24,63 @@ pub struct Ready {
     pub next: u128,
     pub gone: Vec<Gen>,
     pub came: Vec<Gen>,
+}
+
+// The generations of the first tree that the second doesn't have.
+fn difference(alloc: Global, old: &Branch, new: &Branch) -> Result<Vec<Gen>, Memory>
+    ensures { IfOk result (λ all. IsDifference all.items (shape_of old.now) (shape_of new.now)) }
+{
+    let mut all = Vec::new(alloc);
+    old.put_missing(new, &mut all)?;
+    Ok(all)
+}
+
+// The tree after the step by these rules, and the next generation then.
+#[tactic(auto, using(crate::proofs::Stepping::moved_by))]
+fn moved(
+    alloc: Global,
+    checked: &Checked,
+    branch: &Branch,
+    rules: &Rules,
+    next: u128,
+    place: &[u32],
+) -> Result<Fresh, Memory>
+    requires ready { IsReady (program_of checked.now) }
+    ensures { IfOk result (λ f.
+        Moved (program_of checked.now) place.now (shape_of branch.now) (derivation_of rules.now) (shape_of f.branch) next f.next) }
+{
+    let done = advance(alloc, checked, branch, rules, next, place)?;
+    Ok(Fresh {
+        branch: done.branch,
+        next: done.next,
+    })
+}
+
+/// What stands ready for the step by these rules.
+pub fn ready_for(
+    alloc: Global,
+    checked: &Checked,
+    branch: &Branch,
+    rules: &Rules,
+    next: u128,
+) -> Result<Ready, Memory>
+    requires ready { IsReady (program_of checked.now) }
+    ensures moved { IfOk result (λ r.
+        Moved (program_of checked.now) [] (shape_of branch.now) (derivation_of rules.now) (shape_of r.branch) next r.next) }
+    ensures gone { IfOk result (λ r. IsDifference r.gone.items (shape_of branch.now) (shape_of r.branch)) }
+    ensures came { IfOk result (λ r. IsDifference r.came.items (shape_of r.branch) (shape_of branch.now)) }
+{
+    let place = Vec::new(alloc);
+    let Fresh {
+        branch: after,
+        next,
+    } = moved(alloc, checked, branch, rules, next, &place)?;
+    let gone = difference(alloc, branch, &after)?;
+    let came = difference(alloc, &after, branch)?;
+    Ok(Ready {
+        branch: after,
+        next,
+        gone,
+        came,
+    })
 }

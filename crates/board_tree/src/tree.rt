@@ -5,19 +5,22 @@ ghost use Rattle.spec_core.specs.Code.{Program, program_of};
 ghost use Rattle.spec_core.specs.Ready.{IsReady};
 ghost use Rattle.rule_model.specs.Behaviours.{behaviour_of};
 ghost use Rattle.rule_model.specs.Code.{IsStart};
-ghost use Rattle.board_tree.specs.Generations.{AreApart, ArePlaced};
+ghost use Rattle.rule_model.specs.Derivations.{derivation_of};
+ghost use Rattle.board_tree.specs.Generations.{AreApart, AreBelow, ArePlaced};
 ghost use Rattle.board_tree.specs.Rests.{ways_of};
 ghost use Rattle.board_tree.specs.Shapes.{stands_for, held_of, posted, Lives, IsNodeOf, IsRight, IsWorkFor, AllWait};
-ghost use Rattle.board_tree.specs.Views.{shape};
+ghost use Rattle.board_tree.specs.Steps.{Follows};
+ghost use Rattle.board_tree.specs.Views.{shape, IsReserved, IsStep};
 
 use crate::branch::Branch;
 use crate::expansion::Expansion;
 use crate::fresh::Fresh;
 use crate::node::Node;
 use crate::origin::Gen;
-use crate::ready::Ready;
+use crate::ready::{Ready, ready_for};
 use crate::unfold::unfold;
 use rule_model::beh::Beh;
+use rule_model::rules::Rules;
 use spec_core::code::Checked;
 use spec_core::memory::Memory;
 use std::alloc::Global;
@@ -41,6 +44,7 @@ impl Model for Tree {
     ghost use Rattle.board_tree.specs.contracts.ready.Ready as r;
     ghost use Rattle.board_tree.specs.Generations.{IsSound, ArePlaced};
     ghost use Rattle.board_tree.specs.Shapes.{shape_of};
+    ghost use Rattle.board_tree.specs.Steps.{Follows};
     ghost use Rattle.board_tree.specs.Views.{TreeView};
 
     ghost Value = { TreeView };
@@ -107,6 +111,7 @@ impl Tree {
         ensures some { IfSome result (λ n. IsNodeOf (shape self.now) generation.0 (held_of n.now)) }
         ensures none { IfNone result (Lives (shape self.now) generation.0 → ⊥) }
         ensures apart { AreApart (shape self.now) }
+        ensures below { AreBelow (shape self.now) self.now.next }
         ensures placed { ArePlaced [] (shape self.now) }
     {
         match self.root.node_at(generation) {
@@ -126,6 +131,51 @@ impl Tree {
         ensures came { self.new.came ≡ self.old.came }
     {
         self.root.post(generation, work);
+    }
+
+    /// Makes ready all that the step by these rules needs. The tree stays as it is, also where there is no memory.
+    pub fn reserve_step(
+        &mut self,
+        alloc: Global,
+        checked: &Checked,
+        rules: &Rules,
+    ) -> Result<(), Memory>
+        requires ready { IsReady (program_of checked.now) }
+        ensures reserved { IfOk result (λ _.
+            IsReserved (program_of checked.now) (shape self.new) self.new.next (derivation_of rules.now) self.new.ready) }
+        ensures shape { shape self.new ≡ shape self.old }
+        ensures next { self.new.next ≡ self.old.next }
+        ensures gone { self.new.gone ≡ self.old.gone }
+        ensures came { self.new.came ≡ self.old.came }
+    {
+        let ready = ready_for(alloc, checked, &self.root, rules, self.next)?;
+        self.ready = Some(ready);
+        Ok(())
+    }
+
+    /// The step by these rules: the tree then stands for what its behaviour becomes. It takes no memory.
+    pub fn step(&mut self, checked: &Checked, rules: &Rules)
+        requires reserved { IsReserved (program_of checked.now) (shape self.old) self.old.next (derivation_of rules.now) self.old.ready }
+        requires right { IsRight (program_of checked.now) (shape self.old) }
+        requires follows { Follows (shape self.old) (derivation_of rules.now) }
+        ensures step { IsStep (program_of checked.now) (shape self.old) self.old.next (derivation_of rules.now) (shape self.new)
+            self.new.next self.new.gone self.new.came }
+    {
+        match self.ready.take() {
+            Some(ready) => {
+                let Ready {
+                    branch,
+                    next,
+                    gone,
+                    came,
+                } = ready;
+                self.root = branch;
+                self.next = next;
+                self.gone = gone;
+                self.came = came;
+            }
+            None => {}
+        }
     }
 
     /// The generations that the last step ended; none before the first step. It takes no memory.

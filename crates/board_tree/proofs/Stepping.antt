@@ -1,0 +1,48 @@
+-- What a step of a tree keeps.
+use Rattle.std.proofs.Common.{ℕ, ◌≡◌, ⊎_elim, List, [], None, sym, subst, arith}
+use Rattle.spec_core.specs.Code.{Program}
+use Rattle.rule_model.specs.declared.action.Action.{Action}
+use Rattle.rule_model.specs.Derivations.{Derivation}
+use Rattle.board_tree.specs.declared.origin.Gen.{Gen}
+use Rattle.board_tree.specs.Differences.{IsDifference}
+use Rattle.board_tree.specs.Generations.{ArePlaced, IsSound}
+use Rattle.board_tree.specs.Shapes.{Held, Shape, IsWorkOf, IsRight}
+use Rattle.board_tree.specs.Steps.{Follows, Moves, Moved}
+use Rattle.board_tree.specs.Views.{IsStep}
+
+pub moved_by : (program : Program) (place : List ℕ) (old new : Shape) (d : Derivation) (a : Action) (low high : ℕ) →
+    Moves program place old d a new low high →
+    Moved program place old d new low high
+moved_by program place old new d a low high m = record { action = a; moves = m }
+
+module _ (program : Program) (old new : Shape) (d : Derivation) (next later : ℕ) where
+  pub moved_sound : IsSound old next → Moved program [] old d new next later → IsSound new later
+  moved_sound s m =
+      let v = m.moves.goes.advances s in
+      record {
+        apart = v.apart;
+        below = λ up n h.
+            ⊎_elim (λ l. let b = s.below up n l in let k = v.more in omega (arith, b, k)) (λ r. r.below) (v.keeps up n h);
+      }
+
+  pub moved_placed : IsSound old next → ArePlaced [] old → Moved program [] old d new next later → ArePlaced [] new
+  moved_placed s p m up n h = ⊎_elim (λ l. p up n l) (λ r. r.placed) ((m.moves.goes.advances s).keeps up n h)
+
+  waits_right : (n : Held) → n.work ≡ None → IsWorkOf program n.source n.work
+  waits_right n e = subst (IsWorkOf program n.source) (sym e) tt
+
+  pub moved_step : (gone came : List Gen) → IsSound old next → IsRight program old → Follows old d →
+      Moved program [] old d new next later →
+      IsDifference gone old new →
+      IsDifference came new old →
+      IsStep program old next d new later gone came
+  moved_step gone came s right follows m ended began =
+      let v = m.moves.goes.advances s in
+      record {
+        stands = λ e c h. sym (m.moves.becomes.becomes right follows e c h).1;
+        more = v.more;
+        keeps = v.keeps;
+        right = λ up n h. ⊎_elim (λ l. right up n l) (λ r. waits_right n r.waits) (v.keeps up n h);
+        ended = ended;
+        began = began;
+      }
