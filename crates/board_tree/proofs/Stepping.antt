@@ -31,18 +31,17 @@ module _ (program : Program) (old new : Shape) (d : Derivation) (next later : �
   waits_right : (n : Held) → n.work ≡ None → IsWorkOf program n.source n.work
   waits_right n e = subst (IsWorkOf program n.source) (sym e) tt
 
-  pub moved_step : (gone came : List Gen) → IsSound old next → IsRight program old → Follows old d →
-      Moved program [] old d new next later →
+  pub moved_step : (gone came : List Gen) → IsSound old next → Moved program [] old d new next later →
       IsDifference gone old new →
       IsDifference came new old →
       IsStep program old next d new later gone came
-  moved_step gone came s right follows m ended began =
+  moved_step gone came s m ended began =
       let v = m.moves.goes.advances s in
       record {
-        stands = λ e c h. sym (m.moves.becomes.becomes right follows e c h).1;
+        stands = λ right follows e c h. sym (m.moves.becomes.becomes right follows e c h).1;
         more = v.more;
         keeps = v.keeps;
-        right = λ up n h. ⊎_elim (λ l. right up n l) (λ r. waits_right n r.waits) (v.keeps up n h);
+        right = λ right up n h. ⊎_elim (λ l. right up n l) (λ r. waits_right n r.waits) (v.keeps up n h);
         ended = ended;
         began = began;
       }

@@ -11,7 +11,7 @@ use Rattle.board_tree.specs.declared.ready.Ready.{Ready}
 use Rattle.board_tree.specs.Differences.{IsDifference}
 use Rattle.board_tree.specs.Generations.{Keeps}
 use Rattle.board_tree.specs.Shapes.{Shape, shape_of, stands_for, IsRight}
-use Rattle.board_tree.specs.Steps.{Moved}
+use Rattle.board_tree.specs.Steps.{Moved, Follows}
 
 -- the tree, the next generation, what the last step ended and began, and the tree that stands ready for the next step
 pub record TreeView : Type 0 where
@@ -31,14 +31,17 @@ IsReserved program t next d (Some r) =
     Moved program [] t d (shape_of r.branch) next r.next × IsDifference r.gone.items t (shape_of r.branch) ×
     IsDifference r.came.items (shape_of r.branch) t
 
--- By these rules the first tree becomes the second: it then stands for what the behaviour becomes, each of its nodes was there before, with
+-- By these rules the first tree becomes the second. Where each node that takes part is expanded by what its origin can do, the second stands
+-- for what the behaviour becomes, and its nodes are expanded in the same way. Each of its nodes was there before, with
 -- its origin, its place, the constructs above it and its work, or is new and waits, and the lists are those of the generations that ended
 -- and that began.
 pub record IsStep (program : Program) (old : Shape) (next : ℕ) (d : Derivation) (new : Shape) (later : ℕ) (gone came : List Gen)
     : Type 0 where
-  pub stands : (a : Action) (c : Behaviour) → Derives program (stands_for program old) d a c → stands_for program new ≡ c
+  pub stands : IsRight program old → Follows old d → (a : Action) (c : Behaviour) →
+      Derives program (stands_for program old) d a c →
+      stands_for program new ≡ c
   pub more : next ≤ later
   pub keeps : Keeps [] next later old new
-  pub right : IsRight program new
+  pub right : IsRight program old → IsRight program new
   pub ended : IsDifference gone old new
   pub began : IsDifference came new old

@@ -9,7 +9,6 @@ ghost use Rattle.rule_model.specs.Derivations.{derivation_of};
 ghost use Rattle.board_tree.specs.Generations.{AreApart, AreBelow, ArePlaced};
 ghost use Rattle.board_tree.specs.Rests.{ways_of};
 ghost use Rattle.board_tree.specs.Shapes.{stands_for, held_of, posted, Lives, IsNodeOf, IsRight, IsWorkFor, AllWait};
-ghost use Rattle.board_tree.specs.Steps.{Follows};
 ghost use Rattle.board_tree.specs.Views.{shape, IsReserved, IsStep};
 
 use crate::branch::Branch;
@@ -44,8 +43,7 @@ impl Model for Tree {
     ghost use Rattle.board_tree.specs.contracts.ready.Ready as r;
     ghost use Rattle.board_tree.specs.Generations.{IsSound, ArePlaced};
     ghost use Rattle.board_tree.specs.Shapes.{shape_of};
-    ghost use Rattle.board_tree.specs.Steps.{Follows};
-    ghost use Rattle.board_tree.specs.Views.{TreeView};
+        ghost use Rattle.board_tree.specs.Views.{TreeView};
 
     ghost Value = { TreeView };
 
@@ -156,8 +154,6 @@ impl Tree {
     /// The step by these rules: the tree then stands for what its behaviour becomes. It takes no memory.
     pub fn step(&mut self, checked: &Checked, rules: &Rules)
         requires reserved { IsReserved (program_of checked.now) (shape self.old) self.old.next (derivation_of rules.now) self.old.ready }
-        requires right { IsRight (program_of checked.now) (shape self.old) }
-        requires follows { Follows (shape self.old) (derivation_of rules.now) }
         ensures step { IsStep (program_of checked.now) (shape self.old) self.old.next (derivation_of rules.now) (shape self.new)
             self.new.next self.new.gone self.new.came }
     {

@@ -58,7 +58,7 @@ empty_one x s empty y = by_test (y == x.number) refl
     by_test true e = ap variable (sym (eqb-true y x.number e))
     by_test false e = empty y
 
-empty_many : (xs : List Variable) (s : Assignment) → IsEmpty s → IsEmpty (without xs s)
+pub empty_many : (xs : List Variable) (s : Assignment) → IsEmpty s → IsEmpty (without xs s)
 empty_many [] s empty = empty
 empty_many (x ∷ xs) s empty = empty_many xs (with_term x (variable x.number) s) (empty_one x s empty)
 
