@@ -1,0 +1,4 @@
+pub mod One
+pub mod Parts
+pub mod Meeting
+pub mod Trees

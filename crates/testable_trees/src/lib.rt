@@ -1,0 +1,4 @@
+// Whether a tree is seen can be tested.
+#![tactic(auto)]
+
+pub mod laws;
