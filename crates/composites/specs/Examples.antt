@@ -90,5 +90,5 @@ pub record ListsAreAsWorked : Type 0 where
   -- `choice x:S [] [x = 0] -> g; stop`, where the guard holds of no value: nothing stands under it, but it passes the mark
   pub guards : trees_of one_shown (value_choice (x_of 0) (guarded (premise (variable 0) (constant 0)) (once 5))) ≡
       val Mark (guard (pre [])) ∷ []
-  -- `P [b]`
-  pub called : trees_of both_shown (call 0 (1 ∷ []) []) ≡ calling (rel (pre [])) ∷ []
+  -- `P [b] || b; stop`
+  pub called : trees_of both_shown (parallel every_gate (call 0 (1 ∷ []) []) (once 1)) ≡ both (calling (rel (pre []))) (pre []) ∷ []
