@@ -1,10 +1,10 @@
 -- What faults say.
-use Rattle.std.proofs.Common.{ℕ, ◌≡◌, List, [], ◌∷◌, Option, Some, None, IfSome, IfNone, Result, Ok, Err, IfErr, refl, sym, subst}
+use Rattle.std.proofs.Common.{ℕ, ◌≡◌, List, [], Option, Some, None, IfNone, Result, Ok, Err, IfErr, refl, sym, subst}
 use Rattle.spec_core.specs.Terms.{TermTree}
 use Rattle.spec_core.specs.Theories.{Theory}
 use Rattle.rule_walk.specs.declared.fault.FireFault.{FireFault}
 use Rattle.rule_walk.specs.declared.fault.FireFault.TheVariants.{Unfit, Spent, TooLarge, Memory}
-use Rattle.rule_walk.specs.Faults.{Explains, Here, Within, IsMisfit, IsAtPath, IsBelow}
+use Rattle.rule_walk.specs.Faults.{Explains, Here, IsMisfit}
 
 -- want of memory explains itself
 pub memory : (theory : Theory) (budget : ℕ) (U : List ℕ → Type 0) (A : TermTree → Type 0) (f : FireFault) → f ≡ Memory →
@@ -23,10 +23,6 @@ pub of_none : {A : Type 0} {P : Type 0} (o : Option A) → o ≡ None → IfNone
 of_none None e h = h
 of_none (Some x) e h = cc
 
-pub of_some : {A : Type 0} (o : Option A) (x : A) (P : A → Type 0) → o ≡ Some x → IfSome o P → P x
-of_some None x P e h = cc
-of_some (Some y) x P e h = let same : y ≡ x = cc in subst P same h
-
 -- a fault that is handed on
 pub handed_on : {A : Type 0} (r : Result A FireFault) (P : FireFault → Type 0) (f : FireFault) → r ≡ Err f → P f → IfErr r P
 handed_on {A} r P f is h = subst (λ (q : Result A FireFault). IfErr q P) (sym is) h
@@ -34,10 +30,6 @@ handed_on {A} r P f is h = subst (λ (q : Result A FireFault). IfErr q P) (sym i
 pub err_on : {A : Type 0} (r : Result A FireFault) (P Q : FireFault → Type 0) → ((f : FireFault) → P f → Q f) → IfErr r P → IfErr r Q
 err_on (Ok x) P Q k h = tt
 err_on (Err f) P Q k h = k f h
-
--- what holds of the root holds of the path to it
-pub at_root : (U : List ℕ → Type 0) (P : Type 0) → (P → U []) → (path : List ℕ) → Here P path → U path
-at_root U P k path h = subst U (sym h.0) (k h.1)
 
 pub misfit_on : (P Q : Type 0) (f : FireFault) → (P → Q) → IsMisfit P f → IsMisfit Q f
 misfit_on P Q (Unfit at) k h = (h.0, k h.1)
@@ -53,24 +45,7 @@ misfit_explains theory budget P U A (Spent term) k h = absurd h
 misfit_explains theory budget P U A (TooLarge term) k h = absurd h
 misfit_explains theory budget P U A Memory k h = record { unfit = tt; spent = tt; too_large = tt }
 
-moved : (theory : Theory) (budget : ℕ) (U : List ℕ → Type 0) (A : TermTree → Type 0) (place : ℕ) (inner : List ℕ) (e : FireFault) →
-    U inner → IsAtPath (place ∷ inner) e → Explains theory budget (Within place U) A e
-moved theory budget U A place inner (Unfit at) h is = record { unfit = (inner, is, h); spent = tt; too_large = tt }
-moved theory budget U A place inner (Spent term) h is = absurd is
-moved theory budget U A place inner (TooLarge term) h is = absurd is
-moved theory budget U A place inner Memory h is = record { unfit = tt; spent = tt; too_large = tt }
-
 -- the rule at the root doesn't fit, since no step is there
 pub here_explains : (theory : Theory) (budget : ℕ) (P : Type 0) (A : TermTree → Type 0) (f : FireFault) →
     IsMisfit (Unit {0}) f → P → Explains theory budget (Here P) A f
 here_explains theory budget P A f here p = misfit_explains theory budget (Unit {0}) (Here P) A f (λ u. (refl, p)) here
-
--- the fault of a part
-pub below_explains : (theory : Theory) (budget : ℕ) (U : List ℕ → Type 0) (A : TermTree → Type 0) (place : ℕ) (f e : FireFault) →
-    Explains theory budget U A f → IsBelow place f e → Explains theory budget (Within place U) A e
-below_explains theory budget U A place (Unfit at) e h is = moved theory budget U A place at.items e h.unfit is
-below_explains theory budget U A place (Spent term) e h is =
-    subst (Explains theory budget (Within place U) A) (sym is) (record { unfit = tt; spent = h.spent; too_large = tt })
-below_explains theory budget U A place (TooLarge term) e h is =
-    subst (Explains theory budget (Within place U) A) (sym is) (record { unfit = tt; spent = tt; too_large = h.too_large })
-below_explains theory budget U A place Memory e h is = memory theory budget (Within place U) A e is

@@ -1,30 +1,27 @@
 -- Why each rule gives no step.
-use Rattle.std.proofs.Common.{ℕ, ◌≡◌, List, [], ◌∷◌, refl, sym, subst, inl, inr, ◌∙◌}
-use Rattle.spec_core.specs.Code.{Program, Variable, Binding, Synchronised, ExitValue, ActionField}
+use Rattle.std.proofs.Common.{ℕ, ◌≡◌, List, [], ◌∷◌, Option, refl, sym, subst, inr, ◌∙◌}
+use Rattle.spec_core.specs.Code.{Program, Variable, Synchronised, ActionField}
 use Rattle.spec_core.specs.Executable.{IsExecutable}
 use Rattle.spec_core.specs.Terms.{TermTree, variable}
 use Rattle.spec_core.specs.Theories.{Premise, Theory}
-use Rattle.std.proofs.Common.{Option}
 use Rattle.rule_laws.proofs.OneStep.{one_filled, one_definition, one_step}
 use Rattle.rule_model.specs.declared.action.Action.{Action}
 use Rattle.rule_model.specs.declared.action.Action.TheVariants.{Exit}
 use Rattle.rule_model.specs.declared.rules.Slot.{Slot}
 use Rattle.rule_model.specs.declared.rules.Slot.TheVariants.{Of, Mark, Blank}
 use Rattle.rule_model.specs.Actions.{kind_of, doing, IsAlone, IsJoint, IsUnhidden, IsNoEnd, IsEnd}
-use Rattle.rule_model.specs.Behaviours.{Behaviour, exit, inner, action, choice, guarded, bound, value_choice, gate_choice, parallel}
+use Rattle.rule_model.specs.Behaviours.{Behaviour, action, choice, guarded, bound, value_choice, gate_choice, parallel}
 use Rattle.rule_model.specs.Behaviours.{hide, enable, disable, call, relabel}
 use Rattle.rule_model.specs.Code.{IsDefinition}
-use Rattle.rule_model.specs.Constructs.{OnExit, OnInner, OnAction, OnChoice, OnGuarded, OnBound, OnValueChoice, OnGateChoice, OnParallel}
-use Rattle.rule_model.specs.Constructs.{OnHide, OnEnable, OnDisable, OnCall, OnRelabel}
-use Rattle.rule_model.specs.Derivations.{Derivation, pre, int, exiting, chl, chr, val, gate, guard, letting, parl, parr, both, hiding, pass}
+use Rattle.rule_model.specs.Derivations.{Derivation, pre, chl, chr, val, gate, guard, letting, parl, parr, both, hiding, pass}
 use Rattle.rule_model.specs.Derivations.{enstep, enend, disstep, disend, distake, calling, rel}
 use Rattle.rule_model.specs.Derives.{DerivesWith}
-use Rattle.rule_model.specs.Fields.{Spells, PremiseHolds, GuardHolds, FieldsHave, ArgumentsHave, IsHandedOn, OnGate}
+use Rattle.rule_model.specs.Fields.{GuardHolds, FieldsHave, ArgumentsHave, IsHandedOn}
 use Rattle.rule_model.specs.Substitution.{Assignment}
 use Rattle.rule_walk.specs.declared.fault.FireFault.{FireFault}
-use Rattle.rule_walk.specs.Asking.{FieldsAsk, ExitAsks, PremiseAsks, GuardAsks, BindingsAsk, ArgumentsAsk, RuleAsks, Asks}
+use Rattle.rule_walk.specs.Asking.{GuardAsks, ArgumentsAsk, RuleAsks, Asks}
 use Rattle.rule_walk.specs.Ends.{IsAtHidden, CanHandOn}
-use Rattle.rule_walk.specs.Faults.{Explains, Here, Within, IsMisfit, IsFault, HasNoFields, HasNoExit, HasNoBindings, HasNoArguments}
+use Rattle.rule_walk.specs.Faults.{Explains, Here, Within, IsMisfit, IsFault, HasNoArguments}
 use Rattle.rule_walk.specs.Faults.{HandsOnNothing}
 use Rattle.rule_walk.specs.Parts.{HasNone, OnFirst, OnSecond, At, IsUnfit, IsUnfitAt}
 use Rattle.rule_walk.proofs.Faults.{explains_on, misfit_explains, misfit_on}
@@ -40,91 +37,10 @@ unhanded theory s xs a values f is =
     (λ none k.
     none k.1 (subst (λ (l : List (List ℕ)). IsHandedOn theory s xs l k.1) (exits_one k.0 values (sym k.2 ∙ is)) k.3))
 
--- the behaviour is of the tree's construct
-abbrev pub Opens : Behaviour → Derivation → Type 0
-Opens b (pre slots) = OnAction b (λ _ _ _ _. Unit {0})
-Opens b int = OnInner b (λ _. Unit {0})
-Opens b (exiting slots) = OnExit b (λ _. Unit {0})
-Opens b (chl d) = OnChoice b (λ _ _. Unit {0})
-Opens b (chr d) = OnChoice b (λ _ _. Unit {0})
-Opens b (val slot d) = OnValueChoice b (λ _ _. Unit {0})
-Opens b (gate j d) = OnGateChoice b (λ _ _ _. Unit {0})
-Opens b (guard d) = OnGuarded b (λ _ _. Unit {0})
-Opens b (letting d) = OnBound b (λ _ _. Unit {0})
-Opens b (parl d) = OnParallel b (λ _ _ _. Unit {0})
-Opens b (parr d) = OnParallel b (λ _ _ _. Unit {0})
-Opens b (both d e) = OnParallel b (λ _ _ _. Unit {0})
-Opens b (hiding d) = OnHide b (λ _ _. Unit {0})
-Opens b (pass d) = OnHide b (λ _ _. Unit {0})
-Opens b (enstep d) = OnEnable b (λ _ _ _. Unit {0})
-Opens b (enend d) = OnEnable b (λ _ _ _. Unit {0})
-Opens b (disstep d) = OnDisable b (λ _ _. Unit {0})
-Opens b (disend d) = OnDisable b (λ _ _. Unit {0})
-Opens b (distake d) = OnDisable b (λ _ _. Unit {0})
-Opens b (calling d) = OnCall b (λ _ _ _. Unit {0})
-Opens b (rel d) = OnRelabel b (λ _ _. Unit {0})
-
 module _ (program : Program) where
   -- the terms for the variables, the behaviour and the tree are these
   abbrev pub Is : Assignment → Behaviour → Derivation → Assignment → Behaviour → Derivation → Type 0
   Is s b d t c e = (t ≡ s) × (c ≡ b) × (e ≡ d)
-
-  step_opens : (d : Derivation) (b : Behaviour) (s : Assignment) (a : Action) (c : Behaviour) → DerivesWith program s b d a c → Opens b d
-  step_opens (pre slots) (action g fields p rest) s a c h = tt
-  step_opens int (inner rest) s a c h = tt
-  step_opens (exiting slots) (exit fields) s a c h = tt
-  step_opens (chl d) (choice left right) s a c h = tt
-  step_opens (chr d) (choice left right) s a c h = tt
-  step_opens (val (Of v) d) (value_choice x body) s a c h = tt
-  step_opens (val (Of v) d) _ s a c h = absurd h
-  step_opens (val Mark d) b s a c h = absurd h
-  step_opens (val Blank d) b s a c h = absurd h
-  step_opens (gate j d) (gate_choice g gates body) s a c h = tt
-  step_opens (guard d) (guarded p body) s a c h = tt
-  step_opens (letting d) (bound bindings body) s a c h = tt
-  step_opens (parl d) (parallel gates left right) s a c h = tt
-  step_opens (parr d) (parallel gates left right) s a c h = tt
-  step_opens (both d e) (parallel gates left right) s a c h = tt
-  step_opens (hiding d) (hide gates body) s a c h = tt
-  step_opens (pass d) (hide gates body) s a c h = tt
-  step_opens (enstep d) (enable left xs right) s a c h = tt
-  step_opens (enend d) (enable left xs right) s a c h = tt
-  step_opens (disstep d) (disable left right) s a c h = tt
-  step_opens (disend d) (disable left right) s a c h = tt
-  step_opens (distake d) (disable left right) s a c h = tt
-  step_opens (calling d) (call p actual terms) s a c h = tt
-  step_opens (rel d) (relabel pairs body) s a c h = tt
-  step_opens _ _ s a c h = absurd h
-
-  first_opens : (d : Derivation) (b : Behaviour) (s : Assignment) (P : Assignment → Behaviour → Derivation → Type 0) →
-      OnFirst program s b d P → Opens b d
-  first_opens (chl d) (choice left right) s P h = tt
-  first_opens (chr d) (choice left right) s P h = tt
-  first_opens (val (Of v) d) (value_choice x body) s P h = tt
-  first_opens (val (Of v) d) _ s P h = absurd h
-  first_opens (val Mark d) b s P h = absurd h
-  first_opens (val Blank d) b s P h = absurd h
-  first_opens (gate j d) (gate_choice g gates body) s P h = tt
-  first_opens (guard d) (guarded p body) s P h = tt
-  first_opens (letting d) (bound bindings body) s P h = tt
-  first_opens (parl d) (parallel gates left right) s P h = tt
-  first_opens (parr d) (parallel gates left right) s P h = tt
-  first_opens (both d e) (parallel gates left right) s P h = tt
-  first_opens (hiding d) (hide gates body) s P h = tt
-  first_opens (pass d) (hide gates body) s P h = tt
-  first_opens (enstep d) (enable left xs right) s P h = tt
-  first_opens (enend d) (enable left xs right) s P h = tt
-  first_opens (disstep d) (disable left right) s P h = tt
-  first_opens (disend d) (disable left right) s P h = tt
-  first_opens (distake d) (disable left right) s P h = tt
-  first_opens (calling d) (call p actual terms) s P h = tt
-  first_opens (rel d) (relabel pairs body) s P h = tt
-  first_opens _ _ s P h = absurd h
-
-  second_opens : (d : Derivation) (b : Behaviour) (s : Assignment) (P : Assignment → Behaviour → Derivation → Type 0) →
-      OnSecond program s b d P → Opens b d
-  second_opens (both d e) (parallel gates left right) s P h = tt
-  second_opens _ _ s P h = absurd h
 
   pub first_map : (d : Derivation) (b : Behaviour) (s : Assignment) (P Q : Assignment → Behaviour → Derivation → Type 0) →
       ((t : Assignment) (c : Behaviour) (e : Derivation) → P t c e → Q t c e) → OnFirst program s b d P → OnFirst program s b d Q
@@ -173,16 +89,6 @@ module _ (program : Program) where
     pub own_misfit : (P : Type 0) → (P → IsUnfit program s b d) → IsMisfit P f → Fault
     own_misfit P unfit = misfit_explains program.theory budget P (IsUnfitAt program s b d) (Asks program s b d) f unfit
 
-    -- the behaviour is of another construct
-    pub no_construct : (Opens b d → ⊥) → IsMisfit (Unit {0}) f → Fault
-    no_construct other =
-        own_misfit (Unit {0})
-        (λ _. (
-          λ h. other (step_opens d b s h.0 h.1 h.2),
-          λ h. other (first_opens d b s (HasNone program) h),
-          λ h. other (second_opens d b s (HasNone program) h),
-        ))
-
     -- the fault of the first part
     pub first_fault : (t : Assignment) (c : Behaviour) (e : Derivation) → OnFirst program s b d (Is t c e) →
         Explains program.theory budget (Within 0 (IsUnfitAt program t c e)) (Asks program t c e) f → Fault
@@ -212,15 +118,6 @@ condition_fault program executable budget s b whole f part d a e P does needs fi
     ))
 
 module _ (program : Program) (executable : IsExecutable program.theory) (budget : ℕ) (s : Assignment) (b : Behaviour) (f : FireFault) where
-  pub pre_fields : (g : ℕ) (fields : List ActionField) (p : Option Premise) (rest : Behaviour) (slots : List Slot) →
-      b ≡ action g fields p rest →
-      Explains program.theory budget (Here (HasNoFields program.theory s s fields slots)) (FieldsAsk program.theory s fields slots) f →
-      IsFault program budget s b (pre slots) f
-  pre_fields g fields p rest slots is h =
-      subst (λ (c : Behaviour). IsFault program budget s c (pre slots) f) (sym is)
-      (own_fault program budget s (action g fields p rest) (pre slots) f (HasNoFields program.theory s s fields slots)
-      (FieldsAsk program.theory s fields slots) (λ none. (λ k. none k.2.0 k.2.1 k.2.3, λ k. k, λ k. k)) (λ x k. inl k) h)
-
   pub pre_guard : (g : ℕ) (fields : List ActionField) (p : Option Premise) (rest : Behaviour) (slots : List Slot)
       (values : List (List ℕ)) (t : Assignment) → b ≡ action g fields p rest → FieldsHave program.theory s s fields slots values t →
       Explains program.theory budget (Here (GuardHolds program.theory t p → ⊥)) (GuardAsks program.theory t p) f →
@@ -236,51 +133,6 @@ module _ (program : Program) (executable : IsExecutable program.theory) (budget 
         λ k. k,
         λ k. k,
       )) (λ x k. inr (values, t, filled, k)) h)
-
-  pub exit_fields : (fields : List ExitValue) (slots : List Slot) → b ≡ exit fields →
-      Explains program.theory budget (Here (HasNoExit program.theory s fields slots)) (ExitAsks program.theory s fields slots) f →
-      IsFault program budget s b (exiting slots) f
-  exit_fields fields slots is h =
-      subst (λ (c : Behaviour). IsFault program budget s c (exiting slots) f) (sym is)
-      (own_fault program budget s (exit fields) (exiting slots) f (HasNoExit program.theory s fields slots)
-      (ExitAsks program.theory s fields slots) (λ none. (λ k. none k.2.0 k.2.2, λ k. k, λ k. k)) (λ x k. k) h)
-
-  pub val_unchosen : (x : Variable) (body : Behaviour) (slot : Slot) (d : Derivation) → b ≡ value_choice x body →
-      IsMisfit ((w : List ℕ) (n : TermTree) → slot ≡ Of w → Spells program.theory w n x.sort → ⊥) f →
-      IsFault program budget s b (val slot d) f
-  val_unchosen x body slot d is h =
-      subst (λ (c : Behaviour). IsFault program budget s c (val slot d) f) (sym is)
-      (own_misfit program budget s (value_choice x body) (val slot d) f
-      ((w : List ℕ) (n : TermTree) → slot ≡ Of w → Spells program.theory w n x.sort → ⊥) (unchosen slot) h)
-    where
-      unchosen : (slot : Slot) → ((w : List ℕ) (n : TermTree) → slot ≡ Of w → Spells program.theory w n x.sort → ⊥) →
-          IsUnfit program s (value_choice x body) (val slot d)
-      unchosen (Of v) none = (λ k. none v k.2.0 refl k.2.1, λ k. none v k.0 refl k.1, λ k. k)
-      unchosen Mark none = (λ k. k.2, λ k. k, λ k. k)
-      unchosen Blank none = (λ k. k.2, λ k. k, λ k. k)
-
-  pub gate_none : (g : ℕ) (gates : List ℕ) (body : Behaviour) (j : ℕ) (d : Derivation) → b ≡ gate_choice g gates body →
-      (OnGate gates j (λ _. Unit {0}) → ⊥) → IsMisfit (Unit {0}) f → IsFault program budget s b (gate j d) f
-  gate_none g gates body j d is none h =
-      subst (λ (c : Behaviour). IsFault program budget s c (gate j d) f) (sym is)
-      (own_misfit program budget s (gate_choice g gates body) (gate j d) f (Unit {0})
-      (λ _. (λ k. none (k.2.0, k.2.1, k.2.2, k.2.3, tt), λ k. none (k.0, k.1, k.2, k.3, tt), λ k. k)) h)
-
-  pub guard_premise : (p : Premise) (body : Behaviour) (d : Derivation) → b ≡ guarded p body →
-      Explains program.theory budget (Here (PremiseHolds program.theory s p → ⊥)) (PremiseAsks program.theory s p) f →
-      IsFault program budget s b (guard d) f
-  guard_premise p body d is h =
-      subst (λ (c : Behaviour). IsFault program budget s c (guard d) f) (sym is)
-      (own_fault program budget s (guarded p body) (guard d) f (PremiseHolds program.theory s p → ⊥) (PremiseAsks program.theory s p)
-      (λ none. (λ k. none k.2.0, λ k. none k.0, λ k. k)) (λ x k. k) h)
-
-  pub let_bindings : (bindings : List Binding) (body : Behaviour) (d : Derivation) → b ≡ bound bindings body →
-      Explains program.theory budget (Here (HasNoBindings program.theory s s bindings)) (BindingsAsk program.theory s bindings) f →
-      IsFault program budget s b (letting d) f
-  let_bindings bindings body d is h =
-      subst (λ (c : Behaviour). IsFault program budget s c (letting d) f) (sym is)
-      (own_fault program budget s (bound bindings body) (letting d) f (HasNoBindings program.theory s s bindings)
-      (BindingsAsk program.theory s bindings) (λ none. (λ k. none k.2.0 k.2.1, λ k. none k.0 k.1, λ k. k)) (λ x k. k) h)
 
   pub call_undefined : (p : ℕ) (actual : List ℕ) (terms : List TermTree) (d : Derivation) → b ≡ call p actual terms →
       ((formal : List ℕ) (xs : List Variable) (body : Behaviour) → IsDefinition program p formal xs body → ⊥) →

@@ -82,10 +82,6 @@ module _ (theory : Theory) (executable : IsExecutable theory) where
       subst (HasValue theory t)
       (one_term theory found.value n sort sort s.of_sort spells.of_sort (sym found.spelled ∙ spells.spelled)) found.has
 
-  pub gives_value : (t : TermTree) (ops : List ℕ) (budget : ℕ) → SpellsValue theory t budget ops → (n : TermTree) × GivesValue theory t
-      ops n
-  gives_value t ops budget found = (found.value, record { value = found.has; spelled = found.spelled })
-
   -- terms are equal exactly where their values are spelled alike
   pub equal_spelled : (a b : TermTree) (v w : List ℕ) → (n : TermTree) × GivesValue theory a v n → (m : TermTree) × GivesValue theory b w
       m →

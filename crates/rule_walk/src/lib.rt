@@ -1,7 +1,6 @@
 // The specification's behaviour, and the steps of behaviours by trees of inference rules.
 #![tactic(auto, using(crate::proofs::Faults::memory))]
 
-mod code;
 mod fault;
 mod fields;
 mod judge;
@@ -9,6 +8,6 @@ pub mod laws;
 mod rows;
 mod steps;
 
-pub use code::start;
+pub use code_parts::start;
 pub use fault::FireFault;
 pub use steps::fire;

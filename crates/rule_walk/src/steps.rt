@@ -14,12 +14,12 @@ ghost use Rattle.rule_walk.specs.Asking.{Asks};
 ghost use Rattle.rule_walk.specs.Faults.{Explains, IsFault, OnUnfit, OnSpent, OnTooLarge, Within};
 ghost use Rattle.rule_walk.specs.Parts.{HasNone, IsUnfitAt};
 
-use crate::code::{Definition, process_at};
 use crate::fault::{FireFault, below, unfit};
 use crate::fields::{bind, bind_arguments, choose};
 use crate::judge::ask_premise;
 use crate::rows;
 use crate::rows::Step;
+use code_parts::{Definition, process_at};
 use rule_model::action::Action;
 use rule_model::beh::Beh;
 use rule_model::rules::{Rules, Slot};
