@@ -1,7 +1,7 @@
 -- The text of a line's parts is that of these parts alone, whatever follows.
-use Rattle.std.proofs.Common.{ℕ, suc, ◌≡◌, inl, inr, ◌<◌, ◌^◌, true, List, [], ◌∷◌, ◌++◌, codes, length}
-use Rattle.std.proofs.Common.{Option, Some, None, refl, ap, sym, ◌∙◌, subst, arith, append_assoc, drop, flat_map, decimal, map, unwrap_or, zero}
-use Rattle.std.specs.List.{slice_get}
+use Rattle.std.proofs.Common.{ℕ, ◌≡◌, inl, inr, ◌<◌, ◌^◌, true, List, [], ◌∷◌, ◌++◌, codes, length}
+use Rattle.value_text.specs.Bytes.{is_name_byte}
+use Rattle.std.proofs.Common.{Option, Some, None, refl, ap, sym, ◌∙◌, subst, arith, append_assoc, drop, flat_map, decimal, map, unwrap_or}
 use Rattle.std.specs.Char.{is_ascii_digit, to_ascii_lowercase}
 use Rattle.spec_core.specs.Code.{Program}
 use Rattle.spec_core.specs.Lists.{Each, IsOneOf}
@@ -23,10 +23,10 @@ use Rattle.trace_text.specs.Fits.{IsClient, NameFits, ByFits, FieldFits, OfferFi
 use Rattle.trace_text.specs.Trace.{Names, name_text, by_text, limit_word, field_text, offer_text, values_text, action_text}
 use Rattle.trace_text.specs.Names.{names_in}
 use Rattle.value_text.specs.Values.{IsGroundList, value_text}
-use Rattle.value_text.proofs.Names.{EndsTerm, at_place, identifier_run, one_named, stops}
+use Rattle.value_text.proofs.Names.{one_of_at, EndsTerm, at_place, identifier_run, one_named, stops}
 use Rattle.value_text.proofs.OneTerm.{one_term}
 use Rattle.value_text.proofs.OneValue.{one_value}
-use Rattle.value_text.proofs.Runs.{Stops, is_name_byte, one_number, one_run}
+use Rattle.value_text.proofs.Runs.{Stops, one_number, one_run}
 
 abbrev pub first : List ℕ → ℕ
 first [] = 0
@@ -211,15 +211,6 @@ module _ (program : Program) (fits : FitsData program.theory) (named : AreNamed 
       one_fields (map Give x) (map Give y) r s (given_fit x a) (given_fit y b) c d
       (ap (λ l. l ++ r) (sym (given x)) ∙ h ∙ ap (λ l. l ++ s) (given y)) in
       (given_alike x y one.0, one.1)
-
-  one_of_at : (xs : List (List ℕ)) (i : ℕ) (x : List ℕ) → slice_get xs i ≡ Some x → IsOneOf x xs
-  one_of_at [] i x h = absurd (none i h)
-    where
-      none : (i : ℕ) → slice_get [] i ≡ Some x → ⊥
-      none zero h = cc
-      none (suc i) h = cc
-  one_of_at (y ∷ xs) zero x h = let same : y ≡ x = cc in inl (sym same)
-  one_of_at (y ∷ xs) (suc i) x h = inr (one_of_at xs i x h)
 
   internal : IsOneOf (map to_ascii_lowercase (codes "i")) reserved_words
   internal = one_of_at reserved_words 18 (codes "i") refl

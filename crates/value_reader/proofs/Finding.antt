@@ -11,7 +11,7 @@ use Rattle.spec_core.specs.Sorts.{FitsData, OperationFits}
 use Rattle.spec_core.specs.Theories.{Operation, Theory}
 use Rattle.value_text.specs.Values.{is_shared, name_at}
 use Rattle.value_text.proofs.Names.{each_at, one_named}
-use Rattle.value_text.proofs.Operations.{one_operation, one_unshared}
+use Rattle.value_text.proofs.Operations.{itself, one_operation, one_unshared}
 use Rattle.value_reader.specs.Stands.{first_at, is_call}
 
 -- what passes at no other place is found
@@ -41,9 +41,6 @@ both_true false b h = absurd (cc)
 
 pub same_bytes : (x y : List ℕ) → bytes_eq x y ≡ true → x ≡ y
 same_bytes x y h = (bytes_eq-Decides x y).0 h
-
-itself : (x : List ℕ) → bytes_eq x x ≡ true
-itself x = (bytes_eq-Decides x x).1 refl
 
 all_true : (a b c : Bool) → a ≡ true → b ≡ true → c ≡ true → ((a && b) && c) ≡ true
 all_true true true c x y z = z

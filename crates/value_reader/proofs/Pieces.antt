@@ -1,5 +1,6 @@
 -- The pieces of a term's text, and how far they go.
 use Rattle.std.proofs.Common.{ℕ, zero, suc, ◌≡◌, inl, inr, ◌==◌, ◌&&◌, Bool, true, false, if◌then◌else◌, List, [], ◌∷◌, ◌++◌, codes, length}
+use Rattle.value_text.specs.Bytes.{is_name_byte}
 use Rattle.std.proofs.Common.{Option, Some, None, refl, ap, sym, ◌∙◌, subst, arith, append_assoc, map, nat_eq, unwrap_or}
 use Rattle.std.specs.Bool.{Decides}
 use Rattle.std.specs.Char.{to_ascii_lowercase}
@@ -13,11 +14,11 @@ use Rattle.spec_core.specs.TermText.{infix_at, gap_before, head_name}
 use Rattle.spec_core.specs.Terms.{TermTree, TermTrees, variable, apply, no_terms, and_term, width}
 use Rattle.spec_core.specs.Theories.{Operation, Theory}
 use Rattle.value_text.specs.Values.{is_shared, name_at}
-use Rattle.value_text.proofs.Names.{EndsTerm, among, at_place, each_at, identifier_run, plain_begins, plain_run, stops}
-use Rattle.value_text.proofs.OneTerm.{Form, plain, infixed, IsOver, over, form_of, as_wide, text, suffix, gap, commas, constant_text, prefix_text, infix_text, ends_suffix}
+use Rattle.value_text.proofs.Names.{one_of_at, EndsTerm, among, at_place, each_at, identifier_run, plain_begins, plain_run, stops}
+use Rattle.value_text.proofs.OneTerm.{Form, plain, infixed, IsOver, over, text, suffix, gap, commas, constant_text, prefix_text, infix_text, ends_suffix, commas_end, first_sort, form_at}
 use Rattle.value_text.proofs.Runs as runs
 use Rattle.value_reader.specs.Extents.{Place, start, behind_word, behind_arguments, inside, extent}
-use Rattle.value_reader.specs.Items.{Piece, word, opening, closing, comma, of_sort, other, is_name_byte, begins_word, longer, joined_to, pieces}
+use Rattle.value_reader.specs.Items.{Piece, word, opening, closing, comma, of_sort, other, begins_word, longer, joined_to, pieces}
 use Rattle.value_reader.specs.Items.{is_of, is_word, as_sort, items_in, items, mark}
 use Rattle.value_reader.specs.Spelled.{more_pieces, call_pieces, sort_pieces, pieces_over, pieces_of, pieces_of_all}
 
@@ -44,12 +45,6 @@ alone p (q ∷ ps) h = ap (λ (b : Bool). if b && is_word q then as_sort q ∷ i
 
 reserved_of : IsOneOf (map to_ascii_lowercase (codes "of")) reserved_words
 reserved_of = one_of_at reserved_words 24 (codes "of") refl
-  where
-    one_of_at : (xs : List (List ℕ)) (i : ℕ) (x : List ℕ) → slice_get xs i ≡ Some x → IsOneOf x xs
-    one_of_at [] zero x h = absurd (cc)
-    one_of_at [] (suc i) x h = absurd (cc)
-    one_of_at (y ∷ xs) zero x h = let same : y ≡ x = cc in inl (sym same)
-    one_of_at (y ∷ xs) (suc i) x h = inr (one_of_at xs i x h)
 
 -- no name of an operation is the word `of`
 free_name : (w : List ℕ) → IsPlainName w → w ≡ codes "of" → ⊥
@@ -119,10 +114,6 @@ module _ (theory : Theory) (fits : FitsData theory) (names : Each (λ d. IsOpera
   AllHave no_terms = Unit {0}
   AllHave (and_term t ts) = HasPieces t × AllHave ts
 
-  commas_end : (ts : TermTrees) (r : List ℕ) → EndsTerm (commas theory ts ++ r)
-  commas_end no_terms r = inr (inr (inl refl))
-  commas_end (and_term t ts) r = inr (inr (inr (inl refl)))
-
   items_commas : (ts : TermTrees) (x r : List ℕ) → AllHave ts → HaveSorts theory no_variables ts x →
       items (commas theory ts ++ r) ≡ more_pieces (pieces_of_all theory ts) ++ items r
   items_commas no_terms x r have h = items_closing r
@@ -130,7 +121,7 @@ module _ (theory : Theory) (fits : FitsData theory) (names : Each (λ d. IsOpera
   items_commas (and_term t ts) (a ∷ x) r have h =
       items_comma ((text theory t ++ commas theory ts) ++ r)
       ∙ ap (λ l. comma ∷ items l) (append_assoc (text theory t) (commas theory ts) r)
-      ∙ ap (λ l. comma ∷ l) (have.0 a (commas theory ts ++ r) h.0 (commas_end ts r))
+      ∙ ap (λ l. comma ∷ l) (have.0 a (commas theory ts ++ r) h.0 (commas_end theory fits names ts r))
       ∙ ap (λ l. comma ∷ (pieces_of theory t ++ l)) (items_commas ts x r have.1 h.1)
       ∙ ap (λ l. comma ∷ l) (sym (append_assoc (pieces_of theory t) (more_pieces (pieces_of_all theory ts)) (items r)))
 
@@ -140,11 +131,6 @@ module _ (theory : Theory) (fits : FitsData theory) (names : Each (λ d. IsOpera
   pieces_at f ts d o at form =
       ap (λ x. pieces_over theory x (width ts) (pieces_of_all theory ts)) at
       ∙ ap (λ x. call_pieces d.name x (pieces_of_all theory ts) ++ sort_pieces theory d) form
-
-  pub first_sort : (t : TermTree) (ts : TermTrees) (x : List ℕ) → HaveSorts theory no_variables (and_term t ts) x →
-      (a : ℕ) × (others : List ℕ) × HasSort theory no_variables t a × HaveSorts theory no_variables ts others × (x ≡ a ∷ others)
-  first_sort t ts [] h = absurd h
-  first_sort t ts (a ∷ others) h = (a, others, h.0, h.1, refl)
 
   over_form : (f : ℕ) (ts : TermTrees) (k : IsOver theory f ts) → AllHave ts → Form k.operation.name (width ts) → (r : List ℕ) → EndsTerm r →
       items (text theory (apply f ts) ++ r) ≡ pieces_of theory (apply f ts) ++ items r
@@ -156,14 +142,14 @@ module _ (theory : Theory) (fits : FitsData theory) (names : Each (λ d. IsOpera
       ∙ ap (λ l. l ++ items r) (sym (pieces_at f no_terms d None k.at none))
   over_form f (and_term t ts) k have (plain p none) r ends =
       let d : Operation = k.operation in
-      let s = first_sort t ts d.args k.args in
+      let s = first_sort theory fits names t ts d.args k.args in
       let behind : List ℕ = suffix theory d ++ r in
       let more : List Piece = more_pieces (pieces_of_all theory ts) in
       ap items (prefix_text theory f d t ts r k.at none)
       ∙ items_name d.name (40 ∷ (gap theory t ++ (text theory t ++ (commas theory ts ++ behind)))) p refl
       ∙ ap (λ l. word d.name ∷ l) (items_opening (gap theory t ++ (text theory t ++ (commas theory ts ++ behind))))
       ∙ ap (λ l. word d.name ∷ opening ∷ l) (items_gap (head_name theory.operations [] t) (text theory t ++ (commas theory ts ++ behind)))
-      ∙ ap (λ l. word d.name ∷ opening ∷ l) (have.0 s.0 (commas theory ts ++ behind) s.2 (commas_end ts behind))
+      ∙ ap (λ l. word d.name ∷ opening ∷ l) (have.0 s.0 (commas theory ts ++ behind) s.2 (commas_end theory fits names ts behind))
       ∙ ap (λ l. word d.name ∷ opening ∷ (pieces_of theory t ++ l)) (items_commas ts s.1 behind have.1 s.3)
       ∙ ap (λ l. word d.name ∷ opening ∷ (pieces_of theory t ++ (more ++ l))) (items_suffix f d r k.at ends)
       ∙ ap (λ l. word d.name ∷ opening ∷ l) (prefix_pieces (pieces_of theory t) more (sort_pieces theory d) (items r))
@@ -173,8 +159,8 @@ module _ (theory : Theory) (fits : FitsData theory) (names : Each (λ d. IsOpera
       prefix_pieces a b c e = simp append_assoc
   over_form f (and_term t (and_term u no_terms)) k have (infixed w p two some is) r ends =
       let d : Operation = k.operation in
-      let s = first_sort t (and_term u no_terms) d.args k.args in
-      let v = first_sort u no_terms s.1 s.3 in
+      let s = first_sort theory fits names t (and_term u no_terms) d.args k.args in
+      let v = first_sort theory fits names u no_terms s.1 s.3 in
       let behind : List ℕ = suffix theory d ++ r in
       let second : List ℕ = text theory u ++ (41 ∷ behind) in
       let x : List Piece = pieces_of theory t in
@@ -196,14 +182,8 @@ module _ (theory : Theory) (fits : FitsData theory) (names : Each (λ d. IsOpera
   over_form f (and_term t no_terms) k have (infixed w p two some is) r ends = absurd (omega (arith, two))
   over_form f (and_term t (and_term u (and_term v ts))) k have (infixed w p two some is) r ends = absurd (omega (arith, two))
 
-  pub form_at : (f : ℕ) (ts : TermTrees) (k : IsOver theory f ts) → Form k.operation.name (width ts)
-  form_at f ts k =
-      subst (Form k.operation.name) (sym (as_wide theory ts k.operation.args k.args))
-      (form_of k.operation.name (length k.operation.args)
-      (each_at (λ d. IsOperationName (length d.args) d.name) theory.operations f k.operation names k.at))
-
   have_over : (f : ℕ) (ts : TermTrees) → AllHave ts → HasPieces (apply f ts)
-  have_over f ts have a r h ends = let k = over theory f ts a h in over_form f ts k have (form_at f ts k) r ends
+  have_over f ts have a r h ends = let k = over theory f ts a h in over_form f ts k have (form_at theory fits names f ts k) r ends
 
   mutual
     pub has_pieces : (t : TermTree) → HasPieces t
@@ -280,7 +260,7 @@ module _ (theory : Theory) (fits : FitsData theory) (names : Each (λ d. IsOpera
       ∙ ap (λ l. l ++ extent ps (inside n)) (sym whole)
   calls_go f (and_term t ts) k go (plain p none) n ps =
       let d : Operation = k.operation in
-      let s = first_sort t ts d.args k.args in
+      let s = first_sort theory fits names t ts d.args k.args in
       let whole = pieces_at f (and_term t ts) d None k.at none in
       let more : List Piece = more_pieces (pieces_of_all theory ts) in
       let behind : List Piece = sort_pieces theory d ++ ps in
@@ -298,8 +278,8 @@ module _ (theory : Theory) (fits : FitsData theory) (names : Each (λ d. IsOpera
       prefix_pieces a b c e = simp append_assoc
   calls_go f (and_term t (and_term u no_terms)) k go (infixed w p two some is) n ps =
       let d : Operation = k.operation in
-      let s = first_sort t (and_term u no_terms) d.args k.args in
-      let v = first_sort u no_terms s.1 s.3 in
+      let s = first_sort theory fits names t (and_term u no_terms) d.args k.args in
+      let v = first_sort theory fits names u no_terms s.1 s.3 in
       let whole = pieces_at f (and_term t (and_term u no_terms)) d (Some w) k.at some in
       let x : List Piece = pieces_of theory t in
       let y : List Piece = pieces_of theory u in
@@ -321,7 +301,7 @@ module _ (theory : Theory) (fits : FitsData theory) (names : Each (λ d. IsOpera
   calls_go f (and_term t (and_term u (and_term v ts))) k go (infixed w p two some is) n ps = absurd (omega (arith, two))
 
   go_over : (f : ℕ) (ts : TermTrees) → AllGo ts → GoesThrough (apply f ts)
-  go_over f ts go a n ps h = let k = over theory f ts a h in calls_go f ts k go (form_at f ts k) n ps
+  go_over f ts go a n ps h = let k = over theory f ts a h in calls_go f ts k go (form_at theory fits names f ts k) n ps
 
   mutual
     goes_through : (t : TermTree) → GoesThrough t
@@ -386,7 +366,7 @@ module _ (theory : Theory) (fits : FitsData theory) (names : Each (λ d. IsOpera
       ap (λ l. extent (l ++ ps) start) whole ∙ ap (λ l. word d.name ∷ l) (sort_ends_word d ps ends) ∙ sym whole
   whole_extent f (and_term t ts) k (plain p none) ps ends =
       let d : Operation = k.operation in
-      let s = first_sort t ts d.args k.args in
+      let s = first_sort theory fits names t ts d.args k.args in
       let whole = pieces_at f (and_term t ts) d None k.at none in
       let more : List Piece = more_pieces (pieces_of_all theory ts) in
       let behind : List Piece = sort_pieces theory d ++ ps in
@@ -402,8 +382,8 @@ module _ (theory : Theory) (fits : FitsData theory) (names : Each (λ d. IsOpera
       prefix_pieces a b c e = simp append_assoc
   whole_extent f (and_term t (and_term u no_terms)) k (infixed w p two some is) ps ends =
       let d : Operation = k.operation in
-      let s = first_sort t (and_term u no_terms) d.args k.args in
-      let v = first_sort u no_terms s.1 s.3 in
+      let s = first_sort theory fits names t (and_term u no_terms) d.args k.args in
+      let v = first_sort theory fits names u no_terms s.1 s.3 in
       let whole = pieces_at f (and_term t (and_term u no_terms)) d (Some w) k.at some in
       let x : List Piece = pieces_of theory t in
       let y : List Piece = pieces_of theory u in
@@ -431,4 +411,4 @@ module _ (theory : Theory) (fits : FitsData theory) (names : Each (λ d. IsOpera
   extent_of (variable x) a r h ends there = absurd (cc)
   extent_of (apply f ts) a r h ends there =
       let k = over theory f ts a h in
-      ap (λ l. extent l start) (has_pieces (apply f ts) a r h ends) ∙ whole_extent f ts k (form_at f ts k) (items r) there
+      ap (λ l. extent l start) (has_pieces (apply f ts) a r h ends) ∙ whole_extent f ts k (form_at theory fits names f ts k) (items r) there

@@ -10,13 +10,13 @@ use Rattle.spec_core.specs.Sorts.{FitsData, HasSort, HaveSorts, OnSome, no_varia
 use Rattle.spec_core.specs.Terms.{TermTree, TermTrees, variable, apply, no_terms, and_term, width, preorder, preorders}
 use Rattle.spec_core.specs.Theories.{Operation, Theory}
 use Rattle.value_text.specs.Values.{is_shared, name_at}
-use Rattle.value_text.proofs.OneTerm.{Form, plain, infixed, IsOver, over}
+use Rattle.value_text.proofs.OneTerm.{Form, plain, infixed, IsOver, over, first_sort, form_at}
 use Rattle.value_reader.specs.Items.{Piece, word, opening, closing, comma, of_sort}
 use Rattle.value_reader.specs.Spelled.{more_pieces, sort_pieces, pieces_of, pieces_of_all}
 use Rattle.value_reader.specs.Stands.{Bracket, Stand, expects, has_term, State, first_at, is_call, result_of, underscored, with_operation}
 use Rattle.value_reader.specs.Stands.{applied, step_on, run, nothing_read}
 use Rattle.value_reader.proofs.Finding.{found, written_sort}
-use Rattle.value_reader.proofs.Pieces.{first_sort, form_at, pieces_at}
+use Rattle.value_reader.proofs.Pieces.{pieces_at}
 
 abbrev state : Stand → List Bracket → List ℕ → List ℕ → State
 state stand brackets sorts value = record { stand = stand; brackets = brackets; sorts = sorts; value = value }
@@ -112,7 +112,7 @@ module _ (theory : Theory) (fits : FitsData theory) (names : Each (λ d. IsOpera
       ∙ applied_so f d bs so va k.at
   read_over f (and_term t ts) k read (plain p none) ps s bs so va h =
       let d : Operation = k.operation in
-      let x = first_sort theory fits names sorts t ts d.args k.args in
+      let x = first_sort theory fits names t ts d.args k.args in
       let more : List Piece = more_pieces (pieces_of_all theory ts) in
       let sort : Option (List ℕ) = written_sort theory d in
       let behind = more_read ts x.1 sort (sort_pieces theory d ++ ps) s bs so va read.1 x.3 (sort_read d ps s bs so va h) in
@@ -131,8 +131,8 @@ module _ (theory : Theory) (fits : FitsData theory) (names : Each (λ d. IsOpera
       prefix_pieces a b c e = simp append_assoc
   read_over f (and_term t (and_term u no_terms)) k read (infixed w p two some is) ps s bs so va h =
       let d : Operation = k.operation in
-      let x = first_sort theory fits names sorts t (and_term u no_terms) d.args k.args in
-      let y = first_sort theory fits names sorts u no_terms x.1 x.3 in
+      let x = first_sort theory fits names t (and_term u no_terms) d.args k.args in
+      let y = first_sort theory fits names u no_terms x.1 x.3 in
       let sort : Option (List ℕ) = written_sort theory d in
       let open_at : Bracket = bracket sort so None in
       let behind : List Piece = closing ∷ (sort_pieces theory d ++ ps) in
@@ -174,7 +174,7 @@ module _ (theory : Theory) (fits : FitsData theory) (names : Each (λ d. IsOpera
   read_apply : (f : ℕ) (ts : TermTrees) → AreRead ts → IsRead (apply f ts)
   read_apply f ts read a ps s bs so va h k =
       let over_f = over theory f ts a h in
-      read_over f ts over_f read (form_at theory fits names sorts f ts over_f) ps s bs so va k
+      read_over f ts over_f read (form_at theory fits names f ts over_f) ps s bs so va k
       ∙ ap (λ z. Some (state has_term bs (z ∷ so) (preorder (apply f ts) ++ va))) (result_so f ts a over_f h)
 
   mutual

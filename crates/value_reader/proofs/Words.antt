@@ -1,10 +1,11 @@
 -- The first piece of a text.
 use Rattle.std.proofs.Common.{ℕ, zero, suc, ◌≡◌, ◌≢◌, ◌<◌, ◌≤◌, ◌-◌, ◌==◌, Bool, true, false, if◌then◌else◌, List, [], ◌∷◌, ◌++◌, length, take, drop, get_or}
+use Rattle.value_text.specs.Bytes.{is_name_byte}
 use Rattle.std.proofs.Common.{refl, ap, sym, ◌∙◌, arith}
 use Rattle.std.proofs.lemmas.Bool.{eqb-true}
 use Rattle.std.proofs.lemmas.List.{length-drop}
 use Rattle.spec_core.proofs.Lists.{all_taken}
-use Rattle.value_reader.specs.Items.{word, begins_word, is_name_byte, joined_to, mark, pieces}
+use Rattle.value_reader.specs.Items.{word, begins_word, joined_to, mark, pieces}
 use Rattle.value_reader.specs.Views.{AreNameBytes}
 use Rattle.value_reader.proofs.Pieces.{pieces_of_run}
 use Rattle.value_text.proofs.Runs as runs

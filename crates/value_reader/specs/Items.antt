@@ -1,7 +1,6 @@
 -- From the bytes of a text to its words and marks.
-use Rattle.std.specs.Prelude.{ℕ, ◌==◌, ◌||◌, ◌&&◌, Bool, true, false, if◌then◌else◌, List, [], ◌∷◌, codes, nat_eq}
-use Rattle.std.specs.Char.{is_ascii_alphanumeric}
-use Rattle.std.specs.List.{list_any}
+use Rattle.std.specs.Prelude.{ℕ, ◌==◌, ◌&&◌, Bool, true, false, if◌then◌else◌, List, [], ◌∷◌, codes}
+use Rattle.value_text.specs.Bytes.{is_name_byte}
 use Rattle.std.specs.Str.{bytes_eq}
 
 -- a word, a mark of punctuation, the sort that follows the word `of`, or any other byte
@@ -13,10 +12,7 @@ pub data Piece : Type 0 where
   of_sort : List ℕ → Piece
   other : Piece
 
--- the bytes of names: letters, digits, `_`, and those of operation strings
-abbrev pub is_name_byte : ℕ → Bool
-is_name_byte b = is_ascii_alphanumeric b || list_any (nat_eq b) (codes "_#%&*+-./<=>@\\^~{}")
-
+-- a byte of a name comes first
 abbrev pub begins_word : List ℕ → Bool
 begins_word [] = false
 begins_word (b ∷ bs) = is_name_byte b

@@ -1,5 +1,6 @@
 -- What the program's values stand for, without their places in memory.
 use Rattle.std.specs.Prelude.{ℕ, ◌≡◌, Bool, true, false, List, map, reverse, Option, Some, None}
+use Rattle.value_text.specs.Bytes.{is_name_byte}
 use Rattle.std.specs.Borrow.{Bor}
 use Rattle.spec_core.specs.Numbers.{op_number, sort_number}
 use Rattle.spec_core.specs.Lists.{Each}
@@ -17,7 +18,7 @@ use Rattle.value_reader.specs.Extents.{Place, start, behind_word, behind_argumen
 use Rattle.value_reader.specs.Stands.{Bracket, Stand, expects, has_term, calls, State, applied}
 use Rattle.spec_core.specs.declared.equation.DataSpec.{DataSpec}
 use Rattle.spec_core.specs.Theories.{theory_of}
-use Rattle.value_reader.specs.Items.{Piece, word, opening, closing, comma, of_sort, other, is_name_byte}
+use Rattle.value_reader.specs.Items.{Piece, word, opening, closing, comma, of_sort, other}
 
 abbrev pub piece_of : declared_piece.Piece → Piece
 piece_of (Word w) = word w.now

@@ -1,8 +1,9 @@
 // The words and marks of a text.
 
 ghost use Rattle.std.specs.Prelude.{◌≡◌, ◌≢◌, nat_eq, true, slice_index, IfSome, IfNone, ◌≤◌, ◌<◌, ◌∷◌, [], false, MatchOption, drop, length, take};
+ghost use Rattle.value_text.specs.Bytes.{is_name_byte};
 ghost use Rattle.std.specs.List.{list_any};
-ghost use Rattle.value_reader.specs.Items.{as_sort, begins_word, is_name_byte, is_of, is_word, items, mark, pieces};
+ghost use Rattle.value_reader.specs.Items.{as_sort, begins_word, is_of, is_word, items, mark, pieces};
 ghost use Rattle.value_reader.specs.Views.{AreNameBytes, piece_of};
 
 /// A word, a mark of punctuation, the sort that follows the word `of`, or any other byte.

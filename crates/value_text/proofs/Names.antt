@@ -1,12 +1,13 @@
 -- Names of gates, sorts and operations: each is a run of bytes of names.
 use Rattle.std.proofs.Common.{ℕ, zero, suc, ◌≡◌, ◌⊎◌, inl, inr, ◌<◌, ◌||◌, Bool, true, false, List, [], ◌∷◌, ◌++◌, codes, length}
+use Rattle.value_text.specs.Bytes.{is_name_byte}
 use Rattle.std.proofs.Common.{Some, nat_eq, refl, ap, sym, ◌∙◌, subst, arith, map, unwrap_or, eq-eqb}
 use Rattle.std.specs.Char.{is_ascii_alphanumeric, to_ascii_lowercase}
 use Rattle.std.specs.List.{list_any, slice_get}
 use Rattle.spec_core.specs.Lists.{Each, IsOneOf, NoTwo}
 use Rattle.spec_core.specs.Names.{IsWordByte, IsIdentifier, IsPlainName, IsSameName}
 use Rattle.value_text.specs.Values.{name_at}
-use Rattle.value_text.proofs.Runs.{is_name_byte, IsRun, Stops, one_run}
+use Rattle.value_text.proofs.Runs.{IsRun, Stops, one_run}
 
 -- what follows a name or a term: nothing, or one of these bytes: the end of a line, a blank, `)`, `,`, `]`
 abbrev pub EndsTerm : List ℕ → Type 0
@@ -79,6 +80,12 @@ each_at P [] zero x h e = absurd (cc)
 each_at P [] (suc i) x h e = absurd (cc)
 each_at P (y ∷ xs) zero x h e = let same : y ≡ x = cc in subst P same h.0
 each_at P (y ∷ xs) (suc i) x h e = each_at P xs i x h.1 e
+
+pub one_of_at : {A : Type 0} (xs : List A) (i : ℕ) (x : A) → slice_get xs i ≡ Some x → IsOneOf x xs
+one_of_at [] zero x h = absurd (cc)
+one_of_at [] (suc i) x h = absurd (cc)
+one_of_at (y ∷ xs) zero x h = let same : y ≡ x = cc in inl (sym same)
+one_of_at (y ∷ xs) (suc i) x h = inr (one_of_at xs i x h)
 
 -- two places of a list of which no two are related
 pub one_place : {A : Type 0} (R : A → A → Type 0) (xs : List A) (i j : ℕ) (x y : A) →

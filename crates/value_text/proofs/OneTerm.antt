@@ -1,5 +1,6 @@
 -- The text of a ground term is the text of that term alone, whatever follows.
 use Rattle.std.proofs.Common.{ℕ, suc, ◌≡◌, ◌⊎◌, inl, inr, ◌==◌, Bool, true, false, List, [], ◌∷◌, ◌++◌, codes, length, drop}
+use Rattle.value_text.specs.Bytes.{is_name_byte}
 use Rattle.std.proofs.Common.{Option, Some, None, nat_eq, refl, ap, sym, ◌∙◌, subst, arith, if◌then◌else◌, append_assoc, IsTrue}
 use Rattle.std.specs.Bool.{Decides}
 use Rattle.std.specs.Char.{is_ascii_alphanumeric}
@@ -18,7 +19,7 @@ use Rattle.spec_core.proofs.Spelling.{no_infix, one_infix}
 use Rattle.value_text.specs.Values.{is_shared}
 use Rattle.value_text.proofs.Names.{EndsTerm, stops, plain_run, plain_begins, each_at, among}
 use Rattle.value_text.proofs.Operations.{one_sorts, one_suffix, of_sort}
-use Rattle.value_text.proofs.Runs.{is_name_byte, Stops, one_run}
+use Rattle.value_text.proofs.Runs.{Stops, one_run}
 
 -- how an operation is written: its name before its arguments, or a word between two of them
 pub data Form (name : List ℕ) (n : ℕ) : Type 0 where
@@ -191,7 +192,7 @@ module _ (theory : Theory) where
       cc
 
   module _ (fits : FitsData theory) (names : Each (λ d. IsOperationName (length d.args) d.name) theory.operations) where
-    form_at : (f : ℕ) (ts : TermTrees) (k : IsOver theory f ts) → Form k.operation.name (width ts)
+    pub form_at : (f : ℕ) (ts : TermTrees) (k : IsOver theory f ts) → Form k.operation.name (width ts)
     form_at f ts k =
         subst (Form k.operation.name) (sym (as_wide theory ts k.operation.args k.args))
         (form_of k.operation.name (length k.operation.args)
@@ -240,7 +241,7 @@ module _ (theory : Theory) where
         go x y (inr p) (inr q) e =
             ap (drop 1) (ap (λ l. l ++ (text t ++ r)) (sym p) ∙ e ∙ ap (λ l. l ++ (text u ++ s)) q)
 
-    commas_end : (ts : TermTrees) (r : List ℕ) → EndsTerm (commas ts ++ r)
+    pub commas_end : (ts : TermTrees) (r : List ℕ) → EndsTerm (commas ts ++ r)
     commas_end no_terms r = inr (inr (inl refl))
     commas_end (and_term t ts) r = inr (inr (inr (inl refl)))
 
@@ -271,10 +272,10 @@ module _ (theory : Theory) where
         go (inr (inr (inr (inr (inr q))))) = q
 
     -- the sort of the first argument, and those of the others
-    first_sort : (t : TermTree) (ts : TermTrees) (sorts : List ℕ) → HaveSorts theory no_variables (and_term t ts) sorts →
-        (a : ℕ) × (others : List ℕ) × HasSort theory no_variables t a × HaveSorts theory no_variables ts others
+    pub first_sort : (t : TermTree) (ts : TermTrees) (sorts : List ℕ) → HaveSorts theory no_variables (and_term t ts) sorts →
+        (a : ℕ) × (others : List ℕ) × HasSort theory no_variables t a × HaveSorts theory no_variables ts others × (sorts ≡ a ∷ others)
     first_sort t ts [] h = absurd h
-    first_sort t ts (a ∷ others) h = (a, others, h.0, h.1)
+    first_sort t ts (a ∷ others) h = (a, others, h.0, h.1, refl)
 
     plain_not_open : (f : ℕ) (ts : TermTrees) (k : IsOver theory f ts) (r y : List ℕ) →
         IsPlainName k.operation.name → infix_at k.operation.name (width ts) ≡ None → text (apply f ts) ++ r ≡ 40 ∷ y → ⊥

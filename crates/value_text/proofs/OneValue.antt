@@ -1,5 +1,6 @@
 -- The text of a value is the text of that value alone, whatever follows.
 use Rattle.std.proofs.Common.{ℕ, ◌≡◌, false, List, [], ◌∷◌, ◌++◌, length, drop, refl, ap, sym, ◌∙◌, append_assoc}
+use Rattle.value_text.specs.Bytes.{is_name_byte}
 use Rattle.std.proofs.lemmas.List.{append-nil}
 use Rattle.spec_core.specs.Lists.{Each, NoTwo}
 use Rattle.spec_core.specs.Names.{IsOperationName, IsIdentifier, IsSameName}
@@ -10,7 +11,6 @@ use Rattle.spec_core.specs.Theories.{Theory}
 use Rattle.value_text.specs.Values.{IsGroundList, declared_width, width_of, first_terms, first_text, terms_in, value_text}
 use Rattle.value_text.proofs.Names.{EndsTerm}
 use Rattle.value_text.proofs.OneTerm.{over, as_wide, text, one_term, begins_term}
-use Rattle.value_text.proofs.Runs.{is_name_byte}
 
 -- terms before others
 abbrev before : TermTrees → List TermTree → List TermTree

@@ -91,8 +91,8 @@ one_passes p (z ∷ xs) (suc i) (suc j) x y n a b h k = ap suc (one_passes p xs 
 abbrev named_so : List ℕ → List ℕ → Operation → Bool
 named_so name args x = bytes_eq (map to_ascii_lowercase name) (map to_ascii_lowercase x.name) && bytes_eq args x.args
 
-same_bytes : (xs : List ℕ) → bytes_eq xs xs ≡ true
-same_bytes xs = (bytes_eq-Decides xs xs).1 refl
+pub itself : (xs : List ℕ) → bytes_eq xs xs ≡ true
+itself xs = (bytes_eq-Decides xs xs).1 refl
 
 both_so : (a b : Bool) → a ≡ true → b ≡ true → (a && b) ≡ true
 both_so true b h k = k
@@ -101,7 +101,7 @@ both_so false b h k = absurd (cc)
 pub shares_itself : (d : Operation) → shares d d ≡ true
 shares_itself d =
     both_so (bytes_eq (map to_ascii_lowercase d.name) (map to_ascii_lowercase d.name)) (bytes_eq d.args d.args)
-    (same_bytes (map to_ascii_lowercase d.name)) (same_bytes d.args)
+    (itself (map to_ascii_lowercase d.name)) (itself d.args)
 
 pub shares_alike : (d e : Operation) → d.name ≡ e.name → d.args ≡ e.args → shares d ≡ shares e
 shares_alike d e n a = ap (λ x. named_so x d.args) n ∙ ap (λ x. named_so e.name x) a

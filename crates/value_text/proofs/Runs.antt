@@ -1,16 +1,10 @@
 -- Runs of bytes: where a name or a number ends.
-use Rattle.std.proofs.Common.{ℕ, ◌≡◌, ◌<◌, ◌+◌, ◌^◌, ◌%◌, ◌||◌, Bool, true, false, List, [], ◌∷◌, ◌++◌, codes}
+use Rattle.std.proofs.Common.{ℕ, ◌≡◌, ◌<◌, ◌+◌, ◌^◌, ◌%◌, Bool, true, false, List, [], ◌∷◌, ◌++◌}
 use Rattle.std.proofs.Common.{refl, ap, ◌∙◌, subst, arith, decimal}
-use Rattle.std.specs.Char.{is_ascii_digit, is_ascii_alphanumeric}
-use Rattle.std.specs.List.{list_any}
-use Rattle.std.proofs.Common.{nat_eq}
+use Rattle.std.specs.Char.{is_ascii_digit}
 use Rattle.std.proofs.lemmas.Bool.Decides.{nat_tests}
 use Rattle.std.proofs.lemmas.Fmt.{decimal_by_steps, decimal_injective}
 use Rattle.spec_core.specs.Lists.{Each}
-
--- the bytes of names: letters, digits, `_`, and those of operation strings
-abbrev pub is_name_byte : ℕ → Bool
-is_name_byte b = is_ascii_alphanumeric b || list_any (nat_eq b) (codes "_#%&*+-./<=>@\\^~{}")
 
 -- no such byte comes first
 abbrev pub Stops : (ℕ → Bool) → List ℕ → Type 0

@@ -1,3 +1,4 @@
+pub mod Bytes
 pub mod Unfinished
 pub mod Values
 pub mod Vocabularies
