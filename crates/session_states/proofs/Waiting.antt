@@ -11,8 +11,8 @@ use Rattle.rule_model.specs.States.{PendingOffer, State, without}
 use Rattle.session_states.specs.Views.{pending_of}
 use Rattle.session_states.specs.declared.pending.Pending.{Pending}
 use Rattle.session_states.specs.Pending.{waits_among, is_idle_among, WaitsAnd, is_named, names_all, names_only, comes_before, is_ascending}
-use Rattle.session_states.proofs.Members.{none-in, first-in, later-in, in-cases}
-use Rattle.session_states.proofs.Tests.{by-cases, true-false, both-true, and-true, either-true, left-true, right-true, on-either, not-true, false-not}
+use Rattle.session_states.proofs.Members.{none_in, first_in, later_in, in_cases}
+use Rattle.session_states.proofs.Tests.{by_cases, true_false, both_true, and_true, either_true, left_true, right_true, on_either, not_true, false_not}
 
 -- an offer of this client and number, of which the fact holds
 
@@ -23,105 +23,105 @@ pub record IsAmong (P : Offer → Type 0) (ps : List PendingOffer) (client numbe
   pub number_is : waits.number ≡ number
   pub holds : P waits.offer
 
-pub waits-there : (P : Offer → Type 0) (ps : List PendingOffer) (client number : ℕ) → WaitsAnd P ps client number → IsAmong P ps client number
-waits-there P [] client number h = absurd h
-waits-there P (p ∷ ps) client number (inl h) = record { waits = p; among = first-in p ps; client_is = h.0; number_is = h.1; holds = h.2 }
-waits-there P (p ∷ ps) client number (inr h) =
-    let k = waits-there P ps client number h in
-    record { waits = k.waits; among = later-in p k.waits ps k.among; client_is = k.client_is; number_is = k.number_is; holds = k.holds }
+pub waits_there : (P : Offer → Type 0) (ps : List PendingOffer) (client number : ℕ) → WaitsAnd P ps client number → IsAmong P ps client number
+waits_there P [] client number h = absurd h
+waits_there P (p ∷ ps) client number (inl h) = record { waits = p; among = first_in p ps; client_is = h.0; number_is = h.1; holds = h.2 }
+waits_there P (p ∷ ps) client number (inr h) =
+    let k = waits_there P ps client number h in
+    record { waits = k.waits; among = later_in p k.waits ps k.among; client_is = k.client_is; number_is = k.number_is; holds = k.holds }
 
 found : (P : Offer → Type 0) (ps : List PendingOffer) (client number : ℕ) (q : PendingOffer) → Contains ps q → q.client ≡ client → q.number ≡ number → P q.offer → WaitsAnd P ps client number
-found P [] client number q h e f g = absurd (none-in q h)
-found P (p ∷ ps) client number q h e f g = on-either (in-cases p q ps h)
+found P [] client number q h e f g = absurd (none_in q h)
+found P (p ∷ ps) client number q h e f g = on_either (in_cases p q ps h)
     (λ k. inl (ap (λ z. z.client) k ∙ e, ap (λ z. z.number) k ∙ f, subst (λ z. P z.offer) (sym k) g))
     (λ k. inr (found P ps client number q k e f g))
 
-pub there-waits : (P : Offer → Type 0) (ps : List PendingOffer) (client number : ℕ) → IsAmong P ps client number → WaitsAnd P ps client number
-there-waits P ps client number h = found P ps client number h.waits h.among h.client_is h.number_is h.holds
+pub there_waits : (P : Offer → Type 0) (ps : List PendingOffer) (client number : ℕ) → IsAmong P ps client number → WaitsAnd P ps client number
+there_waits P ps client number h = found P ps client number h.waits h.among h.client_is h.number_is h.holds
 
-pub pending-and : (P : Offer → Type 0) (s : State) (name : OfferName) → IsAmong P s.pending name.0 name.1 → IsPendingAnd s name P
-pending-and P s name h = record { waits = h.waits; among = h.among; client = h.client_is; number = h.number_is; holds = h.holds }
+pub pending_and : (P : Offer → Type 0) (s : State) (name : OfferName) → IsAmong P s.pending name.0 name.1 → IsPendingAnd s name P
+pending_and P s name h = record { waits = h.waits; among = h.among; client = h.client_is; number = h.number_is; holds = h.holds }
 
-pub and-pending : (P : Offer → Type 0) (s : State) (name : OfferName) → IsPendingAnd s name P → IsAmong P s.pending name.0 name.1
-and-pending P s name h = record { waits = h.waits; among = h.among; client_is = h.client; number_is = h.number; holds = h.holds }
+pub and_pending : (P : Offer → Type 0) (s : State) (name : OfferName) → IsPendingAnd s name P → IsAmong P s.pending name.0 name.1
+and_pending P s name h = record { waits = h.waits; among = h.among; client_is = h.client; number_is = h.number; holds = h.holds }
 
 abbrev pub Any : Offer → Type 0
 Any offer = Unit {0}
 
-pub waits-any : (ps : List PendingOffer) (client number : ℕ) → waits_among ps client number ≡ true → WaitsAnd Any ps client number
-waits-any [] client number h = absurd (cc)
-waits-any (p ∷ ps) client number h = on-either (either-true (nat_eq p.client client && nat_eq p.number number) (waits_among ps client number) h)
-    (λ k. let m = both-true (nat_eq p.client client) (nat_eq p.number number) k in inl (eqb-true p.client client m.0, eqb-true p.number number m.1, tt))
-    (λ k. inr (waits-any ps client number k))
+pub waits_any : (ps : List PendingOffer) (client number : ℕ) → waits_among ps client number ≡ true → WaitsAnd Any ps client number
+waits_any [] client number h = absurd (cc)
+waits_any (p ∷ ps) client number h = on_either (either_true (nat_eq p.client client && nat_eq p.number number) (waits_among ps client number) h)
+    (λ k. let m = both_true (nat_eq p.client client) (nat_eq p.number number) k in inl (eqb-true p.client client m.0, eqb-true p.number number m.1, tt))
+    (λ k. inr (waits_any ps client number k))
 
-pub any-waits : (ps : List PendingOffer) (client number : ℕ) → WaitsAnd Any ps client number → waits_among ps client number ≡ true
-any-waits [] client number h = absurd h
-any-waits (p ∷ ps) client number (inl h) =
-    left-true (nat_eq p.client client && nat_eq p.number number) (waits_among ps client number)
-    (and-true (nat_eq p.client client) (nat_eq p.number number) (eq-eqb p.client client h.0) (eq-eqb p.number number h.1))
-any-waits (p ∷ ps) client number (inr h) = right-true (nat_eq p.client client && nat_eq p.number number) (waits_among ps client number) (any-waits ps client number h)
+pub any_waits : (ps : List PendingOffer) (client number : ℕ) → WaitsAnd Any ps client number → waits_among ps client number ≡ true
+any_waits [] client number h = absurd h
+any_waits (p ∷ ps) client number (inl h) =
+    left_true (nat_eq p.client client && nat_eq p.number number) (waits_among ps client number)
+    (and_true (nat_eq p.client client) (nat_eq p.number number) (eq-eqb p.client client h.0) (eq-eqb p.number number h.1))
+any_waits (p ∷ ps) client number (inr h) = right_true (nat_eq p.client client && nat_eq p.number number) (waits_among ps client number) (any_waits ps client number h)
 
 -- a client without a pending offer
 
 pub idle : (ps : List PendingOffer) (client : ℕ) → is_idle_among ps client ≡ true → (p : PendingOffer) → Contains ps p → p.client ≡ client → ⊥
-idle [] client h p k e = none-in p k
+idle [] client h p k e = none_in p k
 idle (q ∷ ps) client h p k e =
-    let m = both-true (not (nat_eq q.client client)) (is_idle_among ps client) h in
-    on-either (in-cases q p ps k)
-    (λ f. true-false (sym (eq-eqb q.client client (ap (λ z. z.client) f ∙ e)) ∙ not-true (nat_eq q.client client) m.0))
+    let m = both_true (not (nat_eq q.client client)) (is_idle_among ps client) h in
+    on_either (in_cases q p ps k)
+    (λ f. true_false (sym (eq-eqb q.client client (ap (λ z. z.client) f ∙ e)) ∙ not_true (nat_eq q.client client) m.0))
     (λ f. idle ps client m.1 p f e)
 
-pub is-idle : (ps : List PendingOffer) (client : ℕ) → ((p : PendingOffer) → Contains ps p → p.client ≡ client → ⊥) → is_idle_among ps client ≡ true
-is-idle [] client h = refl
-is-idle (q ∷ ps) client h =
-    and-true (not (nat_eq q.client client)) (is_idle_among ps client)
-    (by-cases (nat_eq q.client client) (λ e. absurd (h q (first-in q ps) (eqb-true q.client client e))) (λ e. false-not (nat_eq q.client client) e))
-    (is-idle ps client (λ p k e. h p (later-in q p ps k) e))
+pub is_idle : (ps : List PendingOffer) (client : ℕ) → ((p : PendingOffer) → Contains ps p → p.client ≡ client → ⊥) → is_idle_among ps client ≡ true
+is_idle [] client h = refl
+is_idle (q ∷ ps) client h =
+    and_true (not (nat_eq q.client client)) (is_idle_among ps client)
+    (by_cases (nat_eq q.client client) (λ e. absurd (h q (first_in q ps) (eqb-true q.client client e))) (λ e. false_not (nat_eq q.client client) e))
+    (is_idle ps client (λ p k e. h p (later_in q p ps k) e))
 
 -- lists of names
 
 pub named : (names : List OfferName) (client number : ℕ) → is_named names client number ≡ true → Contains names (client, number)
 named [] client number h = absurd (cc)
-named (name ∷ names) client number h = on-either (either-true (nat_eq name.0 client && nat_eq name.1 number) (is_named names client number) h)
+named (name ∷ names) client number h = on_either (either_true (nat_eq name.0 client && nat_eq name.1 number) (is_named names client number) h)
     (λ k.
-    let m = both-true (nat_eq name.0 client) (nat_eq name.1 number) k in
+    let m = both_true (nat_eq name.0 client) (nat_eq name.1 number) k in
     let a = eqb-true name.0 client m.0 in
     let b = eqb-true name.1 number m.1 in
-    subst (λ z. Contains (name ∷ names) z) (λ i. (a i, b i)) (first-in name names))
-    (λ k. later-in name (client, number) names (named names client number k))
+    subst (λ z. Contains (name ∷ names) z) (λ i. (a i, b i)) (first_in name names))
+    (λ k. later_in name (client, number) names (named names client number k))
 
-pub is-named : (names : List OfferName) (client number : ℕ) → Contains names (client, number) → is_named names client number ≡ true
-is-named [] client number h = absurd (none-in _ h)
-is-named (name ∷ names) client number h = on-either (in-cases name (client, number) names h)
-    (λ e. left-true (nat_eq name.0 client && nat_eq name.1 number) (is_named names client number)
-    (and-true (nat_eq name.0 client) (nat_eq name.1 number) (eq-eqb name.0 client (ap (λ z. z.0) e)) (eq-eqb name.1 number (ap (λ z. z.1) e))))
-    (λ k. right-true (nat_eq name.0 client && nat_eq name.1 number) (is_named names client number) (is-named names client number k))
+pub contained_named : (names : List OfferName) (client number : ℕ) → Contains names (client, number) → is_named names client number ≡ true
+contained_named [] client number h = absurd (none_in _ h)
+contained_named (name ∷ names) client number h = on_either (in_cases name (client, number) names h)
+    (λ e. left_true (nat_eq name.0 client && nat_eq name.1 number) (is_named names client number)
+    (and_true (nat_eq name.0 client) (nat_eq name.1 number) (eq-eqb name.0 client (ap (λ z. z.0) e)) (eq-eqb name.1 number (ap (λ z. z.1) e))))
+    (λ k. right_true (nat_eq name.0 client && nat_eq name.1 number) (is_named names client number) (contained_named names client number k))
 
-pub all-named : (names : List OfferName) (ps : List PendingOffer) → names_all names ps ≡ true → (p : PendingOffer) → Contains ps p → Contains names (p.client, p.number)
-all-named names [] h p k = absurd (none-in p k)
-all-named names (q ∷ ps) h p k =
-    let m = both-true (is_named names q.client q.number) (names_all names ps) h in
-    on-either (in-cases q p ps k)
+pub all_named : (names : List OfferName) (ps : List PendingOffer) → names_all names ps ≡ true → (p : PendingOffer) → Contains ps p → Contains names (p.client, p.number)
+all_named names [] h p k = absurd (none_in p k)
+all_named names (q ∷ ps) h p k =
+    let m = both_true (is_named names q.client q.number) (names_all names ps) h in
+    on_either (in_cases q p ps k)
     (λ e. subst (λ z. Contains names (z.client, z.number)) e (named names q.client q.number m.0))
-    (λ f. all-named names ps m.1 p f)
+    (λ f. all_named names ps m.1 p f)
 
-pub named-all : (names : List OfferName) (ps : List PendingOffer) → ((p : PendingOffer) → Contains ps p → Contains names (p.client, p.number)) → names_all names ps ≡ true
-named-all names [] h = refl
-named-all names (q ∷ ps) h =
-    and-true (is_named names q.client q.number) (names_all names ps) (is-named names q.client q.number (h q (first-in q ps))) (named-all names ps (λ p k. h p (later-in q p ps k)))
+pub named_all : (names : List OfferName) (ps : List PendingOffer) → ((p : PendingOffer) → Contains ps p → Contains names (p.client, p.number)) → names_all names ps ≡ true
+named_all names [] h = refl
+named_all names (q ∷ ps) h =
+    and_true (is_named names q.client q.number) (names_all names ps) (contained_named names q.client q.number (h q (first_in q ps))) (named_all names ps (λ p k. h p (later_in q p ps k)))
 
-pub only-named : (names : List OfferName) (ps : List PendingOffer) → names_only names ps ≡ true → (name : OfferName) → Contains names name → WaitsAnd Any ps name.0 name.1
-only-named [] ps h name k = absurd (none-in name k)
-only-named (n ∷ names) ps h name k =
-    let m = both-true (waits_among ps n.0 n.1) (names_only names ps) h in
-    on-either (in-cases n name names k)
-    (λ e. subst (λ z. WaitsAnd Any ps z.0 z.1) e (waits-any ps n.0 n.1 m.0))
-    (λ f. only-named names ps m.1 name f)
+pub only_named : (names : List OfferName) (ps : List PendingOffer) → names_only names ps ≡ true → (name : OfferName) → Contains names name → WaitsAnd Any ps name.0 name.1
+only_named [] ps h name k = absurd (none_in name k)
+only_named (n ∷ names) ps h name k =
+    let m = both_true (waits_among ps n.0 n.1) (names_only names ps) h in
+    on_either (in_cases n name names k)
+    (λ e. subst (λ z. WaitsAnd Any ps z.0 z.1) e (waits_any ps n.0 n.1 m.0))
+    (λ f. only_named names ps m.1 name f)
 
-pub named-only : (names : List OfferName) (ps : List PendingOffer) → ((name : OfferName) → Contains names name → WaitsAnd Any ps name.0 name.1) → names_only names ps ≡ true
-named-only [] ps h = refl
-named-only (n ∷ names) ps h =
-    and-true (waits_among ps n.0 n.1) (names_only names ps) (any-waits ps n.0 n.1 (h n (first-in n names))) (named-only names ps (λ name k. h name (later-in n name names k)))
+pub named_only : (names : List OfferName) (ps : List PendingOffer) → ((name : OfferName) → Contains names name → WaitsAnd Any ps name.0 name.1) → names_only names ps ≡ true
+named_only [] ps h = refl
+named_only (n ∷ names) ps h =
+    and_true (waits_among ps n.0 n.1) (names_only names ps) (any_waits ps n.0 n.1 (h n (first_in n names))) (named_only names ps (λ name k. h name (later_in n name names k)))
 
 -- ascending clients
 
@@ -131,27 +131,27 @@ clients_of names = map (λ (name : OfferName). name.0) names
 pub ascending : (names : List OfferName) → is_ascending names ≡ true → IsStrictlyIncreasing (clients_of names)
 ascending [] h k below = absurd (omega (arith, below))
 ascending (n ∷ []) h k below = absurd (omega (arith, below))
-ascending (n ∷ m ∷ names) h zero below = ltb-true n.0 m.0 (both-true (nat_lt n.0 m.0) (is_ascending (m ∷ names)) h).0
+ascending (n ∷ m ∷ names) h zero below = ltb-true n.0 m.0 (both_true (nat_lt n.0 m.0) (is_ascending (m ∷ names)) h).0
 ascending (n ∷ m ∷ names) h (suc k) below =
     let e : suc (k + 1) ≡ suc k + 1 = omega arith in
-    let later = ascending (m ∷ names) (both-true (nat_lt n.0 m.0) (is_ascending (m ∷ names)) h).1 k (omega (arith, below)) in
+    let later = ascending (m ∷ names) (both_true (nat_lt n.0 m.0) (is_ascending (m ∷ names)) h).1 k (omega (arith, below)) in
     subst (λ z. slice_index (clients_of (n ∷ m ∷ names)) (suc k) < slice_index (clients_of (n ∷ m ∷ names)) z) e later
 
-pub is-ascending : (names : List OfferName) → IsStrictlyIncreasing (clients_of names) → is_ascending names ≡ true
-is-ascending [] h = refl
-is-ascending (n ∷ []) h = refl
-is-ascending (n ∷ m ∷ names) h =
-    and-true (nat_lt n.0 m.0) (is_ascending (m ∷ names)) (lt-ltb n.0 m.0 (h zero (omega arith))) (is-ascending (m ∷ names) (λ k below.
+pub increasing_ascends : (names : List OfferName) → IsStrictlyIncreasing (clients_of names) → is_ascending names ≡ true
+increasing_ascends [] h = refl
+increasing_ascends (n ∷ []) h = refl
+increasing_ascends (n ∷ m ∷ names) h =
+    and_true (nat_lt n.0 m.0) (is_ascending (m ∷ names)) (lt-ltb n.0 m.0 (h zero (omega arith))) (increasing_ascends (m ∷ names) (λ k below.
     let e : suc k + 1 ≡ suc (k + 1) = omega arith in
     subst (λ z. slice_index (clients_of (n ∷ m ∷ names)) (suc k) < slice_index (clients_of (n ∷ m ∷ names)) z) e (h (suc k) (omega (arith, below)))))
 
 -- the other pending offers, one more at a time
 
-pub without-both : (name : OfferName) (ps qs : List PendingOffer) → without name (ps ++ qs) ≡ without name ps ++ without name qs
-without-both name [] qs = refl
-without-both name (p ∷ ps) qs = by-cases (nat_eq p.client name.0 && nat_eq p.number name.1)
-    (λ e. dropped p (ps ++ qs) e ∙ without-both name ps qs ∙ sym (ap (λ z. z ++ without name qs) (dropped p ps e)))
-    (λ e. kept p (ps ++ qs) e ∙ ap (λ z. p ∷ z) (without-both name ps qs) ∙ sym (ap (λ z. z ++ without name qs) (kept p ps e)))
+pub without_both : (name : OfferName) (ps qs : List PendingOffer) → without name (ps ++ qs) ≡ without name ps ++ without name qs
+without_both name [] qs = refl
+without_both name (p ∷ ps) qs = by_cases (nat_eq p.client name.0 && nat_eq p.number name.1)
+    (λ e. dropped p (ps ++ qs) e ∙ without_both name ps qs ∙ sym (ap (λ z. z ++ without name qs) (dropped p ps e)))
+    (λ e. kept p (ps ++ qs) e ∙ ap (λ z. p ∷ z) (without_both name ps qs) ∙ sym (ap (λ z. z ++ without name qs) (kept p ps e)))
   where
     dropped : (p : PendingOffer) (qs : List PendingOffer) → nat_eq p.client name.0 && nat_eq p.number name.1 ≡ true → without name (p ∷ qs) ≡ without name qs
     dropped p qs e = ap (λ b. if not b then p ∷ without name qs else without name qs) e
@@ -162,5 +162,5 @@ without-both name (p ∷ ps) qs = by-cases (nat_eq p.client name.0 && nat_eq p.n
 pub without_next : (name : OfferName) (xs ys : List Pending) (x : Pending) (done new : List PendingOffer) → ys ≡ xs ++ x ∷ [] → done ≡ without name (map pending_of xs) →
     new ≡ done ++ without name (pending_of x ∷ []) → new ≡ without name (map pending_of ys)
 without_next name xs ys x done new e f g =
-    g ∙ ap (λ z. z ++ without name (pending_of x ∷ [])) f ∙ sym (without-both name (map pending_of xs) (pending_of x ∷ []))
+    g ∙ ap (λ z. z ++ without name (pending_of x ∷ [])) f ∙ sym (without_both name (map pending_of xs) (pending_of x ∷ []))
     ∙ ap (without name) (sym (map-append pending_of xs (x ∷ []))) ∙ ap (λ z. without name (map pending_of z)) (sym e)
