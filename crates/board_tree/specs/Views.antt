@@ -31,10 +31,10 @@ IsReserved program t next d (Some r) =
     Moved program [] t d (shape_of r.branch) next r.next × IsDifference r.gone.items t (shape_of r.branch) ×
     IsDifference r.came.items (shape_of r.branch) t
 
--- By these rules the first tree becomes the second. Where each node that takes part is expanded by what its origin can do, the second stands
--- for what the behaviour becomes, and its nodes are expanded in the same way. Each of its nodes was there before, with
--- its origin, its place, the constructs above it and its work, or is new and waits, and the lists are those of the generations that ended
--- and that began.
+-- By these rules the first tree becomes the second. Where each node that takes part is expanded by what its origin can do, the second
+-- stands for what the behaviour becomes, and its nodes are expanded in the same way. Each of its nodes was there before, with its origin,
+-- its place, the constructs above it and its work, or is new and waits, and the lists are those of the generations that ended and that
+-- began.
 pub record IsStep (program : Program) (old : Shape) (next : ℕ) (d : Derivation) (new : Shape) (later : ℕ) (gone came : List Gen)
     : Type 0 where
   pub stands : IsRight program old → Follows old d → (a : Action) (c : Behaviour) →

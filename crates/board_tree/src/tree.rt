@@ -43,7 +43,7 @@ impl Model for Tree {
     ghost use Rattle.board_tree.specs.contracts.ready.Ready as r;
     ghost use Rattle.board_tree.specs.Generations.{IsSound, ArePlaced};
     ghost use Rattle.board_tree.specs.Shapes.{shape_of};
-        ghost use Rattle.board_tree.specs.Views.{TreeView};
+    ghost use Rattle.board_tree.specs.Views.{TreeView};
 
     ghost Value = { TreeView };
 
@@ -123,7 +123,8 @@ impl Tree {
         requires lives { Lives (shape self.old) generation.0 }
         ensures posted { shape self.new ≡ posted generation.0 (ways_of work) (shape self.old) }
         ensures stands { (program : Program) → stands_for program (shape self.new) ≡ stands_for program (shape self.old) }
-        ensures right { (program : Program) → IsWorkFor program (shape self.old) generation.0 (ways_of work) → IsRight program (shape self.old) → IsRight program (shape self.new) }
+        ensures right { (program : Program) → IsWorkFor program (shape self.old) generation.0 (ways_of work) →
+            IsRight program (shape self.old) → IsRight program (shape self.new) }
         ensures next { self.new.next ≡ self.old.next }
         ensures gone { self.new.gone ≡ self.old.gone }
         ensures came { self.new.came ≡ self.old.came }
