@@ -1,4 +1,4 @@
-// Traces: the text of a log and of how it ended, printed and read.
+// Traces: the text of a log and of how it ended.
 #![tactic(auto)]
 
 mod entry;

@@ -17,7 +17,7 @@ use spec_core::name::Name;
 use spec_core::signature::{OpDecl, Signature};
 use spec_core::value::Value;
 
-// An operation that is printed in part: `begun` of its arguments are printed, or are being printed.
+/// An operation that is printed in part: `begun` of its arguments are printed, or are being printed.
 #[derive(Clone, Copy)]
 pub struct Frame {
     pub op: Op,
@@ -158,7 +158,7 @@ fn put_closing(out: &mut String, count: usize) -> Result<(), Memory>
     Ok(())
 }
 
-// Appends the name at this place, if there is one.
+/// Appends the name at this place, if there is one.
 pub fn put_named(out: &mut String, names: &[Name], place: u32) -> Result<(), Memory>
     ensures { OnOk result (string_bytes out.new ≡ string_bytes out.old ++ name_at names.now place) }
 {
@@ -321,7 +321,7 @@ fn put_next<'a>(
     }
 }
 
-// Appends a value's text.
+/// Appends a value's text: that of the term that its operations spell. It takes time near the length of the text, and doesn't recur.
 pub fn put_value(out: &mut String, vocabulary: &Vocabulary, value: &Value) -> Result<(), Memory>
     requires whole { IsWhole vocabulary.now }
     ensures { OnOk result (string_bytes out.new ≡ string_bytes out.old ++ value_text (theory_in vocabulary.now) value.now) }

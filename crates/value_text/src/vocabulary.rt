@@ -14,7 +14,7 @@ use spec_core::memory::Memory;
 use spec_core::signature::{OpDecl, same_sorts};
 use std::alloc::Global;
 
-// A specification, and for each of its operations whether another one shares its name and its argument sorts.
+/// A specification, and for each of its operations whether another one shares its name and its argument sorts.
 #[derive(Drop)]
 pub struct Vocabulary<'a> {
     pub checked: &'a Checked,
@@ -22,6 +22,7 @@ pub struct Vocabulary<'a> {
 }
 
 impl<'a> Vocabulary<'a> {
+    /// That of a specification.
     pub fn new(alloc: Global, checked: &'a Checked) -> Result<Vocabulary<'a>, Memory>
         ensures whole { IfOk result IsWhole }
         ensures same { IfOk result (λ v. program_of v.checked.now ≡ program_of checked.now) }
@@ -30,7 +31,7 @@ impl<'a> Vocabulary<'a> {
         Ok(Vocabulary { checked, shared })
     }
 
-    // Whether more than one operation has the name and the argument sorts of this one.
+    /// Whether more than one operation has the name and the argument sorts of this one. It takes no memory.
     pub fn is_shared(&self, op: Op) -> bool
         requires whole { IsWhole self.now }
         ensures { (d : Operation) → slice_get (theory_in self.now).operations op.0 ≡ Some d →
