@@ -6,7 +6,6 @@ ghost use Rattle.rule_walk.specs.Faults.{IsMisfit, IsBelow};
 use spec_core::memory::Memory;
 use spec_core::term::Term;
 use std::alloc::{AllocError, AllocFailed, Global};
-use std::error::Error;
 use std::fmt;
 
 /// Why a tree gives no step.
