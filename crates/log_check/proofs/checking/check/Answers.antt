@@ -1,0 +1,14 @@
+use Rattle.std.proofs.Common.{rules, ◌≡◌, sym, subst, map}
+use Rattle.spec_core.specs.Code.{program_of}
+use Rattle.rule_model.specs.Events.{Event, event_of}
+use Rattle.rule_model.specs.Logs.{events_of}
+use Rattle.session_states.specs.Views.{state_of}
+use Rattle.log_check.specs.Checked.{Explains}
+use Rattle.log_check.proofs.Derivations.{explains}
+use Rattle.log_check.proofs.checking.check.Goals as goal
+
+pub returns-clause-fault : goal.returns-clause-fault
+returns-clause-fault c =
+    let program = program_of c.args.checked.now in
+    subst (λ log. Explains program log c.args.budget c.in-Err.fault) c.as_slice-entries.ensures
+    (explains program (map event_of c.as_slice-entries.result.now) (state_of c.in_ok-state.state) c.args.budget c.in-Err.fault c.in_ok-state.ensures c.in-Err.ensures.fault)

@@ -1,0 +1,97 @@
+// A whole log.
+
+ghost use Rattle.std.specs.Prelude.{IfErr, IfOk, OnOk, map};
+ghost use Rattle.spec_core.specs.Code.{program_of};
+ghost use Rattle.spec_core.specs.Ready.{IsReady};
+ghost use Rattle.rule_model.specs.Events.{event_of};
+ghost use Rattle.rule_model.specs.Legal.{IsDerivation, IsPossible};
+ghost use Rattle.rule_model.specs.Logs.{events_of};
+ghost use Rattle.session_states.specs.Views.{state_of};
+ghost use Rattle.log_check.specs.Checked.{Explains, FailsFrom, IsDerivationOf};
+ghost use Rattle.log_check.specs.Entries.{EntryFails};
+ghost use Rattle.log_check.specs.Starting.{BeginsIn};
+
+use crate::clients::greatest_client;
+use crate::entry::take;
+use crate::fault::CheckFault;
+use rule_model::log::{Entry, Log};
+use rule_walk::{FireFault, start};
+use session_states::state::SessionState;
+use spec_core::code::Checked;
+use spec_core::memory::Memory;
+use std::alloc::Global;
+
+// The state in which a log begins.
+fn begin(alloc: Global, checked: &Checked, entries: &[Entry]) -> Result<SessionState, Memory>
+    requires ready { IsReady (program_of checked.now) }
+    ensures { IfOk result (λ s. BeginsIn (program_of checked.now) (map event_of entries.now) (state_of s)) }
+{
+    let behaviour = start(alloc, checked)?;
+    let clients = greatest_client(entries);
+    if clients <= 4_294_967_294 {
+        SessionState::new(alloc, behaviour, clients)
+    } else {
+        Err(Memory)
+    }
+}
+
+// Takes the entry of this number, if it is possible.
+fn go_on(
+    alloc: Global,
+    checked: &Checked,
+    state: &mut SessionState,
+    entry: &Entry,
+    place: u64,
+    budget: u64,
+) -> Result<(), CheckFault>
+    requires ready { IsReady (program_of checked.now) }
+    ensures next { OnOk result (IsPossible (program_of checked.now) (state_of state.old) (event_of entry.now) (state_of state.new)) }
+    ensures fault { IfErr result (EntryFails (program_of checked.now) (state_of state.old) (event_of entry.now) place budget) }
+{
+    match take(alloc, checked, state, entry, budget) {
+        Ok(true) => Ok(()),
+        Ok(false) => Err(CheckFault::NotPossible { entry: place }),
+        Err(FireFault::Unfit { at: _ }) => unreachable!(),
+        Err(FireFault::Spent { term }) => Err(CheckFault::Spent { term }),
+        Err(FireFault::TooLarge { term }) => Err(CheckFault::TooLarge { term }),
+        Err(FireFault::Memory) => Err(CheckFault::Memory),
+    }
+}
+
+// Takes entries as long as they are possible.
+fn walk(
+    alloc: Global,
+    checked: &Checked,
+    state: &mut SessionState,
+    entries: &[Entry],
+    budget: u64,
+) -> Result<(), CheckFault>
+    requires ready { IsReady (program_of checked.now) }
+    ensures taken { OnOk result (IsDerivation (program_of checked.now) (map event_of entries.now) (state_of state.old) (state_of state.new)) }
+    ensures fault { IfErr result (FailsFrom (program_of checked.now) (map event_of entries.now) (state_of state.old) budget) }
+{
+    for (place, entry) in entries.iter().enumerate() {
+        match go_on(alloc, checked, state, entry, place as u64, budget) {
+            Ok(()) => {}
+            Err(fault) => return Err(fault),
+        }
+    }
+    Ok(())
+}
+
+/// The number of actions of a log that is a derivation: it begins with the specification's behaviour and as many clients as the greatest
+/// that it names, and each entry is possible in the state that those before it lead to. Or the number of the first entry that isn't, from 0;
+/// or a term that the tree of an entry before that asks, and that has no value with so many uses of equations (1 to 2^32) or meets a
+/// value that is too large. It takes time near the length of the log, and doesn't recur in it.
+pub fn check(alloc: Global, checked: &Checked, log: &Log, budget: u64) -> Result<u64, CheckFault>
+    requires ready { IsReady (program_of checked.now) }
+    ensures derivation { IfOk result (IsDerivationOf (program_of checked.now) (events_of log.now)) }
+    ensures fault { IfErr result (Explains (program_of checked.now) (events_of log.now) budget) }
+{
+    let entries = log.as_slice();
+    let mut state = begin(alloc, checked, entries)?;
+    match walk(alloc, checked, &mut state, entries, budget) {
+        Ok(()) => Ok(state.actions()),
+        Err(fault) => Err(fault),
+    }
+}
