@@ -5,7 +5,7 @@ use Rattle.spec_core.specs.Code as code
 use Rattle.spec_core.specs.Code.{Program, Node}
 use Rattle.spec_core.specs.Lists.{Each}
 use Rattle.spec_core.specs.Ready.{IsReady, IsProcess, parts_of}
-use Rattle.rule_model.specs.Behaviours.{Behaviour, inner, action, choice, guarded, bound, value_choice, gate_choice, parallel, hide}
+use Rattle.rule_model.specs.Behaviours.{Behaviour, stop, inner, action, choice, guarded, bound, value_choice, gate_choice, parallel, hide}
 use Rattle.rule_model.specs.Behaviours.{enable, disable, relabel}
 use Rattle.code_behaviours.specs.Laws.{CodeIsOpened}
 use Rattle.code_behaviours.specs.Parts.{over_parts, opened, behaviour_at}
@@ -76,3 +76,29 @@ opened_at program ready n o e = is_opened program ready n ∙ ap (over_parts (be
 
 pub code_is_opened : CodeIsOpened
 code_is_opened program ready n = is_opened program ready n
+
+-- where nothing stands, and where a process stands, there is `stop`
+pub none_opened : (program : Program) → IsReady program → (n : ℕ) → slice_get program.code n ≡ None → behaviour_at program n ≡ stop
+none_opened program ready n e = opened_at program ready n None e
+
+process_over : (part : ℕ → Behaviour) (node : Node) → IsProcess node → over_parts part (Some node) ≡ stop
+process_over part (code.process gates xs i) h = refl
+process_over part code.stop h = absurd h
+process_over part (code.exit fields) h = absurd h
+process_over part (code.inner i) h = absurd h
+process_over part (code.action k fields guard i) h = absurd h
+process_over part (code.choice i j) h = absurd h
+process_over part (code.guarded p i) h = absurd h
+process_over part (code.bound bindings i) h = absurd h
+process_over part (code.value_choice x i) h = absurd h
+process_over part (code.gate_choice k gates i) h = absurd h
+process_over part (code.parallel gates i j) h = absurd h
+process_over part (code.hide gates i) h = absurd h
+process_over part (code.enable i xs j) h = absurd h
+process_over part (code.disable i j) h = absurd h
+process_over part (code.call p gates terms) h = absurd h
+process_over part (code.relabel pairs i) h = absurd h
+
+pub process_opened : (program : Program) → IsReady program → (n : ℕ) (node : Node) → slice_get program.code n ≡ Some node → IsProcess node →
+    behaviour_at program n ≡ stop
+process_opened program ready n node e h = opened_at program ready n (Some node) e ∙ process_over (behaviour_at program) node h

@@ -7,6 +7,7 @@ use Rattle.spec_core.specs.Lists.{Each}
 use Rattle.spec_core.specs.Ready.{IsReady, IsProcess, NamesBehaviour, parts_of}
 use Rattle.rule_model.specs.Behaviours.{Behaviour}
 use Rattle.rule_model.specs.Code.{StandsAt}
+use Rattle.rule_laws.specs.Laws.{CodeIsOneBehaviour}
 use Rattle.code_behaviours.specs.Laws.{BehavioursStand}
 use Rattle.code_behaviours.specs.Parts.{over_parts, opened, behaviour_at}
 
@@ -42,3 +43,13 @@ module _ (program : Program) (ready : IsReady program) where
 pub behaviours_stand : BehavioursStand
 unfolding behaviour_at
 behaviours_stand program ready n h = stands program ready (suc n) n (omega arith) h
+
+-- a construct that isn't a process is one of behaviour
+pub named_construct : (program : Program) (n : ℕ) (node : Node) → slice_get program.code n ≡ Some node → (IsProcess node → ⊥) →
+    NamesBehaviour program n
+named_construct program n node e h = (node, e, h)
+
+-- what stands at a number is the behaviour there
+pub one_behaviour : CodeIsOneBehaviour → (program : Program) → IsReady program → (n : ℕ) (b : Behaviour) → NamesBehaviour program n →
+    StandsAt program n b → b ≡ behaviour_at program n
+one_behaviour one program ready n b h k = one program n b (behaviour_at program n) k (behaviours_stand program ready n h)

@@ -1,4 +1,0 @@
-use Rattle.code_behaviours.proofs.code.+behaviour.Given as goal
-
-abbrev pub decreases-behaviour : goal.decreases-behaviour
-decreases-behaviour l = l.number
