@@ -32,7 +32,8 @@ EntryAsks program s (left client) x = ⊥
 abbrev pub EntryExplains : Program → State → Event → ℕ → FireFault → Type 0
 EntryExplains program s event budget (Unfit at) = ⊥
 EntryExplains program s event budget (Spent term) = EntryAsks program s event (term_of term) × IsBeyond program.theory (term_of term) budget
-EntryExplains program s event budget (TooLarge term) = EntryAsks program s event (term_of term) × MeetsTooLarge program.theory (term_of term)
+EntryExplains program s event budget (TooLarge term) =
+    EntryAsks program s event (term_of term) × MeetsTooLarge program.theory (term_of term)
 EntryExplains program s event budget Memory = Unit {0}
 
 -- this is the number in the reply, if it has one
@@ -43,6 +44,8 @@ NamesNumber answer (Some at) = (n : ℕ) → (IsReplyAt answer n → at ≡ n) �
 -- what a fault says of the entry of this number, with this budget of uses
 abbrev pub EntryFails : Program → State → Event → ℕ → ℕ → CheckFault → Type 0
 EntryFails program s event place budget (NotPossible entry) = (entry ≡ place) × ((next : State) → IsPossible program s event next → ⊥)
-EntryFails program s event place budget (check.Spent term) = EntryAsks program s event (term_of term) × IsBeyond program.theory (term_of term) budget
-EntryFails program s event place budget (check.TooLarge term) = EntryAsks program s event (term_of term) × MeetsTooLarge program.theory (term_of term)
+EntryFails program s event place budget (check.Spent term) =
+    EntryAsks program s event (term_of term) × IsBeyond program.theory (term_of term) budget
+EntryFails program s event place budget (check.TooLarge term) =
+    EntryAsks program s event (term_of term) × MeetsTooLarge program.theory (term_of term)
 EntryFails program s event place budget check.Memory = Unit {0}
