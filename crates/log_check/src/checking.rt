@@ -82,7 +82,7 @@ fn walk(
 /// The number of actions of a log that is a derivation: it begins with the specification's behaviour and as many clients as the greatest
 /// that it names, and each entry is possible in the state that those before it lead to. Or the number of the first entry that isn't, from 0;
 /// or a term that the tree of an entry before that asks, and that has no value with so many uses of equations (1 to 2^32) or meets a
-/// value that is too large. It takes time near the length of the log, and doesn't recur in it.
+/// value that is too large. It goes over the log once, and doesn't recur in it.
 pub fn check(alloc: Global, checked: &Checked, log: &Log, budget: u64) -> Result<u64, CheckFault>
     requires ready { IsReady (program_of checked.now) }
     ensures derivation { IfOk result (IsDerivationOf (program_of checked.now) (events_of log.now)) }

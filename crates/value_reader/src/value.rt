@@ -91,7 +91,7 @@ fn candidate(alloc: Global, algebra: &DataSpec, text: &[u8]) -> Result<Option<Va
 
 /// The value with which a text begins, and what is behind it, where a value may end there.
 ///
-/// The text of the value is that which is printed, byte by byte. It takes time near the length of that text, and doesn't recur.
+/// The text of the value is that which is printed, byte by byte. It doesn't recur.
 pub fn read_value<'a>(
     alloc: Global,
     vocabulary: &Vocabulary,

@@ -321,7 +321,7 @@ fn put_next<'a>(
     }
 }
 
-/// Appends a value's text: that of the term that its operations spell. It takes time near the length of the text, and doesn't recur.
+/// Appends a value's text: that of the term that its operations spell. It doesn't recur.
 pub fn put_value(out: &mut String, vocabulary: &Vocabulary, value: &Value) -> Result<(), Memory>
     requires whole { IsWhole vocabulary.now }
     ensures { OnOk result (string_bytes out.new ≡ string_bytes out.old ++ value_text (theory_in vocabulary.now) value.now) }
