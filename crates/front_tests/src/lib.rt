@@ -1,27 +1,23 @@
-// Tests of the front end: texts and their tokens, and texts with what reading them comes to. Each parser is run on those of its part.
+// Tests of calls of the front end whose answers no command prints. What a command prints is shown by the cases of conformance/.
 #![tactic(auto)]
 
 #[cfg(test)]
-mod behaviour_texts;
+mod code_text;
 #[cfg(test)]
-mod expression_texts;
+mod codes;
 #[cfg(test)]
-mod grouping;
+mod data_text;
 #[cfg(test)]
-mod long_texts;
+mod equations;
 #[cfg(test)]
-mod marks;
+mod orders;
 #[cfg(test)]
-mod nested_texts;
+mod parsing;
 #[cfg(test)]
-mod parsed;
+mod sets;
 #[cfg(test)]
-mod parsed_behaviours;
+mod terms;
 #[cfg(test)]
-mod refusals;
-#[cfg(test)]
-mod specification_texts;
+mod texts;
 #[cfg(test)]
 mod tokens;
-#[cfg(test)]
-mod type_texts;

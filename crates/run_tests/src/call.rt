@@ -81,17 +81,9 @@ pub fn call(
 /// The words that run the script on the specification.
 pub const RUN: [&str; 3] = ["run", "spec", "script"];
 
-/// Runs the script on the specification.
-pub fn run(rt: &HostRuntime, spec: &[u8], script: &[u8]) -> Result<Ended, Fail> {
-    call(rt, &RUN, spec, script, &[])
-}
-
 /// A specification that can do nothing.
 pub const STOP: &[u8] =
     b"specification S : noexit\nlibrary Boolean, NaturalNumber endlib\nbehaviour stop\nendspec\n";
 
 /// Its trace without a client.
 pub const STOP_TRACE: &[u8] = b"lotos-trace 1\nend deadlock\n";
-
-/// A specification that is not of the form.
-pub const INTERNAL: &[u8] = b"specification S : noexit behaviour i; stop endspec";
