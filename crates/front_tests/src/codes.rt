@@ -112,7 +112,8 @@ fn compiled(alloc: Global, data: &DataSpec, text: &str) -> Result<Checked, Memor
 // The code of a behaviour.
 fn code(alloc: Global, data: &DataSpec, behaviour: &str) -> Result<String, Memory> {
     let text = format!(in alloc; "specification S [a, b] : noexit behaviour {behaviour} endspec")?;
-    code_text(alloc, &compiled(alloc, data, text.as_str())?.code)
+    let checked = compiled(alloc, data, text.as_str())?;
+    code_text(alloc, &checked.code)
 }
 
 #[test]

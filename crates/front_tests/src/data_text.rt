@@ -1,21 +1,34 @@
 // Data as text.
 
 use spec_core::equation::{DataSpec, Equation};
+use spec_core::items::Sort;
 use spec_core::memory::Memory;
+use spec_core::name::Name;
 use spec_core::term::Term;
 use spec_core::term_text::term_text;
 use std::alloc::Global;
 
-// Adds the variables of an equation, each with its sort.
-fn put_variables(text: &mut String, data: &DataSpec, equation: &Equation) -> Result<(), Memory> {
-    for (name, sort) in equation.names.iter().zip(&equation.vars) {
+// Adds the name at this place.
+fn put_name(text: &mut String, names: &[Name], number: u32) -> Result<(), Memory> {
+    let place = number as usize;
+    if place < names.len() {
+        text.push_str(names[place].as_str())?;
+    }
+    Ok(())
+}
+
+// Adds variables, each with its sort.
+fn put_variables(
+    text: &mut String,
+    sorts: &[Name],
+    names: &[Name],
+    vars: &[Sort],
+) -> Result<(), Memory> {
+    for (name, sort) in names.iter().zip(vars) {
         text.push_str(" ")?;
         text.push_str(name.as_str())?;
         text.push_str(":")?;
-        let place = sort.0 as usize;
-        if place < data.signature.sorts.len() {
-            text.push_str(data.signature.sorts[place].as_str())?;
-        }
+        put_name(text, sorts, sort.0)?;
     }
     Ok(())
 }
@@ -45,7 +58,7 @@ fn put_equation(
     let line = equation.place_line;
     let column = equation.place_column;
     text.push_str(format!(in alloc; "{line}:{column}")?.as_str())?;
-    put_variables(text, data, equation)?;
+    put_variables(text, &data.signature.sorts, &equation.names, &equation.vars)?;
     for premise in &equation.premises {
         put_both(alloc, text, data, equation, (&premise.0, &premise.1))?;
         text.push_str(" =>")?;

@@ -122,7 +122,8 @@ const EQUATIONS: [(bool, &str, &str); 22] = [
 #[test]
 fn equations_are_read(rt: HostRuntime) -> Result<(), Fail> {
     for (library, text, due) in &EQUATIONS {
-        let found = equations_text(rt.alloc(), &data(rt.alloc(), *library, text)?)?;
+        let algebra = data(rt.alloc(), *library, text)?;
+        let found = equations_text(rt.alloc(), &algebra)?;
         assert_eq!(rt; found.as_str(), *due, "at {text}");
     }
     Ok(())
@@ -205,7 +206,8 @@ const COPIES: [(&str, &str); 14] = [
 #[test]
 fn equations_have_images_in_copies(rt: HostRuntime) -> Result<(), Fail> {
     for (text, due) in &COPIES {
-        let found = data_text(rt.alloc(), &data(rt.alloc(), false, text)?)?;
+        let algebra = data(rt.alloc(), false, text)?;
+        let found = data_text(rt.alloc(), &algebra)?;
         assert_eq!(rt; found.as_str(), *due, "at {text}");
     }
     Ok(())

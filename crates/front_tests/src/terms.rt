@@ -27,8 +27,9 @@ const ROWS: [(&str, &str); 4] = [
 
 // The text of the term that an expression is read as. One that is refused stops the test.
 fn read(alloc: Global, text: &str) -> Result<String, Memory> {
+    let algebra = data(alloc, false, TYPE)?;
     let scope = Scope {
-        signature: data(alloc, false, TYPE)?.signature,
+        signature: algebra.signature,
         vars: Vec::new(alloc),
     };
     let Ok(all) = tokens(alloc, text.as_bytes()) else {
@@ -37,11 +38,14 @@ fn read(alloc: Global, text: &str) -> Result<String, Memory> {
     let Ok((expr, _)) = expression(alloc, &all, 0) else {
         return Err(Memory);
     };
-    if scope.signature.ops.len() >= 4_294_967_296 {
+    if scope.signature.ops.len() >= 4_294_967_296 || scope.vars.len() >= 4_294_967_296 {
         return Err(Memory);
     }
     match resolve(alloc, &expr, &scope, None) {
-        Ok(term) => term_text(alloc, &scope.signature, &term, &[]),
+        Ok(term) => {
+            let names = Vec::new(alloc);
+            term_text(alloc, &scope.signature, &term, &names)
+        }
         Err(_) => Err(Memory),
     }
 }
