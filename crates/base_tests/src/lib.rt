@@ -2,8 +2,6 @@
 #![tactic(auto)]
 
 #[cfg(test)]
-mod constructors;
-#[cfg(test)]
 mod copies;
 #[cfg(test)]
 mod evaluation;
@@ -19,8 +17,6 @@ mod signatures;
 mod sinks;
 #[cfg(test)]
 mod sources;
-#[cfg(test)]
-mod term_texts;
 #[cfg(test)]
 mod terms;
 #[cfg(test)]

@@ -1,9 +1,7 @@
-// Shelves: in memory, and over the file system.
+// Shelves in memory.
 
-use lotos_outside::file_shelf::FileShelf;
 use lotos_outside::memory_shelf::MemoryShelf;
 use lotos_outside::shelf::{Shelf, ShelfFault};
-use std::fs;
 use std::test::Fail;
 
 fn two_files(rt: &HostRuntime, fails: &[u64]) -> Result<MemoryShelf, Fail> {
@@ -53,29 +51,5 @@ fn each_call_can_be_told_to_fail(rt: HostRuntime) -> Result<(), Fail> {
             );
         }
     }
-    Ok(())
-}
-
-#[test]
-fn a_file_gives_its_first_bytes(rt: HostRuntime) -> Result<(), Fail> {
-    fs::write(&rt, "spec.lotos", "behaviour stop")?;
-    let mut shelf = FileShelf::new(&rt);
-    let mut into = Vec::from_slice(rt.alloc(), b"> ")?;
-    shelf.fetch("spec.lotos", 9, &mut into)?;
-    shelf.fetch("spec.lotos", 100, &mut into)?;
-    assert_eq!(rt; into.as_slice(), b"> behaviourbehaviour stop".as_slice());
-    Ok(())
-}
-
-#[test]
-fn a_missing_file_and_a_folder_fail(rt: HostRuntime) -> Result<(), Fail> {
-    let mut shelf = FileShelf::new(&rt);
-    let mut into = Vec::from_slice(rt.alloc(), b"> ")?;
-    assert_eq!(rt;
-        shelf.fetch("absent", 9, &mut into),
-        Err(ShelfFault::Failed)
-    );
-    assert_eq!(rt; shelf.fetch(".", 9, &mut into), Err(ShelfFault::Failed));
-    assert_eq!(rt; into.as_slice(), b"> ".as_slice());
     Ok(())
 }

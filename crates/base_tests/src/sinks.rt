@@ -94,18 +94,6 @@ fn a_sink_that_fails_ends_the_writing(rt: HostRuntime) -> Result<(), Fail> {
 }
 
 #[test]
-fn a_file_takes_what_is_written(rt: HostRuntime) -> Result<(), Fail> {
-    let mut sink = StreamSink::new(fs::create(&rt, "output")?);
-    write_all(&mut sink, b"lotos-")?;
-    write_all(&mut sink, b"trace 1\n")?;
-    assert_eq!(rt;
-        fs::read(&rt, "output")?.as_slice(),
-        b"lotos-trace 1\n".as_slice()
-    );
-    Ok(())
-}
-
-#[test]
 fn a_file_that_is_only_read_fails(rt: HostRuntime) -> Result<(), Fail> {
     fs::write(&rt, "input", "abc")?;
     let mut sink = StreamSink::new(fs::open(&rt, "input")?);
