@@ -38,15 +38,15 @@ module _ (theory : Theory) (m : MarkedAssignment) where
         ap (λ k. joined k (marked_instances theory m ts)) (ground_is_plain t h.0) ∙ ap (joined (plain t)) (grounds_are_plain ts h.1)
 
 -- what is put in for the variable y: y itself, and then k is what it had; or a ground term, and then k is this term
-abbrev IsPutFor : ℕ → TermTree → MarkedTerm → MarkedTerm → Type 0
+abbrev pub IsPutFor : ℕ → TermTree → MarkedTerm → MarkedTerm → Type 0
 IsPutFor y u j k = ((u ≡ variable y) × (k ≡ j)) ⊎ (IsGround u × (k ≡ plain u))
 
 -- the same of all variables: r after s is t
-abbrev Leads : MarkedAssignment → Assignment → MarkedAssignment → Type 0
+abbrev pub Leads : MarkedAssignment → Assignment → MarkedAssignment → Type 0
 Leads r s t = (y : ℕ) → IsPutFor y (s y) (r y) (t y)
 
 -- a variable that is bound stands for itself in what is put in
-with_one_bound : (x : Variable) (k : MarkedTerm) (r : MarkedAssignment) (s : Assignment) (t : MarkedAssignment) → Leads r s t →
+pub with_one_bound : (x : Variable) (k : MarkedTerm) (r : MarkedAssignment) (s : Assignment) (t : MarkedAssignment) → Leads r s t →
     Leads (with_marked x k r) (with_term x (variable x.number) s) (with_marked x k t)
 with_one_bound x k r s t leads y = by_test (y == x.number) refl (leads y)
   where
@@ -86,7 +86,7 @@ exit_slots_same s (exit_any sort ∷ fields) (c ∷ choices) =
     ap (λ others. flat_map (λ z. map (λ slots. z ∷ slots) others) c) (exit_slots_same s fields choices)
 
 -- both are there, and lead from one to the other; or neither is
-abbrev BothLead : Option MarkedAssignment → Option MarkedAssignment → Assignment → Type 0
+abbrev pub BothLead : Option MarkedAssignment → Option MarkedAssignment → Assignment → Type 0
 BothLead None None s = Unit {0}
 BothLead (Some l) (Some k) s = Leads l s k
 BothLead None (Some k) s = ⊥
@@ -111,7 +111,7 @@ module _ (theory : Theory) (e : Evaluation) where
     variable_put y u (inr h) = ground_is_plain theory r u h.0 ∙ sym h.1
 
     mutual
-      term_put : (u : TermTree) → marked_instance theory r (instance s u) ≡ marked_instance theory t u
+      pub term_put : (u : TermTree) → marked_instance theory r (instance s u) ≡ marked_instance theory t u
       term_put (variable y) = variable_put y (s y) (leads y)
       term_put (apply f us) = ap (applied theory f) (terms_put us)
 
@@ -121,10 +121,10 @@ module _ (theory : Theory) (e : Evaluation) where
           ap (λ z. joined z (marked_instances theory r (instances s us))) (term_put u)
           ∙ ap (joined (marked_instance theory t u)) (terms_put us)
 
-    value_put : (u : TermTree) → value_in theory e r (instance s u) ≡ value_in theory e t u
+    pub value_put : (u : TermTree) → value_in theory e r (instance s u) ≡ value_in theory e t u
     value_put u = ap (marked_value theory e) (term_put u)
 
-    premise_put : (p : Premise) → premise_may_hold theory e r (put_in_premise s p) ≡ premise_may_hold theory e t p
+    pub premise_put : (p : Premise) → premise_may_hold theory e r (put_in_premise s p) ≡ premise_may_hold theory e t p
     premise_put (premise a b) =
         ap (λ z. may_be_equal theory e z (marked_instance theory r (instance s b))) (term_put a)
         ∙ ap (may_be_equal theory e (marked_instance theory t a)) (term_put b)
@@ -143,7 +143,7 @@ module _ (theory : Theory) (e : Evaluation) where
         ∙ ap (λ z. option_and_then (λ k. option_map (λ fs. open_by k ∷ fs) z) (value_in theory e t u)) (exit_put fields)
     exit_put (exit_any sort ∷ fields) = ap (option_map (λ fs. blank false sort ∷ fs)) (exit_put fields)
 
-    bindings_put : (i : MarkedAssignment) (j : Assignment) (l : MarkedAssignment) (bindings : List Binding) → Leads i j l →
+    pub bindings_put : (i : MarkedAssignment) (j : Assignment) (l : MarkedAssignment) (bindings : List Binding) → Leads i j l →
         BothLead (with_bindings theory e r i (map (put_in_binding s) bindings)) (with_bindings theory e t l bindings)
         (without (bound_variables bindings) j)
     bindings_put i j l [] h = h
@@ -159,7 +159,7 @@ module _ (theory : Theory) (e : Evaluation) where
         (λ k. bindings_put (with_marked x k i) (with_term x (variable x.number) j) (with_marked x k l) bindings
         (with_one_bound x k i j l h)))
 
-    arguments_put : (i : MarkedAssignment) (xs : List Variable) (terms : List TermTree) →
+    pub arguments_put : (i : MarkedAssignment) (xs : List Variable) (terms : List TermTree) →
         with_arguments theory e r i xs (map (instance s) terms) ≡ with_arguments theory e t i xs terms
     arguments_put i [] [] = refl
     arguments_put i [] (u ∷ terms) = refl
@@ -221,7 +221,7 @@ module _ (theory : Theory) (e : Evaluation) where
         (arguments_put r s t leads unmarked q.variables terms))
     behaviour_put (relabel pairs b) r s t leads = ap (of_relabel pairs) (behaviour_put b r s t leads)
 
-closing_leads : (s : Assignment) → IsClosing s → Leads unmarked s (λ x. plain (s x))
+pub closing_leads : (s : Assignment) → IsClosing s → Leads unmarked s (λ x. plain (s x))
 closing_leads s h y = by_case (h y)
   where
     by_case : IsGround (s y) ⊎ (s y ≡ variable y) → IsPutFor y (s y) (unmarked y) (plain (s y))

@@ -1,0 +1,4 @@
+pub mod Reached
+pub mod Spread
+pub mod Laws
+pub mod Examples
