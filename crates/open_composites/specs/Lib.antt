@@ -1,0 +1,3 @@
+pub mod Plans
+pub mod OpenPlans
+pub mod Laws
