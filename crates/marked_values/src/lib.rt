@@ -1,0 +1,6 @@
+// Values of expressions whose variables may have marks.
+#![tactic(auto, using(crate::proofs::Stopping::memory))]
+
+pub mod scope;
+pub mod stop;
+pub mod value;
