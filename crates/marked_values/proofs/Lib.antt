@@ -1,3 +1,5 @@
 pub mod Values
 pub mod Stopping
 pub mod Finding
+pub mod Splitting
+pub mod Fielding

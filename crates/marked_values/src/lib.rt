@@ -1,6 +1,7 @@
 // Values of expressions whose variables may have marks.
 #![tactic(auto, using(crate::proofs::Stopping::memory))]
 
+pub mod fields;
 pub mod scope;
 pub mod stop;
 pub mod value;

@@ -16,7 +16,7 @@ use Rattle.open_composites.specs.OpenPlans.{OpenPlan, composite_of, under_row, u
 use Rattle.open_composites.specs.OpenPlans.{plans_joint, plan_by_hiding, plan_by_enabling, plan_by_disabling, plans_of_gates}
 use Rattle.open_composites.specs.Laws.{PlansMakeComposites}
 
-map_append : {A B : Type 0} (f : A → B) (xs ys : List A) → map f (xs ++ ys) ≡ map f xs ++ map f ys
+pub map_append : {A B : Type 0} (f : A → B) (xs ys : List A) → map f (xs ++ ys) ≡ map f xs ++ map f ys
 map_append f [] ys = refl
 map_append f (x ∷ xs) ys = ap (λ z. f x ∷ z) (map_append f xs ys)
 

@@ -119,9 +119,9 @@ pub fn together(
     }
 }
 
-// One more field in front.
-fn in_front(column: Column, columns: Vec<Column>) -> Result<Vec<Column>, Memory>
-    ensures { IfOk result (λ all. map field_of all.items ≡ field_of column ∷ map field_of columns.items) }
+/// One more field in front.
+pub fn in_front(column: Column, columns: Vec<Column>) -> Result<Vec<Column>, Memory>
+    ensures in_front { IfOk result (λ all. map field_of all.items ≡ field_of column ∷ map field_of columns.items) }
 {
     let mut all = columns;
     match all.insert(0, column) {

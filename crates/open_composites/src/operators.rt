@@ -157,6 +157,22 @@ pub fn under(
     Ok(all)
 }
 
+/// Composites, and behind them others, each of these under a rule.
+pub fn append_under(
+    alloc: Global,
+    row: &Row,
+    composites: Vec<OpenComposite>,
+    others: Vec<OpenComposite>,
+) -> Result<Vec<OpenComposite>, Memory>
+    ensures appended { IfOk result (λ all.
+        map open_plan_of all.items ≡
+        map open_plan_of composites.items ++ map (under_row row.now) (map open_plan_of others.items)) }
+{
+    let mut all = composites;
+    put_under(alloc, row, others, &mut all)?;
+    Ok(all)
+}
+
 /// The composites of a choice, from those of its sides.
 pub fn choice(
     alloc: Global,
