@@ -39,8 +39,11 @@ module _ (theory : Theory) (m : MarkedAssignment) where
       scope ≡ (b.variable.number, g) ∷ inner → BindingsMayHave theory m (marks_of theory scope) rest r →
       BindingsMayHave theory m (marks_of theory inner) all r
   bound_by all b rest g inner scope r is v more h =
-      subst (λ l. BindingsMayHave theory m (marks_of theory inner) l r) (sym is)
-      (marked_of theory b.variable.number g, v.value b.variable.number, subst (λ z. BindingsMayHave theory m (marks_of theory z) rest r) more h)
+      subst (λ l. BindingsMayHave theory m (marks_of theory inner) l r) (sym is) (
+        marked_of theory b.variable.number g,
+        v.value b.variable.number,
+        subst (λ z. BindingsMayHave theory m (marks_of theory z) rest r) more h,
+      )
 
   pub argument_by : (xs : List Variable) (terms : List TermTree) (x : Variable) (t : TermTree) (others : List Variable)
       (rest : List TermTree) (g : Given) (inner scope : List (ℕ × Given)) (r : MarkedAssignment) → xs ≡ x ∷ others → terms ≡ t ∷ rest →

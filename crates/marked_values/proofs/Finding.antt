@@ -1,5 +1,6 @@
 -- What is found for a term that may be marked.
-use Rattle.std.proofs.Common.{ℕ, ◌≡◌, List, [], ◌∷◌, map, refl, sym, ap, subst, ◌∙◌, false, ◌↔◌, Option, Some, None, IfSome, IfNone, Result, IfOk}
+use Rattle.std.proofs.Common.{ℕ, ◌≡◌, List, [], ◌∷◌, map, refl, sym, ap, subst, ◌∙◌, false, ◌↔◌}
+use Rattle.std.proofs.Common.{Option, Some, None, IfSome, IfNone, Result, IfOk}
 use Rattle.spec_core.specs.Executable.{IsExecutable}
 use Rattle.spec_core.specs.Sorts.{FitsGround}
 use Rattle.spec_core.specs.Terms.{TermTree, preorder}

@@ -80,7 +80,8 @@ module _ (theory : Theory) (w : Windows) where
   rows : (row : Row) (ps : List OpenPlan) → map of (map (under_row row) ps) ≡ map (under (put_row row)) (map of ps)
   rows row ps = map_through of (under_row row) (under (put_row row)) of (λ p. refl) ps
 
-  relabels : (pairs : List Relabelling) (ps : List OpenPlan) → map of (map (under_relabelling pairs) ps) ≡ map (relabelled pairs) (map of ps)
+  relabels : (pairs : List Relabelling) (ps : List OpenPlan) →
+      map of (map (under_relabelling pairs) ps) ≡ map (relabelled pairs) (map of ps)
   relabels pairs ps = map_through of (under_relabelling pairs) (relabelled pairs) of (λ p. refl) ps
 
   joints : (gates : Synchronised) (ps qs : List OpenPlan) →

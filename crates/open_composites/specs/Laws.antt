@@ -23,7 +23,8 @@ pub record PlansAreOfComposites (theory : Theory) (w : Windows) : Type 0 where
       of_parallel theory gates (composites_of theory w ps) (composites_of theory w qs)
   pub hide : (gates : List ℕ) (ps : List OpenPlan) →
       composites_of theory w (map (plan_by_hiding gates) ps) ≡ map (by_hiding theory w gates) (composites_of theory w ps)
-  pub enable : (ps : List OpenPlan) → composites_of theory w (map plan_by_enabling ps) ≡ map (by_enabling theory w) (composites_of theory w ps)
+  pub enable : (ps : List OpenPlan) →
+      composites_of theory w (map plan_by_enabling ps) ≡ map (by_enabling theory w) (composites_of theory w ps)
   pub disable : (ps qs : List OpenPlan) →
       composites_of theory w (plans_of_disable ps qs) ≡ of_disable (composites_of theory w ps) (composites_of theory w qs)
   pub relabel : (pairs : List Relabelling) (ps : List OpenPlan) →

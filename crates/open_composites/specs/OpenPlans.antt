@@ -71,7 +71,8 @@ plans_of_choice ps qs = map (under_row Chl) ps ++ map (under_row Chr) qs
 
 abbrev pub plans_of_parallel : Theory → Synchronised → List OpenPlan → List OpenPlan → List OpenPlan
 plans_of_parallel theory gates ps qs =
-    flat_map (plans_alone gates Parl) ps ++ (flat_map (plans_alone gates Parr) qs ++ flat_map (λ p. flat_map (plans_joint theory gates p) qs) ps)
+    flat_map (plans_alone gates Parl) ps ++
+    (flat_map (plans_alone gates Parr) qs ++ flat_map (λ p. flat_map (plans_joint theory gates p) qs) ps)
 
 abbrev pub plans_of_disable : List OpenPlan → List OpenPlan → List OpenPlan
 plans_of_disable ps qs = map plan_by_disabling ps ++ map (under_row Distake) qs

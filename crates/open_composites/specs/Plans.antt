@@ -9,7 +9,8 @@ use Rattle.composites.specs.OpenFields.{OpenField, fixed, blank, all_choices}
 use Rattle.open_composites.specs.declared.column.Column.{Column}
 use Rattle.open_composites.specs.declared.column.Column.TheVariants.{Told, Blank}
 use Rattle.open_composites.specs.declared.scheme.Row.{Row}
-use Rattle.open_composites.specs.declared.scheme.Row.TheVariants.{Chl, Chr, Val, Gate, Guard, Let, Parl, Parr, Pass, Enstep, Disstep, Disend}
+use Rattle.open_composites.specs.declared.scheme.Row.TheVariants.{Chl, Chr, Val, Gate, Guard, Let, Parl, Parr, Pass, Enstep, Disstep}
+use Rattle.open_composites.specs.declared.scheme.Row.TheVariants.{Disend}
 use Rattle.open_composites.specs.declared.scheme.Row.TheVariants.{Distake, Call, Rel}
 use Rattle.open_composites.specs.declared.scheme.Scheme.{Scheme}
 use Rattle.open_composites.specs.declared.scheme.Scheme.TheVariants.{Pre, Int, Exit, Under', Hide', Enend', Both'}

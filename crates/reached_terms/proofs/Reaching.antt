@@ -136,96 +136,96 @@ module _ (theory : Theory) (r : MarkedAssignment) (s : Assignment) (t : MarkedAs
     λ h. (h.0, (value_there u h.0).1 h.1, (arguments_same (with_marked x h.0 i) xs terms a).1 h.2),
   )
 
-module _ (program : Program) (w : Windows) (others : List (List ℕ)) (called : MarkedAssignment → Behaviour → TermTree → Type 0) (x : TermTree)
-  where
-    abbrev Of : MarkedAssignment → Behaviour → Type 0
-    Of m b = ReachesIn program w others called m b x
+module _ (program : Program) (w : Windows) (others : List (List ℕ))
+    (called : MarkedAssignment → Behaviour → TermTree → Type 0) (x : TermTree) where
+  abbrev Of : MarkedAssignment → Behaviour → Type 0
+  Of m b = ReachesIn program w others called m b x
 
-    reached_put : (b : Behaviour) (r : MarkedAssignment) (s : Assignment) (t : MarkedAssignment) → Leads r s t → Of r (put s b) ↔ Of t b
-    reached_put stop r s t leads = (λ h. h, λ h. h)
-    reached_put (exit fields) r s t leads =
-        one_of_images (ExitAsks program.theory r x) (ExitAsks program.theory t x) (put_in_exit s)
-        (exit_asked program.theory r s t leads x) fields
-    reached_put (inner b) r s t leads = (λ h. h, λ h. h)
-    reached_put (action g fields p b) r s t leads =
-        let inside = without (accepted fields) s in
-        either_way
-        (one_of_images (FieldAsks program.theory r x) (FieldAsks program.theory t x) (put_in_field s)
-        (field_asked program.theory r s t leads x) fields) (
-          λ h.
-              let q = accepts_to program.theory r s t leads w others r s t fields leads h.0 h.1 in
-              (q.0, q.1, (guard_asked program.theory h.0 inside q.0 q.2 p x).0 h.2),
-          λ h.
-              let q = accepts_from program.theory r s t leads w others r s t fields leads h.0 h.1 in
-              (q.0, q.1, (guard_asked program.theory q.0 inside h.0 q.2 p x).1 h.2),
-        )
-    reached_put (choice y z) r s t leads = either_way (reached_put y r s t leads) (reached_put z r s t leads)
-    reached_put (guarded p b) r s t leads =
-        either_way (premise_asked program.theory r s t leads p x)
-        (both_ways (premise_holds program.theory r s t leads p) (reached_put b r s t leads))
-    reached_put (bound bindings b) r s t leads =
-        let inside = without (bound_variables bindings) s in
-        either_way
-        (one_of_images (BindingAsks program.theory r x) (BindingAsks program.theory t x) (put_in_binding s)
-        (λ v. asked program.theory r s t leads v.term x) bindings) (
-          λ h.
-              let q = bindings_to program.theory r s t leads r s t bindings leads h.0 h.1 in
-              (q.0, q.1, (reached_put b h.0 inside q.0 q.2).0 h.2),
-          λ h.
-              let q = bindings_from program.theory r s t leads r s t bindings leads h.0 h.1 in
-              (q.0, q.1, (reached_put b q.0 inside h.0 q.2).1 h.2),
-        )
-    reached_put (value_choice y b) r s t leads =
-        let inside = with_term y (variable y.number) s in (
-          λ h. (
-            h.0,
-            h.1,
-            h.2,
-            h.3,
-            (reached_put b (with_marked y h.1 r) inside (with_marked y h.1 t)
-                (with_one_bound y h.1 r s t leads)).0 h.4,
-          ),
-          λ h. (
-            h.0,
-            h.1,
-            h.2,
-            h.3,
-            (reached_put b (with_marked y h.1 r) inside (with_marked y h.1 t)
-                (with_one_bound y h.1 r s t leads)).1 h.4,
-          ),
-        )
-    reached_put (gate_choice g gates b) r s t leads =
-        let q = reached_put b r s t leads in
-        (λ h. (h.0, q.0 h.1), λ h. (h.0, q.1 h.1))
-    reached_put (parallel gates y z) r s t leads = either_way (reached_put y r s t leads) (reached_put z r s t leads)
-    reached_put (hide gates b) r s t leads = reached_put b r s t leads
-    reached_put (enable y xs z) r s t leads = reached_put y r s t leads
-    reached_put (disable y z) r s t leads = either_way (reached_put y r s t leads) (reached_put z r s t leads)
-    reached_put (call p actual terms) r s t leads =
-        let some = one_of_images (ArgumentAsks program.theory r x) (ArgumentAsks program.theory t x) (instance s)
-        (λ u. asked program.theory r s t leads u x) terms in (
-          λ h. (
-            h.0,
-            h.1,
-            h.2,
-            h.3,
-            (either_way some (
-              λ k. (k.0, (arguments_same program.theory r s t leads unmarked h.1 terms k.0).0 k.1, k.2),
-              λ k. (k.0, (arguments_same program.theory r s t leads unmarked h.1 terms k.0).1 k.1, k.2),
-            )).0 h.4,
-          ),
-          λ h. (
-            h.0,
-            h.1,
-            h.2,
-            h.3,
-            (either_way some (
-              λ k. (k.0, (arguments_same program.theory r s t leads unmarked h.1 terms k.0).0 k.1, k.2),
-              λ k. (k.0, (arguments_same program.theory r s t leads unmarked h.1 terms k.0).1 k.1, k.2),
-            )).1 h.4,
-          ),
-        )
-    reached_put (relabel pairs b) r s t leads = reached_put b r s t leads
+  reached_put : (b : Behaviour) (r : MarkedAssignment) (s : Assignment) (t : MarkedAssignment) → Leads r s t → Of r (put s b) ↔ Of t b
+  reached_put stop r s t leads = (λ h. h, λ h. h)
+  reached_put (exit fields) r s t leads =
+      one_of_images (ExitAsks program.theory r x) (ExitAsks program.theory t x) (put_in_exit s)
+      (exit_asked program.theory r s t leads x) fields
+  reached_put (inner b) r s t leads = (λ h. h, λ h. h)
+  reached_put (action g fields p b) r s t leads =
+      let inside = without (accepted fields) s in
+      either_way
+      (one_of_images (FieldAsks program.theory r x) (FieldAsks program.theory t x) (put_in_field s)
+      (field_asked program.theory r s t leads x) fields) (
+        λ h.
+            let q = accepts_to program.theory r s t leads w others r s t fields leads h.0 h.1 in
+            (q.0, q.1, (guard_asked program.theory h.0 inside q.0 q.2 p x).0 h.2),
+        λ h.
+            let q = accepts_from program.theory r s t leads w others r s t fields leads h.0 h.1 in
+            (q.0, q.1, (guard_asked program.theory q.0 inside h.0 q.2 p x).1 h.2),
+      )
+  reached_put (choice y z) r s t leads = either_way (reached_put y r s t leads) (reached_put z r s t leads)
+  reached_put (guarded p b) r s t leads =
+      either_way (premise_asked program.theory r s t leads p x)
+      (both_ways (premise_holds program.theory r s t leads p) (reached_put b r s t leads))
+  reached_put (bound bindings b) r s t leads =
+      let inside = without (bound_variables bindings) s in
+      either_way
+      (one_of_images (BindingAsks program.theory r x) (BindingAsks program.theory t x) (put_in_binding s)
+      (λ v. asked program.theory r s t leads v.term x) bindings) (
+        λ h.
+            let q = bindings_to program.theory r s t leads r s t bindings leads h.0 h.1 in
+            (q.0, q.1, (reached_put b h.0 inside q.0 q.2).0 h.2),
+        λ h.
+            let q = bindings_from program.theory r s t leads r s t bindings leads h.0 h.1 in
+            (q.0, q.1, (reached_put b q.0 inside h.0 q.2).1 h.2),
+      )
+  reached_put (value_choice y b) r s t leads =
+      let inside = with_term y (variable y.number) s in (
+        λ h. (
+          h.0,
+          h.1,
+          h.2,
+          h.3,
+          (reached_put b (with_marked y h.1 r) inside (with_marked y h.1 t)
+              (with_one_bound y h.1 r s t leads)).0 h.4,
+        ),
+        λ h. (
+          h.0,
+          h.1,
+          h.2,
+          h.3,
+          (reached_put b (with_marked y h.1 r) inside (with_marked y h.1 t)
+              (with_one_bound y h.1 r s t leads)).1 h.4,
+        ),
+      )
+  reached_put (gate_choice g gates b) r s t leads =
+      let q = reached_put b r s t leads in
+      (λ h. (h.0, q.0 h.1), λ h. (h.0, q.1 h.1))
+  reached_put (parallel gates y z) r s t leads = either_way (reached_put y r s t leads) (reached_put z r s t leads)
+  reached_put (hide gates b) r s t leads = reached_put b r s t leads
+  reached_put (enable y xs z) r s t leads = reached_put y r s t leads
+  reached_put (disable y z) r s t leads = either_way (reached_put y r s t leads) (reached_put z r s t leads)
+  reached_put (call p actual terms) r s t leads =
+      let some = one_of_images (ArgumentAsks program.theory r x) (ArgumentAsks program.theory t x) (instance s)
+      (λ u. asked program.theory r s t leads u x) terms in (
+        λ h. (
+          h.0,
+          h.1,
+          h.2,
+          h.3,
+          (either_way some (
+            λ k. (k.0, (arguments_same program.theory r s t leads unmarked h.1 terms k.0).0 k.1, k.2),
+            λ k. (k.0, (arguments_same program.theory r s t leads unmarked h.1 terms k.0).1 k.1, k.2),
+          )).0 h.4,
+        ),
+        λ h. (
+          h.0,
+          h.1,
+          h.2,
+          h.3,
+          (either_way some (
+            λ k. (k.0, (arguments_same program.theory r s t leads unmarked h.1 terms k.0).0 k.1, k.2),
+            λ k. (k.0, (arguments_same program.theory r s t leads unmarked h.1 terms k.0).1 k.1, k.2),
+          )).1 h.4,
+        ),
+      )
+  reached_put (relabel pairs b) r s t leads = reached_put b r s t leads
 
 pub reached_of_origins : ReachedOfOrigins
 reached_of_origins program w others s closing b x =

@@ -9,7 +9,8 @@ use Rattle.rule_model.specs.Behaviours.{Behaviour, stop, exit, inner, action, ch
 use Rattle.rule_model.specs.Behaviours.{hide, enable, disable, call, relabel}
 use Rattle.rule_model.specs.Code.{IsDefinition}
 use Rattle.windowed_trees.specs.Windows.{Windows}
-use Rattle.windowed_trees.specs.MarkedTerms.{MarkedTerm, plain, mark, MarkedAssignment, unmarked, with_marked, marked_instance, PremiseMayHold}
+use Rattle.windowed_trees.specs.MarkedTerms.{MarkedTerm, plain, mark, MarkedAssignment, unmarked, with_marked, marked_instance}
+use Rattle.windowed_trees.specs.MarkedTerms.{PremiseMayHold}
 use Rattle.windowed_trees.specs.MarkedFields.{chosen_by, IsWithin, Chooses, BindingsMayHave, ArgumentsMayHave}
 
 module _ (theory : Theory) where

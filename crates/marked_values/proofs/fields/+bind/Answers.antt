@@ -19,7 +19,8 @@ returns-in_ok-more-in-Some-clause-some t c =
     let is = mapped binding_of c.args.bindings.now c.first-item.result c.first-item.result c.in-len1-up.len_at_least c.first-item.is refl in
     let v = of_some (IsValueOf theory (marked_instance theory m b.term)) c.in_ok-value_of-in-len1-up.field-0 c.in-Some.given c.in-Some.is
     c.in_ok-value_of-in-len1-up.ensures.some in
-    some_ok_on c.bind.result (λ s. BindingsMayHave theory m (marks_of theory c.in_ok-more-in-Some.more.items) rest (marks_of theory s.items))
+    some_ok_on c.bind.result
+    (λ s. BindingsMayHave theory m (marks_of theory c.in_ok-more-in-Some.more.items) rest (marks_of theory s.items))
     (λ s. BindingsMayHave theory m (marks_of theory c.args.inner.items) all (marks_of theory s.items))
     (λ s. bound_by theory m all b rest c.in-Some.given c.args.inner.items c.in_ok-more-in-Some.more.items (marks_of theory s.items) is v
     c.in_ok-more-in-Some.ensures.with) c.bind.ensures.some

@@ -8,4 +8,5 @@ abbrev pub invariant-loop-other : goal.invariant-loop-other
 invariant-loop-other l =
     map open_plan_of l.all.items ≡
     map open_plan_of l.initial.all.items ++
-    flat_map (plans_joint (theory_of l.algebra) (synchronised_of l.gates) (open_plan_of l.left)) (map open_plan_of (take l.other-index l.right))
+    flat_map (plans_joint (theory_of l.algebra) (synchronised_of l.gates) (open_plan_of l.left))
+    (map open_plan_of (take l.other-index l.right))
