@@ -1,0 +1,5 @@
+pub mod Differing
+pub mod Finding
+pub mod Growing
+pub mod Posts
+pub mod Tidying

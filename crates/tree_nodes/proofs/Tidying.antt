@@ -1,0 +1,68 @@
+-- Relabellings one over another, tidied.
+use Rattle.std.proofs.Common.{ℕ, ◌≡◌, ◌==◌, Bool, true, false, if◌then◌else◌, List, [], ◌∷◌, map, refl, sym, ap, ◌∙◌}
+use Rattle.spec_core.specs.Code.{Relabelling}
+use Rattle.rule_model.specs.Actions.{renamed, after}
+use Rattle.rule_model.specs.Behaviours.{Behaviour, stop, exit, inner, action, choice, guarded, bound, value_choice, gate_choice, parallel}
+use Rattle.rule_model.specs.Behaviours.{hide, enable, disable, call, relabel}
+use Rattle.rule_model.specs.Substitution.{tidied}
+use Rattle.tree_nodes.specs.Origins.{relabelled_by, IsCall}
+
+-- a gate's place after both relabellings
+by_both : (g : ℕ) (m : Relabelling) (pairs rest : List Relabelling) (b : Bool) →
+    renamed (after pairs rest) g ≡ renamed pairs (renamed rest g) →
+    (if b then renamed pairs m.to else renamed (after pairs rest) g) ≡ renamed pairs (if b then m.to else renamed rest g)
+by_both g m pairs rest true h = refl
+by_both g m pairs rest false h = h
+
+renamed_twice : (pairs before : List Relabelling) (g : ℕ) → renamed (after pairs before) g ≡ renamed pairs (renamed before g)
+renamed_twice pairs [] g = refl
+renamed_twice pairs (m ∷ before) g = by_both g m pairs before (g == m.from) (renamed_twice pairs before g)
+
+gates_twice : (pairs before : List Relabelling) (gates : List ℕ) →
+    map (renamed pairs) (map (renamed before) gates) ≡ map (renamed (after pairs before)) gates
+gates_twice pairs before [] = refl
+gates_twice pairs before (g ∷ gates) =
+    ap (λ h. h ∷ map (renamed pairs) (map (renamed before) gates)) (sym (renamed_twice pairs before g))
+    ∙ ap (λ hs. renamed (after pairs before) g ∷ hs) (gates_twice pairs before gates)
+
+-- three relabellings are grouped either way
+grouped : (pairs middle before : List Relabelling) → after pairs (after middle before) ≡ after (after pairs middle) before
+grouped pairs middle [] = refl
+grouped pairs middle (m ∷ before) =
+    ap (λ k. record { from = m.from; to = k } ∷ after pairs (after middle before)) (sym (renamed_twice pairs middle m.to))
+    ∙ ap (λ l. record { from = m.from; to = renamed (after pairs middle) m.to } ∷ l) (grouped pairs middle before)
+
+-- two tidyings are one
+pub tidied_twice : (b : Behaviour) (pairs before : List Relabelling) → tidied pairs (tidied before b) ≡ tidied (after pairs before) b
+tidied_twice (relabel first b) pairs before =
+    tidied_twice b pairs (after before first) ∙ ap (λ l. tidied l b) (grouped pairs before first)
+tidied_twice (call p gates terms) pairs before = ap (λ gs. call p gs terms) (gates_twice pairs before gates)
+tidied_twice stop pairs before = refl
+tidied_twice (exit fields) pairs before = refl
+tidied_twice (inner b) pairs before = refl
+tidied_twice (action g fields p b) pairs before = refl
+tidied_twice (choice b c) pairs before = refl
+tidied_twice (guarded p b) pairs before = refl
+tidied_twice (bound bindings b) pairs before = refl
+tidied_twice (value_choice x b) pairs before = refl
+tidied_twice (gate_choice g gates b) pairs before = refl
+tidied_twice (parallel gates b c) pairs before = refl
+tidied_twice (hide gates b) pairs before = refl
+tidied_twice (enable b xs c) pairs before = refl
+tidied_twice (disable b c) pairs before = refl
+
+same_gates : (gates : List ℕ) → map (renamed []) gates ≡ gates
+same_gates [] = refl
+same_gates (g ∷ gates) = ap (λ l. g ∷ l) (same_gates gates)
+
+-- a call is relabelled in its gates, by an empty relabelling too
+pub relabelled_call : (pairs : List Relabelling) (b : Behaviour) → IsCall b → relabelled_by pairs b ≡ tidied pairs b
+relabelled_call [] (call p gates terms) h = ap (λ gs. call p gs terms) (sym (same_gates gates))
+relabelled_call (m ∷ pairs) b h = refl
+relabelled_call [] _ h = absurd h
+
+-- an origin under a relabelling
+pub tidied_leaf : (pairs before : List Relabelling) (b : Behaviour) → tidied pairs (relabelled_by before b) ≡ tidied (after pairs before)
+    b
+tidied_leaf pairs [] b = refl
+tidied_leaf pairs (m ∷ before) b = tidied_twice b pairs (m ∷ before)

@@ -1,0 +1,8 @@
+pub mod Origins
+pub mod Rests
+pub mod Shapes
+pub mod Constructs
+pub mod Generations
+pub mod Posting
+pub mod Differences
+pub mod Agreements
