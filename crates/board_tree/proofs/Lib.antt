@@ -1,8 +1,5 @@
-pub mod Differing
-pub mod Finding
-pub mod Growing
+pub mod Going
 pub mod Moving
-pub mod Posts
 pub mod Starting
 pub mod Stepping
-pub mod Tidying
+pub mod Untouched

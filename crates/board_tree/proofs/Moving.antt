@@ -13,15 +13,19 @@ use Rattle.code_behaviours.specs.Parts.{behaviour_at}
 use Rattle.code_behaviours.specs.Values.{assignment, values_for}
 use Rattle.code_behaviours.proofs.Handing.{handed_on_values_join}
 use Rattle.substitution_laws.proofs.Nothing.{empty_many, empty_substitutions_change_nothing}
-use Rattle.board_tree.specs.Generations.{IsFresh}
-use Rattle.board_tree.specs.Origins.{scoped, meaning}
-use Rattle.board_tree.specs.Rests.{Way, Fills, slots_of, done_in, left_in}
-use Rattle.board_tree.specs.Shapes.{Held, Shape, leaf, over, between, Unary, hidden, relabelled, enabled, Binary, choosing, beside}
-use Rattle.board_tree.specs.Shapes.{disabling}
-use Rattle.board_tree.specs.Shapes.{under, first_of, second_of, stands_for, IsRight, IsWorkOf}
-use Rattle.board_tree.specs.Steps.{IsDone, Follows, Becomes, Moves, Acts, IsLeaf, Suits}
-use Rattle.board_tree.proofs.Growing.{fresh_goes, over_goes, both_go, first_goes, second_goes, fresh_after_over, fresh_after_first}
-use Rattle.board_tree.proofs.Growing.{fresh_after_second}
+use Rattle.tree_nodes.specs.Generations.{IsFresh}
+use Rattle.tree_nodes.specs.Origins.{scoped, meaning}
+use Rattle.tree_nodes.specs.Rests.{Way, Fills, slots_of, done_in, left_in}
+use Rattle.tree_nodes.specs.Shapes.{Held, Shape, leaf, ended, over, between, Unary, hidden, relabelled, enabled, Binary, choosing, beside}
+use Rattle.tree_nodes.specs.Shapes.{disabling}
+use Rattle.tree_nodes.specs.Shapes.{under, first_of, second_of, stands_for, IsRight, IsWorkOf}
+use Rattle.tree_nodes.specs.Constructs.{IsLeaf, IsTidy}
+use Rattle.board_tree.specs.Keeping.{IsUntouched}
+use Rattle.board_tree.specs.Steps.{IsDone, Follows, Becomes, Moves, Acts, Suits}
+use Rattle.board_tree.proofs.Going.{fresh_goes, over_goes, Splits, both_go, first_goes, second_goes, fresh_after_over}
+use Rattle.board_tree.proofs.Going.{fresh_after_first, fresh_after_second}
+use Rattle.board_tree.proofs.Untouched.{never_in_leaf, never_in_left_choice, never_in_right_choice, never_enabled, never_ended}
+use Rattle.board_tree.proofs.Untouched.{never_taken, never_unsuited, never_tidied, tidy_unrelabelled}
 
 module _ (program : Program) where
   -- what stays is closed
@@ -43,6 +47,9 @@ module _ (program : Program) where
   becomes_at : (s t u v : Shape) (d : Derivation) (a : Action) → s ≡ u → t ≡ v → Becomes program u d a v → Becomes program s d a t
   becomes_at s t u v d a e f b =
       subst (λ z. Becomes program z d a t) (sym e) (subst (λ z. Becomes program u d a z) (sym f) b)
+
+  same_action : (s t : Shape) (d : Derivation) (a b : Action) → b ≡ a → Becomes program s d a t → Becomes program s d b t
+  same_action s t d a b k m = subst (λ v. Becomes program s d v t) (sym k) m
 
   -- One lemma for each row: what the operator becomes where its parts do.
 
@@ -199,29 +206,44 @@ module _ (program : Program) where
   follows_suits (over (relabelled pairs) x) (rel d) l f = tt
   follows_suits _ _ l f = absurd f
 
-  pub unsuited : (place : List ℕ) (low : ℕ) (s t : Shape) (d : Derivation) (a : Action) → (IsLeaf s → ⊥) → (Suits d s → ⊥) →
-      IsFresh place low low t → Moves program place s d a t low low
-  unsuited place low s t d a l n f = record {
+  pub unsuited : (place : List ℕ) (low high : ℕ) (s t : Shape) (d : Derivation) (a : Action) → (IsLeaf s → ⊥) → (Suits d s → ⊥) →
+      IsFresh place low high t → Moves program place s d a t low high
+  unsuited place low high s t d a l n f = record {
     becomes = record { becomes = λ right follows. absurd (n (follows_suits s d l follows)) };
-    goes = fresh_goes place low low s t f;
+    goes = fresh_goes (IsUntouched d) place low high s t (never_unsuited d s n) f;
   }
+
+  -- a tidy tree stays under a relabelling
+  tidy_relabels : (pairs : List Relabelling) (z : Shape) → IsTidy z →
+      tidied pairs (stands_for program z) ≡ relabel pairs (stands_for program z)
+  tidy_relabels pairs ended t = refl
+  tidy_relabels pairs (over (hidden gates) x) t = refl
+  tidy_relabels pairs (over (enabled xs node values) x) t = refl
+  tidy_relabels pairs (between choosing x y) t = refl
+  tidy_relabels pairs (between (beside gates) x y) t = refl
+  tidy_relabels pairs (between disabling x y) t = refl
+  tidy_relabels pairs _ t = absurd t
 
   -- Rows with their generations.
 
-  pub moves_choice_left : (place inner : List ℕ) (low mid high : ℕ) (x y z s t : Shape) (d : Derivation) (a : Action) →
+  pub moves_choice_left : (place inner : List ℕ) (low mid high : ℕ) (x y z s t : Shape) (d : Derivation) (a b : Action) → b ≡ a →
       s ≡ between choosing x y → Moves program inner x d a z low mid → stands_for program t ≡ stands_for program z →
-      IsFresh place mid high t → Moves program place s (chl d) a t low high
-  moves_choice_left place inner low mid high x y z s t d a e m i f = record {
-    becomes = becomes_at s t (between choosing x y) t (chl d) a e refl (choice_left x y z t d a i m.becomes);
-    goes = fresh_after_first place inner low mid high choosing x y z s t e m.goes f;
+      IsFresh place mid high t → Moves program place s (chl d) b t low high
+  moves_choice_left place inner low mid high x y z s t d a b k e m i f = record {
+    becomes = becomes_at s t (between choosing x y) t (chl d) b e refl (choice_left x y z t d b i (same_action x z d a b k m.becomes));
+    goes =
+        fresh_after_first (IsUntouched (chl d)) (IsUntouched d) place inner low mid high choosing x y z s t e (never_in_left_choice d s)
+        m.goes f;
   }
 
-  pub moves_choice_right : (place inner : List ℕ) (low mid high : ℕ) (x y z s t : Shape) (d : Derivation) (a : Action) →
+  pub moves_choice_right : (place inner : List ℕ) (low mid high : ℕ) (x y z s t : Shape) (d : Derivation) (a b : Action) → b ≡ a →
       s ≡ between choosing x y → Moves program inner y d a z low mid → stands_for program t ≡ stands_for program z →
-      IsFresh place mid high t → Moves program place s (chr d) a t low high
-  moves_choice_right place inner low mid high x y z s t d a e m i f = record {
-    becomes = becomes_at s t (between choosing x y) t (chr d) a e refl (choice_right x y z t d a i m.becomes);
-    goes = fresh_after_second place inner low mid high choosing x y z s t e m.goes f;
+      IsFresh place mid high t → Moves program place s (chr d) b t low high
+  moves_choice_right place inner low mid high x y z s t d a b k e m i f = record {
+    becomes = becomes_at s t (between choosing x y) t (chr d) b e refl (choice_right x y z t d b i (same_action y z d a b k m.becomes));
+    goes =
+        fresh_after_second (IsUntouched (chr d)) (IsUntouched d) place inner low mid high choosing x y z s t e
+        (never_in_right_choice d s) m.goes f;
   }
 
   pub moves_left_alone : (place inner : List ℕ) (low high : ℕ) (gates : Synchronised) (x y z s t : Shape) (d : Derivation) (a : Action) →
@@ -230,7 +252,12 @@ module _ (program : Program) where
   moves_left_alone place inner low high gates x y z s t d a p e f m = record {
     becomes =
         becomes_at s t (between (beside gates) x y) (between (beside gates) z y) (parl d) a e f (left_alone gates x y z d a m.becomes);
-    goes = first_goes place inner low high (beside gates) x y z s t p e f m.goes;
+    goes = first_goes (IsUntouched (parl d)) (IsUntouched d) place inner low high (beside gates) x y z s t p e f (record {
+      into_first = λ up u. u;
+      from_first = λ up u. u;
+      into_second = λ up u. tt;
+      from_second = λ up u. tt;
+    }) m.goes;
   }
 
   pub moves_right_alone : (place inner : List ℕ) (low high : ℕ) (gates : Synchronised) (x y w s t : Shape) (d : Derivation) (a : Action) →
@@ -239,7 +266,12 @@ module _ (program : Program) where
   moves_right_alone place inner low high gates x y w s t d a p e f m = record {
     becomes =
         becomes_at s t (between (beside gates) x y) (between (beside gates) x w) (parr d) a e f (right_alone gates x y w d a m.becomes);
-    goes = second_goes place inner low high (beside gates) x y w s t p e f m.goes;
+    goes = second_goes (IsUntouched (parr d)) (IsUntouched d) place inner low high (beside gates) x y w s t p e f (record {
+      into_first = λ up u. tt;
+      from_first = λ up u. tt;
+      into_second = λ up u. u;
+      from_second = λ up u. u;
+    }) m.goes;
   }
 
   pub moves_both : (place first second : List ℕ) (low mid high : ℕ) (gates : Synchronised) (x y z w s t : Shape) (d k : Derivation)
@@ -250,7 +282,14 @@ module _ (program : Program) where
     becomes =
         becomes_at s t (between (beside gates) x y) (between (beside gates) z w) (both d k) a e f
         (both_together gates x y z w d k a b m.becomes n.becomes);
-    goes = both_go place first second low mid high (beside gates) x y z w s t p q e f m.goes n.goes;
+    goes =
+        both_go (IsUntouched (both d k)) (IsUntouched d) (IsUntouched k) place first second low mid high (beside gates) x y z w s t p q e
+        f (record {
+          into_first = λ up u. u;
+          from_first = λ up u. u;
+          into_second = λ up u. u;
+          from_second = λ up u. u;
+        }) m.goes n.goes;
   }
 
   pub moves_hidden : (place inner : List ℕ) (low high : ℕ) (gates : List ℕ) (x z s t : Shape) (d : Derivation) (a : Action) →
@@ -258,7 +297,9 @@ module _ (program : Program) where
       Moves program inner x d a z low high → Moves program place s (hiding d) Inner t low high
   moves_hidden place inner low high gates x z s t d a p e f m = record {
     becomes = becomes_at s t (over (hidden gates) x) (over (hidden gates) z) (hiding d) Inner e f (hidden_inside gates x z d a m.becomes);
-    goes = over_goes place inner low high (hidden gates) x z s t p e f m.goes;
+    goes =
+        over_goes (IsUntouched (hiding d)) (IsUntouched d) place inner low high (hidden gates) x z s t p e f (λ up n a u. u) (λ up u. u)
+        m.goes;
   }
 
   pub moves_passed : (place inner : List ℕ) (low high : ℕ) (gates : List ℕ) (x z s t : Shape) (d : Derivation) (a : Action) →
@@ -266,31 +307,35 @@ module _ (program : Program) where
       Moves program inner x d a z low high → Moves program place s (pass d) a t low high
   moves_passed place inner low high gates x z s t d a p e f m = record {
     becomes = becomes_at s t (over (hidden gates) x) (over (hidden gates) z) (pass d) a e f (let_pass gates x z d a m.becomes);
-    goes = over_goes place inner low high (hidden gates) x z s t p e f m.goes;
+    goes =
+        over_goes (IsUntouched (pass d)) (IsUntouched d) place inner low high (hidden gates) x z s t p e f (λ up n a u. u) (λ up u. u)
+        m.goes;
   }
 
   pub moves_relabelled : (place inner : List ℕ) (low high : ℕ) (pairs : List Relabelling) (x z s t : Shape) (d : Derivation)
       (a b : Action) →
       inner ≡ place ++ 0 ∷ [] → s ≡ over (relabelled pairs) x → t ≡ over (relabelled pairs) z → b ≡ renamed_action pairs a →
-      tidied pairs (stands_for program z) ≡ relabel pairs (stands_for program z) →
-      Moves program inner x d a z low high →
-      Moves program place s (rel d) b t low high
+      IsTidy z → Moves program inner x d a z low high → Moves program place s (rel d) b t low high
   moves_relabelled place inner low high pairs x z s t d a b p e f k i m = record {
     becomes =
         becomes_at s t (over (relabelled pairs) x) t (rel d) b e refl
-        (renamed_step pairs x z t d a b k (ap (stands_for program) f ∙ sym i) m.becomes);
-    goes = over_goes place inner low high (relabelled pairs) x z s t p e f m.goes;
+        (renamed_step pairs x z t d a b k (ap (stands_for program) f ∙ sym (tidy_relabels pairs z i)) m.becomes);
+    goes =
+        over_goes (IsUntouched (rel d)) (IsUntouched d) place inner low high (relabelled pairs) x z s t p e f
+        (λ up n a u. (u, tidy_unrelabelled z up n i a)) (λ up u. u.0) m.goes;
   }
 
   pub moves_tidied : (place inner : List ℕ) (low mid high : ℕ) (pairs : List Relabelling) (x z s t : Shape) (d : Derivation)
       (a b : Action) →
-      s ≡ over (relabelled pairs) x → b ≡ renamed_action pairs a → Moves program inner x d a z low mid →
+      s ≡ over (relabelled pairs) x → b ≡ renamed_action pairs a → (IsTidy z → ⊥) → Moves program inner x d a z low mid →
       stands_for program t ≡ tidied pairs (stands_for program z) →
       IsFresh place mid high t →
       Moves program place s (rel d) b t low high
-  moves_tidied place inner low mid high pairs x z s t d a b e k m i f = record {
+  moves_tidied place inner low mid high pairs x z s t d a b e k untidy m i f = record {
     becomes = becomes_at s t (over (relabelled pairs) x) t (rel d) b e refl (renamed_step pairs x z t d a b k i m.becomes);
-    goes = fresh_after_over place inner low mid high (relabelled pairs) x z s t e m.goes f;
+    goes =
+        fresh_after_over (IsUntouched (rel d)) (IsUntouched d) place inner low mid high (relabelled pairs) x z s t e
+        (never_tidied pairs x z s d e untidy) m.goes f;
   }
 
   pub moves_enabling : (place inner : List ℕ) (low high : ℕ) (xs : List Variable) (node : ℕ) (values : List (ℕ × List ℕ))
@@ -302,7 +347,9 @@ module _ (program : Program) where
     becomes =
         becomes_at s t (over (enabled xs node values) x) (over (enabled xs node values) z) (enstep d) a e f
         (enabling_step xs node values x z d a m.becomes);
-    goes = over_goes place inner low high (enabled xs node values) x z s t p e f m.goes;
+    goes =
+        over_goes (IsUntouched (enstep d)) (IsUntouched d) place inner low high (enabled xs node values) x z s t p e f (λ up n a u. u)
+        (λ up u. u) m.goes;
   }
 
   pub moves_enabled : (place inner : List ℕ) (low mid high : ℕ) (xs : List Variable) (node : ℕ) (values : List (ℕ × List ℕ))
@@ -315,7 +362,9 @@ module _ (program : Program) where
     becomes =
         becomes_at s t (over (enabled xs node values) x) t (enend d) Inner e refl
         (enabling_end xs node values x z t d handed i (subst (λ b. Becomes program x d b z) is m.becomes));
-    goes = fresh_after_over place inner low mid high (enabled xs node values) x z s t e m.goes f;
+    goes =
+        fresh_after_over (IsUntouched (enend d)) (IsUntouched d) place inner low mid high (enabled xs node values) x z s t e
+        (λ l. never_enabled d s) m.goes f;
   }
 
   pub never_ends : (a : Action) → IsNoEnd (kind_of a) → (v : List (List ℕ)) → Exit v ≡ a → ⊥
@@ -329,7 +378,9 @@ module _ (program : Program) where
   moves_unended place inner low mid high xs node values x z s t d a b e m never f = record {
     becomes =
         becomes_at s t (over (enabled xs node values) x) t (enend d) b e refl (no_end xs node values x z t d a b never m.becomes);
-    goes = fresh_after_over place inner low mid high (enabled xs node values) x z s t e m.goes f;
+    goes =
+        fresh_after_over (IsUntouched (enend d)) (IsUntouched d) place inner low mid high (enabled xs node values) x z s t e
+        (λ l. never_enabled d s) m.goes f;
   }
 
   pub moves_disabling : (place inner : List ℕ) (low high : ℕ) (x y z s t : Shape) (d : Derivation) (a : Action) →
@@ -337,23 +388,32 @@ module _ (program : Program) where
       Moves program inner x d a z low high → Moves program place s (disstep d) a t low high
   moves_disabling place inner low high x y z s t d a p e f m = record {
     becomes = becomes_at s t (between disabling x y) (between disabling z y) (disstep d) a e f (disabling_step x y z d a m.becomes);
-    goes = first_goes place inner low high disabling x y z s t p e f m.goes;
+    goes = first_goes (IsUntouched (disstep d)) (IsUntouched d) place inner low high disabling x y z s t p e f (record {
+      into_first = λ up u. u;
+      from_first = λ up u. u;
+      into_second = λ up u. tt;
+      from_second = λ up u. tt;
+    }) m.goes;
   }
 
-  pub moves_disabled : (place inner : List ℕ) (low mid high : ℕ) (x y z s t : Shape) (d : Derivation) (a : Action) →
+  pub moves_disabled : (place inner : List ℕ) (low mid high : ℕ) (x y z s t : Shape) (d : Derivation) (a b : Action) → b ≡ a →
       s ≡ between disabling x y → Moves program inner x d a z low mid → stands_for program t ≡ stands_for program z →
-      IsFresh place mid high t → Moves program place s (disend d) a t low high
-  moves_disabled place inner low mid high x y z s t d a e m i f = record {
-    becomes = becomes_at s t (between disabling x y) t (disend d) a e refl (disabling_end x y z t d a i m.becomes);
-    goes = fresh_after_first place inner low mid high disabling x y z s t e m.goes f;
+      IsFresh place mid high t → Moves program place s (disend d) b t low high
+  moves_disabled place inner low mid high x y z s t d a b k e m i f = record {
+    becomes = becomes_at s t (between disabling x y) t (disend d) b e refl (disabling_end x y z t d b i (same_action x z d a b k m.becomes));
+    goes =
+        fresh_after_first (IsUntouched (disend d)) (IsUntouched d) place inner low mid high disabling x y z s t e (never_ended d s) m.goes
+        f;
   }
 
-  pub moves_taken : (place inner : List ℕ) (low mid high : ℕ) (x y z s t : Shape) (d : Derivation) (a : Action) →
+  pub moves_taken : (place inner : List ℕ) (low mid high : ℕ) (x y z s t : Shape) (d : Derivation) (a b : Action) → b ≡ a →
       s ≡ between disabling x y → Moves program inner y d a z low mid → stands_for program t ≡ stands_for program z →
-      IsFresh place mid high t → Moves program place s (distake d) a t low high
-  moves_taken place inner low mid high x y z s t d a e m i f = record {
-    becomes = becomes_at s t (between disabling x y) t (distake d) a e refl (disabling_taken x y z t d a i m.becomes);
-    goes = fresh_after_second place inner low mid high disabling x y z s t e m.goes f;
+      IsFresh place mid high t → Moves program place s (distake d) b t low high
+  moves_taken place inner low mid high x y z s t d a b k e m i f = record {
+    becomes = becomes_at s t (between disabling x y) t (distake d) b e refl (disabling_taken x y z t d b i (same_action y z d a b k m.becomes));
+    goes =
+        fresh_after_second (IsUntouched (distake d)) (IsUntouched d) place inner low mid high disabling x y z s t e (never_taken d s)
+        m.goes f;
   }
 
   -- Nodes.
@@ -382,7 +442,7 @@ module _ (program : Program) where
       becomes = λ right follows.
           m.acts (subst (IsWorkOf program n.source) w (right [] n refl)) (subst (λ k. IsDone k d) w follows);
     });
-    goes = fresh_goes place low high s t f;
+    goes = fresh_goes (IsUntouched d) place low high s t (never_in_leaf d n s e) f;
   }
 
   pub moves_waiting : (place : List ℕ) (low high : ℕ) (n : Held) (s t : Shape) (d : Derivation) (a : Action) →
@@ -391,5 +451,5 @@ module _ (program : Program) where
     becomes = becomes_at s t (leaf n) t d a e refl (record {
       becomes = λ right follows. absurd (subst (λ k. IsDone k d) w follows);
     });
-    goes = fresh_goes place low high s t f;
+    goes = fresh_goes (IsUntouched d) place low high s t (never_in_leaf d n s e) f;
   }

@@ -8,9 +8,9 @@ use Rattle.code_behaviours.specs.Parts.{behaviour_at}
 use Rattle.code_behaviours.specs.Values.{assignment}
 use Rattle.code_behaviours.proofs.Standing.{behaviours_stand}
 use Rattle.substitution_laws.proofs.Nothing.{empty_substitutions_change_nothing}
-use Rattle.board_tree.specs.Generations.{IsFresh, IsSound, ArePlaced}
-use Rattle.board_tree.specs.Origins.{scoped}
-use Rattle.board_tree.specs.Shapes.{Shape, AllWait}
+use Rattle.tree_nodes.specs.Generations.{IsFresh, IsSound, ArePlaced}
+use Rattle.tree_nodes.specs.Origins.{scoped}
+use Rattle.tree_nodes.specs.Shapes.{Shape, AllWait}
 
 -- without values a behaviour of the code is itself
 pub scoped_nothing : (program : Program) (n : ℕ) → scoped program n [] ≡ behaviour_at program n

@@ -3,10 +3,10 @@ use Rattle.std.proofs.Common.{ℕ, ◌≡◌, ⊎_elim, List, [], None, sym, sub
 use Rattle.spec_core.specs.Code.{Program}
 use Rattle.rule_model.specs.declared.action.Action.{Action}
 use Rattle.rule_model.specs.Derivations.{Derivation}
-use Rattle.board_tree.specs.declared.origin.Gen.{Gen}
-use Rattle.board_tree.specs.Differences.{IsDifference}
-use Rattle.board_tree.specs.Generations.{ArePlaced, IsSound}
-use Rattle.board_tree.specs.Shapes.{Held, Shape, IsWorkOf, IsRight}
+use Rattle.tree_nodes.specs.declared.origin.Gen.{Gen}
+use Rattle.tree_nodes.specs.Differences.{IsDifference}
+use Rattle.tree_nodes.specs.Generations.{ArePlaced, IsSound}
+use Rattle.tree_nodes.specs.Shapes.{Held, Shape, IsWorkOf, IsRight}
 use Rattle.board_tree.specs.Steps.{Follows, Moves, Moved}
 use Rattle.board_tree.specs.Views.{IsStep}
 
@@ -22,11 +22,11 @@ module _ (program : Program) (old new : Shape) (d : Derivation) (next later : �
       record {
         apart = v.apart;
         below = λ up n h.
-            ⊎_elim (λ l. let b = s.below up n l in let k = v.more in omega (arith, b, k)) (λ r. r.below) (v.keeps up n h);
+            ⊎_elim (λ l. let b = s.below up n l.0 in let k = v.more in omega (arith, b, k)) (λ r. r.below) (v.keeps up n h);
       }
 
   pub moved_placed : IsSound old next → ArePlaced [] old → Moved program [] old d new next later → ArePlaced [] new
-  moved_placed s p m up n h = ⊎_elim (λ l. p up n l) (λ r. r.placed) ((m.moves.goes.advances s).keeps up n h)
+  moved_placed s p m up n h = ⊎_elim (λ l. p up n l.0) (λ r. r.placed) ((m.moves.goes.advances s).keeps up n h)
 
   waits_right : (n : Held) → n.work ≡ None → IsWorkOf program n.source n.work
   waits_right n e = subst (IsWorkOf program n.source) (sym e) tt
@@ -41,7 +41,8 @@ module _ (program : Program) (old new : Shape) (d : Derivation) (next later : �
         stands = λ right follows e c h. sym (m.moves.becomes.becomes right follows e c h).1;
         more = v.more;
         keeps = v.keeps;
-        right = λ right up n h. ⊎_elim (λ l. right up n l) (λ r. waits_right n r.waits) (v.keeps up n h);
+        leaves = v.leaves;
+        right = λ right up n h. ⊎_elim (λ l. right up n l.0) (λ r. waits_right n r.waits) (v.keeps up n h);
         ended = ended;
         began = began;
       }

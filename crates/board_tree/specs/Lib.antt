@@ -1,8 +1,3 @@
-pub mod Origins
-pub mod Rests
-pub mod Shapes
-pub mod Generations
-pub mod Posting
+pub mod Keeping
 pub mod Steps
-pub mod Differences
 pub mod Views

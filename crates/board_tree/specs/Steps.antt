@@ -8,10 +8,11 @@ use Rattle.rule_model.specs.Derivations.{Derivation, pre, int, exiting, chl, chr
 use Rattle.rule_model.specs.Derivations.{pass}
 use Rattle.rule_model.specs.Derivations.{enstep, enend, disstep, disend, distake, calling, rel}
 use Rattle.rule_model.specs.Derives.{Derives}
-use Rattle.board_tree.specs.Generations.{Goes}
-use Rattle.board_tree.specs.Rests.{Way, Fills, IsWayOf}
-use Rattle.board_tree.specs.Shapes.{Shape, leaf, over, between, hidden, relabelled, enabled, choosing, beside, disabling}
-use Rattle.board_tree.specs.Shapes.{stands_for, IsRight}
+use Rattle.board_tree.specs.Keeping.{IsUntouched, Goes}
+use Rattle.tree_nodes.specs.Rests.{Way, Fills, IsWayOf}
+use Rattle.tree_nodes.specs.Shapes.{Shape, leaf, over, between, hidden, relabelled, enabled, choosing, beside, disabling}
+use Rattle.tree_nodes.specs.Shapes.{stands_for, IsRight}
+use Rattle.tree_nodes.specs.Constructs.{IsChoosing, IsBeside, IsDisabling, IsHidden, IsRelabelled, IsEnabled}
 
 -- one of the ways to act is filled by the tree
 abbrev pub AnyFilled : List Way → Derivation → Type 0
@@ -50,7 +51,7 @@ pub record Becomes (program : Program) (old : Shape) (d : Derivation) (a : Actio
 pub record Moves (program : Program) (place : List ℕ) (old : Shape) (d : Derivation) (a : Action) (new : Shape) (low high : ℕ)
     : Type 0 where
   pub becomes : Becomes program old d a new
-  pub goes : Goes place low high old new
+  pub goes : Goes (IsUntouched d) place low high old new
 
 -- the same by some action
 pub record Moved (program : Program) (place : List ℕ) (old : Shape) (d : Derivation) (new : Shape) (low high : ℕ) : Type 0 where
@@ -62,36 +63,6 @@ pub record Acts (program : Program) (b : Behaviour) (ways : List Way) (d : Deriv
   pub acts : Each (IsWayOf program b) ways → AnyFilled ways d → (e : Action) (c : Behaviour) →
       Derives program b d e c →
       (e ≡ a) × (c ≡ stands_for program new)
-
--- the constructs of a tree
-
-abbrev pub IsLeaf : Shape → Type 0
-IsLeaf (leaf n) = Unit {0}
-IsLeaf _ = ⊥
-
-abbrev pub IsChoosing : Shape → Type 0
-IsChoosing (between choosing x y) = Unit {0}
-IsChoosing _ = ⊥
-
-abbrev pub IsBeside : Shape → Type 0
-IsBeside (between (beside gates) x y) = Unit {0}
-IsBeside _ = ⊥
-
-abbrev pub IsDisabling : Shape → Type 0
-IsDisabling (between disabling x y) = Unit {0}
-IsDisabling _ = ⊥
-
-abbrev pub IsHidden : Shape → Type 0
-IsHidden (over (hidden gates) x) = Unit {0}
-IsHidden _ = ⊥
-
-abbrev pub IsRelabelled : Shape → Type 0
-IsRelabelled (over (relabelled pairs) x) = Unit {0}
-IsRelabelled _ = ⊥
-
-abbrev pub IsEnabled : Shape → Type 0
-IsEnabled (over (enabled xs right values) x) = Unit {0}
-IsEnabled _ = ⊥
 
 -- the operator is the one that the rule is about
 abbrev pub Suits : Derivation → Shape → Type 0

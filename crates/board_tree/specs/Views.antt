@@ -5,12 +5,12 @@ use Rattle.rule_model.specs.declared.action.Action.{Action}
 use Rattle.rule_model.specs.Behaviours.{Behaviour}
 use Rattle.rule_model.specs.Derivations.{Derivation}
 use Rattle.rule_model.specs.Derives.{Derives}
-use Rattle.board_tree.specs.declared.branch.Branch.{Branch}
-use Rattle.board_tree.specs.declared.origin.Gen.{Gen}
+use Rattle.tree_nodes.specs.declared.branch.Branch.{Branch}
+use Rattle.tree_nodes.specs.declared.origin.Gen.{Gen}
 use Rattle.board_tree.specs.declared.ready.Ready.{Ready}
-use Rattle.board_tree.specs.Differences.{IsDifference}
-use Rattle.board_tree.specs.Generations.{Keeps}
-use Rattle.board_tree.specs.Shapes.{Shape, shape_of, stands_for, IsRight}
+use Rattle.tree_nodes.specs.Differences.{IsDifference}
+use Rattle.board_tree.specs.Keeping.{IsUntouched, Keeps, Leaves}
+use Rattle.tree_nodes.specs.Shapes.{Shape, shape_of, stands_for, IsRight}
 use Rattle.board_tree.specs.Steps.{Moved, Follows}
 
 -- the tree, the next generation, what the last step ended and began, and the tree that stands ready for the next step
@@ -32,16 +32,17 @@ IsReserved program t next d (Some r) =
     IsDifference r.came.items (shape_of r.branch) t
 
 -- By these rules the first tree becomes the second. Where each node that takes part is expanded by what its origin can do, the second
--- stands for what the behaviour becomes, and its nodes are expanded in the same way. Each of its nodes was there before, with its origin,
--- its place, the constructs above it and its work, or is new and waits, and the lists are those of the generations that ended and that
--- began.
+-- stands for what the behaviour becomes, and its nodes are expanded in the same way. The nodes that the step leaves untouched stay, with
+-- their generations, origins, places, the constructs above them and their work, and each other node is new and waits. The lists are those
+-- of the generations that ended and that began.
 pub record IsStep (program : Program) (old : Shape) (next : ℕ) (d : Derivation) (new : Shape) (later : ℕ) (gone came : List Gen)
     : Type 0 where
   pub stands : IsRight program old → Follows old d → (a : Action) (c : Behaviour) →
       Derives program (stands_for program old) d a c →
       stands_for program new ≡ c
   pub more : next ≤ later
-  pub keeps : Keeps [] next later old new
+  pub keeps : Keeps (IsUntouched d) [] next later old new
+  pub leaves : Leaves (IsUntouched d) old new
   pub right : IsRight program old → IsRight program new
   pub ended : IsDifference gone old new
   pub began : IsDifference came new old

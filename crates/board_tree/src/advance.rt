@@ -4,11 +4,10 @@ ghost use Rattle.std.specs.Prelude.{◌≡◌, IfOk};
 ghost use Rattle.spec_core.specs.Code.{program_of};
 ghost use Rattle.spec_core.specs.Ready.{IsReady};
 ghost use Rattle.rule_model.specs.Derivations.{derivation_of};
-ghost use Rattle.board_tree.specs.Shapes.{shape_of};
-ghost use Rattle.board_tree.specs.Steps.{Moves, IsLeaf};
+ghost use Rattle.tree_nodes.specs.Shapes.{shape_of};
+ghost use Rattle.board_tree.specs.Steps.{Moves};
+ghost use Rattle.tree_nodes.specs.Constructs.{IsLeaf};
 
-use crate::branch::Branch;
-use crate::fresh::part_of;
 use crate::leaf::{Advanced, advance_node};
 use crate::operators::{
     both_together, choice_left, choice_right, disabling_end, disabling_step, disabling_taken,
@@ -19,6 +18,8 @@ use rule_model::rules::Rules;
 use spec_core::code::Checked;
 use spec_core::memory::Memory;
 use std::alloc::Global;
+use tree_nodes::branch::Branch;
+use tree_nodes::fresh::part_of;
 
 /// The tree after the step by these rules: operators that stay keep their nodes, and what the step reaches has new ones. It recurs as deep
 /// as the operators nest.

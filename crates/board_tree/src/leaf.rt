@@ -4,24 +4,24 @@ ghost use Rattle.std.specs.Prelude.{◌≡◌, ◌∷◌, ◌↔◌, IfOk, IsTru
 ghost use Rattle.spec_core.specs.Code.{program_of};
 ghost use Rattle.spec_core.specs.Ready.{IsReady};
 ghost use Rattle.rule_model.specs.Derivations.{derivation_of};
-ghost use Rattle.board_tree.specs.Generations.{IsFresh};
-ghost use Rattle.board_tree.specs.Origins.{source_of, meaning};
-ghost use Rattle.board_tree.specs.Rests.{way_of, ways_of, rows_of, slots_of, Fills};
-ghost use Rattle.board_tree.specs.Shapes.{shape_of, held_of, leaf};
+ghost use Rattle.tree_nodes.specs.Generations.{IsFresh};
+ghost use Rattle.tree_nodes.specs.Origins.{source_of, meaning};
+ghost use Rattle.tree_nodes.specs.Rests.{way_of, ways_of, rows_of, slots_of, Fills};
+ghost use Rattle.tree_nodes.specs.Shapes.{shape_of, held_of, leaf};
 ghost use Rattle.board_tree.specs.Steps.{Acts, Moves};
 
-use crate::branch::Branch;
-use crate::expansion::{Alternative, Expansion};
-use crate::fresh::{Fresh, nothing};
-use crate::left::{done_in, unfolded_rest};
-use crate::node::Node;
-use crate::origin::Origin;
-use crate::rows::{are_filled, put_rows, put_slots};
 use rule_model::action::Action;
 use rule_model::rules::{Rules, Slot};
 use spec_core::code::Checked;
 use spec_core::memory::Memory;
 use std::alloc::Global;
+use tree_nodes::branch::Branch;
+use tree_nodes::expansion::{Alternative, Expansion};
+use tree_nodes::fresh::{Fresh, nothing};
+use tree_nodes::left::{done_in, unfolded_rest};
+use tree_nodes::node::Node;
+use tree_nodes::origin::Origin;
+use tree_nodes::rows::{are_filled, put_rows, put_slots};
 
 /// What is done, the tree after it, and the next generation.
 #[derive(Drop)]
@@ -29,6 +29,18 @@ pub struct Advanced {
     pub action: Action,
     pub branch: Branch,
     pub next: u128,
+}
+
+/// What comes of a tree of rules by which there is no step: nothing is said of it. It takes no memory.
+pub fn no_step(next: u128, place: &[u32]) -> Advanced
+    ensures fresh { IsFresh place.now next result.next (shape_of result.branch) }
+{
+    let Fresh { branch, next } = nothing(next, place);
+    Advanced {
+        action: Action::Inner,
+        branch,
+        next,
+    }
 }
 
 // Whether a tree of rules, by its rules and its chosen values, fills that of one way to act.
@@ -102,14 +114,7 @@ fn acted_by(
     ensures fresh { IfOk result (λ a. IsFresh place.now next a.next (shape_of a.branch)) }
 {
     match ways {
-        [] => {
-            let Fresh { branch, next } = nothing(next, place);
-            Ok(Advanced {
-                action: Action::Inner,
-                branch,
-                next,
-            })
-        }
+        [] => Ok(no_step(next, place)),
         [first, rest @ ..] => {
             if fills(alloc, first, rules, rows, slots)? {
                 acted(
@@ -153,7 +158,6 @@ fn advance_expanded(
 }
 
 /// The node after a step: what is left of it, unfolded into nodes that wait.
-#[tactic(auto, using(crate::proofs::Moving::moves_waiting))]
 pub fn advance_node(
     alloc: Global,
     checked: &Checked,
@@ -168,14 +172,7 @@ pub fn advance_node(
         a.next) }
 {
     match &node.work {
-        None => {
-            let Fresh { branch, next } = nothing(next, place);
-            Ok(Advanced {
-                action: Action::Inner,
-                branch,
-                next,
-            })
-        }
+        None => Ok(no_step(next, place)),
         Some(expansion) => advance_expanded(alloc, checked, node, expansion, rules, next, place),
     }
 }

@@ -2,19 +2,7 @@
 #![tactic(auto)]
 
 mod advance;
-pub mod branch;
-pub mod expansion;
-mod find;
-pub mod fresh;
-pub mod leaf;
-pub mod left;
-pub mod node;
-pub mod operators;
-pub mod origin;
+mod leaf;
+mod operators;
 pub mod ready;
-pub mod renew;
-pub mod rest;
-pub mod rows;
 pub mod tree;
-pub mod unfold;
-mod view;

@@ -1,23 +1,18 @@
 // Steps of operators: what an operator becomes where its parts do.
 
-ghost use Rattle.std.specs.Prelude.{◌≡◌, ◌++◌, ◌∷◌, [], true, IfOk, List, map};
-ghost use Rattle.spec_core.specs.Code.{Program, Relabelling, program_of, variable_of, relabelling_of, synchronised_of};
+ghost use Rattle.std.specs.Prelude.{◌≡◌, ◌++◌, ◌∷◌, [], IfOk, map};
+ghost use Rattle.spec_core.specs.Code.{program_of, variable_of, relabelling_of, synchronised_of};
 ghost use Rattle.spec_core.specs.Numbers.{gate_number};
 ghost use Rattle.spec_core.specs.Ready.{IsReady};
-ghost use Rattle.rule_model.specs.Behaviours.{relabel};
 ghost use Rattle.rule_model.specs.Derivations.{derivation_of, chl, chr, parl, parr, both, hiding, pass, enstep, enend, disstep, disend};
 ghost use Rattle.rule_model.specs.Derivations.{distake, rel};
-ghost use Rattle.rule_model.specs.Substitution.{tidied};
 ghost use Rattle.code_behaviours.specs.Values.{values_for};
-ghost use Rattle.board_tree.specs.Shapes.{shape_of, stands_for, over, between, hidden, relabelled, enabled, choosing, beside, disabling};
-ghost use Rattle.board_tree.specs.Steps.{Moves, Suits, IsLeaf};
+ghost use Rattle.tree_nodes.specs.Shapes.{shape_of, stands_for, over, between, hidden, relabelled, enabled, choosing, beside, disabling};
+ghost use Rattle.board_tree.specs.Steps.{Moves, Suits};
+ghost use Rattle.tree_nodes.specs.Constructs.{IsLeaf, IsTidy};
+ghost use Rattle.tree_nodes.specs.Generations.{IsFresh};
 
-use crate::branch::{Branch, Double, Single};
-use crate::fresh::{Fresh, nothing};
-use crate::leaf::Advanced;
-use crate::origin::copy_values;
-use crate::renew::{renewed, tidied_branch};
-use crate::unfold::unfold;
+use crate::leaf::{Advanced, no_step};
 use rule_model::action::Action;
 use rule_model::rules::Rules;
 use spec_core::code::{Checked, GateSet};
@@ -26,9 +21,13 @@ use spec_core::memory::Memory;
 use spec_core::value::Value;
 use std::alloc::Global;
 use substitution::relabelling::renamed;
+use tree_nodes::branch::{Branch, Double, Single};
+use tree_nodes::fresh::Fresh;
+use tree_nodes::origin::copy_values;
+use tree_nodes::renew::{renewed, tidied_branch};
+use tree_nodes::unfold::unfold;
 
 /// A tree of rules that doesn't suit the operator: nothing is said of it.
-#[tactic(auto, using(crate::proofs::Moving::unsuited))]
 pub fn unsuited(
     checked: &Checked,
     branch: &Branch,
@@ -41,12 +40,30 @@ pub fn unsuited(
     ensures moves { Moves (program_of checked.now) place.now (shape_of branch.now) (derivation_of rules.now) result.action
         (shape_of result.branch) next result.next }
 {
-    let Fresh { branch, next } = nothing(next, place);
-    Advanced {
-        action: Action::Inner,
+    no_step(next, place)
+}
+
+// What a part becomes, with new nodes.
+fn anew(alloc: Global, checked: &Checked, one: Advanced, place: &[u32]) -> Result<Advanced, Memory>
+    ensures action { IfOk result (λ a. a.action ≡ one.action) }
+    ensures stands { IfOk result (λ a.
+        stands_for (program_of checked.now) (shape_of a.branch) ≡ stands_for (program_of checked.now) (shape_of one.branch)) }
+    ensures fresh { IfOk result (λ a. IsFresh place.now one.next a.next (shape_of a.branch)) }
+{
+    let Advanced {
+        action,
         branch,
         next,
-    }
+    } = one;
+    let Fresh {
+        branch: after,
+        next: high,
+    } = renewed(alloc, checked, &branch, next, place)?;
+    Ok(Advanced {
+        action,
+        branch: after,
+        next: high,
+    })
 }
 
 /// A choice whose left side acts: the other side is lost, and what is left has new nodes.
@@ -67,20 +84,8 @@ pub fn choice_left(
         Moves (program_of checked.now) place.now (between choosing (shape_of left.now) (shape_of right.now))
         (chl (derivation_of d.now)) a.action (shape_of a.branch) low a.next) }
 {
-    let Advanced {
-        action,
-        branch,
-        next,
-    } = one;
-    let Fresh {
-        branch: after,
-        next: high,
-    } = renewed(alloc, checked, &branch, next, place)?;
-    Ok(Advanced {
-        action,
-        branch: after,
-        next: high,
-    })
+    let done = anew(alloc, checked, one, place)?;
+    Ok(done)
 }
 
 /// A choice whose right side acts: the other side is lost, and what is left has new nodes.
@@ -101,20 +106,8 @@ pub fn choice_right(
         Moves (program_of checked.now) place.now (between choosing (shape_of left.now) (shape_of right.now))
         (chr (derivation_of d.now)) a.action (shape_of a.branch) low a.next) }
 {
-    let Advanced {
-        action,
-        branch,
-        next,
-    } = one;
-    let Fresh {
-        branch: after,
-        next: high,
-    } = renewed(alloc, checked, &branch, next, place)?;
-    Ok(Advanced {
-        action,
-        branch: after,
-        next: high,
-    })
+    let done = anew(alloc, checked, one, place)?;
+    Ok(done)
 }
 
 /// A parallel composition whose left side acts alone: the other side stays.
@@ -298,27 +291,6 @@ pub fn let_pass(
     })
 }
 
-// Whether the tree under a relabelling is tidy as it is: no relabelling, and no node, which may be a call.
-fn is_tidy(branch: &Branch) -> bool
-    ensures { result ≡ true → (program : Program) (pairs : List Relabelling) →
-        tidied pairs (stands_for program (shape_of branch.now)) ≡ relabel pairs (stands_for program (shape_of branch.now)) }
-{
-    match branch {
-        Branch::Leaf(_) => false,
-        Branch::Ended => true,
-        Branch::Over(operator, _) => match operator {
-            Single::Relabel(_) => false,
-            Single::Hide(_) => true,
-            Single::Enable { .. } => true,
-        },
-        Branch::Between(operator, _, _) => match operator {
-            Double::Choice => true,
-            Double::Par(_) => true,
-            Double::Disable => true,
-        },
-    }
-}
-
 // A relabelling that stays over what its part becomes.
 fn stays_relabelled(
     alloc: Global,
@@ -332,8 +304,7 @@ fn stays_relabelled(
     place: &[u32],
 ) -> Result<Advanced, Memory>
     requires inner { inner.now ≡ place.now ++ 0 ∷ [] }
-    requires tidy { tidied (map relabelling_of pairs.now) (stands_for (program_of checked.now) (shape_of one.branch)) ≡
-        relabel (map relabelling_of pairs.now) (stands_for (program_of checked.now) (shape_of one.branch)) }
+    requires tidy { IsTidy (shape_of one.branch) }
     requires moves { Moves (program_of checked.now) inner.now (shape_of part.now) (derivation_of d.now) one.action (shape_of one.branch)
         low one.next }
     ensures { IfOk result (λ a.
@@ -367,6 +338,7 @@ fn becomes_tidied(
     place: &[u32],
 ) -> Result<Advanced, Memory>
     requires ready { IsReady (program_of checked.now) }
+    requires untidy { IsTidy (shape_of one.branch) → ⊥ }
     requires moves { Moves (program_of checked.now) inner.now (shape_of part.now) (derivation_of d.now) one.action (shape_of one.branch)
         low one.next }
     ensures { IfOk result (λ a.
@@ -409,7 +381,7 @@ pub fn relabelled_step(
         Moves (program_of checked.now) place.now (over (relabelled (map relabelling_of pairs.now)) (shape_of part.now))
         (rel (derivation_of d.now)) a.action (shape_of a.branch) low a.next) }
 {
-    if is_tidy(&one.branch) {
+    if one.branch.is_tidy() {
         stays_relabelled(alloc, checked, pairs, part, d, one, low, inner, place)
     } else {
         becomes_tidied(alloc, checked, pairs, part, d, one, low, inner, place)
@@ -532,28 +504,8 @@ pub fn enabling_end(
                 next: high,
             })
         }
-        Action::Inner => {
-            let Fresh {
-                branch: after,
-                next: high,
-            } = nothing(next, place);
-            Ok(Advanced {
-                action: Action::Inner,
-                branch: after,
-                next: high,
-            })
-        }
-        Action::At(_, _) => {
-            let Fresh {
-                branch: after,
-                next: high,
-            } = nothing(next, place);
-            Ok(Advanced {
-                action: Action::Inner,
-                branch: after,
-                next: high,
-            })
-        }
+        Action::Inner => Ok(no_step(next, place)),
+        Action::At(_, _) => Ok(no_step(next, place)),
     }
 }
 
@@ -608,20 +560,8 @@ pub fn disabling_end(
         Moves (program_of checked.now) place.now (between disabling (shape_of left.now) (shape_of right.now))
         (disend (derivation_of d.now)) a.action (shape_of a.branch) low a.next) }
 {
-    let Advanced {
-        action,
-        branch,
-        next,
-    } = one;
-    let Fresh {
-        branch: after,
-        next: high,
-    } = renewed(alloc, checked, &branch, next, place)?;
-    Ok(Advanced {
-        action,
-        branch: after,
-        next: high,
-    })
+    let done = anew(alloc, checked, one, place)?;
+    Ok(done)
 }
 
 /// A disabling whose right side acts: the left side is lost, and what is left has new nodes.
@@ -642,18 +582,6 @@ pub fn disabling_taken(
         Moves (program_of checked.now) place.now (between disabling (shape_of left.now) (shape_of right.now))
         (distake (derivation_of d.now)) a.action (shape_of a.branch) low a.next) }
 {
-    let Advanced {
-        action,
-        branch,
-        next,
-    } = one;
-    let Fresh {
-        branch: after,
-        next: high,
-    } = renewed(alloc, checked, &branch, next, place)?;
-    Ok(Advanced {
-        action,
-        branch: after,
-        next: high,
-    })
+    let done = anew(alloc, checked, one, place)?;
+    Ok(done)
 }

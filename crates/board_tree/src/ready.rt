@@ -4,18 +4,19 @@ ghost use Rattle.std.specs.Prelude.{[], IfOk};
 ghost use Rattle.spec_core.specs.Code.{program_of};
 ghost use Rattle.spec_core.specs.Ready.{IsReady};
 ghost use Rattle.rule_model.specs.Derivations.{derivation_of};
-ghost use Rattle.board_tree.specs.Differences.{IsDifference};
-ghost use Rattle.board_tree.specs.Shapes.{shape_of};
+ghost use Rattle.tree_nodes.specs.Differences.{IsDifference};
+ghost use Rattle.tree_nodes.specs.Shapes.{shape_of};
 ghost use Rattle.board_tree.specs.Steps.{Moved};
 
 use crate::advance::advance;
-use crate::branch::Branch;
-use crate::fresh::Fresh;
-use crate::origin::Gen;
 use rule_model::rules::Rules;
 use spec_core::code::Checked;
 use spec_core::memory::Memory;
 use std::alloc::Global;
+use tree_nodes::branch::Branch;
+use tree_nodes::find::difference;
+use tree_nodes::fresh::Fresh;
+use tree_nodes::origin::Gen;
 
 /// The next tree, the next generation then, and the generations that end and begin.
 #[derive(Drop)]
@@ -24,15 +25,6 @@ pub struct Ready {
     pub next: u128,
     pub gone: Vec<Gen>,
     pub came: Vec<Gen>,
-}
-
-// The generations of the first tree that the second doesn't have.
-fn difference(alloc: Global, old: &Branch, new: &Branch) -> Result<Vec<Gen>, Memory>
-    ensures { IfOk result (λ all. IsDifference all.items (shape_of old.now) (shape_of new.now)) }
-{
-    let mut all = Vec::new(alloc);
-    old.put_missing(new, &mut all)?;
-    Ok(all)
 }
 
 // The tree after the step by these rules, and the next generation then.

@@ -6,24 +6,24 @@ ghost use Rattle.spec_core.specs.Ready.{IsReady};
 ghost use Rattle.rule_model.specs.Behaviours.{behaviour_of};
 ghost use Rattle.rule_model.specs.Code.{IsStart};
 ghost use Rattle.rule_model.specs.Derivations.{derivation_of};
-ghost use Rattle.board_tree.specs.Generations.{AreApart, AreBelow, ArePlaced};
-ghost use Rattle.board_tree.specs.Rests.{ways_of};
-ghost use Rattle.board_tree.specs.Shapes.{stands_for, held_of, posted, Lives, IsNodeOf, IsRight, IsWorkFor, AllWait};
+ghost use Rattle.tree_nodes.specs.Generations.{AreApart, AreBelow, ArePlaced};
+ghost use Rattle.tree_nodes.specs.Rests.{ways_of};
+ghost use Rattle.tree_nodes.specs.Shapes.{stands_for, held_of, posted, Lives, IsNodeOf, IsRight, IsWorkFor, AllWait};
 ghost use Rattle.board_tree.specs.Views.{shape, IsReserved, IsStep};
 
-use crate::branch::Branch;
-use crate::expansion::Expansion;
-use crate::fresh::Fresh;
-use crate::node::Node;
-use crate::origin::Gen;
 use crate::ready::{Ready, ready_for};
-use crate::unfold::unfold;
 use rule_model::beh::Beh;
 use rule_model::rules::Rules;
 use spec_core::code::Checked;
 use spec_core::memory::Memory;
 use std::alloc::Global;
 use std::marker::Model;
+use tree_nodes::branch::Branch;
+use tree_nodes::expansion::Expansion;
+use tree_nodes::fresh::Fresh;
+use tree_nodes::node::Node;
+use tree_nodes::origin::Gen;
+use tree_nodes::unfold::unfold;
 
 /// The behaviour that a board has reached, as a tree of operators over nodes. No two of its nodes have one generation, and each one's place
 /// is where it stands.
@@ -39,10 +39,10 @@ pub struct Tree {
 impl Model for Tree {
     ghost use Rattle.std.specs.Prelude.{[]};
     ghost use Rattle.std.specs.Coded.{codes};
-    ghost use Rattle.board_tree.specs.contracts.branch.Branch as b;
+    ghost use Rattle.tree_nodes.specs.contracts.branch.Branch as b;
     ghost use Rattle.board_tree.specs.contracts.ready.Ready as r;
-    ghost use Rattle.board_tree.specs.Generations.{IsSound, ArePlaced};
-    ghost use Rattle.board_tree.specs.Shapes.{shape_of};
+    ghost use Rattle.tree_nodes.specs.Generations.{IsSound, ArePlaced};
+    ghost use Rattle.tree_nodes.specs.Shapes.{shape_of};
     ghost use Rattle.board_tree.specs.Views.{TreeView};
 
     ghost Value = { TreeView };
@@ -104,7 +104,7 @@ impl Tree {
     }
 
     /// The node of a live generation; None for any other. It takes no memory.
-    #[tactic(auto, using(crate::proofs::Finding::found_is_node, crate::proofs::Finding::none_lives))]
+    #[tactic(auto, using(tree_nodes::proofs::Finding::found_is_node, tree_nodes::proofs::Finding::none_lives))]
     pub fn at(&self, generation: Gen) -> Option<&Node>
         ensures some { IfSome result (λ n. IsNodeOf (shape self.now) generation.0 (held_of n.now)) }
         ensures none { IfNone result (Lives (shape self.now) generation.0 → ⊥) }

@@ -1,8 +1,8 @@
 use Rattle.std.proofs.Common.{map, refl, rules}
 use Rattle.spec_core.specs.Code.{program_of}
 use Rattle.rule_model.specs.Derivations.{derivation_of}
-use Rattle.board_tree.specs.Rests.{way_of}
-use Rattle.board_tree.specs.Shapes.{held_of, leaf}
+use Rattle.tree_nodes.specs.Rests.{way_of}
+use Rattle.tree_nodes.specs.Shapes.{held_of, leaf}
 use Rattle.board_tree.proofs.Moving.{moves_node}
 use Rattle.board_tree.proofs.leaf.advance_expanded.Goals as goal
 

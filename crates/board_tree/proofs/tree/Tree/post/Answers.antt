@@ -1,8 +1,8 @@
 use Rattle.std.proofs.Common.{◌≡◌, [], rules, ap, subst, ◌∙◌}
-use Rattle.board_tree.specs.Rests.{ways_of}
-use Rattle.board_tree.specs.Shapes.{shape_of, posted, stands_for, IsRight, IsWorkFor}
+use Rattle.tree_nodes.specs.Rests.{ways_of}
+use Rattle.tree_nodes.specs.Shapes.{shape_of, posted, stands_for, IsRight, IsWorkFor}
 use Rattle.board_tree.specs.Views.{shape}
-use Rattle.board_tree.proofs.Posts.{post_is_posted, post_stands, post_right, post_sound, post_placed}
+use Rattle.tree_nodes.proofs.Posts.{post_is_posted, post_stands, post_right, post_sound, post_placed}
 use Rattle.board_tree.proofs.tree.Tree.post.Goals as goal
 
 pub invariant_of-self : goal.invariant_of-self

@@ -1,5 +1,0 @@
-use Rattle.board_tree.specs.declared.rest.Rest.{size-Rest}
-use Rattle.board_tree.proofs.left.+unfolded_rest.Given as goal
-
-abbrev pub decreases-unfolded_rest : goal.decreases-unfolded_rest
-decreases-unfolded_rest l = size-Rest l.rest.now

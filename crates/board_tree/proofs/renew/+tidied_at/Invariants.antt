@@ -1,4 +1,0 @@
-use Rattle.board_tree.proofs.renew.+tidied_at.Given as goal
-
-abbrev pub decreases-tidied_at : goal.decreases-tidied_at
-decreases-tidied_at l = l.node
