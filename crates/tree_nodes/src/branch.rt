@@ -158,21 +158,15 @@ impl Branch {
     }
 
     /// An equal tree.
+    #[cycle(copy)]
     pub fn copy(&self, alloc: Global) -> Result<Branch, Memory>
         ensures equal { IfOk result (λ t. shape_of t ≡ shape_of self.now) }
     {
         match self {
             Branch::Leaf(node) => Ok(Branch::Leaf(node.copy(alloc)?)),
             Branch::Ended => Ok(Branch::Ended),
-            Branch::Over(operator, part) => {
-                let part = part.copy(alloc)?;
-                Branch::over(alloc, operator.copy(alloc)?, part)
-            }
-            Branch::Between(operator, left, right) => {
-                let left = left.copy(alloc)?;
-                let right = right.copy(alloc)?;
-                Branch::between(alloc, operator.copy(alloc)?, left, right)
-            }
+            Branch::Over(operator, part) => copied_over(alloc, operator, part),
+            Branch::Between(operator, left, right) => copied_between(alloc, operator, left, right),
         }
     }
 
@@ -195,4 +189,30 @@ impl Branch {
             }
         }
     }
+}
+
+// An equal operator over an equal part. It is a function of its own so that the stack holds deep trees, like those that recur beside it.
+#[cycle(copy)]
+#[inline(never)]
+fn copied_over(alloc: Global, operator: &Single, part: &Branch) -> Result<Branch, Memory>
+    ensures { IfOk result (λ t. shape_of t ≡ over (unary_of operator.now) (shape_of part.now)) }
+{
+    let part = part.copy(alloc)?;
+    Branch::over(alloc, operator.copy(alloc)?, part)
+}
+
+// An equal operator between equal parts.
+#[cycle(copy)]
+#[inline(never)]
+fn copied_between(
+    alloc: Global,
+    operator: &Double,
+    left: &Branch,
+    right: &Branch,
+) -> Result<Branch, Memory>
+    ensures { IfOk result (λ t. shape_of t ≡ between (binary_of operator.now) (shape_of left.now) (shape_of right.now)) }
+{
+    let left = left.copy(alloc)?;
+    let right = right.copy(alloc)?;
+    Branch::between(alloc, operator.copy(alloc)?, left, right)
 }

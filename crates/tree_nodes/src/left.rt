@@ -6,7 +6,7 @@ ghost use Rattle.spec_core.specs.Ready.{IsReady};
 ghost use Rattle.rule_model.specs.Substitution.{tidied};
 ghost use Rattle.tree_nodes.specs.Generations.{IsFresh};
 ghost use Rattle.tree_nodes.specs.Rests.{known_in, values_in, does_of, done_in, remainder_of, left_in};
-ghost use Rattle.tree_nodes.specs.Shapes.{shape_of, stands_for};
+ghost use Rattle.tree_nodes.specs.Shapes.{shape_of, unary_of, binary_of, applied, joined, stands_for};
 
 use crate::branch::{Double, Single};
 use crate::fresh::{Fresh, nothing, part_of, put_between, put_over};
@@ -92,7 +92,80 @@ pub fn done_in(alloc: Global, chosen: &[Slot], deed: &Deed) -> Result<Action, Me
     }
 }
 
+// An operator over what is left.
+#[cycle(unfolded_rest)]
+#[inline(never)]
+fn rest_over(
+    alloc: Global,
+    checked: &Checked,
+    chosen: &[Slot],
+    operator: Single,
+    rest: &Rest,
+    next: u128,
+    place: &[u32],
+) -> Result<Fresh, Memory>
+    requires ready { IsReady (program_of checked.now) }
+    ensures stands { IfOk result (λ f.
+        stands_for (program_of checked.now) (shape_of f.branch) ≡
+        applied (program_of checked.now) (unary_of operator) (left_in (program_of checked.now) chosen.now (remainder_of rest.now))) }
+    ensures fresh { IfOk result (λ f. IsFresh place.now next f.next (shape_of f.branch)) }
+{
+    let inner = part_of(alloc, place, 0)?;
+    let one = unfolded_rest(alloc, checked, chosen, rest, next, &inner)?;
+    put_over(alloc, operator, one, next, &inner, place)
+}
+
+// An operator between what is left on two sides.
+#[cycle(unfolded_rest)]
+#[inline(never)]
+fn rest_between(
+    alloc: Global,
+    checked: &Checked,
+    chosen: &[Slot],
+    operator: Double,
+    left: &Rest,
+    right: &Rest,
+    next: u128,
+    place: &[u32],
+) -> Result<Fresh, Memory>
+    requires ready { IsReady (program_of checked.now) }
+    ensures stands { IfOk result (λ f.
+        stands_for (program_of checked.now) (shape_of f.branch) ≡
+        joined (binary_of operator) (left_in (program_of checked.now) chosen.now (remainder_of left.now))
+        (left_in (program_of checked.now) chosen.now (remainder_of right.now))) }
+    ensures fresh { IfOk result (λ f. IsFresh place.now next f.next (shape_of f.branch)) }
+{
+    let first = part_of(alloc, place, 0)?;
+    let second = part_of(alloc, place, 1)?;
+    let one = unfolded_rest(alloc, checked, chosen, left, next, &first)?;
+    let two = unfolded_rest(alloc, checked, chosen, right, one.next, &second)?;
+    put_between(alloc, operator, one, two, next, &first, &second, place)
+}
+
+// What is left under a relabelling, tidied.
+#[cycle(unfolded_rest)]
+#[inline(never)]
+fn rest_relabelled(
+    alloc: Global,
+    checked: &Checked,
+    chosen: &[Slot],
+    pairs: &[(Gate, Gate)],
+    rest: &Rest,
+    next: u128,
+    place: &[u32],
+) -> Result<Fresh, Memory>
+    requires ready { IsReady (program_of checked.now) }
+    ensures stands { IfOk result (λ f.
+        stands_for (program_of checked.now) (shape_of f.branch) ≡
+        tidied (map relabelling_of pairs.now) (left_in (program_of checked.now) chosen.now (remainder_of rest.now))) }
+    ensures fresh { IfOk result (λ f. IsFresh place.now next f.next (shape_of f.branch)) }
+{
+    let one = unfolded_rest(alloc, checked, chosen, rest, next, place)?;
+    tidied_later(alloc, checked, pairs, one, next, place)
+}
+
 /// What is left, unfolded into nodes that wait.
+#[cycle(unfolded_rest)]
 pub fn unfolded_rest(
     alloc: Global,
     checked: &Checked,
@@ -113,14 +186,10 @@ pub fn unfolded_rest(
             unfold(alloc, checked, *node, &values, next, place)
         }
         Rest::Hide(gates, rest) => {
-            let inner = part_of(alloc, place, 0)?;
-            let one = unfolded_rest(alloc, checked, chosen, rest, next, &inner)?;
             let operator = Single::Hide(Vec::from_slice(alloc, gates)?);
-            put_over(alloc, operator, one, next, &inner, place)
+            rest_over(alloc, checked, chosen, operator, rest, next, place)
         }
         Rest::Enable(rest, vars, right, values) => {
-            let inner = part_of(alloc, place, 0)?;
-            let one = unfolded_rest(alloc, checked, chosen, rest, next, &inner)?;
             let vars = Vec::from_slice(alloc, vars)?;
             let values = values_in(alloc, chosen, values)?;
             let operator = Single::Enable {
@@ -128,36 +197,25 @@ pub fn unfolded_rest(
                 right: *right,
                 values,
             };
-            put_over(alloc, operator, one, next, &inner, place)
+            rest_over(alloc, checked, chosen, operator, rest, next, place)
         }
         Rest::Relabel(pairs, rest) => {
-            let one = unfolded_rest(alloc, checked, chosen, rest, next, place)?;
-            tidied_later(alloc, checked, pairs, one, next, place)
+            rest_relabelled(alloc, checked, chosen, pairs, rest, next, place)
         }
         Rest::Par(gates, left, right) => {
-            let first = part_of(alloc, place, 0)?;
-            let second = part_of(alloc, place, 1)?;
-            let one = unfolded_rest(alloc, checked, chosen, left, next, &first)?;
-            let two = unfolded_rest(alloc, checked, chosen, right, one.next, &second)?;
             let operator = Double::Par(gates.copy(alloc)?);
-            put_between(alloc, operator, one, two, next, &first, &second, place)
+            rest_between(alloc, checked, chosen, operator, left, right, next, place)
         }
-        Rest::Disable(left, right) => {
-            let first = part_of(alloc, place, 0)?;
-            let second = part_of(alloc, place, 1)?;
-            let one = unfolded_rest(alloc, checked, chosen, left, next, &first)?;
-            let two = unfolded_rest(alloc, checked, chosen, right, one.next, &second)?;
-            put_between(
-                alloc,
-                Double::Disable,
-                one,
-                two,
-                next,
-                &first,
-                &second,
-                place,
-            )
-        }
+        Rest::Disable(left, right) => rest_between(
+            alloc,
+            checked,
+            chosen,
+            Double::Disable,
+            left,
+            right,
+            next,
+            place,
+        ),
     }
 }
 

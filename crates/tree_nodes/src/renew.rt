@@ -7,7 +7,7 @@ ghost use Rattle.rule_model.specs.Behaviours.{relabel};
 ghost use Rattle.rule_model.specs.Substitution.{tidied};
 ghost use Rattle.tree_nodes.specs.Generations.{IsFresh};
 ghost use Rattle.tree_nodes.specs.Origins.{scoped, IsCall};
-ghost use Rattle.tree_nodes.specs.Shapes.{shape_of, stands_for};
+ghost use Rattle.tree_nodes.specs.Shapes.{shape_of, unary_of, binary_of, applied, joined, stands_for};
 
 use crate::branch::{Branch, Double, Single};
 use crate::fresh::{Fresh, nothing, part_of, put_between, put_over, waiting};
@@ -21,7 +21,55 @@ use spec_core::value::Value;
 use std::alloc::Global;
 use substitution::relabelling::after;
 
+// An operator over the same part with new nodes.
+#[cycle(renewed)]
+#[inline(never)]
+fn renewed_over(
+    alloc: Global,
+    checked: &Checked,
+    operator: &Single,
+    part: &Branch,
+    next: u128,
+    place: &[u32],
+) -> Result<Fresh, Memory>
+    ensures stands { IfOk result (λ f.
+        stands_for (program_of checked.now) (shape_of f.branch) ≡
+        applied (program_of checked.now) (unary_of operator.now) (stands_for (program_of checked.now) (shape_of part.now))) }
+    ensures fresh { IfOk result (λ f. IsFresh place.now next f.next (shape_of f.branch)) }
+{
+    let inner = part_of(alloc, place, 0)?;
+    let one = renewed(alloc, checked, part, next, &inner)?;
+    put_over(alloc, operator.copy(alloc)?, one, next, &inner, place)
+}
+
+// An operator between the same parts with new nodes.
+#[cycle(renewed)]
+#[inline(never)]
+fn renewed_between(
+    alloc: Global,
+    checked: &Checked,
+    operator: &Double,
+    left: &Branch,
+    right: &Branch,
+    next: u128,
+    place: &[u32],
+) -> Result<Fresh, Memory>
+    ensures stands { IfOk result (λ f.
+        stands_for (program_of checked.now) (shape_of f.branch) ≡
+        joined (binary_of operator.now) (stands_for (program_of checked.now) (shape_of left.now))
+        (stands_for (program_of checked.now) (shape_of right.now))) }
+    ensures fresh { IfOk result (λ f. IsFresh place.now next f.next (shape_of f.branch)) }
+{
+    let first = part_of(alloc, place, 0)?;
+    let second = part_of(alloc, place, 1)?;
+    let one = renewed(alloc, checked, left, next, &first)?;
+    let two = renewed(alloc, checked, right, one.next, &second)?;
+    let operator = operator.copy(alloc)?;
+    put_between(alloc, operator, one, two, next, &first, &second, place)
+}
+
 /// The same tree with new nodes, which wait. It recurs as deep as the operators nest.
+#[cycle(renewed)]
 pub fn renewed(
     alloc: Global,
     checked: &Checked,
@@ -36,27 +84,10 @@ pub fn renewed(
     match branch {
         Branch::Leaf(node) => waiting(alloc, node.origin.copy(alloc)?, next, place),
         Branch::Ended => Ok(nothing(next, place)),
-        Branch::Over(operator, part) => {
-            let inner = part_of(alloc, place, 0)?;
-            let one = renewed(alloc, checked, part, next, &inner)?;
-            put_over(alloc, operator.copy(alloc)?, one, next, &inner, place)
-        }
-        Branch::Between(operator, left, right) => {
-            let first = part_of(alloc, place, 0)?;
-            let second = part_of(alloc, place, 1)?;
-            let one = renewed(alloc, checked, left, next, &first)?;
-            let two = renewed(alloc, checked, right, one.next, &second)?;
-            put_between(
-                alloc,
-                operator.copy(alloc)?,
-                one,
-                two,
-                next,
-                &first,
-                &second,
-                place,
-            )
-        }
+        Branch::Over(operator, part) => renewed_over(alloc, checked, operator, part, next, place),
+        Branch::Between(operator, left, right) => renewed_between(
+            alloc, checked, operator, left, right, next, place,
+        ),
     }
 }
 

@@ -1,11 +1,11 @@
 // Behaviours unfolded into operators over nodes that wait.
 
-ghost use Rattle.std.specs.Prelude.{◌≡◌, IfOk};
+ghost use Rattle.std.specs.Prelude.{◌≡◌, ◌<◌, IfOk};
 ghost use Rattle.spec_core.specs.Code.{program_of};
 ghost use Rattle.spec_core.specs.Ready.{IsReady};
 ghost use Rattle.tree_nodes.specs.Generations.{IsFresh};
 ghost use Rattle.tree_nodes.specs.Origins.{scoped};
-ghost use Rattle.tree_nodes.specs.Shapes.{shape_of, stands_for};
+ghost use Rattle.tree_nodes.specs.Shapes.{shape_of, unary_of, binary_of, applied, joined, stands_for};
 
 use crate::branch::{Double, Single};
 use crate::fresh::{Fresh, nothing, part_of, put_between, put_over, waiting};
@@ -38,8 +38,63 @@ fn waiting_at(
     waiting(alloc, origin, next, place)
 }
 
+// An operator between the behaviours at two numbers of the code, each unfolded.
+#[cycle(unfold)]
+#[inline(never)]
+fn unfold_between(
+    alloc: Global,
+    checked: &Checked,
+    operator: Double,
+    number: u32,
+    left: u32,
+    right: u32,
+    values: &[(u32, Value)],
+    next: u128,
+    place: &[u32],
+) -> Result<Fresh, Memory>
+    requires ready { IsReady (program_of checked.now) }
+    requires left { left < number }
+    requires right { right < number }
+    ensures stands { IfOk result (λ f.
+        stands_for (program_of checked.now) (shape_of f.branch) ≡
+        joined (binary_of operator) (scoped (program_of checked.now) left values.now) (scoped (program_of checked.now) right values.now)) }
+    ensures fresh { IfOk result (λ f. IsFresh place.now next f.next (shape_of f.branch)) }
+{
+    let first = part_of(alloc, place, 0)?;
+    let second = part_of(alloc, place, 1)?;
+    let one = unfold(alloc, checked, left, values, next, &first)?;
+    let two = unfold(alloc, checked, right, values, one.next, &second)?;
+    put_between(alloc, operator, one, two, next, &first, &second, place)
+}
+
+// An operator over the behaviour at a number of the code, unfolded.
+#[cycle(unfold)]
+#[inline(never)]
+fn unfold_over(
+    alloc: Global,
+    checked: &Checked,
+    operator: Single,
+    number: u32,
+    part: u32,
+    values: &[(u32, Value)],
+    next: u128,
+    place: &[u32],
+) -> Result<Fresh, Memory>
+    requires ready { IsReady (program_of checked.now) }
+    requires part { part < number }
+    ensures stands { IfOk result (λ f.
+        stands_for (program_of checked.now) (shape_of f.branch) ≡
+        applied (program_of checked.now) (unary_of operator) (scoped (program_of checked.now) part values.now)) }
+    ensures fresh { IfOk result (λ f. IsFresh place.now next f.next (shape_of f.branch)) }
+{
+    let inner = part_of(alloc, place, 0)?;
+    let one = unfold(alloc, checked, part, values, next, &inner)?;
+    put_over(alloc, operator, one, next, &inner, place)
+}
+
 /// The operators of the behaviour at a number of the code, with values for its variables, over nodes that wait. It recurs as deep as the
 /// operators nest.
+#[cycle(unfold)]
 pub fn unfold(
     alloc: Global,
     checked: &Checked,
@@ -56,69 +111,51 @@ pub fn unfold(
     match construct_at(checked, node) {
         None => Ok(nothing(next, place)),
         Some(construct) => match construct {
-            CodeNode::Choice(left, right) => {
-                let first = part_of(alloc, place, 0)?;
-                let second = part_of(alloc, place, 1)?;
-                let one = unfold(alloc, checked, left.0, values, next, &first)?;
-                let two = unfold(alloc, checked, right.0, values, one.next, &second)?;
-                put_between(
-                    alloc,
-                    Double::Choice,
-                    one,
-                    two,
-                    next,
-                    &first,
-                    &second,
-                    place,
-                )
-            }
+            CodeNode::Choice(left, right) => unfold_between(
+                alloc,
+                checked,
+                Double::Choice,
+                node,
+                left.0,
+                right.0,
+                values,
+                next,
+                place,
+            ),
             CodeNode::Par(gates, left, right) => {
-                let first = part_of(alloc, place, 0)?;
-                let second = part_of(alloc, place, 1)?;
-                let one = unfold(alloc, checked, left.0, values, next, &first)?;
-                let two = unfold(alloc, checked, right.0, values, one.next, &second)?;
                 let operator = Double::Par(gates.copy(alloc)?);
-                put_between(alloc, operator, one, two, next, &first, &second, place)
-            }
-            CodeNode::Disable(left, right) => {
-                let first = part_of(alloc, place, 0)?;
-                let second = part_of(alloc, place, 1)?;
-                let one = unfold(alloc, checked, left.0, values, next, &first)?;
-                let two = unfold(alloc, checked, right.0, values, one.next, &second)?;
-                put_between(
-                    alloc,
-                    Double::Disable,
-                    one,
-                    two,
-                    next,
-                    &first,
-                    &second,
-                    place,
+                unfold_between(
+                    alloc, checked, operator, node, left.0, right.0, values, next, place,
                 )
             }
+            CodeNode::Disable(left, right) => unfold_between(
+                alloc,
+                checked,
+                Double::Disable,
+                node,
+                left.0,
+                right.0,
+                values,
+                next,
+                place,
+            ),
             CodeNode::Hide(gates, body) => {
-                let inner = part_of(alloc, place, 0)?;
-                let one = unfold(alloc, checked, body.0, values, next, &inner)?;
                 let operator = Single::Hide(Vec::from_slice(alloc, gates)?);
-                put_over(alloc, operator, one, next, &inner, place)
+                unfold_over(alloc, checked, operator, node, body.0, values, next, place)
             }
             CodeNode::Relabel(pairs, body) => {
-                let inner = part_of(alloc, place, 0)?;
-                let one = unfold(alloc, checked, body.0, values, next, &inner)?;
                 let operator = Single::Relabel(Vec::from_slice(alloc, pairs)?);
-                put_over(alloc, operator, one, next, &inner, place)
+                unfold_over(alloc, checked, operator, node, body.0, values, next, place)
             }
             CodeNode::Enable(left, vars, right) => {
-                let inner = part_of(alloc, place, 0)?;
-                let one = unfold(alloc, checked, left.0, values, next, &inner)?;
                 let vars = Vec::from_slice(alloc, vars)?;
-                let values = copy_values(alloc, values)?;
+                let later = copy_values(alloc, values)?;
                 let operator = Single::Enable {
                     vars,
                     right: right.0,
-                    values,
+                    values: later,
                 };
-                put_over(alloc, operator, one, next, &inner, place)
+                unfold_over(alloc, checked, operator, node, left.0, values, next, place)
             }
             CodeNode::Stop
             | CodeNode::Exit(..)
