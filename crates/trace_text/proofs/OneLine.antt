@@ -212,14 +212,14 @@ module _ (program : Program) (fits : FitsData program.theory) (named : AreNamed 
       (ap (λ l. l ++ r) (sym (given x)) ∙ h ∙ ap (λ l. l ++ s) (given y)) in
       (given_alike x y one.0, one.1)
 
-  internal : IsOneOf (map to_ascii_lowercase (codes "i")) reserved_words
+  pub internal : IsOneOf (map to_ascii_lowercase (codes "i")) reserved_words
   internal = one_of_at reserved_words 18 (codes "i") refl
 
-  ending : IsOneOf (map to_ascii_lowercase (codes "exit")) reserved_words
+  pub ending : IsOneOf (map to_ascii_lowercase (codes "exit")) reserved_words
   ending = one_of_at reserved_words 11 (codes "exit") refl
 
   -- no gate has a reserved word as its name
-  free_gate : (g : Gate) (word x y : List ℕ) → g.0 < length program.gates → IsOneOf (map to_ascii_lowercase word) reserved_words →
+  pub free_gate : (g : Gate) (word x y : List ℕ) → g.0 < length program.gates → IsOneOf (map to_ascii_lowercase word) reserved_words →
       Each (λ b. is_name_byte b ≡ true) word → EndsTerm x → EndsTerm y → word ++ x ≡ names.gate g ++ y → ⊥
   free_gate g word x y within reserved run ex ey h =
       let k = at_place IsIdentifier program.gates g.0 named.gates within in

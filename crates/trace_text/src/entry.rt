@@ -129,8 +129,8 @@ fn put_answer(out: &mut String, vocabulary: &Vocabulary, reply: &Reply) -> Resul
     }
 }
 
-// Appends an entry.
-fn put_event(out: &mut String, vocabulary: &Vocabulary, entry: &Entry) -> Result<(), Memory>
+/// Appends an entry's line, without the LF that ends it.
+pub fn put_event(out: &mut String, vocabulary: &Vocabulary, entry: &Entry) -> Result<(), Memory>
     requires whole { IsWhole vocabulary.now }
     ensures { OnOk result (string_bytes out.new ≡ string_bytes out.old ++ event_line (names_with vocabulary.now) (event_of entry.now)) }
 {
@@ -174,7 +174,7 @@ pub fn put_line(out: &mut String, vocabulary: &Vocabulary, entry: &Entry) -> Res
     put(out, "\n")
 }
 
-// Appends the word that says how a session ended.
+/// Appends the word that says how a session ended.
 pub fn put_end_word(out: &mut String, vocabulary: &Vocabulary, end: &End) -> Result<(), Memory>
     ensures { OnOk result (string_bytes out.new ≡ string_bytes out.old ++ end_word (names_with vocabulary.now) (ending_of end.now)) }
 {

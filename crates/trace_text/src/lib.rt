@@ -7,4 +7,5 @@ mod pieces;
 mod print;
 mod tree;
 
+pub use entry::{put_end_word, put_event};
 pub use print::print_log;

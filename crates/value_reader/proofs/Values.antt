@@ -39,7 +39,7 @@ byte_there b (c ∷ bs) h = go (nat_eq b c) refl h (byte_there b bs)
     go true e h rest = inl (eqb-true b c e)
     go false e h rest = inr (rest h)
 
-ends_term : (r : List ℕ) → ends_there r ≡ true → EndsTerm r
+pub ends_term : (r : List ℕ) → ends_there r ≡ true → EndsTerm r
 ends_term [] h = tt
 ends_term (b ∷ r) h = byte_there b (10 ∷ 32 ∷ 41 ∷ 44 ∷ 93 ∷ []) h
 

@@ -6,4 +6,4 @@ mod piece;
 mod reading;
 mod value;
 
-pub use value::read_value;
+pub use value::{ends_there, read_value};

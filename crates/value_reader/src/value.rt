@@ -24,8 +24,8 @@ use std::alloc::Global;
 use value_text::value::put_value;
 use value_text::vocabulary::Vocabulary;
 
-// Whether a value may end here.
-fn ends_there(text: &[u8]) -> bool
+/// Whether a name may end before this text: it is empty, or its first byte is LF, a blank, `)`, `,` or `]`. It takes no memory.
+pub fn ends_there(text: &[u8]) -> bool
     ensures { result ≡ ends_there text.now }
 {
     match text {

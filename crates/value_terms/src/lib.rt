@@ -4,4 +4,4 @@
 mod reading;
 mod stack;
 
-pub use reading::{sort_of_ground, spelled};
+pub use reading::{sort_of_ground, spelled, term_with};

@@ -56,7 +56,7 @@ pub fn spelled(
     ensures none { IfOk result (λ o. IfNone o ((t : TermTree) → Spells (theory_of algebra.now) value.now t sort.0 → ⊥)) }
 {
     let ops = value.as_slice();
-    match read(alloc, algebra, ops)? {
+    match term_with(alloc, algebra, ops)? {
         None => Ok(None),
         Some(term) => {
             if !are_constructors(algebra, ops) {
@@ -70,8 +70,8 @@ pub fn spelled(
     }
 }
 
-// The term with these operations, if there is one with as many arguments at each as it is declared with.
-fn read(alloc: Global, algebra: &DataSpec, ops: &[Op]) -> Result<Option<Term>, Memory>
+/// The term with these operations in preorder, if there is one with as many arguments at each as it is declared with. It doesn't recur.
+pub fn term_with(alloc: Global, algebra: &DataSpec, ops: &[Op]) -> Result<Option<Term>, Memory>
     ensures some { IfOk result (λ o. IfSome o (λ term. map op_number ops.now ≡ preorder (term_of term))) }
     ensures arguments { IfOk result (λ o. IfSome o (λ term. HasArguments (theory_of algebra.now) (term_of term))) }
     ensures none { IfOk result (λ o. IfNone o

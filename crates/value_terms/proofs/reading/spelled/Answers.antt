@@ -21,7 +21,7 @@ returns-then-not-is_ground_of-clause-none c t h =
 
 pub returns-in-None-clause-none : goal.returns-in-None-clause-none
 returns-in-None-clause-none c t h =
-    of_none c.in_ok-read.field-0 c.in-None.is c.in_ok-read.ensures.none t
+    of_none c.in_ok-term_with.field-0 c.in-None.is c.in_ok-term_with.ensures.none t
     (sorted_arguments (theory_of c.args.algebra.now) t c.args.sort.0 h.of_sort) (c.as_slice-ops.ensures.spelled ∙ h.spelled)
 
 pub returns-else-not-is_ground_of-clause-some : goal.returns-else-not-is_ground_of-clause-some

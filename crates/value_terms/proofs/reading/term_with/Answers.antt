@@ -4,7 +4,7 @@ use Rattle.spec_core.specs.Theories.{theory_of}
 use Rattle.value_terms.specs.Stacks.{IsRead}
 use Rattle.value_terms.proofs.Enough.{enough_of}
 use Rattle.value_terms.proofs.Stacked.{never_few, next_from_back, enough_from_back, all_from_back, none_read}
-use Rattle.value_terms.proofs.reading.read.Goals as goal
+use Rattle.value_terms.proofs.reading.term_with.Goals as goal
 
 pub returns-then-not-branch-clause-none : goal.returns-then-not-branch-clause-none
 returns-then-not-branch-clause-none c t h is =
