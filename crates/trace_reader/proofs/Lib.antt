@@ -1,0 +1,13 @@
+pub mod Behind
+pub mod Collecting
+pub mod Endings
+pub mod Ends
+pub mod Entries
+pub mod Naming
+pub mod Numbers
+pub mod OneLine
+pub mod Parts
+pub mod Traces
+pub mod Trees
+pub mod Valued
+pub mod WordsTaken

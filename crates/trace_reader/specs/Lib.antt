@@ -1,0 +1,10 @@
+pub mod Cursors
+pub mod Digits
+pub mod Entries
+pub mod LineSays
+pub mod LineWords
+pub mod Lines
+pub mod Reading
+pub mod RuleWords
+pub mod Traces
+pub mod Words
