@@ -68,7 +68,7 @@ fn is_deep(cursor: &Cursor) -> bool {
 }
 
 /// How deep a term or a tree may be nested. What is deeper isn't read for want of memory, since the functions that go over it recur.
-pub const DEEPEST: usize = 8192;
+pub const DEEPEST: usize = 1024;
 
 /// A ground term.
 pub fn read_term(
