@@ -1,0 +1,49 @@
+-- What comes of some of the values that a choice of a value may have.
+use Rattle.std.specs.Prelude.{ℕ, ◌≡◌, ◌+◌, ◌++◌, List, flat_map, map, sum_by, Result, Ok, Err}
+use Rattle.spec_core.specs.Theories.{Theory}
+use Rattle.spec_core.specs.Code.{Program, Variable}
+use Rattle.rule_model.specs.declared.rules.Slot.{Slot}
+use Rattle.rule_model.specs.Behaviours.{Behaviour, value_choice}
+use Rattle.rule_model.specs.Derivations.{val}
+use Rattle.windowed_trees.specs.Windows.{Windows}
+use Rattle.windowed_trees.specs.MarkedTerms.{MarkedTerm, MarkedAssignment, with_marked}
+use Rattle.windowed_trees.specs.MarkedFields.{chosen_by, IsWithin, Chooses}
+use Rattle.composites.specs.Evaluations.{Evaluation, IsExact, chosen_term}
+use Rattle.composites.specs.Composites.{Composite, from_option, under}
+use Rattle.open_composites.specs.OpenPlans.{OpenPlan}
+use Rattle.open_composites.specs.Laws.{composites_of}
+use Rattle.reached_terms.specs.Spread.{number_of}
+use Rattle.marked_values.specs.declared.stop.Stop.{Stop}
+use Rattle.expand.specs.declared.outcome.Expanded.{Expanded}
+use Rattle.expand.specs.Outcomes.{plans_in, composites_with, spread_with, Stopped}
+
+module _ (program : Program) (w : Windows) (n : ℕ) (m : MarkedAssignment) (x : Variable) (b : Behaviour) where
+  -- the composites of the body with what a slot chooses for the variable, and their spread
+  abbrev pub composites_at : Evaluation → Slot → List Composite
+  composites_at e slot =
+      from_option (chosen_term program.theory e w slot x.sort)
+      (λ k. map (under (val slot)) (composites_with program w n e (with_marked x k m) b))
+
+  abbrev pub spread_at : Evaluation → Slot → ℕ
+  spread_at e slot = number_of (chosen_term program.theory e w slot x.sort) (λ k. spread_with program w n e (with_marked x k m) b)
+
+  -- the same of the body with each of these slots, with one more in the spread
+  pub record ExpandsEach (slots : List Slot) (ps : List OpenPlan) (k : ℕ) : Type 0 where
+    pub composites : (e : Evaluation) → IsExact program e →
+        composites_of program.theory w ps ≡ flat_map (composites_at e) slots
+    pub spread : (e : Evaluation) → IsExact program e → k ≡ 1 + sum_by (spread_at e) slots
+
+-- what the slot chooses may be seen
+pub record IsChoice (theory : Theory) (w : Windows) (sort : ℕ) (slot : Slot) (k : MarkedTerm) : Type 0 where
+  pub chooses : Chooses theory w slot sort k
+  pub within : IsWithin theory w (chosen_by k)
+
+-- the first list begins the second
+abbrev pub IsPrefix : List Slot → List Slot → Type 0
+IsPrefix slots all = (rest : List Slot) × (slots ++ rest ≡ all)
+
+-- the body is expanded with each of these slots; or it is said why not
+abbrev pub Added : (program : Program) (w : Windows) (n budget : ℕ) (m : MarkedAssignment) (x : Variable) (b : Behaviour) → List Slot →
+    Result Expanded Stop → Type 0
+Added program w n budget m x b slots (Ok y) = ExpandsEach program w n m x b slots (plans_in y) y.spread
+Added program w n budget m x b slots (Err s) = Stopped program w n budget m (value_choice x b) s

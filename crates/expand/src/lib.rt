@@ -1,0 +1,6 @@
+// What one node can take part in: its composites, down to the first actions.
+#![tactic(auto, using(crate::proofs::Memory::memory))]
+
+pub mod joining;
+pub mod outcome;
+pub mod tables;

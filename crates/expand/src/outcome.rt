@@ -1,0 +1,13 @@
+// What comes of an expansion.
+
+ghost use Rattle.std.specs.Prelude.{◌≤◌};
+
+use open_composites::composite::OpenComposite;
+
+/// The composites of a behaviour, and its spread.
+#[derive(Drop)]
+pub struct Expanded {
+    pub composites: Vec<OpenComposite>,
+    pub spread: u64,
+    ghost few: { spread ≤ 65536 },
+}
