@@ -2,5 +2,6 @@
 #![tactic(auto, using(crate::proofs::Memory::memory))]
 
 pub mod joining;
+pub mod leaves;
 pub mod outcome;
 pub mod tables;
