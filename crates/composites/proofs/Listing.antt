@@ -213,7 +213,7 @@ module _ (program : Program) (e : Evaluation) (exact : IsExact program e) (w : W
     filled = λ choices i.
         one_map row d (h.composite.trees (all_choices program.theory w [] h.composite.fields))
         (h.filled (all_choices program.theory w [] h.composite.fields)
-        (all_within_suffice program.theory w h.composite.fields gs h.fits within));
+        (all_within_suffice program.theory w [] h.composite.fields gs h.fits within));
   }
 
   -- by one side alone

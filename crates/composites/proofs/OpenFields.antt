@@ -279,12 +279,14 @@ module _ (theory : Theory) (w : Windows) where
   within_suffices o (blank m sort) (given other) p h = blank_has_mark o m sort
   within_suffices o (blank m sort) (free other) p h = blank_has_mark o m sort
 
-  pub all_within_suffice : (cs : List OpenField) (fs : List MarkedField) → AllFit theory w cs fs → Each (IsWithin theory w) fs →
-      AllSuffice theory w (all_choices theory w [] cs) cs fs
-  all_within_suffice [] [] p h = tt
-  all_within_suffice (c ∷ cs) (f ∷ fs) p h = (within_suffices None c f p.0 h.0, all_within_suffice cs fs p.1 h.1)
-  all_within_suffice [] (f ∷ fs) p h = absurd p
-  all_within_suffice (c ∷ cs) [] p h = absurd p
+  -- what lies in its windows is there whatever is offered
+  pub all_within_suffice : (others : List (Option (List ℕ))) (cs : List OpenField) (fs : List MarkedField) → AllFit theory w cs fs →
+      Each (IsWithin theory w) fs → AllSuffice theory w (all_choices theory w others cs) cs fs
+  all_within_suffice others [] [] p h = tt
+  all_within_suffice [] (c ∷ cs) (f ∷ fs) p h = (within_suffices None c f p.0 h.0, all_within_suffice [] cs fs p.1 h.1)
+  all_within_suffice (o ∷ others) (c ∷ cs) (f ∷ fs) p h = (within_suffices o c f p.0 h.0, all_within_suffice others cs fs p.1 h.1)
+  all_within_suffice others [] (f ∷ fs) p h = absurd p
+  all_within_suffice others (c ∷ cs) [] p h = absurd p
 
   given_suffices : (v : List ℕ) (c : OpenField) (f : MarkedField) → Fits theory w c f → FieldMayMeet theory w f (Give v) →
       Suffice theory w (choices theory w (Some v) c) c f
@@ -316,5 +318,5 @@ module _ (theory : Theory) (w : Windows) where
   -- what may be seen for an offer is enough for each tree that is seen for it
   pub seen_suffices : (o : Option Offer) (k : Kind) (cs : List OpenField) (fs : List MarkedField) → AllFit theory w cs fs →
       MayMeet theory w k fs o → AllSuffice theory w (all_choices theory w (offered o) cs) cs fs
-  seen_suffices None k cs fs p h = all_within_suffice cs fs p h
+  seen_suffices None k cs fs p h = all_within_suffice [] cs fs p h
   seen_suffices (Some offer) k cs fs p h = offers_suffice cs fs offer.fields p h.1

@@ -1,0 +1,3 @@
+pub mod Testing
+pub mod Listed
+pub mod Entries
