@@ -1,58 +1,23 @@
 -- Values that were found.
-use Rattle.std.proofs.Common.{ℕ, ◌≡◌, List, [], ◌∷◌, sym, ap, subst, ◌∙◌, inl, inr, ◌↔◌}
-use Rattle.std.specs.List.{slice_get}
-use Rattle.spec_core.specs.Equality.{Equal, AreEqual, none_equal, more_equal, by_reflexivity, by_symmetry, by_transitivity, by_congruence}
-use Rattle.spec_core.specs.Equality.{by_equation}
+use Rattle.std.proofs.Common.{ℕ, ◌≡◌, List, sym, ap, subst, ◌∙◌, ◌↔◌}
+use Rattle.spec_core.specs.Equality.{Equal}
 use Rattle.spec_core.specs.Executable.{IsExecutable}
-use Rattle.spec_core.specs.Sorts.{HasSort, HaveSorts, no_variables, FitsGround, HaveOneSort, EquationFits, FitsData}
-use Rattle.spec_core.specs.Terms.{TermTree, TermTrees, variable, apply, preorder}
+use Rattle.spec_core.specs.Sorts.{HasSort, no_variables, FitsGround, FitsData}
+use Rattle.spec_core.specs.Terms.{TermTree, preorder}
 use Rattle.spec_core.specs.Theories.{Theory}
 use Rattle.spec_core.specs.Values.{HasValue}
-use Rattle.data_laws.proofs.Classes.{element}
 use Rattle.data_laws.proofs.Conditions.{sorted_of}
-use Rattle.data_laws.proofs.Sorted.{keeps_sort, on_map, on_both, instance_sort}
+use Rattle.data_laws.proofs.Sorted.{keeps_sort}
 use Rattle.data_laws.proofs.Whole.{each_ground_term_has_one_value, equality_is_of_values}
 use Rattle.rewriter.proofs.Words.{one_term}
 use Rattle.rewriter.specs.Answers.{SpellsValue}
 use Rattle.rule_model.specs.Fields.{Spells, GivesValue}
-
-module _ (theory : Theory) where
-  one_sort : (c : TermTree) (s t : ℕ) → HasSort theory no_variables c s → HasSort theory no_variables c t → s ≡ t
-  one_sort (variable x) s t h k = let n : ⊥ = cc in absurd n
-  one_sort (apply f ts) s t h k = on_both (slice_get theory.operations f) h k (λ d p q. sym p.0 ∙ q.0)
+use Rattle.windowed_trees.proofs.Sorts.{have_one_sort}
 
 module _ (theory : Theory) (fits : FitsData theory) where
-  mutual
-    -- equal terms are ground, and have one sort
-    have_one_sort : (a b : TermTree) → Equal theory a b → HaveOneSort theory no_variables a b
-    have_one_sort a b (by_reflexivity h) = (h.0, h.1, h.1)
-    have_one_sort a b (by_symmetry p) = let r = have_one_sort b a p in (r.0, r.2, r.1)
-    have_one_sort a b (by_transitivity c p q) =
-        let r = have_one_sort a c p in
-        let t = have_one_sort c b q in
-        (t.0, subst (HasSort theory no_variables a) (one_sort theory c r.0 t.0 r.2 t.1) r.1, t.2)
-    have_one_sort a b (by_congruence {f = f} {ts = ts} {us = us} h p) =
-        (h.0, h.1, on_map (slice_get theory.operations f) h.1 (λ d q. (q.0, have_sorts ts us p d.args q.1)))
-    have_one_sort a b (by_equation e s member ground premises l r) =
-        let k = element (EquationFits theory) e theory.equations member fits.equations in (
-          k.sides.0,
-          subst (λ t. HasSort theory no_variables t k.sides.0) (sym l)
-              (instance_sort theory (slice_get e.sorts) s e.left k.sides.0 k.sides.1 (λ x a o d. ground x a (inl o) d)),
-          subst (λ t. HasSort theory no_variables t k.sides.0) (sym r)
-              (instance_sort theory (slice_get e.sorts) s e.right k.sides.0 k.sides.2 (λ x a o d. ground x a (inr (inl o)) d)),
-        )
-
-    have_sorts : (ts us : TermTrees) → AreEqual theory ts us → (sorts : List ℕ) → HaveSorts theory no_variables ts sorts →
-        HaveSorts theory no_variables us sorts
-    have_sorts ts us none_equal sorts h = h
-    have_sorts ts us (more_equal {t = t} {u = u} {ts = ts'} {us = us'} p ps) [] h = absurd h
-    have_sorts ts us (more_equal {t = t} {u = u} {ts = ts'} {us = us'} p ps) (s ∷ sorts) h =
-        let r = have_one_sort t u p in
-        (subst (HasSort theory no_variables u) (one_sort theory t r.0 s r.1 h.0) r.2, have_sorts ts' us' ps sorts h.1)
-
   -- what has a value is ground, and so is its value
   pub ground_value : (t n : TermTree) → HasValue theory t n → FitsGround theory t × FitsGround theory n
-  ground_value t n h = let r = have_one_sort t n h.equal in ((r.0, r.1), (r.0, r.2))
+  ground_value t n h = let r = have_one_sort theory fits h.equal in ((r.0, r.1), (r.0, r.2))
 
   -- what isn't ground has no value
   pub unground_value : (t : TermTree) → (FitsGround theory t → ⊥) → ((n : TermTree) → HasValue theory t n → ⊥)
@@ -99,12 +64,12 @@ module _ (theory : Theory) (executable : IsExecutable theory) where
   -- a term without a value equals none
   pub left_unequal : (a b : TermTree) → ((n : TermTree) → HasValue theory a n → ⊥) → Equal theory a b → ⊥
   left_unequal a b none equal =
-      let r = have_one_sort theory executable.fits a b equal in
+      let r = have_one_sort theory executable.fits equal in
       let v = each_ground_term_has_one_value theory executable a (r.0, r.1) in
       none v.0 v.1
 
   pub right_unequal : (a b : TermTree) → ((n : TermTree) → HasValue theory b n → ⊥) → Equal theory a b → ⊥
   right_unequal a b none equal =
-      let r = have_one_sort theory executable.fits a b equal in
+      let r = have_one_sort theory executable.fits equal in
       let v = each_ground_term_has_one_value theory executable b (r.0, r.2) in
       none v.0 v.1
