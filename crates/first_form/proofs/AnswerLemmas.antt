@@ -3,7 +3,6 @@ use Rattle.std.proofs.Common.{◌≡◌, ℕ, ◌+◌, ◌<◌, false, List, [],
 use Rattle.std.proofs.Common.{arith, append_assoc}
 use Rattle.std.proofs.lemmas.List.{map-append, length-append, length-map}
 use Rattle.spec_core.specs.declared.items.Gate.{Gate}
-use Rattle.spec_core.specs.Code.{Program}
 use Rattle.first_form.specs.Plain.{PlainBehaviour, meaning}
 use Rattle.rule_model.specs.Answers.{taken, deadlock, stalls, beyond, not_now, ended, spent, too_large, limit}
 use Rattle.rule_model.specs.Events.{OfferName, Event, pended, acted, replied, stalled, left}

@@ -4,6 +4,5 @@ pub mod WalkLemmas
 pub mod SessionLemmas
 pub mod AnswerLemmas
 pub mod WholeSession
-pub mod TraceLemmas
 pub mod GrammarLemmas
 pub mod HeadingLemmas

@@ -5,7 +5,7 @@ use Rattle.spec_core.specs.Terms.{variable}
 use Rattle.spec_core.specs.Theories.{Theory}
 use Rattle.spec_core.specs.Code.{Program}
 use Rattle.rule_model.specs.declared.action.Action.{Action}
-use Rattle.rule_model.specs.declared.action.Action.TheVariants.{Inner, Exit, At}
+use Rattle.rule_model.specs.declared.action.Action.TheVariants.{At}
 use Rattle.rule_model.specs.declared.rules.Slot.{Slot}
 use Rattle.rule_model.specs.declared.rules.Slot.TheVariants.{Of, Mark, Blank}
 use Rattle.rule_model.specs.Behaviours as whole

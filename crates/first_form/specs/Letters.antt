@@ -1,5 +1,6 @@
 -- Bytes of a text, and which of them stand in one piece.
-use Rattle.std.specs.Prelude.{ℕ, List, [], ◌∷◌, Bool, false, ◌&&◌, ◌||◌, nat_eq, if◌then◌else◌, map}
+use Rattle.std.specs.Prelude.{ℕ, ◌≡◌, ◌⊎◌, List, [], ◌∷◌, Bool, true, false, ◌&&◌, ◌||◌, nat_eq, if◌then◌else◌, map}
+use Rattle.spec_core.specs.Lists.{Each}
 use Rattle.std.specs.Str.{bytes_eq}
 use Rattle.std.specs.Char.{is_ascii_alphanumeric, to_ascii_lowercase}
 
@@ -24,3 +25,23 @@ onto c (piece ∷ pieces) = (c ∷ piece) ∷ pieces
 abbrev pub pieces : List ℕ → List (List ℕ)
 pieces [] = []
 pieces (c ∷ s) = if joins c s then onto c (pieces s) else (c ∷ []) ∷ pieces s
+
+-- letters and digits alone
+abbrev pub AreLetters : List ℕ → Type 0
+AreLetters bytes = Each (λ c. is_ascii_alphanumeric c ≡ true) bytes
+
+-- what begins with a letter or a digit goes on with them
+abbrev pub IsPiece : List ℕ → Type 0
+IsPiece [] = Unit {0}
+IsPiece (c ∷ s) = is_ascii_alphanumeric c ≡ true → AreLetters s
+
+-- P holds of the first byte
+abbrev pub OnFirst : (ℕ → Type 0) → List ℕ → Type 0
+OnFirst P [] = ⊥
+OnFirst P (c ∷ s) = P c
+
+-- The front of a piece, before the rest of the text: nothing; letters and digits, before a further one; or [ before ].
+abbrev pub IsInHand : List ℕ → List ℕ → Type 0
+IsInHand hand rest =
+    (hand ≡ []) ⊎ ((AreLetters hand × OnFirst (λ c. is_ascii_alphanumeric c ≡ true) rest) ⊎
+    ((hand ≡ 91 ∷ []) × OnFirst (λ c. c ≡ 93) rest))

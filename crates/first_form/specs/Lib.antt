@@ -7,6 +7,6 @@ pub mod Script
 pub mod Forms
 pub mod Walk
 pub mod Session
-pub mod PlainLogs
+pub mod Headings
 pub mod Written
 pub mod Grammar

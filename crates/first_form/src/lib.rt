@@ -9,6 +9,5 @@ mod session;
 pub mod specification;
 mod stack;
 pub mod token;
-mod trace;
 mod walk;
 pub mod written;

@@ -2,11 +2,12 @@
 
 ghost use Rattle.std.specs.Prelude.{◌≡◌, ◌++◌, ◌∷◌, [], IfOk, OnOk, length};
 ghost use Rattle.std.specs.List.{list_any, filter_map};
-ghost use Rattle.first_form.specs.Letters.{same_word, is_blank, joins};
+ghost use Rattle.first_form.specs.Letters.{same_word, is_blank, joins, AreLetters, IsInHand, IsPiece};
 ghost use Rattle.first_form.specs.Tokens.{is_behaviour, word_token, free_token, symbol_token, token_of, tokens_of, tokens_with};
 
-use crate::token::{Mark, Token, Word};
+use crate::token::{Mark, Token};
 use spec_core::memory::Memory;
+use spec_core::name::Name;
 use std::alloc::Global;
 
 /// The reserved words of LOTOS that stand in no text of the forms.
@@ -64,9 +65,22 @@ fn is_behaviour(word: &[u8]) -> bool
     is_same_word(word, b"behaviour") || is_same_word(word, b"behavior")
 }
 
+// Letters and digits as a name.
+#[tactic(auto, using(crate::proofs::PieceLemmas::letters_are_utf8))]
+fn name_of(letters: Vec<u8>) -> Name
+    requires { AreLetters letters.items }
+    ensures { result ≡ letters.items }
+{
+    match String::from_utf8(letters) {
+        Ok(text) => Name::new(text),
+        Err(_) => unreachable!(),
+    }
+}
+
 // The token that a word is.
-fn word_token(word: Word) -> Token
-    ensures { result ≡ word_token word }
+fn word_token(word: Vec<u8>) -> Token
+    requires { AreLetters word.items }
+    ensures { result ≡ word_token word.items }
 {
     let bytes = word.as_slice();
     if is_same_word(bytes, b"specification") {
@@ -89,8 +103,9 @@ fn word_token(word: Word) -> Token
 }
 
 // The token that a word is which stands for no keyword of the forms.
-fn free_token(word: Word) -> Token
-    ensures { result ≡ free_token word }
+fn free_token(word: Vec<u8>) -> Token
+    requires { AreLetters word.items }
+    ensures { result ≡ free_token word.items }
 {
     let bytes = word.as_slice();
     if is_among(bytes, &OTHER_WORDS) {
@@ -99,7 +114,7 @@ fn free_token(word: Word) -> Token
         Token::Fixed(Mark::One)
     } else {
         match bytes {
-            [first, ..] if first.is_ascii_alphabetic() => Token::Identifier(word),
+            [first, ..] if first.is_ascii_alphabetic() => Token::Identifier(name_of(word)),
             _ => Token::Fixed(Mark::Other),
         }
     }
@@ -121,8 +136,9 @@ fn symbol_token(piece: &[u8]) -> Token
 }
 
 // The token that a piece is; a blank is none.
-fn token_of(piece: Word) -> Option<Token>
-    ensures { result ≡ token_of piece }
+fn token_of(piece: Vec<u8>) -> Option<Token>
+    requires { IsPiece piece.items }
+    ensures { result ≡ token_of piece.items }
 {
     match piece.as_slice() {
         [] => None,
@@ -159,9 +175,10 @@ fn does_join(byte: u8, behind: &[u8]) -> bool
 
 // Puts the token of a piece behind the others.
 fn push_token(tokens: &mut Vec<Token>, piece: Vec<u8>) -> Result<(), Memory>
+    requires { IsPiece piece.items }
     ensures { OnOk result (tokens.new.items ≡ tokens.old.items ++ filter_map token_of (piece.items ∷ [])) }
 {
-    match token_of(Word::new(piece)) {
+    match token_of(piece) {
         None => Ok(()),
         Some(token) => Ok(tokens.push(token)?),
     }
@@ -175,6 +192,8 @@ fn take_byte(
     byte: u8,
     behind: &[u8],
 ) -> Result<Vec<u8>, Memory>
+    requires in_hand { IsInHand piece.items (byte ∷ behind.now) }
+    ensures in_hand { IfOk result (λ hand. IsInHand hand.items behind.now) }
     ensures taken { IfOk result
         (λ hand.
         tokens.old.items ++ tokens_with piece.items (byte ∷ behind.now) ≡ tokens.new.items ++ tokens_with hand.items behind.now) }

@@ -13,8 +13,9 @@ ghost use Rattle.first_form.specs.Tokens.{tokens_of};
 use crate::pieces::tokens;
 use crate::specification::{ReadFault, find_gate, is_same_mark};
 use crate::stack::Tokens;
-use crate::token::{Mark, Token, Word};
+use crate::token::{Mark, Token};
 use spec_core::items::Gate;
+use spec_core::name::Name;
 use std::alloc::Global;
 
 // Whether the bytes begin with this one.
@@ -45,7 +46,7 @@ fn two_marks(tokens: &mut Tokens) -> Result<(Mark, Mark), ReadFault>
 }
 
 // Takes the last token, a word.
-fn last_word(tokens: &mut Tokens) -> Result<Word, ReadFault>
+fn last_word(tokens: &mut Tokens) -> Result<Name, ReadFault>
     ensures ok { IfOk result (λ word. tokens.old ≡ Identifier word ∷ []) }
     ensures unfit { IsErrOf result ReadFault.Unfit → (m n : Mark) → IsNoWish (Fixed m ∷ Fixed n ∷ tokens.old) }
 {
@@ -64,7 +65,7 @@ fn last_word(tokens: &mut Tokens) -> Result<Word, ReadFault>
 }
 
 // The gate that the tokens of a line name.
-fn wish(gates: &[Word], tokens: &mut Tokens) -> Result<Gate, ReadFault>
+fn wish(gates: &[Name], tokens: &mut Tokens) -> Result<Gate, ReadFault>
     ensures ok { IfOk result (λ gate. wish_of gates.now tokens.old ≡ Some gate) }
     ensures known { IfOk result (IsGateOf gates.now) }
     ensures unfit { IsErrOf result ReadFault.Unfit → wish_of gates.now tokens.old ≡ None }
@@ -85,7 +86,7 @@ fn is_line_skipped(line: &[u8]) -> bool
 }
 
 // The gate that a line names.
-fn line_wish(alloc: Global, gates: &[Word], line: &[u8]) -> Result<Gate, ReadFault>
+fn line_wish(alloc: Global, gates: &[Name], line: &[u8]) -> Result<Gate, ReadFault>
     ensures ok { IfOk result (λ gate. wish_of gates.now (tokens_of line.now) ≡ Some gate) }
     ensures known { IfOk result (IsGateOf gates.now) }
     ensures unfit { IsErrOf result ReadFault.Unfit → wish_of gates.now (tokens_of line.now) ≡ None }
@@ -98,7 +99,7 @@ fn line_wish(alloc: Global, gates: &[Word], line: &[u8]) -> Result<Gate, ReadFau
 #[tactic(auto, using(crate::proofs::ScriptLemmas::named_line, crate::proofs::ScriptLemmas::one_known_more))]
 fn take_line(
     alloc: Global,
-    gates: &[Word],
+    gates: &[Name],
     wishes: &mut Vec<Gate>,
     line: &[u8],
 ) -> Result<(), ReadFault>
@@ -116,7 +117,7 @@ fn take_line(
 // Takes a byte into the line in hand, and gives the line that is in hand then.
 fn take_byte(
     alloc: Global,
-    gates: &[Word],
+    gates: &[Name],
     wishes: &mut Vec<Gate>,
     mut line: Vec<u8>,
     byte: u8,
@@ -143,7 +144,7 @@ fn take_byte(
 #[tactic(auto, using(crate::proofs::ScriptLemmas::none_behind))]
 fn last_line(
     alloc: Global,
-    gates: &[Word],
+    gates: &[Name],
     mut wishes: Vec<Gate>,
     line: &[u8],
 ) -> Result<Vec<Gate>, ReadFault>
@@ -159,7 +160,7 @@ fn last_line(
 }
 
 // The gates that the lines of a text name.
-fn read_lines(alloc: Global, gates: &[Word], text: &[u8]) -> Result<Vec<Gate>, ReadFault>
+fn read_lines(alloc: Global, gates: &[Name], text: &[u8]) -> Result<Vec<Gate>, ReadFault>
     ensures ok { IfOk result (λ wishes. wishes_of gates.now (lines_with [] text.now) ≡ Some wishes.items) }
     ensures known { IfOk result (λ wishes. All (IsGateOf gates.now) wishes.items) }
     ensures unfit { IsErrOf result ReadFault.Unfit → wishes_of gates.now (lines_with [] text.now) ≡ None }
@@ -173,7 +174,7 @@ fn read_lines(alloc: Global, gates: &[Word], text: &[u8]) -> Result<Vec<Gate>, R
 }
 
 /// The gates that client 1 names, line by line, where the script is of the first form.
-pub fn read_script(alloc: Global, gates: &[Word], text: &[u8]) -> Result<Vec<Gate>, ReadFault>
+pub fn read_script(alloc: Global, gates: &[Name], text: &[u8]) -> Result<Vec<Gate>, ReadFault>
     ensures ok { IfOk result (λ wishes. first_script gates.now text.now ≡ Some wishes.items) }
     ensures known { IfOk result (λ wishes. All (IsGateOf gates.now) wishes.items) }
     ensures unfit { IsErrOf result ReadFault.Unfit → first_script gates.now text.now ≡ None }

@@ -9,11 +9,9 @@ ghost use Rattle.rule_model.specs.Events.{event_of, ending_of, acted, replied, s
 ghost use Rattle.rule_model.specs.Logs.{events_of};
 ghost use Rattle.first_form.specs.Plain.{plain_of};
 ghost use Rattle.first_form.specs.Session.{EndsIn, IsSession, WasDriven};
-ghost use Rattle.first_form.specs.PlainLogs.{IsPlain, IsPlainEnd, IsPlainTree};
 ghost use Rattle.first_form.specs.Walk.{IsAnswer, AppendsAnswer};
 
 use crate::plain::PlainBeh;
-use crate::token::Word;
 use crate::walk::{Step, first_step, is_stuck};
 use rule_model::action::{Action, Values};
 use rule_model::log::{End, Entry, Log};
@@ -21,6 +19,7 @@ use rule_model::offer::{Fields, Offer};
 use rule_model::reply::Reply;
 use spec_core::items::Gate;
 use spec_core::memory::Memory;
+use spec_core::name::Name;
 use std::alloc::Global;
 
 // The answer to an offer, what is left after it, and how many actions there were then.
@@ -34,8 +33,6 @@ struct Settled {
 // The offer is taken.
 fn taken(alloc: Global, step: Step, gate: Gate, number: u64, actions: u64) -> Settled
     requires fits { actions + 1 < 2 ^ 64 }
-    requires plain { IsPlainTree (derivation_of step.rules) }
-    ensures plain { IsPlain (event_of result.entry) }
     ensures entry { event_of result.entry ≡ acted (At gate []) (derivation_of step.rules) (Some (1, number)) }
     ensures rest { plain_of result.rest ≡ plain_of step.rest }
     ensures counted { result.actions ≡ actions + 1 }
@@ -52,7 +49,6 @@ fn taken(alloc: Global, step: Step, gate: Gate, number: u64, actions: u64) -> Se
 // Nothing can be done any more.
 fn dead(from: PlainBeh, number: u64, actions: u64) -> Settled
     ensures entry { event_of result.entry ≡ replied 1 number (deadlock actions) }
-    ensures plain { IsPlain (event_of result.entry) }
     ensures rest { plain_of result.rest ≡ plain_of from }
     ensures counted { result.actions ≡ actions }
 {
@@ -66,7 +62,6 @@ fn dead(from: PlainBeh, number: u64, actions: u64) -> Settled
 // The offer can't be taken.
 fn stalls(alloc: Global, from: PlainBeh, number: u64, actions: u64) -> Result<Settled, Memory>
     ensures entry { IfOk result (λ s. event_of s.entry ≡ stalled ((1, number) ∷ [])) }
-    ensures plain { IfOk result (λ s. IsPlain (event_of s.entry)) }
     ensures rest { IfOk result (λ s. plain_of s.rest ≡ plain_of from) }
     ensures counted { IfOk result (λ s. s.actions ≡ actions) }
 {
@@ -90,7 +85,6 @@ fn settle(
     ensures answer { IfOk result (λ s.
         IsAnswer (plain_of from) gate number actions (event_of s.entry) (plain_of s.rest) s.actions) }
     ensures counted { IfOk result (λ s. s.actions ≤ actions + 1) }
-    ensures plain { IfOk result (λ s. IsPlain (event_of s.entry)) }
 {
     match first_step(alloc, &from, gate)? {
         Some(step) => Ok(taken(alloc, step, gate, number, actions)),
@@ -117,7 +111,6 @@ fn answer(
     ensures answer { IfOk result
         (λ r. AppendsAnswer (events_of log.old) (events_of log.new) (plain_of from) gate number actions (plain_of r.0) r.1) }
     ensures counted { IfOk result (λ r. r.1 ≤ actions + 1) }
-    ensures plain { All IsPlain (events_of log.old) → OnOk result (All IsPlain (events_of log.new)) }
 {
     let fields = Fields::new(Vec::new(alloc));
     log.push(Entry::Pend(1, number, Offer { gate, fields }, false))?;
@@ -136,12 +129,11 @@ fn answer(
 fn drive(
     alloc: Global,
     start: PlainBeh,
-    gates: &[Word],
+    gates: &[Name],
     wishes: &[Gate],
 ) -> Result<(Log, PlainBeh), Memory>
     requires { All (λ gate. gate.0 < length gates.now) wishes.now }
     ensures driven { IfOk result (λ r. WasDriven (length gates.now) (plain_of start) wishes.now (events_of r.0) (plain_of r.1)) }
-    ensures plain { IfOk result (λ r. All IsPlain (events_of r.0)) }
 {
     let mut log = Log::new(alloc);
     let mut from = start;
@@ -159,7 +151,6 @@ fn drive(
 /// How a session ends that leaves this behaviour.
 fn end_of(rest: &PlainBeh) -> End
     ensures end { EndsIn (plain_of rest.now) (ending_of result) }
-    ensures plain { IsPlainEnd (ending_of result) }
 {
     if is_stuck(rest) {
         End::Deadlock
@@ -172,13 +163,11 @@ fn end_of(rest: &PlainBeh) -> End
 pub fn session(
     alloc: Global,
     start: PlainBeh,
-    gates: &[Word],
+    gates: &[Name],
     wishes: &[Gate],
 ) -> Result<(Log, End), Memory>
     requires { All (λ gate. gate.0 < length gates.now) wishes.now }
-    ensures session { IfOk result (λ r. IsSession (length gates.now) (plain_of start) wishes.now (events_of r.0) (ending_of r.1)) }
-    ensures plain { IfOk result (λ r. All IsPlain (events_of r.0)) }
-    ensures plain_end { IfOk result (λ r. IsPlainEnd (ending_of r.1)) }
+    ensures { IfOk result (λ r. IsSession (length gates.now) (plain_of start) wishes.now (events_of r.0) (ending_of r.1)) }
 {
     if wishes.is_empty() {
         let end = end_of(&start);

@@ -15,9 +15,10 @@ ghost use Rattle.first_form.specs.Forms.{form_of};
 use crate::pieces::{is_same_word, tokens};
 use crate::plain::PlainBeh;
 use crate::stack::Tokens;
-use crate::token::{Mark, Token, Word};
+use crate::token::{Mark, Token};
 use spec_core::items::Gate;
 use spec_core::memory::Memory;
+use spec_core::name::Name;
 use std::alloc::{AllocError, AllocFailed, Global};
 
 /// Why nothing was read.
@@ -71,7 +72,7 @@ fn expect(tokens: &mut Tokens, mark: Mark) -> Result<(), ReadFault>
 }
 
 // Takes an identifier.
-fn identifier(tokens: &mut Tokens) -> Result<Word, ReadFault>
+fn identifier(tokens: &mut Tokens) -> Result<Name, ReadFault>
     ensures ok { IfOk result (λ word. (rest : List ℕ → List Token → Option FirstForm) → named tokens.old rest ≡ rest word tokens.new) }
     ensures unfit { IsErrOf result ReadFault.Unfit → (rest : List ℕ → List Token → Option FirstForm) → named tokens.old rest ≡ None }
 {
@@ -84,22 +85,22 @@ fn identifier(tokens: &mut Tokens) -> Result<Word, ReadFault>
 }
 
 // The place of the first word that is this one.
-fn place_of(words: &[Word], word: &[u8]) -> Option<usize>
+fn place_of(words: &[Name], word: &[u8]) -> Option<usize>
     ensures place { result ≡ position (same_word word.now) words.now }
     ensures within { IfSome result (λ place. place < length words.now) }
 {
     words
         .iter()
-        .position(|other| is_same_word(word, other.as_slice()))
+        .position(|other| is_same_word(word, other.as_str().as_bytes()))
 }
 
 // The gate that the word names.
-pub fn find_gate(gates: &[Word], word: &Word) -> Result<Gate, ReadFault>
+pub fn find_gate(gates: &[Name], word: &Name) -> Result<Gate, ReadFault>
     ensures ok { IfOk result (λ gate. gate_at gates.now word.now ≡ Some gate) }
     ensures known { IfOk result (IsGateOf gates.now) }
     ensures unfit { IsErrOf result ReadFault.Unfit → gate_at gates.now word.now ≡ None }
 {
-    match place_of(gates, word.as_slice()) {
+    match place_of(gates, word.as_str().as_bytes()) {
         None => Err(ReadFault::Unfit),
         Some(place) => match u32::try_from(place) {
             Ok(place) => Ok(Gate(place)),
@@ -109,16 +110,14 @@ pub fn find_gate(gates: &[Word], word: &Word) -> Result<Gate, ReadFault>
 }
 
 // Whether one of the words is this one.
-fn is_one_of(words: &[Word], word: &Word) -> bool
+fn is_one_of(words: &[Name], word: &Name) -> bool
     ensures { result ≡ list_any (same_word word.now) words.now }
 {
-    words
-        .iter()
-        .any(|other| is_same_word(word.as_slice(), other.as_slice()))
+    words.iter().any(|other| is_same_word(word.as_str().as_bytes(), other.as_str().as_bytes()))
 }
 
 // Whether no two words are one.
-fn do_all_differ(words: &[Word]) -> bool
+fn do_all_differ(words: &[Name]) -> bool
     ensures { result ≡ all_differ words.now }
 {
     match words {
@@ -128,7 +127,7 @@ fn do_all_differ(words: &[Word]) -> bool
 }
 
 // Takes an identifier and the mark behind it.
-fn name_and_mark(tokens: &mut Tokens) -> Result<(Word, Mark), ReadFault>
+fn name_and_mark(tokens: &mut Tokens) -> Result<(Name, Mark), ReadFault>
     ensures ok { IfOk result (λ r. tokens.old ≡ Identifier r.0 ∷ Fixed r.1 ∷ tokens.new) }
     ensures unfit { IsErrOf result ReadFault.Unfit → (gates : List (List ℕ)) → read_names gates tokens.old ≡ None }
 {
@@ -145,7 +144,7 @@ fn name_and_mark(tokens: &mut Tokens) -> Result<(Word, Mark), ReadFault>
 }
 
 // Takes the rest of a list of gates, and the colon behind it.
-fn names(mut gates: Vec<Word>, tokens: &mut Tokens) -> Result<Vec<Word>, ReadFault>
+fn names(mut gates: Vec<Name>, tokens: &mut Tokens) -> Result<Vec<Name>, ReadFault>
     ensures ok { IfOk result (λ all. read_names gates.items tokens.old ≡ read_kind all.items tokens.new) }
     ensures unfit { IsErrOf result ReadFault.Unfit → read_names gates.items tokens.old ≡ None }
 {
@@ -162,7 +161,7 @@ fn names(mut gates: Vec<Word>, tokens: &mut Tokens) -> Result<Vec<Word>, ReadFau
 }
 
 // Takes the gates, where there are any, and the colon behind them.
-fn gates(alloc: Global, tokens: &mut Tokens) -> Result<Vec<Word>, ReadFault>
+fn gates(alloc: Global, tokens: &mut Tokens) -> Result<Vec<Name>, ReadFault>
     ensures ok { IfOk result (λ all. read_gates tokens.old ≡ read_kind all.items tokens.new) }
     ensures unfit { IsErrOf result ReadFault.Unfit → read_gates tokens.old ≡ None }
 {
@@ -183,7 +182,7 @@ fn gates(alloc: Global, tokens: &mut Tokens) -> Result<Vec<Word>, ReadFault>
 }
 
 // Takes the names of the library types, and the word behind them.
-fn types(gates: &[Word], tokens: &mut Tokens) -> Result<(), ReadFault>
+fn types(gates: &[Name], tokens: &mut Tokens) -> Result<(), ReadFault>
     ensures ok { OnOk result (read_types gates.now tokens.old ≡ read_alternatives gates.now [] tokens.new) }
     ensures unfit { IsErrOf result ReadFault.Unfit → read_types gates.now tokens.old ≡ None }
 {
@@ -192,8 +191,8 @@ fn types(gates: &[Word], tokens: &mut Tokens) -> Result<(), ReadFault>
     let second = identifier(tokens)?;
     expect(tokens, Mark::Endlib)?;
     expect(tokens, Mark::Behaviour)?;
-    if is_same_word(first.as_slice(), b"boolean")
-        && is_same_word(second.as_slice(), b"naturalnumber")
+    if is_same_word(first.as_str().as_bytes(), b"boolean")
+        && is_same_word(second.as_str().as_bytes(), b"naturalnumber")
     {
         Ok(())
     } else {
@@ -202,7 +201,7 @@ fn types(gates: &[Word], tokens: &mut Tokens) -> Result<(), ReadFault>
 }
 
 // Takes the library part, where there is one, and the word behind it.
-fn library(gates: &[Word], tokens: &mut Tokens) -> Result<(), ReadFault>
+fn library(gates: &[Name], tokens: &mut Tokens) -> Result<(), ReadFault>
     ensures ok { OnOk result (read_library gates.now tokens.old ≡ read_alternatives gates.now [] tokens.new) }
     ensures unfit { IsErrOf result ReadFault.Unfit → read_library gates.now tokens.old ≡ None }
 {
@@ -223,7 +222,7 @@ fn library(gates: &[Word], tokens: &mut Tokens) -> Result<(), ReadFault>
 }
 
 // Takes what stands between the gates and the behaviour.
-fn kind(gates: &[Word], tokens: &mut Tokens) -> Result<(), ReadFault>
+fn kind(gates: &[Name], tokens: &mut Tokens) -> Result<(), ReadFault>
     ensures ok { OnOk result (read_kind gates.now tokens.old ≡ read_alternatives gates.now [] tokens.new) }
     ensures unfit { IsErrOf result ReadFault.Unfit → read_kind gates.now tokens.old ≡ None }
 {
@@ -248,7 +247,7 @@ fn prefixed(alloc: Global, prefixes: &[Gate]) -> Result<PlainBeh, Memory>
 // What comes next among alternatives.
 #[derive(Drop)]
 enum Step {
-    Prefix(Word),
+    Prefix(Name),
     Or,
     End,
 }
@@ -274,7 +273,7 @@ fn end_of_alternative(tokens: &mut Tokens) -> Result<Step, ReadFault>
 }
 
 // Takes the semicolon behind a prefix.
-fn semicolon(word: Word, tokens: &mut Tokens) -> Result<Step, ReadFault>
+fn semicolon(word: Name, tokens: &mut Tokens) -> Result<Step, ReadFault>
     ensures ok { IfOk result (λ step. Takes step (Identifier word ∷ tokens.old) tokens.new) }
     ensures unfit { IsErrOf result ReadFault.Unfit → IsNoStep (Identifier word ∷ tokens.old) }
 {
@@ -303,7 +302,7 @@ fn next_step(tokens: &mut Tokens) -> Result<Step, ReadFault>
 // Reads the alternatives to the end of the text, after these prefixes of the one in hand.
 fn alternatives(
     alloc: Global,
-    gates: &[Word],
+    gates: &[Name],
     mut prefixes: Vec<Gate>,
     tokens: &mut Tokens,
 ) -> Result<PlainBeh, ReadFault>
@@ -336,7 +335,7 @@ fn either(alloc: Global, prefixes: &[Gate], others: PlainBeh) -> Result<PlainBeh
 /// A specification of the first form: its gates as its heading spells them, and its behaviour.
 #[derive(Drop)]
 pub struct Specification {
-    pub gates: Vec<Word>,
+    pub gates: Vec<Name>,
     pub behaviour: PlainBeh,
 }
 
@@ -351,7 +350,7 @@ fn heading(tokens: &mut Tokens) -> Result<(), ReadFault>
 }
 
 // Reads what follows these gates.
-fn body(alloc: Global, gates: Vec<Word>, tokens: &mut Tokens) -> Result<Specification, ReadFault>
+fn body(alloc: Global, gates: Vec<Name>, tokens: &mut Tokens) -> Result<Specification, ReadFault>
     ensures ok { IfOk result (λ s. read_kind gates.items tokens.old ≡ Some (form_of s)) }
     ensures unfit { IsErrOf result ReadFault.Unfit → read_kind gates.items tokens.old ≡ None }
 {

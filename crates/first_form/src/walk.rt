@@ -2,7 +2,6 @@
 
 ghost use Rattle.std.specs.Prelude.{◌≡◌, ◌+◌, ◌<◌, ◌^◌, IfOk, IfSome, IfNone, MatchBool, true, false};
 ghost use Rattle.rule_model.specs.Derivations.{derivation_of, chl, chr};
-ghost use Rattle.first_form.specs.PlainLogs.{IsPlainTree};
 ghost use Rattle.first_form.specs.Plain.{plain_of, act};
 ghost use Rattle.first_form.specs.Walk.{IsFirstAt, IsNeverAt, IsStuck, CanStep};
 
@@ -30,7 +29,6 @@ fn prefix_step(
     ensures some { IfOk result
         (λ o. IfSome o (λ s. IsFirstAt (act gate (plain_of rest.now)) wanted (derivation_of s.rules) (plain_of s.rest))) }
     ensures none { IfOk result (λ o. IfNone o (IsNeverAt (act gate (plain_of rest.now)) wanted)) }
-    ensures plain { IfOk result (λ o. IfSome o (λ s. IsPlainTree (derivation_of s.rules))) }
 {
     if gate == wanted {
         let rules = Rules::Pre(Slots::new(Vec::new(alloc)));
@@ -70,7 +68,6 @@ fn right_step(alloc: Global, part: Step) -> Result<Step, Memory>
 pub fn first_step(alloc: Global, from: &PlainBeh, gate: Gate) -> Result<Option<Step>, Memory>
     ensures some { IfOk result (λ o. IfSome o (λ s. IsFirstAt (plain_of from.now) gate (derivation_of s.rules) (plain_of s.rest))) }
     ensures none { IfOk result (λ o. IfNone o (IsNeverAt (plain_of from.now) gate)) }
-    ensures plain { IfOk result (λ o. IfSome o (λ s. IsPlainTree (derivation_of s.rules))) }
 {
     match from {
         PlainBeh::Stop => Ok(None),

@@ -1,8 +1,9 @@
-use Rattle.std.proofs.Common.{rules, ◌++◌, ◌∷◌, [], ◌∙◌, List, ℕ, ap, sym, append_assoc}
+use Rattle.std.proofs.Common.{rules, ◌++◌, ◌∷◌, [], ◌∙◌, List, ℕ, ap, sym, subst, append_assoc}
 use Rattle.std.specs.List.{filter_map}
 use Rattle.first_form.specs.declared.token.Token.{Token}
 use Rattle.first_form.specs.Tokens.{token_of, tokens_with}
-use Rattle.first_form.proofs.PieceLemmas.{tokens_with-joined, tokens_with-alone}
+use Rattle.first_form.specs.Letters.{IsInHand}
+use Rattle.first_form.proofs.PieceLemmas.{tokens_with-joined, tokens_with-alone, hand_goes_on}
 use Rattle.first_form.proofs.pieces.take_byte.Goals as goal
 
 pub returns-then-does_join-clause-taken : goal.returns-then-does_join-clause-taken
@@ -22,3 +23,8 @@ returns-in_ok-push_token-clause-taken c =
     ∙ sym (append_assoc c.args.tokens.now.items _ behind)
     ∙ ap (λ (ts : List Token). ts ++ behind) (sym c.in_ok-push_token.ensures)
     ∙ ap (λ (hand : List ℕ). c.push_token.new.tokens.items ++ tokens_with hand c.args.behind.now) (sym c.new.ensures.items)
+
+pub returns-then-does_join-clause-in_hand : goal.returns-then-does_join-clause-in_hand
+returns-then-does_join-clause-in_hand c =
+    subst (λ (hand : List ℕ). IsInHand hand c.args.behind.now) (sym c.in_ok-push.ensures.items)
+    (hand_goes_on c.args.piece.items c.args.behind.now c.args.byte c.requires.in_hand (search rules))

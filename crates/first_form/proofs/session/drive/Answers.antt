@@ -1,10 +1,9 @@
-use Rattle.std.proofs.Common.{◌+◌, ℕ, List, [], take, length, arith, sym, subst, All}
+use Rattle.std.proofs.Common.{◌+◌, ℕ, List, [], take, length, arith, sym, subst}
 use Rattle.std.proofs.lemmas.List.{take_more}
 use Rattle.spec_core.specs.declared.items.Gate.{Gate}
 use Rattle.first_form.specs.Plain.{plain_of}
 use Rattle.rule_model.specs.Events.{Event}
 use Rattle.rule_model.specs.Logs.{events_of}
-use Rattle.first_form.specs.PlainLogs.{IsPlain}
 use Rattle.first_form.specs.Session.{IsSessionSoFar}
 use Rattle.first_form.proofs.AnswerLemmas.{session_begins, session_goes_on}
 use Rattle.first_form.proofs.session.drive.Goals as goal
@@ -17,7 +16,6 @@ loop-gate-init c = record {
       IsSessionSoFar (length c.args.gates.now) (plain_of c.args.start) [] log (plain_of c.args.start) 0 0)
       (sym c.new-log.ensures)
       (session_begins (length c.args.gates.now) (plain_of c.args.start));
-  plain = subst (All IsPlain) (sym c.new-log.ensures) (λ k d within. absurd (omega arith));
   counted = omega arith;
   fewer = omega arith;
 }
@@ -36,7 +34,6 @@ loop-gate-preserved c =
           (events_of c.answer.new.log) (plain_of c.loop-gate.from) c.loop-gate.number c.loop-gate.actions _
           (plain_of c.in_ok-rest.rest) c.in_ok-rest.later
           (c.requires i _ c.loop-gate-test.true) c.loop-gate.invariant.so_far c.in_ok-rest.ensures.answer);
-      plain = c.in_ok-rest.ensures.plain c.loop-gate.invariant.plain;
       counted = omega (arith, c.loop-gate.invariant.counted);
       fewer = omega (arith, c.loop-gate.invariant.fewer, c.in_ok-rest.ensures.counted);
     }

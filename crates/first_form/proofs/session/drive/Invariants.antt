@@ -1,7 +1,6 @@
-use Rattle.std.proofs.Common.{◌≡◌, ◌≤◌, length, take, All}
+use Rattle.std.proofs.Common.{◌≡◌, ◌≤◌, length, take}
 use Rattle.first_form.specs.Plain.{plain_of}
 use Rattle.rule_model.specs.Logs.{events_of}
-use Rattle.first_form.specs.PlainLogs.{IsPlain}
 use Rattle.first_form.specs.Session.{IsSessionSoFar}
 use Rattle.first_form.proofs.session.drive.Given as goal
 
@@ -10,7 +9,6 @@ invariant-loop-gate l = record {
   so_far :
       IsSessionSoFar (length l.gates) (plain_of l.fn.start) (take l.gate-index l.wishes) (events_of l.log) (plain_of l.from)
       l.number l.actions;
-  plain : All IsPlain (events_of l.log);
   counted : l.number ≡ l.gate-index;
   fewer : l.actions ≤ l.gate-index;
 }
