@@ -14,6 +14,7 @@ ghost use Rattle.trace_reader.specs.Lines.{IsOneLine};
 use crate::cursor::Cursor;
 use crate::entry::read_entry;
 use crate::reply::read_end;
+use crate::value::{DEEPEST_LINE, nesting};
 use rule_model::log::{End, Entry};
 use spec_core::memory::Memory;
 use std::alloc::Global;
@@ -57,6 +58,9 @@ fn entry_in(
     ensures none { IfOk result (λ found. IfNone found ((event : Event) →
         EventFits (program_of vocabulary.now.checked.now) event → line.now ≡ event_line (names_with vocabulary.now) event → ⊥)) }
 {
+    if nesting(line) > DEEPEST_LINE {
+        return Err(Memory);
+    }
     let mut cursor = Cursor::new(line);
     let entry = read_entry(alloc, vocabulary, &mut cursor, actions)?;
     if cursor.is_lost() {

@@ -44,8 +44,8 @@ pub fn read_value(
     }
 }
 
-// How deep brackets are nested in a text.
-fn nesting(text: &[u8]) -> usize {
+/// How deep round brackets are nested in a text.
+pub fn nesting(text: &[u8]) -> usize {
     let mut depth: usize = 0;
     let mut deepest: usize = 0;
     for byte in text {
@@ -68,7 +68,10 @@ fn is_deep(cursor: &Cursor) -> bool {
 }
 
 /// How deep a term or a tree may be nested. What is deeper isn't read for want of memory, since the functions that go over it recur.
-pub const DEEPEST: usize = 1024;
+pub const DEEPEST: usize = 512;
+
+/// How deep brackets may be nested in a line, those of its values included, which are read without recursion.
+pub const DEEPEST_LINE: usize = 16_384;
 
 /// A ground term.
 pub fn read_term(
