@@ -5,7 +5,7 @@ use Rattle.std.specs.List.{list_all}
 use Rattle.std.specs.Str.{bytes_eq}
 use Rattle.spec_core.specs.declared.settings.Settings.{Settings}
 use Rattle.command_words.specs.declared.command.Command as words
-use Rattle.command_words.specs.declared.command.Command.TheVariants.{Run, Check, Equal}
+use Rattle.command_words.specs.declared.command.Command.TheVariants.{Run, Check, Equal, Replay}
 use Rattle.command_words.specs.declared.option.OptionName.{OptionName}
 use Rattle.command_words.specs.declared.option.OptionName.TheVariants.{Budget}
 use Rattle.command_words.specs.Options.{settings_of}
@@ -17,6 +17,8 @@ pub data Command : Type 0 where
   check : List ℕ → Command
   -- whether two terms of the specification in the file are equal, with so many uses of equations for each
   equal : List ℕ → List ℕ → List ℕ → ℕ → Command
+  -- whether the trace in the second file is a derivation of the specification in the first, with so many uses of equations for each term
+  replay : List ℕ → List ℕ → ℕ → Command
 
 -- a word doesn't begin with -
 abbrev pub is_name : List ℕ → Bool
@@ -44,11 +46,17 @@ equal_of (specification ∷ first ∷ second ∷ words) =
     (set_behind (specification ∷ first ∷ second ∷ []) (Budget ∷ []) words)
 equal_of _ = None
 
+abbrev pub replay_of : List (List ℕ) → Option Command
+replay_of (specification ∷ trace ∷ words) =
+    option_map (λ settings. replay specification trace settings.budget) (set_behind (specification ∷ trace ∷ []) (Budget ∷ []) words)
+replay_of _ = None
+
 -- the command that words name, if they name one
 abbrev pub command_of : List (List ℕ) → Option Command
 command_of (name ∷ words) = if bytes_eq name (codes "run") then run_of words
     else if bytes_eq name (codes "check") then check_of words
     else if bytes_eq name (codes "equal") then equal_of words
+    else if bytes_eq name (codes "replay") then replay_of words
     else None
 command_of [] = None
 
@@ -57,3 +65,4 @@ abbrev pub command_named : words.Command → Command
 command_named (Run specification script) = run specification.now script.now
 command_named (Check specification) = check specification.now
 command_named (Equal specification first second budget) = equal specification.now first.now second.now budget
+command_named (Replay specification trace budget) = replay specification.now trace.now budget

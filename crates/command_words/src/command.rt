@@ -2,7 +2,7 @@
 
 ghost use Rattle.std.specs.Prelude.{◌≡◌, [], ◌∷◌, map, option_map, string_bytes};
 ghost use Rattle.command_words.specs.Commands as commands;
-ghost use Rattle.command_words.specs.Commands.{check_of, command_named, command_of, equal_of, run_of};
+ghost use Rattle.command_words.specs.Commands.{check_of, command_named, command_of, equal_of, replay_of, run_of};
 
 use crate::option::{OptionName, settings_of};
 use spec_core::settings::Settings;
@@ -24,6 +24,13 @@ pub enum Command<'w> {
         specification: &'w str,
         first: &'w str,
         second: &'w str,
+        /// The greatest number of uses of equations in the evaluation of each term, from 1 to 2^32.
+        budget: u64,
+    },
+    /// Whether a trace is a derivation of a specification.
+    Replay {
+        specification: &'w str,
+        trace: &'w str,
         /// The greatest number of uses of equations in the evaluation of each term, from 1 to 2^32.
         budget: u64,
     },
@@ -103,6 +110,29 @@ fn equal(words: &[String]) -> Option<Command<'_>>
     }
 }
 
+// What `replay` is told by the words behind it.
+#[tactic(auto, using(crate::proofs::Short::no_replay))]
+fn replay(words: &[String]) -> Option<Command<'_>>
+    ensures { option_map command_named result ≡ replay_of (map string_bytes words.now) }
+{
+    match words {
+        [specification, trace, options @ ..] => {
+            let specification = specification.as_str();
+            let trace = trace.as_str();
+            if !is_name(specification) || !is_name(trace) {
+                return None;
+            }
+            let Settings { budget, .. } = settings_of(&[OptionName::Budget], options)?;
+            Some(Command::Replay {
+                specification,
+                trace,
+                budget,
+            })
+        }
+        _ => None,
+    }
+}
+
 /// The command that words name, if they name one.
 pub fn read_command(words: &[String]) -> Option<Command<'_>>
     ensures { option_map command_named result ≡ command_of (map string_bytes words.now) }
@@ -112,6 +142,7 @@ pub fn read_command(words: &[String]) -> Option<Command<'_>>
             "run" => run(words),
             "check" => check(words),
             "equal" => equal(words),
+            "replay" => replay(words),
             _ => None,
         },
         [] => None,

@@ -1,30 +1,16 @@
 -- What comes of the terms of a file that was fetched is due.
-use Rattle.std.proofs.Common.{ℕ, ◌≡◌, subst, sym, List, Option, Some, None, take}
-use Rattle.std.specs.Prelude.{IfOk, IsSomeAnd, Result, Ok, Err}
+use Rattle.std.proofs.Common.{ℕ, ◌≡◌, subst, sym, List, take}
 use Rattle.lotos_outside.specs.Shelf.{OnFetched}
-use Rattle.spec_core.specs.Code.{Program}
 use Rattle.spec_core.specs.Theories.{Theory}
 use Rattle.term_equality.specs.declared.answer.Answer.{Answer}
 use Rattle.term_equality.specs.declared.answer.Answer.TheVariants as came
 use Rattle.lotos_run.specs.declared.status.Status.{Status}
 use Rattle.lotos_run.specs.declared.status.Status.TheVariants.{Done, Refused, Usage, ReadFault, WriteFault, Memory, Spent, Limit}
-use Rattle.lotos_run.specs.declared.status.Status.TheVariants.{ScriptRefused, NotBuilt}
+use Rattle.lotos_run.specs.declared.status.Status.TheVariants.{ScriptRefused, NotADerivation, NotBuilt}
 use Rattle.lotos_run.specs.EqualTexts.{status_of}
 use Rattle.lotos_run.specs.Equals.{IsCompared, IsComparedIn, IsEqualDue}
 use Rattle.lotos_run.specs.Outside.{Shelved}
-
-pub ok_implied : {A E : Type 0} {P Q : A → Type 0} (r : Result A E) → ((x : A) → P x → Q x) → IfOk r P → IfOk r Q
-ok_implied (Ok x) f h = f x h
-ok_implied (Err e) f h = tt
-
-some_implied : (P Q : List ℕ → Type 0) → ((x : List ℕ) → P x → Q x) → (o : Option (List ℕ)) → IsSomeAnd o P → IsSomeAnd o Q
-some_implied P Q implied None h = absurd h
-some_implied P Q implied (Some x) h = implied x h
-
-fetched_implied : (P Q : List ℕ → Type 0) → ((x : List ℕ) → P x → Q x) → (files : Option (List ℕ → Option (List ℕ))) (name : List ℕ) →
-    OnFetched files name P → OnFetched files name Q
-fetched_implied P Q implied None name h = tt
-fetched_implied P Q implied (Some file_of) name h = some_implied P Q implied (file_of name) h
+use Rattle.lotos_run.proofs.Fetched.{fetched_implied}
 
 -- the statuses with which terms are answered
 abbrev pub IsOfTerms : Status → Type 0
@@ -65,3 +51,4 @@ module _ (shelf : Shelved) (name first second bytes : List ℕ) (budget : ℕ) (
   compared_due WriteFault (program, accepted, h) = absurd (is_of_terms program.theory first second budget WriteFault answer h)
   compared_due Memory (program, accepted, h) = absurd (is_of_terms program.theory first second budget Memory answer h)
   compared_due NotBuilt (program, accepted, h) = absurd (is_of_terms program.theory first second budget NotBuilt answer h)
+  compared_due NotADerivation (program, accepted, h) = absurd (is_of_terms program.theory first second budget NotADerivation answer h)

@@ -1,2 +1,4 @@
 mod Equals
+mod Fetched
 mod Final
+mod Replays

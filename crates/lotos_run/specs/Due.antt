@@ -1,12 +1,13 @@
 -- Which status a call ends with, and which text it brings.
 use Rattle.std.specs.Prelude.{ℕ, ◌≡◌, List, Option, Some, None, codes}
-use Rattle.command_words.specs.Commands.{Command, run, check, equal}
+use Rattle.command_words.specs.Commands.{Command, run, check, equal, replay}
 use Rattle.lotos_outside.specs.Sink.{with_more, AppendsPrefix}
 use Rattle.lotos_run.specs.declared.status.Status.{Status}
 use Rattle.lotos_run.specs.declared.status.Status.TheVariants.{Usage}
 use Rattle.lotos_run.specs.Checks.{IsCheckDue}
 use Rattle.lotos_run.specs.Equals.{IsEqualDue}
 use Rattle.lotos_run.specs.Outside.{Shelved, Outside}
+use Rattle.lotos_run.specs.Replays.{IsReplayDue}
 use Rattle.lotos_run.specs.Runs.{IsRunDue}
 
 -- what is due where the words name no command
@@ -20,6 +21,7 @@ IsDue shelf None status text = IsUsageDue status text
 IsDue shelf (Some (run specification script)) status text = IsRunDue shelf specification script status text
 IsDue shelf (Some (check specification)) status text = IsCheckDue shelf specification status text
 IsDue shelf (Some (equal specification first second budget)) status text = IsEqualDue shelf specification first second budget status text
+IsDue shelf (Some (replay specification trace budget)) status text = IsReplayDue shelf specification trace budget status text
 
 -- the status is due, and the text that is due with it was written
 abbrev pub IsAnswered : Outside → Option Command → Status → Type 0

@@ -3,6 +3,9 @@ pub mod Checks
 pub mod Due
 pub mod EqualTexts
 pub mod Equals
+pub mod Lines
 pub mod Outside
+pub mod ReplayTexts
+pub mod Replays
 pub mod Runs
 pub mod Statuses

@@ -8,6 +8,7 @@ ghost use Rattle.lotos_run.specs.Outside.{shelved};
 use crate::answer::{Answer, with_text};
 use crate::check::check;
 use crate::equal::equal;
+use crate::replay::replay;
 use crate::run::run;
 use crate::status::Status;
 use command_words::{Command, read_command};
@@ -41,5 +42,12 @@ pub fn due_answer<F: Shelf>(
                 budget,
             },
         ) => equal(alloc, shelf, specification, first, second, budget),
+        Some(
+            Command::Replay {
+                specification,
+                trace,
+                budget,
+            },
+        ) => replay(alloc, shelf, specification, trace, budget),
     }
 }

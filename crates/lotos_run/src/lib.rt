@@ -7,6 +7,9 @@ mod check_text;
 mod due;
 mod equal;
 mod equal_text;
+mod lines;
+mod replay;
+mod replay_text;
 mod run;
 pub mod status;
 

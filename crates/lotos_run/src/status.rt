@@ -21,8 +21,10 @@ pub enum Status {
     Spent,
     /// A value has more symbols than are allowed.
     Limit,
-    /// A script or a term is not as it has to be.
+    /// A script, a term or a trace is not as it has to be.
     ScriptRefused,
+    /// A trace is not that of a derivation.
+    NotADerivation,
     /// The files use what the program can't run yet.
     NotBuilt,
 }
@@ -44,6 +46,7 @@ impl Status {
             Status::Spent => 6,
             Status::Limit => 7,
             Status::ScriptRefused => 8,
+            Status::NotADerivation => 9,
             Status::NotBuilt => 10,
         }
     }

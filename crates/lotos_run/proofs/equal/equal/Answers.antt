@@ -1,7 +1,8 @@
 use Rattle.std.proofs.Common.{◌≡◌, sym, subst, take}
 use Rattle.lotos_outside.specs.Shelf.{OnFetched}
 use Rattle.lotos_run.specs.Outside.{shelved}
-use Rattle.lotos_run.proofs.Equals.{ok_implied, compared_due}
+use Rattle.lotos_run.proofs.Equals.{compared_due}
+use Rattle.lotos_run.proofs.Fetched.{ok_implied}
 use Rattle.lotos_run.proofs.equal.equal.Goals as goal
 
 pub returns-in-Ok : goal.returns-in-Ok
