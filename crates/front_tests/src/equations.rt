@@ -4,8 +4,8 @@ use crate::data_text::{data_text, equations_text};
 use crate::texts::data;
 use std::test::Fail;
 
-// Whether the types of the library stand before them, the types, and the equations: of each its place, its variables in the order in which
-// they occur, its premises and its sides.
+// Whether the types of the library stand before them, the types, and their equations, behind those of the library: of each its place, its
+// variables in the order in which they occur, its premises and its sides.
 const EQUATIONS: [(bool, &str, &str); 22] = [
     (
         false,
@@ -121,10 +121,16 @@ const EQUATIONS: [(bool, &str, &str); 22] = [
 
 #[test]
 fn equations_are_read(rt: HostRuntime) -> Result<(), Fail> {
-    for (library, text, due) in &EQUATIONS {
-        let algebra = data(rt.alloc(), *library, text)?;
+    let library = equations_text(rt.alloc(), &data(rt.alloc(), true, "")?)?;
+    for (with_library, text, due) in &EQUATIONS {
+        let algebra = data(rt.alloc(), *with_library, text)?;
         let found = equations_text(rt.alloc(), &algebra)?;
-        assert_eq!(rt; found.as_str(), *due, "at {text}");
+        let mut all = String::new(rt.alloc());
+        if *with_library {
+            all.push_str(library.as_str())?;
+        }
+        all.push_str(due)?;
+        assert_eq!(rt; found.as_str(), all.as_str(), "at {text}");
     }
     Ok(())
 }
