@@ -3,8 +3,6 @@
 use rule_walk::FireFault;
 use spec_core::memory::Memory;
 use spec_core::term::Term;
-use std::error::Error;
-use std::fmt;
 
 /// Why a log isn't found to be a derivation.
 #[derive(Drop)]
@@ -17,17 +15,6 @@ pub enum CheckFault {
     TooLarge { term: Term },
     /// Want of memory.
     Memory,
-}
-
-impl fmt::Display for CheckFault {
-    fn fmt<W: fmt::Write>(&self, f: &mut fmt::Formatter<W>) -> fmt::Result {
-        match self {
-            CheckFault::NotPossible { entry: _ } => write!(f, "an entry isn't possible"),
-            CheckFault::Spent { term: _ } => write!(f, "no value within the budget"),
-            CheckFault::TooLarge { term: _ } => write!(f, "a value of more than 65536 symbols"),
-            CheckFault::Memory => write!(f, "out of memory"),
-        }
-    }
 }
 
 impl From<Memory> for CheckFault {

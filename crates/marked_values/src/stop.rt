@@ -5,7 +5,6 @@ ghost use Rattle.std.specs.Prelude.{◌≡◌};
 use spec_core::memory::Memory;
 use spec_core::term::Term;
 use std::alloc::{AllocError, AllocFailed};
-use std::fmt;
 
 /// Why a job of a session has no answer.
 #[derive(Drop)]
@@ -18,17 +17,6 @@ pub enum Stop {
     Wide(u64),
     /// Want of memory.
     Memory,
-}
-
-impl fmt::Display for Stop {
-    fn fmt<W: fmt::Write>(&self, f: &mut fmt::Formatter<W>) -> fmt::Result {
-        match self {
-            Stop::Spent(_) => write!(f, "no value within the budget"),
-            Stop::TooLarge(_) => write!(f, "a value of more than 65536 symbols"),
-            Stop::Wide(_) => write!(f, "too wide"),
-            Stop::Memory => write!(f, "out of memory"),
-        }
-    }
 }
 
 impl From<Memory> for Stop {

@@ -4,28 +4,18 @@ ghost use Rattle.std.specs.Prelude.{◌≡◌};
 
 use spec_core::memory::Memory;
 use std::alloc::{AllocError, AllocFailed};
-use std::error::Error;
-use std::fmt;
+use thiserror::Error;
 
 /// Why an evaluation gave no value.
-#[derive(Clone, Copy, Debug, PartialEq, Eq)]
+#[derive(Clone, Copy, Debug, PartialEq, Eq, Error)]
 pub enum EvaluationFault {
     /// The term has no value within the budget, or an equation has a loose variable.
+    #[error("no value within the budget")]
     Spent,
     /// Want of memory.
+    #[error("out of memory")]
     Memory,
 }
-
-impl fmt::Display for EvaluationFault {
-    fn fmt<W: fmt::Write>(&self, f: &mut fmt::Formatter<W>) -> fmt::Result {
-        match self {
-            EvaluationFault::Spent => write!(f, "no value within the budget"),
-            EvaluationFault::Memory => write!(f, "out of memory"),
-        }
-    }
-}
-
-impl Error for EvaluationFault {}
 
 impl From<Memory> for EvaluationFault {
     ghost use Rattle.plain_evaluation.specs.declared.fault.EvaluationFault.TheVariants.{Memory as NoMemory};

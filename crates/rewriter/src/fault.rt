@@ -4,18 +4,20 @@ ghost use Rattle.std.specs.Prelude.{◌≡◌};
 
 use spec_core::memory::Memory;
 use std::alloc::{AllocError, AllocFailed};
-use std::error::Error;
-use std::fmt;
+use thiserror::Error;
 use value_nodes::fault::NodeFault;
 
 /// Why an evaluation gave no value.
-#[derive(Clone, Copy, Debug, PartialEq, Eq)]
+#[derive(Clone, Copy, Debug, PartialEq, Eq, Error)]
 pub enum Eval {
     /// The term has no value within the budget.
+    #[error("no value within the budget")]
     Spent,
     /// The evaluation meets a value of more than 65,536 symbols.
+    #[error("a value of more than 65536 symbols")]
     TooLarge,
     /// Want of memory.
+    #[error("out of memory")]
     Memory,
 }
 
@@ -36,18 +38,6 @@ pub struct SideFault {
     /// Why it has none.
     pub cause: Eval,
 }
-
-impl fmt::Display for Eval {
-    fn fmt<W: fmt::Write>(&self, f: &mut fmt::Formatter<W>) -> fmt::Result {
-        match self {
-            Eval::Spent => write!(f, "no value within the budget"),
-            Eval::TooLarge => write!(f, "a value of more than 65536 symbols"),
-            Eval::Memory => write!(f, "out of memory"),
-        }
-    }
-}
-
-impl Error for Eval {}
 
 impl From<Memory> for Eval {
     ghost use Rattle.rewriter.specs.declared.fault.Eval.TheVariants.{Memory as NoMemory};

@@ -6,7 +6,6 @@ ghost use Rattle.rule_walk.specs.Faults.{IsMisfit, IsBelow};
 use spec_core::memory::Memory;
 use spec_core::term::Term;
 use std::alloc::{AllocError, AllocFailed, Global};
-use std::fmt;
 
 /// Why a tree gives no step.
 #[derive(Drop)]
@@ -19,17 +18,6 @@ pub enum FireFault {
     TooLarge { term: Term },
     /// Want of memory.
     Memory,
-}
-
-impl fmt::Display for FireFault {
-    fn fmt<W: fmt::Write>(&self, f: &mut fmt::Formatter<W>) -> fmt::Result {
-        match self {
-            FireFault::Unfit { at: _ } => write!(f, "a rule doesn't fit"),
-            FireFault::Spent { term: _ } => write!(f, "no value within the budget"),
-            FireFault::TooLarge { term: _ } => write!(f, "a value of more than 65536 symbols"),
-            FireFault::Memory => write!(f, "out of memory"),
-        }
-    }
 }
 
 impl From<Memory> for FireFault {

@@ -2,13 +2,13 @@
 
 use lotos_ast::text_kind::TextKind;
 use spec_core::memory::Memory;
-use std::error::Error;
-use std::fmt;
+use thiserror::Error;
 
 /// Why a trace isn't read.
-#[derive(Clone, Copy, Debug, PartialEq, Eq)]
+#[derive(Clone, Copy, Debug, PartialEq, Eq, Error)]
 pub enum TraceFault {
     /// The first line with which no trace goes on, from 1, of the kind `Form`; line 0 and the kind `Long` where the whole text is too long.
+    #[error("a line isn't one of a trace")]
     Line {
         /// The line's number.
         line: u64,
@@ -16,19 +16,9 @@ pub enum TraceFault {
         kind: TextKind,
     },
     /// Want of memory, which says nothing of the text.
+    #[error("out of memory")]
     Memory,
 }
-
-impl fmt::Display for TraceFault {
-    fn fmt<W: fmt::Write>(&self, f: &mut fmt::Formatter<W>) -> fmt::Result {
-        match self {
-            TraceFault::Line { line: _, kind: _ } => write!(f, "a line isn't one of a trace"),
-            TraceFault::Memory => write!(f, "out of memory"),
-        }
-    }
-}
-
-impl Error for TraceFault {}
 
 impl From<Memory> for TraceFault {
     ghost use Rattle.std.specs.Prelude.{◌≡◌};
