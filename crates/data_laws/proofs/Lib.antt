@@ -12,5 +12,7 @@ pub mod Narrow
 pub mod Renaming
 pub mod Smaller
 pub mod Sorted
+pub mod Sorts
 pub mod Still
 pub mod Whole
+pub mod Words

@@ -16,7 +16,7 @@ use Rattle.composites.specs.OpenFields.{OpenField, fixed, open_by}
 use Rattle.marked_values.specs.declared.scope.Given.{Given}
 use Rattle.marked_values.specs.declared.scope.Given.TheVariants.{Value, Mark}
 use Rattle.marked_values.specs.Found.{IsValueOf, HasNone, Spelled}
-use Rattle.marked_values.proofs.Values.{spelled_value, found_value, equal_spelled}
+use Rattle.value_terms.proofs.Values.{spelled_value, found_value, equal_spelled}
 use Rattle.marked_values.specs.declared.scope.Instance.{Instance}
 use Rattle.marked_values.specs.Scopes.{marked_term_of, all_joined}
 use Rattle.spec_core.specs.Terms.{terms}

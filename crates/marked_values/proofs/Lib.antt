@@ -1,4 +1,3 @@
-pub mod Values
 pub mod Stopping
 pub mod Finding
 pub mod Splitting

@@ -11,8 +11,8 @@ use Rattle.spec_core.specs.Ready.{IsReady}
 use Rattle.data_laws.proofs.Whole.{each_ground_term_has_one_value, equality_is_of_values}
 use Rattle.rule_model.specs.Fields.{Spells}
 use Rattle.rule_model.specs.Code.{IsDefinition}
-use Rattle.rule_laws.proofs.Spelling.{one_term}
-use Rattle.windowed_trees.proofs.Sorts.{have_one_sort}
+use Rattle.data_laws.proofs.Words.{one_term}
+use Rattle.data_laws.proofs.Sorts.{have_one_sort}
 use Rattle.composites.specs.Evaluations.{Definition, Evaluation, IsExact}
 use Rattle.testable_trees.proofs.One.{IsKnown, One, known_as}
 use Rattle.testable_trees.proofs.Parts.{same_value_known}

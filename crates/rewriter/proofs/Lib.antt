@@ -12,4 +12,3 @@ pub mod Slices
 pub mod Tops
 pub mod Turns
 pub mod Weights
-pub mod Words

@@ -1,4 +1,3 @@
 pub mod Determined
 pub mod OneStep
 pub mod Rows
-pub mod Spelling

@@ -23,7 +23,7 @@ use Rattle.rule_model.specs.Derivations.{enstep, enend, disstep, disend, distake
 use Rattle.rule_model.specs.Derives.{DerivesWith}
 use Rattle.rule_model.specs.Fields.{Spells, GivesValue, FieldsHave, ExitHas, BindingsHave, ArgumentsHave, IsHandedOn, OnGate}
 use Rattle.rule_model.specs.Substitution.{Assignment, with_term, without, put, tidied}
-use Rattle.rule_laws.proofs.Spelling.{one_term}
+use Rattle.data_laws.proofs.Words.{one_term}
 
 module _ (theory : Theory) (executable : IsExecutable theory) where
   -- a term has one value

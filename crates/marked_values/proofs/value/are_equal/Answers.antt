@@ -3,7 +3,7 @@ use Rattle.spec_core.specs.Terms.{term_of}
 use Rattle.spec_core.proofs.Lists.{untrue}
 use Rattle.marked_values.specs.Found.{Spelled}
 use Rattle.marked_values.proofs.Finding.{of_none, of_some, equal_found}
-use Rattle.marked_values.proofs.Values.{left_unequal, right_unequal}
+use Rattle.value_terms.proofs.Values.{left_unequal, right_unequal}
 use Rattle.marked_values.proofs.value.are_equal.Goals as goal
 
 pub returns-in-None-clause-decides : goal.returns-in-None-clause-decides

@@ -1,7 +1,7 @@
 use Rattle.spec_core.specs.Code.{program_of}
 use Rattle.spec_core.specs.Terms.{term_of}
 use Rattle.marked_values.proofs.Finding.{spelled_found}
-use Rattle.marked_values.proofs.Values.{unground_value}
+use Rattle.value_terms.proofs.Values.{unground_value}
 use Rattle.marked_values.proofs.value.operations_of.Goals as goal
 
 pub returns-in_ok-evaluate-clause-some : goal.returns-in_ok-evaluate-clause-some

@@ -4,7 +4,7 @@ use Rattle.spec_core.specs.Theories.{theory_of}
 use Rattle.data_laws.proofs.Whole.{equality_is_of_values}
 use Rattle.data_laws.proofs.Sorted.{keeps_sort}
 use Rattle.data_laws.proofs.Conditions.{sorted_of}
-use Rattle.rewriter.proofs.Words.{one_term}
+use Rattle.data_laws.proofs.Words.{one_term}
 use Rattle.rewriter.proofs.evaluate.compare.Goals as goal
 
 pub returns-clause-decides : goal.returns-clause-decides

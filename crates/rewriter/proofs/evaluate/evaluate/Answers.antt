@@ -7,7 +7,7 @@ use Rattle.rewriter.specs.Machine.{Evaluating, Keeps, Comes, plan}
 use Rattle.rewriter.specs.Steps.{task_of, put_by, IsStep}
 use Rattle.spec_core.proofs.Sound.{evaluation_gives_values}
 use Rattle.rewriter.proofs.Turns.{begin, no_variable}
-use Rattle.rewriter.proofs.Words.{ground_sorted}
+use Rattle.data_laws.proofs.Words.{ground_sorted}
 use Rattle.rewriter.proofs.evaluate.evaluate.Goals as goal
 
 pub push_instance-requires : goal.push_instance-requires

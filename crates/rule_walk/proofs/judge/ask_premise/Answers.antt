@@ -5,7 +5,7 @@ use Rattle.spec_core.proofs.Lists.{untrue}
 use Rattle.substitution.specs.Scopes.{terms_of}
 use Rattle.rule_walk.proofs.Faults.{handed_on, here_explains}
 use Rattle.rule_walk.proofs.Judging.{left_unjudged, right_unjudged}
-use Rattle.rule_walk.proofs.Values.{equal_spelled}
+use Rattle.value_terms.proofs.Values.{equal_spelled}
 use Rattle.rule_walk.proofs.judge.ask_premise.Goals as goal
 
 pub returns-in_err-first-clause-fault : goal.returns-in_err-first-clause-fault

@@ -2,7 +2,7 @@ use Rattle.std.proofs.Common.{rules}
 use Rattle.spec_core.specs.Code.{program_of}
 use Rattle.spec_core.specs.Terms.{term_of}
 use Rattle.rule_walk.proofs.Faults.{of_none}
-use Rattle.rule_walk.proofs.Values.{found_value, spelled_value}
+use Rattle.value_terms.proofs.Values.{found_value, spelled_value}
 use Rattle.rule_walk.proofs.judge.spelled_value.Goals as goal
 
 pub unreachable-requires : goal.unreachable-requires

@@ -8,11 +8,11 @@ use Rattle.spec_core.specs.Theories.{Theory}
 use Rattle.spec_core.specs.Values.{HasValue}
 use Rattle.data_laws.proofs.Conditions.{sorted_of}
 use Rattle.data_laws.proofs.Sorted.{keeps_sort}
+use Rattle.data_laws.proofs.Sorts.{have_one_sort}
 use Rattle.data_laws.proofs.Whole.{each_ground_term_has_one_value, equality_is_of_values}
-use Rattle.rewriter.proofs.Words.{one_term}
+use Rattle.data_laws.proofs.Words.{one_term}
 use Rattle.rewriter.specs.Answers.{SpellsValue}
 use Rattle.rule_model.specs.Fields.{Spells, GivesValue}
-use Rattle.windowed_trees.proofs.Sorts.{have_one_sort}
 
 module _ (theory : Theory) (fits : FitsData theory) where
   -- what has a value is ground, and so is its value
