@@ -1,27 +1,18 @@
 // The behaviours at the numbers of the code.
 
 ghost use Rattle.std.specs.Prelude.{◌≡◌, ◌<◌, ◌↔◌, IfOk, IfSome, IfNone, IsTrue, None, Some};
-ghost use Rattle.std.specs.List.{slice_get};
 ghost use Rattle.spec_core.specs.Code.{node_of, program_of};
 ghost use Rattle.spec_core.specs.Lists.{Each};
 ghost use Rattle.spec_core.specs.Ready.{IsReady, IsProcess, parts_of};
 ghost use Rattle.rule_model.specs.Behaviours.{behaviour_of, stop};
 ghost use Rattle.code_behaviours.specs.Parts.{over_parts, behaviour_at};
 
-use code_parts::open_part;
+use code_parts::{node_at, open_part};
 use rule_laws::laws::code_is_one_behaviour;
 use rule_model::beh::Beh;
 use spec_core::code::{Checked, CodeNode};
 use spec_core::memory::Memory;
 use std::alloc::Global;
-
-// The node with this number.
-fn node_at(checked: &Checked, number: u32) -> Option<&CodeNode>
-    ensures some { IfSome result (λ n. slice_get (program_of checked.now).code number ≡ Some (node_of n.now)) }
-    ensures none { IfNone result (slice_get (program_of checked.now).code number ≡ None) }
-{
-    checked.code.get(number as usize)
-}
 
 /// The construct with this number, whose parts have lower numbers. It takes no memory.
 #[tactic(auto, using(crate::proofs::Opening::opened_at))]
@@ -49,7 +40,7 @@ fn is_process(node: &CodeNode) -> bool
 }
 
 /// The behaviour with this number. It recurs as deep as its constructs nest.
-#[tactic(auto, using(crate::proofs::Standing::one_behaviour, crate::proofs::Standing::named_construct, crate::proofs::Opening::none_opened))]
+#[tactic(auto, using(crate::proofs::Standing::standing_rows, crate::proofs::Opening::none_opened))]
 pub fn behaviour(alloc: Global, checked: &Checked, number: u32) -> Result<Beh, Memory>
     requires ready { IsReady (program_of checked.now) }
     ensures here { IfOk result (λ b. behaviour_of b ≡ behaviour_at (program_of checked.now) number) }

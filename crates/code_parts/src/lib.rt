@@ -4,5 +4,5 @@
 mod parts;
 mod processes;
 
-pub use parts::{open_part, start};
+pub use parts::{node_at, open_part, start};
 pub use processes::{Definition, process_at};

@@ -3,12 +3,12 @@
 ghost use Rattle.std.specs.Prelude.{◌≡◌, ◌∷◌, [], IfOk, map, option_map};
 ghost use Rattle.spec_core.specs.Terms.{term_of, terms};
 ghost use Rattle.spec_core.specs.Theories.{theory_of};
-ghost use Rattle.rule_model.specs.Meets as meets;
 ghost use Rattle.windowed_trees.specs.MarkedTerms as marked;
 ghost use Rattle.windowed_trees.specs.MarkedTerms.{marked_instance};
 ghost use Rattle.marked_values.specs.Scopes.{marked_of, marks_of, marked_term_of, all_joined};
 
 use code_behaviours::values::term_of_value;
+use rule_model::sorts::result_sort;
 use spec_core::equation::DataSpec;
 use spec_core::items::{Op, Sort};
 use spec_core::memory::Memory;
@@ -28,16 +28,6 @@ pub enum Given {
 pub enum Instance {
     Plain(Term),
     Marked(Sort),
-}
-
-// The result sort of a declared operation; of none, the first sort.
-fn result_sort(algebra: &DataSpec, op: Op) -> Sort
-    ensures { result.0 ≡ meets.result_sort (theory_of algebra.now) op.0 }
-{
-    match algebra.signature.ops.get(op.0 as usize) {
-        None => Sort(0),
-        Some(declared) => declared.result,
-    }
 }
 
 impl Given {

@@ -3,11 +3,11 @@
 ghost use Rattle.std.specs.Prelude.{◌≡◌, ◌∷◌, [], IfOk, map, option_map};
 ghost use Rattle.spec_core.specs.Numbers.{op_number};
 ghost use Rattle.spec_core.specs.Theories.{theory_of};
-ghost use Rattle.rule_model.specs.Meets as meets;
 ghost use Rattle.windowed_trees.specs.Windows as windows;
 ghost use Rattle.composites.specs.OpenFields as fields;
 ghost use Rattle.open_composites.specs.Plans.{field_of};
 
+use rule_model::sorts::result_sort;
 use spec_core::equation::DataSpec;
 use spec_core::items::{Op, Sort};
 use spec_core::memory::Memory;
@@ -21,16 +21,6 @@ pub enum Column {
     Told(Value, bool),
     /// A value of this sort, which no expression tells.
     Blank(Sort, bool),
-}
-
-// The result sort of a declared operation; of none, the first sort.
-fn result_sort(algebra: &DataSpec, op: Op) -> Sort
-    ensures { result.0 ≡ meets.result_sort (theory_of algebra.now) op.0 }
-{
-    match algebra.signature.ops.get(op.0 as usize) {
-        None => Sort(0),
-        Some(declared) => declared.result,
-    }
 }
 
 // The result sort of the first of a value's operations.

@@ -9,4 +9,5 @@ pub mod offer;
 pub mod parts;
 pub mod reply;
 pub mod rules;
+pub mod sorts;
 pub mod view;

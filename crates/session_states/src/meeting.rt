@@ -1,26 +1,16 @@
 // Whether actions meet offers.
 
-ghost use Rattle.std.specs.Prelude.{◌≡◌, ◌↔◌, IsTrue, map};
+ghost use Rattle.std.specs.Prelude.{◌↔◌, IsTrue, map};
 ghost use Rattle.spec_core.specs.Numbers.{op_number};
 ghost use Rattle.spec_core.specs.Theories.{theory_of};
 ghost use Rattle.rule_model.specs.Meets.{FieldMeets, FieldsMeet, IsOfSort, Meets};
-ghost use Rattle.rule_model.specs.Meets as meets;
 
 use rule_model::action::Action;
 use rule_model::offer::{Field, Offer};
+use rule_model::sorts::result_sort;
 use spec_core::equation::DataSpec;
 use spec_core::items::{Op, Sort};
 use spec_core::value::Value;
-
-// The result sort of a declared operation; of none, the first sort.
-fn result_sort(algebra: &DataSpec, op: Op) -> Sort
-    ensures { result.0 ≡ meets.result_sort (theory_of algebra.now) op.0 }
-{
-    match algebra.signature.ops.get(op.0 as usize) {
-        None => Sort(0),
-        Some(declared) => declared.result,
-    }
-}
 
 // Whether the first of a value's operations has this result sort.
 fn begins_with_sort(algebra: &DataSpec, ops: &[Op], sort: Sort) -> bool

@@ -210,8 +210,8 @@ fn put_sort(out: &mut String, signature: &Signature, declaration: &OpDecl) -> Re
     Ok(())
 }
 
-// How many operations share name and argument sorts with this one.
-fn count_sharing(declarations: &[OpDecl], declaration: &OpDecl) -> usize
+/// How many operations share name and argument sorts with this one. It takes no memory.
+pub fn count_sharing(declarations: &[OpDecl], declaration: &OpDecl) -> usize
     ensures { result ≡ count_by (shares (operation_of declaration.now)) (map operation_of declarations.now) }
 {
     let mut count = 0;
@@ -234,8 +234,8 @@ fn share(declaration: &OpDecl, other: &OpDecl) -> bool
         && same_sorts(&declaration.args, &other.args)
 }
 
-// The word between two arguments of an infix operation.
-fn infix_word_at(name: &str, count: usize) -> Option<&str>
+/// The word between two arguments of an infix operation. It takes no memory.
+pub fn infix_word_at(name: &str, count: usize) -> Option<&str>
     ensures { MatchOption result (infix_at name.now count ≡ None) (λ word. infix_at name.now count ≡ Some word.now) }
 {
     if count == 2 { word_between(name) } else { None }

@@ -1,9 +1,10 @@
 // Values as text, without recursion.
 
-ghost use Rattle.std.specs.Prelude.{◌≡◌, ◌++◌, ◌∷◌, [], ◌<◌, ℕ, IfOk, OnOk, MatchOption, Some, None, drop, length, map, reverse, string_bytes, codes, if◌then◌else◌};
+ghost use Rattle.std.specs.Prelude.{◌≡◌, ◌++◌, ◌∷◌, [], ◌<◌, ℕ, IfOk, OnOk, MatchOption, Some, None, drop, length, map, reverse};
+ghost use Rattle.std.specs.Prelude.{string_bytes, codes, if◌then◌else◌};
 ghost use Rattle.std.specs.List.{slice_get};
 ghost use Rattle.spec_core.specs.Numbers.{op_number};
-ghost use Rattle.spec_core.specs.TermText.{infix_word, infix_at, prefix_opening, opening, separator, closing, sort_text, gap_before, between_at};
+ghost use Rattle.spec_core.specs.TermText.{prefix_opening, opening, separator, closing, sort_text, gap_before, between_at};
 ghost use Rattle.spec_core.specs.TermText.{operation_name, first_gap};
 ghost use Rattle.spec_core.specs.Theories.{operation_of, operations_of};
 ghost use Rattle.value_text.specs.Unfinished.{first_name, opening_text, rest_text, first_rest};
@@ -15,6 +16,7 @@ use spec_core::items::{Op, Sort};
 use spec_core::memory::Memory;
 use spec_core::name::Name;
 use spec_core::signature::{OpDecl, Signature};
+use spec_core::term_text::infix_word_at;
 use spec_core::value::Value;
 
 /// An operation that is printed in part: `begun` of its arguments are printed, or are being printed.
@@ -22,23 +24,6 @@ use spec_core::value::Value;
 pub struct Frame {
     pub op: Op,
     pub begun: usize,
-}
-
-// What stands between two underscores.
-fn word_between(name: &str) -> Option<&str>
-    ensures { MatchOption result (infix_word name.now ≡ None) (λ word. infix_word name.now ≡ Some word.now) }
-{
-    match name.strip_prefix('_') {
-        None => None,
-        Some(rest) => rest.strip_suffix('_'),
-    }
-}
-
-// The word between two arguments of an infix operation.
-fn infix_word_at(name: &str, count: usize) -> Option<&str>
-    ensures { MatchOption result (infix_at name.now count ≡ None) (λ word. infix_at name.now count ≡ Some word.now) }
-{
-    if count == 2 { word_between(name) } else { None }
 }
 
 // Appends the name of an operation, and a bracket where it has arguments.

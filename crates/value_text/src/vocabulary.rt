@@ -1,17 +1,17 @@
 // The names of a specification, for printing.
 
-ghost use Rattle.std.specs.Prelude.{◌≡◌, IfOk, Some, count_by, map};
+ghost use Rattle.std.specs.Prelude.{◌≡◌, IfOk, Some, map};
 ghost use Rattle.std.specs.List.{slice_get};
 ghost use Rattle.spec_core.specs.Code.{program_of};
 ghost use Rattle.spec_core.specs.Theories.{Operation, operation_of};
-ghost use Rattle.spec_core.specs.TermText.{shares};
 ghost use Rattle.value_text.specs.Values.{is_shared, sharing};
 ghost use Rattle.value_text.specs.Vocabularies.{IsWhole, theory_in};
 
 use spec_core::code::Checked;
 use spec_core::items::Op;
 use spec_core::memory::Memory;
-use spec_core::signature::{OpDecl, same_sorts};
+use spec_core::signature::OpDecl;
+use spec_core::term_text::count_sharing;
 use std::alloc::Global;
 
 /// A specification, and for each of its operations whether another one shares its name and its argument sorts.
@@ -58,28 +58,4 @@ fn is_shared(declarations: &[OpDecl], declaration: &OpDecl) -> bool
     ensures { result ≡ is_shared (map operation_of declarations.now) (operation_of declaration.now) }
 {
     count_sharing(declarations, declaration) > 1
-}
-
-// How many operations share name and argument sorts with this one.
-fn count_sharing(declarations: &[OpDecl], declaration: &OpDecl) -> usize
-    ensures { result ≡ count_by (shares (operation_of declaration.now)) (map operation_of declarations.now) }
-{
-    let mut count = 0;
-    for other in declarations {
-        if share(declaration, other) {
-            count += 1;
-        }
-    }
-    count
-}
-
-// Whether two operations share name and argument sorts.
-fn share(declaration: &OpDecl, other: &OpDecl) -> bool
-    ensures { result ≡ shares (operation_of declaration.now) (operation_of other.now) }
-{
-    declaration
-        .name
-        .as_str()
-        .eq_ignore_ascii_case(other.name.as_str())
-        && same_sorts(&declaration.args, &other.args)
 }
