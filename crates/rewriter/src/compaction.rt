@@ -1,6 +1,6 @@
 // A table with those nodes alone of which something is still made.
 
-ghost use Rattle.std.specs.Prelude.{◌≡◌, IfOk, OnOk, map};
+ghost use Rattle.std.specs.Prelude.{◌≡◌, ◌≤◌, IfOk, OnOk, length, map};
 ghost use Rattle.spec_core.specs.Theories.{theory_of};
 ghost use Rattle.value_nodes.specs.Nodes.{tree_at};
 ghost use Rattle.rewriter.specs.Runs.{IsReady};
@@ -18,7 +18,8 @@ use value_nodes::node::Nodes;
 pub const FEWEST: usize = 1_048_576;
 
 /// Leaves of the table's nodes those of which the steps and the values are made, once there are as many as the limit; the next limit
-/// is twice as many nodes as are left, and at least 2^20. So the table grows with what is in use, and not with the number of uses.
+/// is twice as many nodes as are left, and at least 2^20: there are no more nodes than that. So the table grows with
+/// what is in use, and not with the number of uses.
 pub fn tidy(
     alloc: Global,
     algebra: &DataSpec,
@@ -32,6 +33,7 @@ pub fn tidy(
     ensures tasks { IfOk result (λ l.
         map (task_of (theory_of algebra.now) nodes.new) todo.new ≡ map (task_of (theory_of algebra.now) nodes.old) todo.old) }
     ensures values { IfOk result (λ l. map (tree_at nodes.new) values.new ≡ map (tree_at nodes.old) values.old) }
+    ensures room { IfOk result (λ l. length nodes.new ≤ l) }
 {
     if nodes.len() < limit {
         return Ok(limit);
