@@ -17,7 +17,8 @@ use Rattle.composites.specs.Evaluations.{Evaluation, IsExact}
 use Rattle.asked_trees.specs.Asked.{TreeQuery, IsAsked, TestsAsked, IsUnseenKind}
 use Rattle.asked_trees.specs.Lists.{trees_for}
 
--- the answers about a specification that is ready are exact, these are its windows, and the test says which trees of the behaviour are asked
+-- the answers about a specification that is ready are exact, these are its windows, and the test says which trees of the behaviour are
+-- asked
 pub record IsAnswered (program : Program) (e : Evaluation) (size : ℕ) (w : Windows) (b : Behaviour)
     (is_asked : TreeQuery → Derivation → Bool) : Type 0 where
   pub ready : IsReady program
@@ -78,7 +79,8 @@ module _ (program : Program) (w : Windows) (b : Behaviour) (state : Waiting Pend
   -- an unseen action is done by one of these trees: each open client waits, and by each of them the behaviour does such an action
   pub record GoesOn (trees : List Derivation) : Type 0 where
     pub waits : state.all_wait ≡ true
-    pub acts : (d : Derivation) → IsOneOf d trees → (action : Action) × (rest : Behaviour) × Derives program b d action rest × IsUnseen action
+    pub acts : (d : Derivation) → IsOneOf d trees → (action : Action) × (rest : Behaviour) × Derives program b d action rest ×
+        IsUnseen action
 
   -- the pending offers are stalled: each open client waits, an offer is pending, no step is unseen, and none meets a pending offer
   pub record IsStalled : Type 0 where

@@ -3,7 +3,8 @@ use Rattle.std.specs.Prelude.{ℕ, ◌+◌, ◌==◌, List, [], ◌∷◌, ◌++
 use Rattle.std.specs.List.{flat_map}
 use Rattle.lotos_ast.specs.declared.place.Place.{Place}
 use Rattle.lotos_ast.specs.declared.refusal.Refusal.{Refusal}
-use Rattle.spec_core.specs.Code.{Node, Variable, ActionField, Synchronised, action, value_choice, gate_choice, choice, disable, parallel, enable}
+use Rattle.spec_core.specs.Code.{Node, Variable, ActionField, Synchronised, action, value_choice, gate_choice, choice, disable, parallel}
+use Rattle.spec_core.specs.Code.{enable}
 use Rattle.spec_core.specs.Functionality.{Functionality}
 use Rattle.spec_core.specs.Theories.{Premise}
 use Rattle.behaviour_readings.specs.Joins.{Read, around, either, both, joined, disagreement}

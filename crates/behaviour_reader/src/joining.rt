@@ -137,8 +137,8 @@ fn ready(
     }
 }
 
-/// Puts out what stands behind two parts. Where they may not stand together, that is refused at this place (25 WrongFunctionality); there, and
-/// where something else hinders it, nothing is left of them.
+/// Puts out what stands behind two parts. Where they may not stand together, that is refused at this place (25 WrongFunctionality); there,
+/// and where something else hinders it, nothing is left of them.
 #[tactic(auto, using(crate::proofs::Joined::none_joined, crate::proofs::Joined::some_joined))]
 #[inline(never)]
 pub fn join(
@@ -150,7 +150,8 @@ pub fn join(
     out: &mut Output,
 ) -> Result<Option<Functionality>, Memory>
     ensures { IfOk result (λ ends. (base : List Node) (x y : Option Read) → StandBoth base x y (output_of out.old).code first second →
-        AreJoined base place (option_map joining_of joining) x y (output_of out.old) (output_of out.new) (option_map functionality_of ends)) }
+        AreJoined base place (option_map joining_of joining) x y (output_of out.old) (output_of out.new)
+        (option_map functionality_of ends)) }
 {
     let ReadPart {
         from,

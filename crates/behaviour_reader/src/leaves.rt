@@ -128,7 +128,8 @@ fn put_call(
     out: &mut Output,
 ) -> Result<Option<Functionality>, Memory>
     ensures { IfOk result (λ found. Puts (called (heading_of heading.now) (option_map (λ v. map gate_number v.items) gates)
-        (option_map (map term_of) (option_map (λ v. v.items) values))) (output_of out.old) (output_of out.new) (option_map functionality_of found)) }
+        (option_map (map term_of) (option_map (λ v. v.items) values))) (output_of out.old) (output_of out.new)
+        (option_map functionality_of found)) }
 {
     match (gates, values) {
         (Some(gates), Some(values)) => {

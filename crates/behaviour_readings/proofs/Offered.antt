@@ -164,3 +164,5 @@ predicate_unread s p old new h = predicate_as s p None old new h
 pub predicate_read : (s : Site) (p : Premiss) (x : Premise) (old new : List Refusal) → Adds (IsPremissJudged s.context p (Some x)) old new
     → Adds (IsPredicateRead s (Some p) (Some (Some x))) old new
 predicate_read s p x old new h = predicate_as s p (Some x) old new h
+
+pub ruleset predicate_rows = (no_predicate, predicate_unread, predicate_read)

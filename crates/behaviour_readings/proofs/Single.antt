@@ -107,3 +107,5 @@ pub binding_read : (s : Site) (n : ℕ) (b : Binding) (sort : ℕ) (t : TermTree
 binding_read s n b sort t old mid new is first h =
     subst (λ z. Adds (IsBindingRead s (n, b) (Some (record { variable = record { number = n; sort = z }; term = t }))) old new) (named_sort s b.sort sort is)
     (binding_as s n b sort (Some t) old mid new is first h)
+
+pub ruleset exit_rows = (any_unknown, any_known, exit_unread, exit_read)

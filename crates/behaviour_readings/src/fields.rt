@@ -230,7 +230,7 @@ pub fn put_offers(alloc: Global, site: &mut Site<'_>, from: &[Offer]) -> Result<
 }
 
 /// A predicate, if there is one.
-#[tactic(auto, using(crate::proofs::Offered::no_predicate, crate::proofs::Offered::predicate_unread, crate::proofs::Offered::predicate_read))]
+#[tactic(auto, using(crate::proofs::Offered::predicate_rows))]
 pub fn predicate(
     alloc: Global,
     site: &Site<'_>,

@@ -44,7 +44,7 @@ pub fn value(
 }
 
 // A value with which a behaviour ends, and its sort.
-#[tactic(auto, using(crate::proofs::Single::any_unknown, crate::proofs::Single::any_known, crate::proofs::Single::exit_unread, crate::proofs::Single::exit_read))]
+#[tactic(auto, using(crate::proofs::Single::exit_rows))]
 fn exit_value(
     alloc: Global,
     site: &Site<'_>,

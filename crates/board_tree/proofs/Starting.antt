@@ -30,3 +30,5 @@ fresh_placed place low high t f up n s = (f.new up n s).placed
 
 pub fresh_waits : (place : List ℕ) (low high : ℕ) (t : Shape) → IsFresh place low high t → AllWait t
 fresh_waits place low high t f up n s = (f.new up n s).waits
+
+pub ruleset starting_rows = (start_stands, fresh_sound, fresh_placed, fresh_waits)

@@ -56,7 +56,7 @@ impl Model for Tree {
 
 impl Tree {
     /// The specification's behaviour, unfolded into nodes that wait.
-    #[tactic(auto, using(crate::proofs::Starting::start_stands, crate::proofs::Starting::fresh_sound, crate::proofs::Starting::fresh_placed, crate::proofs::Starting::fresh_waits))]
+    #[tactic(auto, using(crate::proofs::Starting::starting_rows))]
     pub fn new(alloc: Global, checked: &Checked) -> Result<Tree, Memory>
         requires ready { IsReady (program_of checked.now) }
         ensures start { IfOk result (λ t. IsStart (program_of checked.now) (stands_for (program_of checked.now) (shape t))) }

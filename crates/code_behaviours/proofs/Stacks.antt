@@ -92,3 +92,5 @@ pub all_from_back : (ops : List Op) (i : ℕ) → length ops ≤ i → map op_nu
 all_from_back ops i over =
     let none : length ops - i ≡ 0 = omega arith in
     ap (λ (k : ℕ). map op_number (drop k ops)) none
+
+pub ruleset stack_rows = (one_more, as_wanted, left_as_wanted, as_there_are, none_as_there_are)

@@ -53,3 +53,5 @@ named_construct program n node e h = (node, e, h)
 pub one_behaviour : CodeIsOneBehaviour → (program : Program) → IsReady program → (n : ℕ) (b : Behaviour) → NamesBehaviour program n →
     StandsAt program n b → b ≡ behaviour_at program n
 one_behaviour one program ready n b h k = one program n b (behaviour_at program n) k (behaviours_stand program ready n h)
+
+pub ruleset standing_rows = (one_behaviour, named_construct)

@@ -33,7 +33,7 @@ pub fn pop(stack: &mut Vec<Term>) -> Option<Term>
 }
 
 // So many terms from the top, or all where there are fewer.
-#[tactic(auto, using(crate::proofs::Stacks::one_more, crate::proofs::Stacks::as_wanted, crate::proofs::Stacks::left_as_wanted, crate::proofs::Stacks::as_there_are, crate::proofs::Stacks::none_as_there_are))]
+#[tactic(auto, using(crate::proofs::Stacks::stack_rows))]
 fn take_arguments(alloc: Global, stack: &mut Vec<Term>, count: usize) -> Result<Vec<Term>, Memory>
     ensures taken { IfOk result (λ args. map term_of args.items ≡ take count (from_top stack.old.items)) }
     ensures left { IfOk result (λ _. from_top stack.new.items ≡ drop count (from_top stack.old.items)) }

@@ -1,5 +1,5 @@
--- The commands, and the words that name them (this profile): the command, then names of files or terms, none of which begins with -, and then
--- options.
+-- The commands, and the words that name them (this profile): the command, then names of files or terms, none of which begins with -, and
+-- then options.
 use Rattle.std.specs.Prelude.{ℕ, ◌==◌, List, [], ◌∷◌, Bool, true, not, if◌then◌else◌, Option, None, option_map, codes}
 use Rattle.std.specs.List.{list_all}
 use Rattle.std.specs.Str.{bytes_eq}

@@ -139,8 +139,8 @@ fn set_named(option: Option<OptionName>, word: &str, settings: Option<Settings>)
     Some(option.set(settings, number))
 }
 
-/// The settings that words give a command which has these options: each is two words, `--name` and a number in decimal digits, each option at
-/// most once, in any order. None where the words aren't such options, or a number isn't in its range.
+/// The settings that words give a command which has these options: each is two words, `--name` and a number in decimal digits, each option
+/// at most once, in any order. None where the words aren't such options, or a number isn't in its range.
 pub fn settings_of(known: &[OptionName], words: &[String]) -> Option<Settings>
     ensures { result ≡ options.settings_of known.now (map string_bytes words.now) }
 {

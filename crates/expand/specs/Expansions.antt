@@ -42,8 +42,8 @@ module _ (program : Program) (k : ℕ) (b : Behaviour) where
     pub below : n ≤ 1048576
     pub spread_above : (e : Evaluation) → IsExact program e → n ≤ spread program.theory e shown (length program.code) unmarked b
 
-  -- Why there is no expansion: only a term that is reached has no value within the budget, or meets a value that is too large; the behaviour
-  -- is too wide only with such a number. Want of memory is free.
+  -- Why there is no expansion: only a term that is reached has no value within the budget, or meets a value that is too large; the
+  -- behaviour is too wide only with such a number. Want of memory is free.
   pub record IsStop (budget : ℕ) (s : Stop) : Type 0 where
     pub spent : OnSpent s (λ x. IsReachedFrom x × IsBeyond program.theory x budget)
     pub too_large : OnTooLarge s (λ x. IsReachedFrom x × MeetsTooLarge program.theory x)

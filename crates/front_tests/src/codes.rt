@@ -69,11 +69,14 @@ const ROWS: [(&str, &str); 19] = [
         "stop, i, guard, stop, act 0, disable",
     ),
     (
-        "P [a] where process P [a] : noexit := Q [a] where process Q [a] : noexit := a; R [a] where process R [a] : noexit := a; P [a] where process P [a] : noexit := a; stop endproc endproc endproc endproc process R [a] : noexit := stop endproc",
-        "process 2, process 2, process 2, process 2, process 2, call 1 at 2, call 2 at 2, act 2, call 3 at 2, act 2, stop, act 2, stop, call 0 at 0",
+        "P [a] where process P [a] : noexit := Q [a] where process Q [a] : noexit := a; R [a] where process R [a] : noexit := a; P [a] \
+         where process P [a] : noexit := a; stop endproc endproc endproc endproc process R [a] : noexit := stop endproc",
+        "process 2, process 2, process 2, process 2, process 2, call 1 at 2, call 2 at 2, act 2, call 3 at 2, act 2, stop, act 2, stop, \
+         call 0 at 0",
     ),
     (
-        "Q where process P : noexit := stop endproc process Q : noexit := P where process P : noexit := R endproc endproc process R : noexit := i; P endproc",
+        "Q where process P : noexit := stop endproc process Q : noexit := P where process P : noexit := R endproc endproc process R : \
+         noexit := i; P endproc",
         "process, process, process, process, stop, call 2, call 3, call 0, i, call 1",
     ),
 ];

@@ -44,12 +44,14 @@ const EQUATIONS: [(bool, &str, &str); 22] = [
     ),
     (
         false,
-        "type P is sorts A opns a : -> A endtype type Q is sorts C opns c : -> C _+_ : C, C -> C endtype\ntype R is Q opns h : C -> C eqns forall x : C ofsort C\nh(x) = x + c endtype",
+        "type P is sorts A opns a : -> A endtype type Q is sorts C opns c : -> C _+_ : C, C -> C endtype\ntype R is Q opns h : C -> C \
+         eqns forall x : C ofsort C\nh(x) = x + c endtype",
         "3:1 x:C h(x)=(x + c);",
     ),
     (
         false,
-        "type R is P, Q eqns ofsort A\na = f(c) endtype type P is sorts A opns a : -> A endtype type Q is P sorts C opns c : -> C f : C -> A endtype",
+        "type R is P, Q eqns ofsort A\na = f(c) endtype type P is sorts A opns a : -> A endtype type Q is P sorts C opns c : -> C f : C \
+         -> A endtype",
         "2:1 a=f(c);",
     ),
     (
@@ -59,12 +61,14 @@ const EQUATIONS: [(bool, &str, &str); 22] = [
     ),
     (
         false,
-        "type F is formalsorts E formalopns e : -> E formaleqns ofsort E\ne = e\nsorts A opns a : -> A eqns ofsort A\na = a endtype\ntype N is sorts S opns z : -> S endtype\ntype T is F actualizedby N using sortnames S for E opnnames z for e endtype",
+        "type F is formalsorts E formalopns e : -> E formaleqns ofsort E\ne = e\nsorts A opns a : -> A eqns ofsort A\na = a endtype\ntype \
+         N is sorts S opns z : -> S endtype\ntype T is F actualizedby N using sortnames S for E opnnames z for e endtype",
         "4:1 a=a;2:1 z=z;",
     ),
     (
         false,
-        "type F is formalsorts E formalopns e : -> E formaleqns ofsort E e = e endtype\ntype N is sorts S opns z : -> S endtype\ntype T is F actualizedby N using sortnames S for E opnnames z for e endtype",
+        "type F is formalsorts E formalopns e : -> E formaleqns ofsort E e = e endtype\ntype N is sorts S opns z : -> S endtype\ntype T \
+         is F actualizedby N using sortnames S for E opnnames z for e endtype",
         "1:65 z=z;",
     ),
     (
@@ -139,12 +143,14 @@ fn equations_are_read(rt: HostRuntime) -> Result<(), Fail> {
 const COPIES: [(&str, &str); 14] = [
     // all sorts and operations over the sort are others
     (
-        "type P is sorts A opns c : -> A f : A -> A eqns forall x : A ofsort A\nf(x) = c endtype\ntype Q is P renamedby sortnames B for A endtype",
+        "type P is sorts A opns c : -> A f : A -> A eqns forall x : A ofsort A\nf(x) = c endtype\ntype Q is P renamedby sortnames B for A \
+         endtype",
         "A B | c f c f | 2:1 x:A f(x)=c of A;2:1 x:B f(x)=c of B;",
     ),
     // two names change places
     (
-        "type P is sorts A opns c, d : -> A f : A -> A eqns ofsort A\nf(c) = d endtype\ntype Q is P renamedby opnnames d for c c for d endtype",
+        "type P is sorts A opns c, d : -> A f : A -> A eqns ofsort A\nf(c) = d endtype\ntype Q is P renamedby opnnames d for c c for d \
+         endtype",
         "A | c d f | 2:1 f(c)=d;2:1 f(d)=c;",
     ),
     // nothing in the equation changes
@@ -154,27 +160,35 @@ const COPIES: [(&str, &str); 14] = [
     ),
     // premises are copied too
     (
-        "type P is sorts A opns c, d : -> A f : A -> A eqns forall x : A ofsort A\nx = c => f(x) = d endtype\ntype Q is P renamedby opnnames e for c endtype",
+        "type P is sorts A opns c, d : -> A f : A -> A eqns forall x : A ofsort A\nx = c => f(x) = d endtype\ntype Q is P renamedby \
+         opnnames e for c endtype",
         "A | c d f e | 2:1 x:A x=c => f(x)=d;2:1 x:A x=e => f(x)=d;",
     ),
     // a copy of a copy
     (
-        "type P is sorts A opns c, d : -> A eqns ofsort A\nc = d endtype\ntype Q is P renamedby opnnames e for c endtype\ntype R is Q renamedby opnnames g for e endtype",
+        "type P is sorts A opns c, d : -> A eqns ofsort A\nc = d endtype\ntype Q is P renamedby opnnames e for c endtype\ntype R is Q \
+         renamedby opnnames g for e endtype",
         "A | c d e g | 2:1 c=d;2:1 e=d;2:1 g=d;",
     ),
     // one formal equation has an image in each copy, and isn't part of the data itself
     (
-        "type F is formalsorts E formalopns p : E -> E formaleqns forall x : E ofsort E\np(x) = x endtype\ntype A is sorts N opns z : -> N s : N -> N endtype\ntype B is sorts M opns y : -> M t : M -> M endtype\ntype G is F actualizedby A using sortnames N for E opnnames s for p endtype\ntype H is F actualizedby B using sortnames M for E opnnames t for p endtype",
+        "type F is formalsorts E formalopns p : E -> E formaleqns forall x : E ofsort E\np(x) = x endtype\ntype A is sorts N opns z : -> \
+         N s : N -> N endtype\ntype B is sorts M opns y : -> M t : M -> M endtype\ntype G is F actualizedby A using sortnames N for E \
+         opnnames s for p endtype\ntype H is F actualizedby B using sortnames M for E opnnames t for p endtype",
         "N M | z s y t | 2:1 x:N s(x)=x;2:1 x:M t(x)=x;",
     ),
     // the image is an equation that is there already
     (
-        "type B is sorts Bool opns true, false : -> Bool not : Bool -> Bool eqns ofsort Bool\nnot(false) = true endtype\ntype F is formalsorts E formalopns a, b : -> E n : E -> E formaleqns ofsort E\nn(b) = a endtype\ntype G is F actualizedby B using sortnames Bool for E opnnames true for a false for b not for n endtype",
+        "type B is sorts Bool opns true, false : -> Bool not : Bool -> Bool eqns ofsort Bool\nnot(false) = true endtype\ntype F is \
+         formalsorts E formalopns a, b : -> E n : E -> E formaleqns ofsort E\nn(b) = a endtype\ntype G is F actualizedby B using \
+         sortnames Bool for E opnnames true for a false for b not for n endtype",
         "Bool | true false not | 2:1 not(false)=true;",
     ),
     // an item of the formal type that stays is numbered where the formal type stands
     (
-        "type F is formalsorts E sorts L opns nil : -> L cons : E, L -> L eqns forall x : E ofsort L\ncons(x, nil) = nil endtype\ntype A is sorts N opns z : -> N endtype\ntype T is F actualizedby A using sortnames N for E endtype\ntype W is T opns f : L -> N eqns ofsort N\nf(nil) = z endtype",
+        "type F is formalsorts E sorts L opns nil : -> L cons : E, L -> L eqns forall x : E ofsort L\ncons(x, nil) = nil endtype\ntype A \
+         is sorts N opns z : -> N endtype\ntype T is F actualizedby A using sortnames N for E endtype\ntype W is T opns f : L -> N eqns \
+         ofsort N\nf(nil) = z endtype",
         "L N | nil z cons f | 2:1 x:N cons(x,nil)=nil;6:1 f(nil)=z;",
     ),
     // a type that only renames a formal type is formal
@@ -184,7 +198,8 @@ const COPIES: [(&str, &str); 14] = [
     ),
     // what is left open in an actual type is part of the data
     (
-        "type F is formalsorts E endtype\ntype G is formalsorts H opns h : -> H eqns ofsort H\nh = h endtype\ntype T is F actualizedby G using sortnames H for E endtype",
+        "type F is formalsorts E endtype\ntype G is formalsorts H opns h : -> H eqns ofsort H\nh = h endtype\ntype T is F actualizedby G \
+         using sortnames H for E endtype",
         "H | h | 3:1 h=h;",
     ),
     // by two ways from one type
@@ -194,7 +209,8 @@ const COPIES: [(&str, &str); 14] = [
     ),
     // the names and the place of the first stand
     (
-        "type P is sorts A opns f : A -> A endtype\ntype Q is P eqns forall x : A ofsort A\nf(x) = x endtype\ntype R is P eqns forall y : A ofsort A\nf(y) = y endtype",
+        "type P is sorts A opns f : A -> A endtype\ntype Q is P eqns forall x : A ofsort A\nf(x) = x endtype\ntype R is P eqns forall y : \
+         A ofsort A\nf(y) = y endtype",
         "A | f | 3:1 x:A f(x)=x;",
     ),
     // the order is that of the list of types

@@ -67,7 +67,8 @@ fn walk(
     budget: u64,
 ) -> Result<(), CheckFault>
     requires ready { IsReady (program_of checked.now) }
-    ensures taken { OnOk result (IsDerivation (program_of checked.now) (map event_of entries.now) (state_of state.old) (state_of state.new)) }
+    ensures taken { OnOk result (IsDerivation (program_of checked.now) (map event_of entries.now) (state_of state.old)
+        (state_of state.new)) }
     ensures fault { IfErr result (FailsFrom (program_of checked.now) (map event_of entries.now) (state_of state.old) budget) }
 {
     for (place, entry) in entries.iter().enumerate() {
@@ -80,8 +81,8 @@ fn walk(
 }
 
 /// The number of actions of a log that is a derivation: it begins with the specification's behaviour and as many clients as the greatest
-/// that it names, and each entry is possible in the state that those before it lead to. Or the number of the first entry that isn't, from 0;
-/// or a term that the tree of an entry before that asks, and that has no value with so many uses of equations (1 to 2^32) or meets a
+/// that it names, and each entry is possible in the state that those before it lead to. Or the number of the first entry that isn't, from
+/// 0; or a term that the tree of an entry before that asks, and that has no value with so many uses of equations (1 to 2^32) or meets a
 /// value that is too large. It goes over the log once, and doesn't recur in it.
 pub fn check(alloc: Global, checked: &Checked, log: &Log, budget: u64) -> Result<u64, CheckFault>
     requires ready { IsReady (program_of checked.now) }

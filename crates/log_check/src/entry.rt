@@ -31,7 +31,8 @@ fn offer(
     offered: &Offer,
     ask: bool,
 ) -> Result<bool, FireFault>
-    ensures next { IfOk result (Becomes (program_of checked.now) (state_of state.old) (pended client number offered.now ask) (state_of state.new)) }
+    ensures next { IfOk result (Becomes (program_of checked.now) (state_of state.old) (pended client number offered.now ask)
+        (state_of state.new)) }
     ensures cause { IfErr result (EntryExplains (program_of checked.now) (state_of state.old) (pended client number offered.now ask) 0) }
 {
     Ok(state.offer(alloc, checked.gates.len(), client, number, offered, ask)?)
@@ -87,8 +88,10 @@ fn answer(
     number: u64,
     reply: &Reply,
 ) -> Result<bool, FireFault>
-    ensures next { IfOk result (Becomes (program_of checked.now) (state_of state.old) (replied client number (answer_of reply.now)) (state_of state.new)) }
-    ensures cause { IfErr result (EntryExplains (program_of checked.now) (state_of state.old) (replied client number (answer_of reply.now)) 0) }
+    ensures next { IfOk result (Becomes (program_of checked.now) (state_of state.old) (replied client number (answer_of reply.now))
+        (state_of state.new)) }
+    ensures cause { IfErr result (EntryExplains (program_of checked.now) (state_of state.old)
+        (replied client number (answer_of reply.now)) 0) }
 {
     let _ = checked;
     if state.is_pending(client, number) && is_at(reply, state.actions()) {

@@ -2,8 +2,8 @@
 
 ghost use Rattle.log_laws.specs.Laws.{LogsHaveOneAnswer};
 
-/// A log is a derivation with one number of actions, or has one first entry that isn't possible, and not both; and no tree behind that entry
-/// is asked for a term.
+/// A log is a derivation with one number of actions, or has one first entry that isn't possible, and not both; and no tree behind that
+/// entry is asked for a term.
 #[tactic(auto, using(crate::proofs::OneAnswer::logs_have_one_answer))]
 pub fn logs_have_one_answer()
     ensures { LogsHaveOneAnswer }

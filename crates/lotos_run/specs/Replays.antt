@@ -32,7 +32,8 @@ module _ (shelf : Shelved) where
   -- once the specification is accepted:
   --   done: the text is a trace, and its log a derivation;
   --   not a derivation: it is a trace, and its log none;
-  --   spent, limit: it is a trace, and a term that the tree of a line asks has no value within the budget, or meets a value that is too large;
+  --   spent, limit: it is a trace, and a term that the tree of a line asks has no value within the budget, or meets a value that is too
+  --     large;
   --   script refused: it is no trace of the specification;
   --   read fault: the fetch of the trace failed
   abbrev pub IsDueForTrace : Program → List ℕ → ℕ → Status → List ℕ → Type 0

@@ -39,7 +39,8 @@ module _ (shelf : Shelved) where
   IsRunDue specification script Done text =
       OnSpecification specification (λ form. OnFetched shelf.files script (λ bytes. IsTraceOf form (take 65537 bytes) text))
   IsRunDue specification script ReadFault text =
-      (text ≡ codes "read fault\n") × (IsUnread shelf specification ⊎ IsUnread shelf script × OnSpecification specification (λ form. Unit {0}))
+      (text ≡ codes "read fault\n") ×
+      (IsUnread shelf specification ⊎ IsUnread shelf script × OnSpecification specification (λ form. Unit {0}))
   IsRunDue specification script NotBuilt text =
       (text ≡ codes "not built\n") × (IsNoSpecification specification ⊎ OnSpecification specification (IsNoScript script))
   IsRunDue specification script _ text = ⊥

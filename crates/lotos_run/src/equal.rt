@@ -59,8 +59,8 @@ fn compared_in(
     }
 }
 
-/// What is due for two terms of the specification in a file: whether they are equal, each with at most `budget` uses of equations, from 1 to
-/// 2^32; or why that isn't known; or the specification's first refusal.
+/// What is due for two terms of the specification in a file: whether they are equal, each with at most `budget` uses of equations, from 1
+/// to 2^32; or why that isn't known; or the specification's first refusal.
 #[tactic(auto, using(crate::proofs::Equals::compared_due))]
 pub fn equal<F: Shelf>(
     alloc: Global,

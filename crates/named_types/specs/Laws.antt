@@ -26,4 +26,5 @@ SpecificationsAreNamed = (tokens : List Token) (spec : Spec) → Each IsTokenNam
 
 -- the types of a text: those of `where` parts too, and those that it takes in of the library
 abbrev pub TextTypesAreNamed : Type 0
-TextTypesAreNamed = (tokens : List Token) (types : List TypeDef) → Each IsTokenNamed tokens → AreTypesOf tokens types → Each IsTypeNamed types
+TextTypesAreNamed = (tokens : List Token) (types : List TypeDef) → Each IsTokenNamed tokens → AreTypesOf tokens types →
+    Each IsTypeNamed types

@@ -13,7 +13,8 @@ use Rattle.composites.specs.Composites.{Composite, composites, under, relabelled
 use Rattle.composites.specs.TreeLists.{offered}
 use Rattle.tree_nodes.specs.Origins.{Source, meaning}
 use Rattle.tree_nodes.specs.Shapes as nodes
-use Rattle.tree_nodes.specs.Shapes.{Above, Held, Shape, leaf, ended, over, between, Unary, hidden, enabled, Binary, choosing, beside, disabling, Stands}
+use Rattle.tree_nodes.specs.Shapes.{Above, Held, Shape, leaf, ended, over, between, Unary, hidden, enabled, Binary, choosing, beside}
+use Rattle.tree_nodes.specs.Shapes.{disabling, Stands}
 use Rattle.asked_trees.specs.Asked.{TreeQuery, offer_in}
 
 -- one composite in the place of each

@@ -18,5 +18,6 @@ PresentationsFit = (types : List TypeDef) (theory : Theory) → refusals_of type
 -- Where nothing is refused of types, and they declare names that the grammar allows, their data presentation has such names, and no two of
 -- its sorts, and no two of its operations, share what tells them apart
 abbrev pub PresentationsAreNamed : Type 0
-PresentationsAreNamed = (types : List TypeDef) (theory : Theory) → refusals_of types ≡ [] → Each IsTypeNamed types → IsPresentation types theory →
+PresentationsAreNamed = (types : List TypeDef) (theory : Theory) → refusals_of types ≡ [] → Each IsTypeNamed types →
+    IsPresentation types theory →
     IsDataNamed theory

@@ -51,7 +51,8 @@ pub record ArePairsNamed (pairs : Pairs) : Type 0 where
   pub sorts : Each (λ p. IsNamed p.new) (listed pairs.sorts)
   pub operations : Each (λ p. IsOperationNamed p.new) (listed pairs.operations)
 
-pub record AreItemsNamed (formals : Formals) (sorts : Option SortPart) (operations : Option OperationPart) (equations : Option EquationPart) :
+pub record AreItemsNamed (formals : Formals) (sorts : Option SortPart) (operations : Option OperationPart)
+    (equations : Option EquationPart) :
     Type 0 where
   pub formal_sorts : Each IsNamed (sort_names formals.sorts)
   pub sorts_named : Each IsNamed (part_sort_names sorts)

@@ -16,8 +16,8 @@ number_of (Some a) f = f a
 module _ (theory : Theory) (e : Evaluation) (w : Windows) where
   -- The number of the behaviour's operators and actions that no action comes before, with m x, a term or a mark, in the place of each free
   -- variable x; `called` has those of the bodies of processes. Each construct but `stop` counts one, and so does the relabelling that a
-  -- call or a choice of gates makes. A choice of a value has its body once for each value of the window, and once for the mark where the window
-  -- isn't complete; a choice of a gate has its body once for each gate. Under a guard that doesn't hold nothing counts.
+  -- call or a choice of gates makes. A choice of a value has its body once for each value of the window, and once for the mark where the
+  -- window isn't complete; a choice of a gate has its body once for each gate. Under a guard that doesn't hold nothing counts.
   abbrev pub spread_in : (MarkedAssignment → Behaviour → ℕ) → MarkedAssignment → Behaviour → ℕ
   spread_in called m stop = 0
   spread_in called m (exit fields) = 1

@@ -25,8 +25,8 @@ use spec_core::items::Gate;
 use spec_core::memory::Memory;
 use std::alloc::Global;
 
-/// The state of a session, which contracts see as a `State`: the behaviour that is reached, the open clients, the pending offers in the order
-/// in which they were made, how many offers each client has made, how many actions there were, and the last one.
+/// The state of a session, which contracts see as a `State`: the behaviour that is reached, the open clients, the pending offers in the
+/// order in which they were made, how many offers each client has made, how many actions there were, and the last one.
 ///
 /// A call answers false where the entry isn't possible. What answers false or an error changes nothing.
 #[derive(Drop)]
@@ -242,7 +242,8 @@ impl SessionState {
     }
 
     fn has_taker(&self, algebra: &DataSpec, client: u32, number: u64, action: &Action) -> bool
-        ensures { IsTrue result ↔ WaitsAnd (Meets (theory_of algebra.now) action.now) (map pending_of self.now.pending.items) client number }
+        ensures { IsTrue result ↔ WaitsAnd (Meets (theory_of algebra.now) action.now)
+            (map pending_of self.now.pending.items) client number }
     {
         pending::takes(algebra, &self.pending, client, number, action)
     }

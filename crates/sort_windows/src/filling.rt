@@ -1,6 +1,7 @@
 // Windows that gain the constructors over their values.
 
-ghost use Rattle.std.specs.Prelude.{◌≡◌, ◌<◌, ◌≤◌, ◌^◌, ◌++◌, ◌∷◌, [], ℕ, List, IfOk, IsTrue, IsFalse, MatchOption, Some, length, map, vec_len};
+ghost use Rattle.std.specs.Prelude.{◌≡◌, ◌<◌, ◌≤◌, ◌^◌, ◌++◌, ◌∷◌, [], ℕ, List, IfOk, IsTrue, IsFalse, MatchOption, Some, length, map};
+ghost use Rattle.std.specs.Prelude.{vec_len};
 ghost use Rattle.std.specs.List.{slice_get};
 ghost use Rattle.spec_core.specs.Constructors.{IsConstructor};
 ghost use Rattle.spec_core.specs.Numbers.{sort_number};

@@ -10,4 +10,5 @@ use Rattle.alike_specifications.specs.Alike.{AreSpecificationsAlike}
 -- specifications that are read of the same tokens are alike
 abbrev pub TokensDetermineSpecifications : Type 0
 TokensDetermineSpecifications = (tokens : List Token) (a b : Spec) →
-    IsParsed (part specification) tokens (spec_tree a) [] → IsParsed (part specification) tokens (spec_tree b) [] → AreSpecificationsAlike a b
+    IsParsed (part specification) tokens (spec_tree a) [] → IsParsed (part specification) tokens (spec_tree b) [] →
+    AreSpecificationsAlike a b

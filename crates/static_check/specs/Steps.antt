@@ -38,7 +38,8 @@ pub record IsBodyRead (all : Setting) (number : ℕ) (e : Entry) (old now : Outp
       ≡ old.refusals ++ (refusals ++ ending_refusals e.process.name.place (declared all.context e.process.functionality) read)
   pub made : node ≡ option_map (λ r. process_node all e (placed (length old.code) r)) read
 
--- the bodies of these processes are read: with their nodes, if nothing hinders it, and their refusals; and there are the nodes of the processes
+-- the bodies of these processes are read: with their nodes, if nothing hinders it, and their refusals; and there are the nodes of the
+-- processes
 pub record AreReadSoFar (all : Setting) (es : List Entry) (old now : Output) (nodes : Option (List Node)) : Type 0 where
   pub bodies : Option (List Placed)
   pub refusals : List Refusal

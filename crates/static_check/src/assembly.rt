@@ -75,8 +75,8 @@ fn program(
     })
 }
 
-/// The program of a specification, where all its behaviour is read. Given are the nodes of its so many processes, all code, in which there are
-/// places for them, and the number of the node at which it starts.
+/// The program of a specification, where all its behaviour is read. Given are the nodes of its so many processes, all code, in which there
+/// are places for them, and the number of the node at which it starts.
 pub fn program_if(
     alloc: Global,
     spec: &Spec,

@@ -140,7 +140,8 @@ fn read_body<'a>(
     ensures read { IfOk result (λ b. IsBodyRead (setting_of site.old.context setting.now) number (entry_of entry.now) (output_of out.old)
         (output_of out.new) (option_map node_of b.node)) }
     ensures calls { IfOk result (λ b. b.calls.items
-        ≡ calls_at_once (body_site (setting_of site.old.context setting.now) number (entry_of entry.now)) (entry_of entry.now).process.body) }
+        ≡ calls_at_once (body_site (setting_of site.old.context setting.now) number (entry_of entry.now))
+        (entry_of entry.now).process.body) }
     ensures site { OnOk result (data_of site.new.context ≡ data_of site.old.context) }
 {
     setting.enter(alloc, number, entry, site)?;

@@ -31,7 +31,8 @@ pub data IsRefused (theory : Theory) (first second : List ℕ) : ℕ → TextKin
   of_first : {kind : TextKind} → IsTermFault theory first kind → IsRefused theory first second 1 kind
   of_second : {kind : TextKind} (t : TermTree) (sort : ℕ) → SpellsTerm theory first t sort → IsTermFault theory second kind →
       IsRefused theory first second 2 kind
-  of_two_sorts : (t u : TermTree) (sort other : ℕ) → SpellsTerm theory first t sort → SpellsTerm theory second u other → (sort ≡ other → ⊥) →
+  of_two_sorts : (t u : TermTree) (sort other : ℕ) → SpellsTerm theory first t sort → SpellsTerm theory second u other →
+      (sort ≡ other → ⊥) →
       IsRefused theory first second 2 Sort
 
 -- What comes of two terms, with so many uses of equations for each.

@@ -30,7 +30,8 @@ fn next_value(
     requires readable { IsReadable vocabulary.now }
     ensures finds { IfOk result (λ found. Finds (given_text (names_with vocabulary.now)) (IsGroundList (theory_in vocabulary.now))
         EndsValue cursor.old cursor.new (λ value. found ≡ Some value)) }
-    ensures stops { IfOk result (λ found. (rest : List ℕ) → EndsFields rest → cursor.old ≡ Some rest → (found ≡ None) × (cursor.new ≡ Some rest)) }
+    ensures stops { IfOk result (λ found. (rest : List ℕ) → EndsFields rest → cursor.old ≡ Some rest →
+        (found ≡ None) × (cursor.new ≡ Some rest)) }
     ensures fits { IfOk result (λ found. IsSome cursor.new → IfSome found (IsGroundList (theory_in vocabulary.now))) }
     ensures kept { OnOk result (IsSome cursor.new → IsSome cursor.old) }
     ensures fewer { IfOk result (λ found. IsSome found → size cursor.new < size cursor.old) }
@@ -69,7 +70,8 @@ pub fn read_action(
     cursor: &mut Cursor,
 ) -> Result<Action, Memory>
     requires readable { IsReadable vocabulary.now }
-    ensures finds { IfOk result (λ action. Finds (action_text (names_with vocabulary.now)) (ActionFits (program_of vocabulary.now.checked.now))
+    ensures finds { IfOk result (λ action. Finds (action_text (names_with vocabulary.now))
+        (ActionFits (program_of vocabulary.now.checked.now))
         EndsFields cursor.old cursor.new (λ it. action ≡ it)) }
     ensures fits { IfOk result (λ action. IsSome cursor.new → ActionFits (program_of vocabulary.now.checked.now) action) }
     ensures kept { OnOk result (IsSome cursor.new → IsSome cursor.old) }

@@ -58,7 +58,8 @@ fn read_act_entry(
     requires readable { IsReadable vocabulary.now }
     ensures finds { IfOk result (λ entry. (action : Action) (d : Derivation) (by : Option OfferName) →
         ActionFits (program_of vocabulary.now.checked.now) action → TreeFits (program_of vocabulary.now.checked.now) d → ByFits by →
-        cursor.old ≡ Some (action_text (names_with vocabulary.now) action ++ (by_text by ++ (codes " rules " ++ tree_text (names_with vocabulary.now) d))) →
+        cursor.old ≡ Some (action_text (names_with vocabulary.now) action ++
+        (by_text by ++ (codes " rules " ++ tree_text (names_with vocabulary.now) d))) →
         (event_of entry ≡ acted action d by) × IsSome cursor.new) }
     ensures fits { IfOk result (λ entry. IsSome cursor.new → EventFits (program_of vocabulary.now.checked.now) (event_of entry)) }
     ensures numbered { IfOk result (λ entry. (n : ℕ) → IsNumbered n (event_of entry)) }

@@ -1,6 +1,7 @@
 // Numbers and names of offers.
 
-ghost use Rattle.std.specs.Prelude.{ℕ, ◌≡◌, ◌<◌, ◌≤◌, ◌^◌, ◌++◌, List, IfOk, IsSome, IfSome, None, Some, OnOk, false, codes, decimal, drop, flat_map};
+ghost use Rattle.std.specs.Prelude.{ℕ, ◌≡◌, ◌<◌, ◌≤◌, ◌^◌, ◌++◌, List, IfOk, IsSome, IfSome, None, Some, OnOk, false, codes, decimal, drop};
+ghost use Rattle.std.specs.Prelude.{flat_map};
 ghost use Rattle.std.specs.Prelude.{length, take};
 ghost use Rattle.spec_core.specs.Lists.{Each};
 ghost use Rattle.trace_text.specs.Fits.{IsClient, NameFits};

@@ -26,7 +26,8 @@ fn next_field(
     requires readable { IsReadable vocabulary.now }
     ensures finds { IfOk result (λ found. Finds (field_text (names_with vocabulary.now)) (FieldFits (program_of vocabulary.now.checked.now))
         EndsValue cursor.old cursor.new (λ field. found ≡ Some field)) }
-    ensures stops { IfOk result (λ found. (rest : List ℕ) → EndsFields rest → cursor.old ≡ Some rest → (found ≡ None) × (cursor.new ≡ Some rest)) }
+    ensures stops { IfOk result (λ found. (rest : List ℕ) → EndsFields rest → cursor.old ≡ Some rest →
+        (found ≡ None) × (cursor.new ≡ Some rest)) }
     ensures fits { IfOk result (λ found. IsSome cursor.new → IfSome found (FieldFits (program_of vocabulary.now.checked.now))) }
     ensures kept { OnOk result (IsSome cursor.new → IsSome cursor.old) }
     ensures fewer { IfOk result (λ found. IsSome found → size cursor.new < size cursor.old) }

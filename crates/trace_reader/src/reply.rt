@@ -28,8 +28,10 @@ pub fn read_reply(
     at: u64,
 ) -> Result<Reply, Memory>
     requires readable { IsReadable vocabulary.now }
-    ensures finds { IfOk result (λ reply. Finds (answer_word (names_with vocabulary.now)) (AnswerFits (program_of vocabulary.now.checked.now))
-        IsNothing cursor.old cursor.new (λ it. answer_word (names_with vocabulary.now) (answer_of reply) ≡ answer_word (names_with vocabulary.now) it)) }
+    ensures finds { IfOk result (λ reply. Finds (answer_word (names_with vocabulary.now))
+        (AnswerFits (program_of vocabulary.now.checked.now))
+        IsNothing cursor.old cursor.new
+        (λ it. answer_word (names_with vocabulary.now) (answer_of reply) ≡ answer_word (names_with vocabulary.now) it)) }
     ensures numbered { IfOk result (λ reply. IsReplyAt (answer_of reply) at) }
     ensures fits { IfOk result (λ reply. IsSome cursor.new → AnswerFits (program_of vocabulary.now.checked.now) (answer_of reply)) }
     ensures kept { OnOk result (IsSome cursor.new → IsSome cursor.old) }

@@ -44,9 +44,11 @@ fn next_slot(
     cursor: &mut Cursor,
 ) -> Result<Option<Slot>, Memory>
     requires readable { IsReadable vocabulary.now }
-    ensures finds { IfOk result (λ found. Finds (further_text (names_with vocabulary.now)) (SlotFits (program_of vocabulary.now.checked.now))
+    ensures finds { IfOk result (λ found. Finds (further_text (names_with vocabulary.now))
+        (SlotFits (program_of vocabulary.now.checked.now))
         EndsValue cursor.old cursor.new (λ slot. found ≡ Some slot)) }
-    ensures stops { IfOk result (λ found. (rest : List ℕ) → EndsSlots rest → cursor.old ≡ Some rest → (found ≡ None) × (cursor.new ≡ Some rest)) }
+    ensures stops { IfOk result (λ found. (rest : List ℕ) → EndsSlots rest → cursor.old ≡ Some rest →
+        (found ≡ None) × (cursor.new ≡ Some rest)) }
     ensures fits { IfOk result (λ found. IsSome cursor.new → IfSome found (SlotFits (program_of vocabulary.now.checked.now))) }
     ensures kept { OnOk result (IsSome cursor.new → IsSome cursor.old) }
     ensures fewer { IfOk result (λ found. IsSome found → size cursor.new < size cursor.old) }
@@ -90,7 +92,8 @@ fn read_some_slots(
     requires readable { IsReadable vocabulary.now }
     ensures finds { IfOk result (λ slots. (x : Slot) (xs : List Slot) (rest : List ℕ) →
         Each (SlotFits (program_of vocabulary.now.checked.now)) (x ∷ xs) →
-        cursor.old ≡ Some (slot_text (names_with vocabulary.now) x ++ (further_texts (names_with vocabulary.now) xs ++ (codes "]" ++ rest))) →
+        cursor.old ≡ Some (slot_text (names_with vocabulary.now) x ++
+        (further_texts (names_with vocabulary.now) xs ++ (codes "]" ++ rest))) →
         (slots.items ≡ x ∷ xs) × (cursor.new ≡ Some rest)) }
     ensures fits { IfOk result (λ slots. IsSome cursor.new → Each (SlotFits (program_of vocabulary.now.checked.now)) slots.items) }
     ensures kept { OnOk result (IsSome cursor.new → IsSome cursor.old) }

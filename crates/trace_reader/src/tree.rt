@@ -30,7 +30,8 @@ fn read_value_choice(
     requires readable { IsReadable vocabulary.now }
     ensures finds { IfOk result (λ rules. (slot : Slot) (d : Derivation) (rest : List ℕ) →
         SlotFits (program_of vocabulary.now.checked.now) slot → TreeFits (program_of vocabulary.now.checked.now) d →
-        cursor.old ≡ Some (slot_text (names_with vocabulary.now) slot ++ (codes "](" ++ (tree_text (names_with vocabulary.now) d ++ (codes ")" ++ rest)))) →
+        cursor.old ≡ Some (slot_text (names_with vocabulary.now) slot ++
+        (codes "](" ++ (tree_text (names_with vocabulary.now) d ++ (codes ")" ++ rest)))) →
         (derivation_of rules ≡ val slot d) × (cursor.new ≡ Some rest)) }
     ensures fits { IfOk result (λ rules. IsSome cursor.new → TreeFits (program_of vocabulary.now.checked.now) (derivation_of rules)) }
     ensures kept { OnOk result (IsSome cursor.new → IsSome cursor.old) }
@@ -76,7 +77,8 @@ fn read_both(
     requires readable { IsReadable vocabulary.now }
     ensures finds { IfOk result (λ rules. (d e : Derivation) (rest : List ℕ) →
         TreeFits (program_of vocabulary.now.checked.now) d → TreeFits (program_of vocabulary.now.checked.now) e →
-        cursor.old ≡ Some (tree_text (names_with vocabulary.now) d ++ (codes "," ++ (tree_text (names_with vocabulary.now) e ++ (codes ")" ++ rest)))) →
+        cursor.old ≡ Some (tree_text (names_with vocabulary.now) d ++
+        (codes "," ++ (tree_text (names_with vocabulary.now) e ++ (codes ")" ++ rest)))) →
         (derivation_of rules ≡ both d e) × (cursor.new ≡ Some rest)) }
     ensures fits { IfOk result (λ rules. IsSome cursor.new → TreeFits (program_of vocabulary.now.checked.now) (derivation_of rules)) }
     ensures kept { OnOk result (IsSome cursor.new → IsSome cursor.old) }

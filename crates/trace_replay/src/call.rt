@@ -39,11 +39,11 @@ fn judged(alloc: Global, checked: &Checked, log: &Log, budget: u64) -> Result<An
     }
 }
 
-/// Whether a text is the trace of a derivation of a specification, with at most `budget` uses of equations (1 to 2^32) for each term that the
-/// trees of its actions ask.
+/// Whether a text is the trace of a derivation of a specification, with at most `budget` uses of equations (1 to 2^32) for each term that
+/// the trees of its actions ask.
 ///
-/// The whole text is read first, so what is wrong with its form is told before anything of its log. Then each entry is taken in turn: what the
-/// log alone decides of it is asked before its tree. Why a reply came, and the end, aren't asked.
+/// The whole text is read first, so what is wrong with its form is told before anything of its log. Then each entry is taken in turn: what
+/// the log alone decides of it is asked before its tree. Why a reply came, and the end, aren't asked.
 pub fn replay_text(
     alloc: Global,
     checked: &Checked,

@@ -1,6 +1,7 @@
 // The words and marks of a text.
 
-ghost use Rattle.std.specs.Prelude.{◌≡◌, ◌≢◌, nat_eq, true, slice_index, IfSome, IfNone, ◌≤◌, ◌<◌, ◌∷◌, [], false, MatchOption, drop, length, take};
+ghost use Rattle.std.specs.Prelude.{◌≡◌, ◌≢◌, nat_eq, true, slice_index, IfSome, IfNone, ◌≤◌, ◌<◌, ◌∷◌, [], false, MatchOption, drop};
+ghost use Rattle.std.specs.Prelude.{length, take};
 ghost use Rattle.value_text.specs.Bytes.{is_name_byte};
 ghost use Rattle.std.specs.List.{list_any};
 ghost use Rattle.value_reader.specs.Items.{as_sort, begins_word, is_of, is_word, items, mark, pieces};

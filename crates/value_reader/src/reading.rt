@@ -3,7 +3,8 @@
 ghost use Rattle.std.specs.Prelude.{◌≡◌, ◌++◌, ◌-◌, option_map, IfOk, OnOk, MatchOption, Some, None, drop, length, map, reverse, take};
 ghost use Rattle.spec_core.specs.Numbers.{op_number, sort_number};
 ghost use Rattle.spec_core.specs.Theories.{operation_of, operations_of, theory_of};
-ghost use Rattle.value_reader.specs.Stands.{first_at, is_call, is_written, opened_by, step, step_before, step_behind, step_call, underscored, run, nothing_read};
+ghost use Rattle.value_reader.specs.Stands.{first_at, is_call, is_written, opened_by, step, step_before, step_behind, step_call};
+ghost use Rattle.value_reader.specs.Stands.{underscored, run, nothing_read};
 ghost use Rattle.value_reader.specs.Views.{Took, applied_in, bracket_of, bytes_of, piece_of, state_of};
 
 use crate::piece::Piece;
@@ -14,7 +15,8 @@ use spec_core::name::Name;
 use spec_core::signature::{OpDecl, Signature, same_sorts};
 use std::alloc::Global;
 
-/// A bracket whose term is being read: the sort behind it, how many sorts there were before its arguments, and the word between two of them.
+/// A bracket whose term is being read: the sort behind it, how many sorts there were before its arguments, and the word between two of
+/// them.
 #[derive(Clone, Copy)]
 pub struct Bracket<'a> {
     pub sort: Option<&'a [u8]>,
@@ -75,7 +77,8 @@ fn find(
     sort: Option<&[u8]>,
 ) -> Result<Option<Op>, Memory>
     ensures { IfOk result (λ found. option_map op_number found ≡
-        first_at (is_call signature.now.sorts.items name.now (map sort_number args.now) (bytes_of sort.entry)) (operations_of signature.now)) }
+        first_at (is_call signature.now.sorts.items name.now (map sort_number args.now) (bytes_of sort.entry))
+        (operations_of signature.now)) }
 {
     for (i, declaration) in signature.ops.iter().enumerate() {
         if is_call(&signature.sorts, name, args, sort, declaration) {
@@ -278,7 +281,8 @@ fn take<'a>(
     algebra: &DataSpec,
     piece: &Piece<'a>,
 ) -> Result<bool, Memory>
-    ensures { IfOk result (λ ok. Took ok (step (theory_of algebra.now) (piece_of piece.now) (state_of reading.old)) (state_of reading.new)) }
+    ensures { IfOk result (λ ok. Took ok (step (theory_of algebra.now) (piece_of piece.now) (state_of reading.old))
+        (state_of reading.new)) }
 {
     match reading.stand {
         Stand::Expects(sort) => take_before(alloc, reading, algebra, piece, sort),
