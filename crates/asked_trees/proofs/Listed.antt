@@ -12,10 +12,10 @@ use Rattle.windowed_trees.specs.Trees.{IsSeen, IsBeyond}
 use Rattle.courses.specs.Rules.{meeting, any, unseen, beyond, any_beyond, beyond_or_unseen}
 use Rattle.composites.specs.Evaluations.{Evaluation, IsExact}
 use Rattle.composites.specs.OpenFields.{all_choices}
-use Rattle.composites.specs.Composites.{Composite, composites}
+use Rattle.composites.specs.Composites.{Composite, filled, composites}
 use Rattle.composites.specs.TreeLists.{Nests, candidates, offered}
 use Rattle.composites.proofs.Lists.{one_flat, filter_keeps, filter_passes}
-use Rattle.composites.proofs.Listing.{all_listed}
+use Rattle.composites.proofs.Listing.{all_listed, filled_one}
 use Rattle.composites.proofs.OpenFields.{all_within_suffice}
 use Rattle.composites.proofs.TreeLists.{seen_trees_are_candidates}
 use Rattle.ready_lists.proofs.Nesting.{calls_nest_within_the_code}
@@ -27,9 +27,10 @@ seen_is_candidate : (program : Program) (e : Evaluation) (w : Windows) → IsExa
     (d : Derivation) (k : Kind) → Nests n d → IsSeen program w b None d k → IsOneOf d (candidates program.theory e w n b o)
 seen_is_candidate program e w exact n b o d k nests h =
     let c = all_listed program e exact w d n b unmarked k h.fields nests h.derives in
-    one_flat (λ (c : Composite). c.trees (all_choices program.theory w (offered o) c.fields)) c.composite
+    one_flat (λ (c : Composite). filled c (all_choices program.theory w (offered o) c.fields)) c.composite
     (composites program.theory e w n unmarked b) d c.listed
-    (c.filled (all_choices program.theory w (offered o) c.composite.fields)
+    (filled_one program e exact w (composites program.theory e w n unmarked b) d k h.fields c
+    (all_choices program.theory w (offered o) c.composite.fields)
     (all_within_suffice program.theory w (offered o) c.composite.fields h.fields c.fits h.meets))
 
 module _ (program : Program) (e : Evaluation) (size : ℕ) (w : Windows) (b : Behaviour)

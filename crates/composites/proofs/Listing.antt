@@ -3,7 +3,7 @@ use Rattle.std.proofs.Common.{ℕ, zero, suc, ◌≡◌, ◌+◌, ◌++◌, ◌&
 use Rattle.std.proofs.Common.{Option, Some, None, true, false, option_map, option_and_then}
 use Rattle.std.specs.List.{slice_get}
 use Rattle.spec_core.specs.Lists.{Each, IsOneOf}
-use Rattle.spec_core.specs.Terms.{preorder}
+use Rattle.spec_core.specs.Terms.{TermTree, preorder}
 use Rattle.spec_core.specs.Code.{Program, Relabelling, Synchronised, ExitValue, exit_given, exit_any, ActionField, give, accept}
 use Rattle.rule_model.specs.declared.rules.Slot.{Slot}
 use Rattle.rule_model.specs.declared.rules.Slot.TheVariants.{Of, Mark, Blank}
@@ -14,6 +14,7 @@ use Rattle.rule_model.specs.Derivations.{Derivation, pre, int, exiting, chl, chr
 use Rattle.rule_model.specs.Derivations.{enstep, enend, disstep, disend, distake, calling, rel}
 use Rattle.windowed_trees.specs.Windows.{Windows, sort_of_value}
 use Rattle.windowed_trees.specs.MarkedTerms.{MarkedTerm, plain, mark, MarkedAssignment, unmarked, with_marked, marked_instance}
+use Rattle.windowed_trees.specs.MarkedTerms.{MayHaveValue}
 use Rattle.windowed_trees.specs.MarkedFields.{MarkedField, told_by, chosen_by, AllAgree, IsWithin, Chooses, FieldsMayHave, ExitMayHave}
 use Rattle.windowed_trees.specs.MayDerive.{renamed_kind, MayDeriveWith}
 use Rattle.windowed_trees.proofs.Sorts.{sort_of_ground}
@@ -21,15 +22,15 @@ use Rattle.composites.specs.Evaluations.{Definition, Evaluation, IsExact, premis
 use Rattle.composites.specs.Kinds.{is_alone, is_joint, is_hidden, is_end, same_kind}
 use Rattle.composites.specs.OpenFields.{OpenField, blank, open_by, all_together, open_fields, open_exit, slots_of, exit_slots_of}
 use Rattle.composites.specs.OpenFields.{mark_unless}
-use Rattle.composites.specs.OpenFields.{window_slots, all_choices}
+use Rattle.composites.specs.OpenFields.{window_slots, all_choices, choices_at_once}
 use Rattle.composites.specs.Composites.{Composite, from_option, under, relabelled, turned, alone, paired, joint, by_hiding, by_enabling}
-use Rattle.composites.specs.Composites.{by_disabling, of_relabel, of_gates, composites}
+use Rattle.composites.specs.Composites.{by_disabling, of_relabel, of_gates, filled, composites}
 use Rattle.composites.specs.TreeLists.{Nests}
 use Rattle.composites.proofs.Lists.{one_left, one_right, one_map, one_flat, one_option, one_contained}
 use Rattle.composites.proofs.Tests.{if_true, if_false, both_true, is_alone_so, is_joint_so, is_unhidden_so, is_end_so, is_no_end_so}
 use Rattle.composites.proofs.Tests.{same_kind_so}
 use Rattle.composites.proofs.Exact.{value_is, chosen_is, premise_is, bindings_are, arguments_are}
-use Rattle.composites.proofs.OpenFields.{Fits, AllFit, Suffice, AllSuffice, all_fit_together, mark_stands, all_within_suffice}
+use Rattle.composites.proofs.OpenFields.{Fits, AllFit, Suffice, AllSuffice, all_fit_together, mark_stands, all_within_suffice, at_once_suffices}
 
 some_same : {A : Type 0} {a b : A} → Some a ≡ Some b → a ≡ b
 some_same e = cc
@@ -49,6 +50,13 @@ module _ (program : Program) (e : Evaluation) (exact : IsExact program e) (w : W
     pub fits : Fit composite.fields fs
     pub filled : (choices : List (List Slot)) → Enough choices composite.fields fs → IsOneOf d (composite.trees choices)
 
+  -- the tree is one of those with these values, where they are enough
+  pub filled_one : (cs : List Composite) (d : Derivation) (k : Kind) (fs : List MarkedField) (h : IsListed cs d k fs)
+      (choices : List (List Slot)) → Enough choices h.composite.fields fs → IsOneOf d (filled h.composite choices)
+  filled_one cs d k fs h choices enough =
+      let those = at_once_suffices program.theory w choices h.composite.fields fs h.fits enough in
+      one_flat h.composite.trees those.0 (choices_at_once h.composite.fields choices) d those.1 (h.filled those.0 those.2)
+
   -- fields of actions and exits
 
   told_fits : (k : MarkedTerm) → Fits program.theory w (open_by k) (told_by k)
@@ -60,7 +68,7 @@ module _ (program : Program) (e : Evaluation) (exact : IsExact program e) (w : W
   chosen_fits (Of v) sort k h =
       subst (λ (x : MarkedTerm). Fits program.theory w (blank false sort) (chosen_by x)) (sym h.2)
       (sort_of_ground program.theory h.0 sort h.1.of_sort)
-  chosen_fits Mark sort k h = subst (λ (x : MarkedTerm). Fits program.theory w (blank false sort) (chosen_by x)) (sym h.1) (refl, refl)
+  chosen_fits Mark sort k h = subst (λ (x : MarkedTerm). Fits program.theory w (blank false sort) (chosen_by x)) (sym h.1) (refl, refl, h.0)
   chosen_fits Blank sort k h = absurd h
 
   slot_suffices : (slot : Slot) (sort : ℕ) (k : MarkedTerm) (slots : List Slot) → Chooses program.theory w slot sort k →
@@ -95,6 +103,22 @@ module _ (program : Program) (e : Evaluation) (exact : IsExact program e) (w : W
       (one_flat (λ s. map (λ others. s ∷ others) (of choices)) slot those (slot ∷ slots) (a those k.0)
       (one_map (λ others. slot ∷ others) slots (of choices) (h choices k.1)))
 
+  pub given_opened : (m : MarkedAssignment) (t : TermTree) (fields : List ActionField) (k : MarkedTerm) (cs : List OpenField) →
+      MayHaveValue program.theory (marked_instance program.theory m t) k → open_fields program.theory e m fields ≡ Some cs →
+      open_fields program.theory e m (give t ∷ fields) ≡ Some (open_by k ∷ cs)
+  given_opened m t fields k cs h rest =
+      ap (option_and_then (λ x. option_map (λ cs. open_by x ∷ cs) (open_fields program.theory e m fields)))
+      (value_is program e exact (marked_instance program.theory m t) k h)
+      ∙ ap (option_map (λ cs. open_by k ∷ cs)) rest
+
+  pub given_left : (m : MarkedAssignment) (t : TermTree) (fields : List ExitValue) (k : MarkedTerm) (cs : List OpenField) →
+      MayHaveValue program.theory (marked_instance program.theory m t) k → open_exit program.theory e m fields ≡ Some cs →
+      open_exit program.theory e m (exit_given t ∷ fields) ≡ Some (open_by k ∷ cs)
+  given_left m t fields k cs h rest =
+      ap (option_and_then (λ x. option_map (λ cs. open_by x ∷ cs) (open_exit program.theory e m fields)))
+      (value_is program e exact (marked_instance program.theory m t) k h)
+      ∙ ap (option_map (λ cs. open_by k ∷ cs)) rest
+
   abbrev FieldsListed : MarkedAssignment → List ActionField → List Slot → List MarkedField → Type 0
   FieldsListed m fields slots fs =
       (cs : List OpenField) × (open_fields program.theory e m fields ≡ Some cs) × Fit cs fs ×
@@ -105,11 +129,9 @@ module _ (program : Program) (e : Evaluation) (exact : IsExact program e) (w : W
   fields_listed m l r [] [] [] h = ([], refl, tt, λ choices k. inl refl)
   fields_listed m l r (give t ∷ fields) slots (f ∷ fs) h =
       let k = h.0.0 in
-      let rest = fields_listed m l r fields slots fs h.1 in
-      let value = value_is program e exact (marked_instance program.theory m t) k h.0.1 in (
+      let rest = fields_listed m l r fields slots fs h.1 in (
         open_by k ∷ rest.0,
-        ap (option_and_then (λ x. option_map (λ cs. open_by x ∷ cs) (open_fields program.theory e m fields))) value
-            ∙ ap (option_map (λ cs. open_by k ∷ cs)) rest.1,
+        given_opened m t fields k rest.0 h.0.1 rest.1,
         (subst (Fits program.theory w (open_by k)) (sym h.0.2) (told_fits k), rest.2),
         no_slot (slots_of fields) slots (slots_of (give t ∷ fields)) (λ those choices i. i) (open_by k) rest.0 f fs rest.3,
       )
@@ -134,11 +156,9 @@ module _ (program : Program) (e : Evaluation) (exact : IsExact program e) (w : W
   exit_listed m [] [] [] h = ([], refl, tt, λ choices k. inl refl)
   exit_listed m (exit_given t ∷ fields) slots (f ∷ fs) h =
       let k = h.0.0 in
-      let rest = exit_listed m fields slots fs h.1 in
-      let value = value_is program e exact (marked_instance program.theory m t) k h.0.1 in (
+      let rest = exit_listed m fields slots fs h.1 in (
         open_by k ∷ rest.0,
-        ap (option_and_then (λ x. option_map (λ cs. open_by x ∷ cs) (open_exit program.theory e m fields))) value
-            ∙ ap (option_map (λ cs. open_by k ∷ cs)) rest.1,
+        given_left m t fields k rest.0 h.0.1 rest.1,
         (subst (Fits program.theory w (open_by k)) (sym h.0.2) (told_fits k), rest.2),
         no_slot (exit_slots_of fields) slots (exit_slots_of (exit_given t ∷ fields)) (λ those choices i. i) (open_by k) rest.0 f fs rest.3,
       )
@@ -211,8 +231,8 @@ module _ (program : Program) (e : Evaluation) (exact : IsExact program e) (w : W
     kind = sym is_inside;
     fits = subst (Fit []) (sym none) tt;
     filled = λ choices i.
-        one_map row d (h.composite.trees (all_choices program.theory w [] h.composite.fields))
-        (h.filled (all_choices program.theory w [] h.composite.fields)
+        one_map row d (filled h.composite (all_choices program.theory w [] h.composite.fields))
+        (filled_one cs d j gs h (all_choices program.theory w [] h.composite.fields)
         (all_within_suffice program.theory w [] h.composite.fields gs h.fits within));
   }
 

@@ -1,6 +1,6 @@
 -- Open fields, and the fields of a tree: which fit, and which values are enough.
 use Rattle.std.proofs.Common.{ℕ, ◌≡◌, ◌==◌, inl, inr, ◌++◌, ◌||◌, not, List, [], ◌∷◌, map, refl, sym, ap, subst, ◌∙◌, Option, Some, None}
-use Rattle.std.proofs.Common.{Bool, true, false, if◌then◌else◌, Contains, option_map, option_and_then}
+use Rattle.std.proofs.Common.{Bool, true, false, if◌then◌else◌, Contains, flat_map, option_map, option_and_then}
 use Rattle.std.specs.Str.{bytes_eq}
 use Rattle.spec_core.specs.Lists.{Each, IsOneOf}
 use Rattle.spec_core.specs.Theories.{Theory}
@@ -14,9 +14,9 @@ use Rattle.windowed_trees.specs.Windows.{Windows, sort_of_value}
 use Rattle.windowed_trees.specs.MarkedFields.{MarkedField, told, chosen, given, free, Agree, AllAgree, IsWithin}
 use Rattle.windowed_trees.specs.Trees.{FieldMayMeet, FieldsMayMeet, MayMeet}
 use Rattle.composites.specs.OpenFields.{OpenField, fixed, blank, together, all_together, mark_unless, is_listed, unless_listed, choices}
-use Rattle.composites.specs.OpenFields.{all_choices, given_in}
+use Rattle.composites.specs.OpenFields.{all_choices, given_in, is_marked, any_marked, one_each, choices_at_once}
 use Rattle.composites.specs.TreeLists.{offered}
-use Rattle.composites.proofs.Lists.{one_left, one_right, one_contained}
+use Rattle.composites.proofs.Lists.{one_left, one_right, one_map, one_flat, one_contained}
 use Rattle.composites.proofs.Tests.{if_true, left_true, right_true, neither_true, same_value, values_same, same_number}
 
 module _ (theory : Theory) (w : Windows) where
@@ -29,7 +29,7 @@ module _ (theory : Theory) (w : Windows) where
   Fits (blank m sort) (told u) = ⊥
   Fits (blank m sort) (chosen v) = sort_of_value theory v ≡ sort
   Fits (blank m sort) (given other) = (m ≡ true) × (other ≡ sort)
-  Fits (blank m sort) (free other) = (m ≡ false) × (other ≡ sort)
+  Fits (blank m sort) (free other) = (m ≡ false) × (other ≡ sort) × (w.complete sort ≡ false)
 
   abbrev pub AllFit : List OpenField → List MarkedField → Type 0
   AllFit [] [] = Unit {0}
@@ -175,7 +175,7 @@ module _ (theory : Theory) (w : Windows) where
       subst (Meeting (blank m s) (blank n t) (free x) (free y)) (sym r.1) (
         blank (m || n) s,
         if_true (s == t) (Some (blank (m || n) s)) None (same_number s t same),
-        (neither_true m n p.0 q.0, p.1),
+        (neither_true m n p.0 q.0, p.1, p.2),
         λ slots k. (k, mark_as s t slots same k),
       )
   fit_together (fixed m a) d (chosen v) g h p q r = absurd p
@@ -320,3 +320,55 @@ module _ (theory : Theory) (w : Windows) where
       MayMeet theory w k fs o → AllSuffice theory w (all_choices theory w (offered o) cs) cs fs
   seen_suffices None k cs fs p h = all_within_suffice [] cs fs p h
   seen_suffices (Some offer) k cs fs p h = offers_suffice cs fs offer.fields p h.1
+
+-- where no expression gives a mark, one value of each field is enough
+
+module _ (theory : Theory) (w : Windows) where
+  unmarked_only : (m : Bool) → m ≡ false → m ≡ true → ⊥
+  unmarked_only m e i = let n : false ≡ true = sym e ∙ i in absurd cc
+
+  one_suffices : (slots : List Slot) (c : OpenField) (f : MarkedField) → is_marked c ≡ false → Fits theory w c f →
+      Suffice theory w slots c f → (slot : Slot) × IsOneOf slot slots × Suffice theory w (slot ∷ []) c f
+  one_suffices slots (fixed m v) (told u) e p k = (Of v, k.0, (inl refl, λ i. absurd (unmarked_only m e i)))
+  one_suffices slots (blank m sort) (chosen v) e p k = (Of v, k.0, (inl refl, λ i. absurd (unmarked_only m e i)))
+  one_suffices slots (blank m sort) (given other) e p k = absurd (unmarked_only m e p.0)
+  one_suffices slots (blank m sort) (free other) e p k = (Mark, k p.2, λ i. inl refl)
+  one_suffices slots (fixed m v) (chosen u) e p k = absurd p
+  one_suffices slots (fixed m v) (given u) e p k = absurd p
+  one_suffices slots (fixed m v) (free u) e p k = absurd p
+  one_suffices slots (blank m sort) (told u) e p k = absurd p
+
+  abbrev OneEach : List (List Slot) → List OpenField → List MarkedField → Type 0
+  OneEach choices cs fs = (those : List (List Slot)) × IsOneOf those (one_each choices) × AllSuffice theory w those cs fs
+
+  one_each_suffices : (choices : List (List Slot)) (cs : List OpenField) (fs : List MarkedField) → any_marked cs ≡ false →
+      AllFit theory w cs fs → AllSuffice theory w choices cs fs → OneEach choices cs fs
+  one_each_suffices [] [] [] e p k = ([], inl refl, tt)
+  one_each_suffices (slots ∷ choices) (c ∷ cs) (f ∷ fs) e p k =
+      let h = neither (is_marked c) (any_marked cs) e in
+      let one = one_suffices slots c f h.0 p.0 k.0 in
+      let others = one_each_suffices choices cs fs h.1 p.1 k.1 in (
+        (one.0 ∷ []) ∷ others.0,
+        one_flat (λ slot. map (λ those. (slot ∷ []) ∷ those) (one_each choices)) one.0 slots ((one.0 ∷ []) ∷ others.0) one.1
+            (one_map (λ those. (one.0 ∷ []) ∷ those) others.0 (one_each choices) others.1),
+        (one.2, others.2),
+      )
+    where
+      neither : (a b : Bool) → a || b ≡ false → (a ≡ false) × (b ≡ false)
+      neither true b i = let n : true ≡ false = i in absurd cc
+      neither false b i = (refl, i)
+  one_each_suffices [] [] (f ∷ fs) e p k = absurd p
+  one_each_suffices [] (c ∷ cs) fs e p k = absurd k
+  one_each_suffices (slots ∷ choices) [] fs e p k = absurd k
+  one_each_suffices (slots ∷ choices) (c ∷ cs) [] e p k = absurd p
+
+  -- what the fields may have at once is enough
+  pub at_once_suffices : (choices : List (List Slot)) (cs : List OpenField) (fs : List MarkedField) → AllFit theory w cs fs →
+      AllSuffice theory w choices cs fs →
+      (those : List (List Slot)) × IsOneOf those (choices_at_once cs choices) × AllSuffice theory w those cs fs
+  at_once_suffices choices cs fs p k = by_test (any_marked cs) refl
+    where
+      by_test : (b : Bool) → any_marked cs ≡ b →
+          (those : List (List Slot)) × IsOneOf those (if b then choices ∷ [] else one_each choices) × AllSuffice theory w those cs fs
+      by_test true e = (choices, inl refl, k)
+      by_test false e = one_each_suffices choices cs fs e p k

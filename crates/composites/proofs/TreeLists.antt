@@ -6,20 +6,21 @@ use Rattle.windowed_trees.specs.MarkedTerms.{unmarked}
 use Rattle.windowed_trees.specs.Trees.{has_mark, IsWindowed, IsBeyond, IsMarkedAs}
 use Rattle.windowed_trees.proofs.Seen.{each_step_is_seen}
 use Rattle.composites.specs.OpenFields.{all_choices}
-use Rattle.composites.specs.Composites.{Composite, composites}
+use Rattle.composites.specs.Composites.{Composite, filled, composites}
 use Rattle.composites.specs.TreeLists.{offered, candidates, windowed_trees, beyond_trees}
 use Rattle.composites.specs.Laws.{SeenTreesAreCandidates, ListsHold, ListsHoldTheirTrees, EmptyListsNoStep}
 use Rattle.composites.proofs.Lists.{one_flat, filter_keeps, filter_passes, empty_has_none}
 use Rattle.composites.proofs.Tests.{both_true, each_true, not_so}
 use Rattle.composites.proofs.OpenFields.{seen_suffices}
-use Rattle.composites.proofs.Listing.{all_listed}
+use Rattle.composites.proofs.Listing.{all_listed, filled_one}
 
 pub seen_trees_are_candidates : SeenTreesAreCandidates
 seen_trees_are_candidates program e w exact n b o d k nests h =
     let c = all_listed program e exact w d n b unmarked k h.fields nests h.derives in
-    one_flat (λ (c : Composite). c.trees (all_choices program.theory w (offered o) c.fields)) c.composite
+    one_flat (λ (c : Composite). filled c (all_choices program.theory w (offered o) c.fields)) c.composite
     (composites program.theory e w n unmarked b) d c.listed
-    (c.filled (all_choices program.theory w (offered o) c.composite.fields)
+    (filled_one program e exact w (composites program.theory e w n unmarked b) d k h.fields c
+    (all_choices program.theory w (offered o) c.composite.fields)
     (seen_suffices program.theory w o k c.composite.fields h.fields c.fits h.meets))
 
 pub lists_hold_their_trees : ListsHoldTheirTrees

@@ -14,6 +14,7 @@ use Rattle.windowed_trees.specs.MayDerive.{renamed_kind}
 use Rattle.composites.specs.Evaluations.{Evaluation, premise_may_hold, chosen_term, with_bindings, with_arguments}
 use Rattle.composites.specs.Kinds.{is_alone, is_joint, is_hidden, is_end, same_kind}
 use Rattle.composites.specs.OpenFields.{OpenField, all_together, open_fields, open_exit, slots_of, exit_slots_of, window_slots, all_choices}
+use Rattle.composites.specs.OpenFields.{choices_at_once}
 
 -- A composite: the kind of its action; the fields that are still open; and its trees, in order, where each of these fields may have these
 -- values. With one blank for each field that is the one tree that is written for it.
@@ -21,6 +22,10 @@ pub record Composite : Type 0 where
   pub kind : Kind
   pub fields : List OpenField
   pub trees : List (List Slot) → List Derivation
+
+-- its trees where each of the fields may have these values, in order
+abbrev pub filled : Composite → List (List Slot) → List Derivation
+filled c choices = flat_map c.trees (choices_at_once c.fields choices)
 
 abbrev pub from_option : {A B : Type 0} → Option A → (A → List B) → List B
 from_option None f = []
@@ -36,7 +41,7 @@ relabelled pairs c = record { kind = renamed_kind pairs c.kind; fields = c.field
 -- what turns internal has no open field: nothing gives a value any more
 abbrev pub turned : Theory → Windows → (Derivation → Derivation) → Composite → Composite
 turned theory w row c =
-    record { kind = inside; fields = []; trees = λ slots. map row (c.trees (all_choices theory w [] c.fields)) }
+    record { kind = inside; fields = []; trees = λ slots. map row (filled c (all_choices theory w [] c.fields)) }
 
 -- one side of a parallel composition alone
 abbrev pub alone : Synchronised → (Derivation → Derivation) → Composite → List Composite

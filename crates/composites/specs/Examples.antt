@@ -71,6 +71,9 @@ pub record ListsAreAsWorked : Type 0 where
   -- the same beside `g ?y:S; stop`: a value that is told is taken; beside a given mark each value may be, and the mark
   pub told_and_given : trees_of one_shown (parallel every_gate (offering 5 0 (variable 0)) (taking 5 (y_of 0) None)) ≡
       both (val v0 (pre [])) (pre (v0 ∷ [])) ∷ both (val Mark (pre [])) (pre (v0 ∷ [])) ∷ both (val Mark (pre [])) (pre (Mark ∷ [])) ∷ []
+  -- `g ?x:S; stop || g ?y:S; stop`: both sides choose one value
+  pub chosen_together : trees_of both_shown (parallel every_gate (taking 5 (x_of 0) None) (taking 5 (y_of 0) None)) ≡
+      both (pre (v0 ∷ [])) (pre (v0 ∷ [])) ∷ both (pre (v1 ∷ [])) (pre (v1 ∷ [])) ∷ []
   -- `hide g in g ?x:S; stop`
   pub hidden : trees_of one_shown (taking_inside 5 0) ≡ hiding (pre (v0 ∷ [])) ∷ hiding (pre (Mark ∷ [])) ∷ []
   -- `(a; stop [] b; stop) ||| c; stop`: the left side, from the left, and then the right side

@@ -3,5 +3,6 @@ pub mod Kinds
 pub mod OpenFields
 pub mod Composites
 pub mod TreeLists
+pub mod Shown
 pub mod Laws
 pub mod Examples

@@ -99,3 +99,22 @@ abbrev pub given_in : List Field → List (Option (List ℕ))
 given_in [] = []
 given_in (Give v ∷ fields) = Some v ∷ given_in fields
 given_in (Take sort ∷ fields) = None ∷ given_in fields
+
+-- an expression gives a mark for one of the fields
+abbrev pub is_marked : OpenField → Bool
+is_marked (fixed m v) = m
+is_marked (blank m sort) = m
+
+abbrev pub any_marked : List OpenField → Bool
+any_marked [] = false
+any_marked (f ∷ fs) = is_marked f || any_marked fs
+
+-- one of its slots for each field, the leftmost slowest
+abbrev pub one_each : List (List Slot) → List (List (List Slot))
+one_each [] = [] ∷ []
+one_each (slots ∷ choices) = flat_map (λ slot. map (λ others. (slot ∷ []) ∷ others) (one_each choices)) slots
+
+-- What the fields may have at once, one after another: all that take part have the same value at a place of an action, so there is one for
+-- each field. Where an expression gives a mark, they may differ there, and all are there at once.
+abbrev pub choices_at_once : List OpenField → List (List Slot) → List (List (List Slot))
+choices_at_once fields choices = if any_marked fields then choices ∷ [] else one_each choices

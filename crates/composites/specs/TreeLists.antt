@@ -10,7 +10,7 @@ use Rattle.windowed_trees.specs.MarkedTerms.{unmarked}
 use Rattle.windowed_trees.specs.Trees.{has_mark}
 use Rattle.composites.specs.Evaluations.{Evaluation}
 use Rattle.composites.specs.OpenFields.{all_choices, given_in}
-use Rattle.composites.specs.Composites.{Composite, composites}
+use Rattle.composites.specs.Composites.{Composite, filled, composites}
 
 -- what an offer gives, if there is one
 abbrev pub offered : Option Offer → List (Option (List ℕ))
@@ -21,7 +21,7 @@ module _ (theory : Theory) (e : Evaluation) (w : Windows) (n : ℕ) (b : Behavio
   -- the trees of all composites of the closed behaviour with each value that may be seen for the offer, if there is one; whether they are
   -- seen is still to be asked
   abbrev pub candidates : List Derivation
-  candidates = flat_map (λ (c : Composite). c.trees (all_choices theory w (offered o) c.fields)) (composites theory e w n unmarked b)
+  candidates = flat_map (λ (c : Composite). filled c (all_choices theory w (offered o) c.fields)) (composites theory e w n unmarked b)
 
   -- those that are seen, as a test says, without a mark; and those with one
   abbrev pub windowed_trees : (Derivation → Bool) → List Derivation

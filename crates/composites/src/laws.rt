@@ -1,6 +1,7 @@
 // What follows from the definitions: each law is the contract of a function that does nothing.
 
 ghost use Rattle.composites.specs.Examples.{ListsAreAsWorked};
+ghost use Rattle.composites.specs.Shown.{ShownIsAdmitted};
 ghost use Rattle.composites.specs.Laws.{SeenTreesAreCandidates, ListsHoldTheirTrees, EmptyListsNoStep, CompositesOfOrigins};
 
 /// Each seen tree is a tree of a composite with values that may be seen.
@@ -21,6 +22,11 @@ pub fn empty_lists_no_step()
 /// The composites of a behaviour with terms put in are those of the code with these terms for its variables.
 pub fn composites_of_origins()
     ensures { CompositesOfOrigins }
+{}
+
+/// What a behaviour may do by a tree of one of its composites is what the composite and the chosen values say.
+pub fn shown_is_admitted()
+    ensures { ShownIsAdmitted }
 {}
 
 /// Worked lists.

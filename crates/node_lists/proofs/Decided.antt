@@ -1,5 +1,7 @@
 -- What is decided from what is known is the next entry of the behaviour that the tree stands for.
-use Rattle.std.proofs.Common.{◌≡◌, ◌∙◌, List, filter, flat_map, refl, sym, ap, subst, Bool, true, length}
+use Rattle.std.proofs.Common.{◌≡◌, ◌∙◌, List, filter, flat_map, map, refl, sym, ap, subst, Bool, true, length}
+use Rattle.spec_core.specs.Lists.{IsOneOf}
+use Rattle.rule_model.specs.declared.rules.Slot.{Slot}
 use Rattle.rule_model.specs.Derivations.{Derivation}
 use Rattle.rule_model.specs.States.{PendingOffer}
 use Rattle.windowed_trees.specs.MarkedTerms.{unmarked}
@@ -9,40 +11,64 @@ use Rattle.courses.specs.Rules.{Next, next_of, course}
 use Rattle.courses.proofs.Asking.{decided_is_so}
 use Rattle.courses.proofs.Following.{course_is_next}
 use Rattle.courses.proofs.Searching.{searches_are_so}
-use Rattle.composites.specs.Composites.{Composite, composites}
+use Rattle.composites.specs.OpenFields.{all_choices, choices_at_once}
+use Rattle.composites.specs.Composites.{Composite, composites, filled}
+use Rattle.composites.specs.TreeLists.{offered}
 use Rattle.tree_nodes.specs.Shapes.{stands_for}
+use Rattle.asked_trees.specs.Asked.{offer_in}
 use Rattle.asked_trees.specs.Laws.{EntryHolds, lists_of}
 use Rattle.asked_trees.proofs.Entries.{next_entries_hold}
-use Rattle.node_lists.specs.Waiting.{filled, waiting_composites, waiting_trees}
-use Rattle.node_lists.specs.Laws.{both_say, ListsAreThose, DecidedEntriesHold}
-use Rattle.node_lists.proofs.Lists.{flat_same, filter_flat, filter_twice}
+use Rattle.node_lists.specs.Waiting.{Candidate, candidate, with_trees, may_be_asked, trees_asked, waiting_composites, waiting_trees}
+use Rattle.node_lists.specs.Laws.{answers_by, ListsAreThose, DecidedEntriesHold}
+use Rattle.node_lists.proofs.Lists.{flat_same, flat_same_in, filter_flat, filter_passed, filter_back, map_flat}
 use Rattle.node_lists.proofs.Composites.{whole_composites}
+use Rattle.node_lists.proofs.Asking.{asked_may_be}
+use Rattle.node_lists.proofs.Entries.{next_same}
 
 pub lists_are_those : ListsAreThose
-lists_are_those program e w s t h may_be_asked q =
-    let r : Answers Composite Composite = record { items = s.items; verdict = λ c. true } in
-    let searches = searches_are_so Composite Composite Derivation Composite Composite in
-    let lists = searches_are_so Composite Derivation Derivation Composite Composite in
-    let f : Composite → List Derivation = filled program.theory w q in
-    let p : Derivation → Bool = may_be_asked q in
+lists_are_those program e size w t is_asked answered items h q =
+    let s = answers_by is_asked items in
+    let r : Answers Composite Composite = record { items = items; verdict = λ c. true } in
+    let searches = searches_are_so Composite Composite Candidate Composite Composite in
+    let lists = searches_are_so Composite Candidate Candidate Composite Composite in
+    let f : Composite → List Candidate = λ c. map (candidate q) (trees_asked program.theory w q c) in
     let cs = composites program.theory e w (length program.code) unmarked (stands_for program t) in
-    let whole_is : whole s (waiting_trees program.theory w may_be_asked t q) ≡ filter p (flat_map f cs) =
-    searches.flat r s (λ g. refl) (λ c. of_list (filter p (f c))) (waiting_composites program.theory w t) ∙
-    flat_same (λ c. whole s (of_list {I = Composite} (filter p (f c)))) (λ c. filter p (f c))
-    (whole r (waiting_composites program.theory w t)) (λ c. lists.listed s (filter p (f c))) ∙
-    ap (flat_map (λ c. filter p (f c))) (whole_composites program e w r t h) ∙ filter_flat p f cs in
-    ap (filter s.verdict) whole_is ∙ filter_twice p s.verdict (flat_map f cs)
+    let asked : Derivation → Bool = is_asked q in
+    let back : Candidate → Derivation = λ a. a.tree in
+    let choices : Composite → List (List Slot) = λ c. all_choices program.theory w (offered (offer_in q)) c.fields in
+    let whole_is : whole s (waiting_trees program.theory w t q) ≡ flat_map f cs =
+    searches.flat r s (λ g. refl) (λ c. of_list (f c)) (waiting_composites program.theory w t) ∙
+    flat_same (λ c. whole s (of_list {I = Composite} (f c))) f (whole r (waiting_composites program.theory w t)) (λ c. lists.listed s (f c)) ∙
+    ap (flat_map f) (whole_composites program e w r t h) in
+    let each_one : (c : Composite) → IsOneOf c cs → filter asked (trees_asked program.theory w q c) ≡ filter asked (filled c (choices c)) =
+    λ c i.
+    sym (filter_flat asked (λ z. filter (may_be_asked program.theory w q c z) (c.trees z)) (choices_at_once c.fields (choices c))) ∙
+    flat_same (λ z. filter asked (filter (may_be_asked program.theory w q c z) (c.trees z))) (λ z. filter asked (c.trees z))
+    (choices_at_once c.fields (choices c))
+    (λ z. filter_passed (may_be_asked program.theory w q c z) asked (c.trees z)
+    (λ d there k. asked_may_be program e answered.exact w (stands_for program t) c i z d there q ((answered.tests q d).0 k))) ∙
+    filter_flat asked c.trees (choices_at_once c.fields (choices c)) in
+    ap (λ z. map back (filter s.verdict z)) whole_is ∙
+    ap (map back) (sym (filter_flat s.verdict f cs)) ∙
+    map_flat back (λ c. filter s.verdict (f c)) cs ∙
+    flat_same (λ c. map back (filter s.verdict (f c))) (λ c. filter asked (trees_asked program.theory w q c)) cs
+    (λ c. filter_back (candidate q) back s.verdict (trees_asked program.theory w q c) (λ d. refl)) ∙
+    flat_same_in (λ c. filter asked (trees_asked program.theory w q c)) (λ c. filter asked (filled c (choices c))) cs each_one ∙
+    filter_flat asked (λ c. filled c (choices c)) cs
 
 pub decided_entries_hold : DecidedEntriesHold
-decided_entries_hold program e size w t holds may_be_asked known h state sound entry q =
-    let s : Answers Composite Derivation = record { items = h.items; verdict = holds } in
-    let lazy = waiting_trees program.theory w may_be_asked t in
-    let lists = lists_of program e w (stands_for program t) (both_say holds may_be_asked) in
-    let same : (λ z. filter s.verdict (whole s (lazy z))) ≡ lists = λ i z. lists_are_those program e w s t h.are_items may_be_asked z i in
-    let next : entry ≡ next_of lists state =
-    sym (decided_is_so Composite Derivation (Next PendingOffer Derivation) known (course lazy state) entry s h.extends q) ∙
-    course_is_next Composite PendingOffer Derivation lazy state s ∙ ap (λ z. next_of z state) same in (
+decided_entries_hold program e size w t is_asked known h state sound entry q =
+    let s = answers_by is_asked h.items in
+    let lazy = waiting_trees program.theory w t in
+    let lists = lists_of program e w (stands_for program t) is_asked in
+    let same : (λ z. map (λ (a : Candidate). a.tree) (filter s.verdict (whole s (lazy z)))) ≡ lists =
+    λ i z. lists_are_those program e size w t is_asked h.answered h.items h.are_items z i in
+    let next : with_trees entry ≡ next_of lists state =
+    ap with_trees
+    (sym (decided_is_so Composite Candidate (Next PendingOffer Candidate) known (course lazy state) entry s h.extends q) ∙
+    course_is_next Composite PendingOffer Candidate lazy state s) ∙
+    next_same (λ z. filter s.verdict (whole s (lazy z))) state ∙ ap (λ z. next_of z state) same in (
       next,
       subst (EntryHolds program w (stands_for program t) state) (sym next)
-          (next_entries_hold program e size w (stands_for program t) (both_say holds may_be_asked) h.answered state sound),
+          (next_entries_hold program e size w (stands_for program t) is_asked h.answered state sound),
     )

@@ -1,3 +1,5 @@
 pub mod Lists
 pub mod Composites
+pub mod Asking
+pub mod Entries
 pub mod Decided

@@ -1,5 +1,6 @@
 -- Lists in the places of elements, and filters.
-use Rattle.std.proofs.Common.{◌≡◌, ◌++◌, ◌&&◌, ◌∙◌, List, [], ◌∷◌, map, filter, flat_map, refl, sym, ap, Bool, true, false, cond}
+use Rattle.std.proofs.Common.{◌≡◌, inl, inr, ◌++◌, ◌∙◌, List, [], ◌∷◌, map, filter, flat_map, refl, sym, ap, Bool, true, false, cond}
+use Rattle.spec_core.specs.Lists.{IsOneOf}
 
 pub flat_same : {A B : Type 0} (f g : A → List B) (xs : List A) → ((x : A) → f x ≡ g x) → flat_map f xs ≡ flat_map g xs
 flat_same f g [] h = refl
@@ -27,24 +28,47 @@ pub filter_flat : {A B : Type 0} (p : B → Bool) (f : A → List B) (xs : List 
 filter_flat p f [] = refl
 filter_flat p f (x ∷ xs) = ap (λ z. filter p (f x) ++ z) (filter_flat p f xs) ∙ sym (filter_join p (f x) (flat_map f xs))
 
--- two filters, one after another
-pub filter_twice : {A : Type 0} (p q : A → Bool) (xs : List A) → filter q (filter p xs) ≡ filter (λ x. q x && p x) xs
-filter_twice p q [] = refl
-filter_twice p q (x ∷ xs) = by_first (p x) (filter_twice p q xs)
+pub flat_same_in : {A B : Type 0} (f g : A → List B) (xs : List A) → ((x : A) → IsOneOf x xs → f x ≡ g x) → flat_map f xs ≡ flat_map g xs
+flat_same_in f g [] h = refl
+flat_same_in f g (x ∷ xs) h =
+    ap (λ z. z ++ flat_map f xs) (h x (inl refl)) ∙ ap (λ z. g x ++ z) (flat_same_in f g xs (λ y i. h y (inr i)))
+
+pub map_join : {A B : Type 0} (f : A → B) (xs ys : List A) → map f (xs ++ ys) ≡ map f xs ++ map f ys
+map_join f [] ys = refl
+map_join f (x ∷ xs) ys = ap (λ z. f x ∷ z) (map_join f xs ys)
+
+pub map_flat : {A B C : Type 0} (f : B → C) (g : A → List B) (xs : List A) → map f (flat_map g xs) ≡ flat_map (λ x. map f (g x)) xs
+map_flat f g [] = refl
+map_flat f g (x ∷ xs) = map_join f (g x) (flat_map g xs) ∙ ap (λ z. map f (g x) ++ z) (map_flat f g xs)
+
+-- a filter that lets pass whatever a second one lets pass changes nothing for the second one
+pub filter_passed : {A : Type 0} (p q : A → Bool) (xs : List A) → ((x : A) → IsOneOf x xs → q x ≡ true → p x ≡ true) →
+    filter q (filter p xs) ≡ filter q xs
+filter_passed p q [] h = refl
+filter_passed p q (x ∷ xs) h = by_first (p x) refl (filter_passed p q xs (λ y i. h y (inr i)))
   where
-    by_second : (b : Bool) → q x ≡ b → filter q (filter p xs) ≡ filter (λ y. q y && p y) xs →
-        cond b (x ∷ filter q (filter p xs)) (filter q (filter p xs)) ≡
-        cond (b && true) (x ∷ filter (λ y. q y && p y) xs) (filter (λ y. q y && p y) xs)
-    by_second true e h = ap (λ z. x ∷ z) h
-    by_second false e h = h
+    dropped : (b : Bool) → q x ≡ b → p x ≡ false → filter q xs ≡ cond b (x ∷ filter q xs) (filter q xs)
+    dropped true e f = let n : false ≡ true = sym f ∙ h x (inl refl) e in absurd (cc)
+    dropped false e f = refl
 
-    none : (b : Bool) → filter q (filter p xs) ≡ filter (λ y. q y && p y) xs →
-        filter q (filter p xs) ≡ cond (b && false) (x ∷ filter (λ y. q y && p y) xs) (filter (λ y. q y && p y) xs)
-    none true h = h
-    none false h = h
+    kept : (b : Bool) → filter q (filter p xs) ≡ filter q xs →
+        cond b (x ∷ filter q (filter p xs)) (filter q (filter p xs)) ≡ cond b (x ∷ filter q xs) (filter q xs)
+    kept true k = ap (λ z. x ∷ z) k
+    kept false k = k
 
-    by_first : (b : Bool) → filter q (filter p xs) ≡ filter (λ y. q y && p y) xs →
-        filter q (cond b (x ∷ filter p xs) (filter p xs)) ≡
-        cond (q x && b) (x ∷ filter (λ y. q y && p y) xs) (filter (λ y. q y && p y) xs)
-    by_first true h = by_second (q x) refl h
-    by_first false h = none (q x) h
+    by_first : (b : Bool) → p x ≡ b → filter q (filter p xs) ≡ filter q xs →
+        filter q (cond b (x ∷ filter p xs) (filter p xs)) ≡ cond (q x) (x ∷ filter q xs) (filter q xs)
+    by_first true e k = kept (q x) k
+    by_first false e k = k ∙ dropped (q x) refl e
+
+-- a filter of images, brought back
+pub filter_back : {A B : Type 0} (f : A → B) (back : B → A) (q : B → Bool) (xs : List A) → ((x : A) → back (f x) ≡ x) →
+    map back (filter q (map f xs)) ≡ filter (λ x. q (f x)) xs
+filter_back f back q [] h = refl
+filter_back f back q (x ∷ xs) h = by_test (q (f x)) (filter_back f back q xs h)
+  where
+    by_test : (b : Bool) → map back (filter q (map f xs)) ≡ filter (λ x. q (f x)) xs →
+        map back (cond b (f x ∷ filter q (map f xs)) (filter q (map f xs))) ≡
+        cond b (x ∷ filter (λ x. q (f x)) xs) (filter (λ x. q (f x)) xs)
+    by_test true k = ap (λ z. z ∷ map back (filter q (map f xs))) (h x) ∙ ap (λ z. x ∷ z) k
+    by_test false k = k

@@ -1,14 +1,24 @@
 -- Composites and trees of a tree of nodes, of which those of each node are asked of its generation. (This profile.)
-use Rattle.std.specs.Prelude.{ℕ, ◌≡◌, Bool, true, false, List, filter, length}
+use Rattle.std.specs.Prelude.{ℕ, ◌≡◌, ◌==◌, ◌&&◌, ◌||◌, not, Bool, true, false, List, [], ◌∷◌, map, filter, flat_map, length}
+use Rattle.std.specs.Str.{bytes_eq}
 use Rattle.spec_core.specs.Theories.{Theory}
 use Rattle.spec_core.specs.Code.{Program, Synchronised}
+use Rattle.rule_model.specs.declared.offer.Field.{Field}
+use Rattle.rule_model.specs.declared.offer.Field.TheVariants.{Give, Take}
+use Rattle.rule_model.specs.declared.offer.Offer.{Offer}
+use Rattle.rule_model.specs.declared.rules.Slot.{Slot}
+use Rattle.rule_model.specs.declared.rules.Slot.TheVariants.{Of, Mark, Blank}
+use Rattle.rule_model.specs.Actions.{Kind, inside, ends, at_gate}
 use Rattle.rule_model.specs.Derivations.{Derivation, chl, chr, parl, parr, distake}
-use Rattle.windowed_trees.specs.Windows.{Windows}
+use Rattle.windowed_trees.specs.Windows.{Windows, sort_of_value}
 use Rattle.windowed_trees.specs.MarkedTerms.{unmarked}
+use Rattle.windowed_trees.specs.Trees.{has_mark}
+use Rattle.courses.specs.Rules.{meeting, any, unseen, beyond, any_beyond, beyond_or_unseen, Next, takes, deadlocks, is_beyond, is_not_now}
+use Rattle.courses.specs.Rules.{goes_on, stalls, nothing}
 use Rattle.courses.specs.Lazy.{Lazy, nil, cons, waits, of_list, joined, each}
 use Rattle.composites.specs.Evaluations.{Evaluation}
-use Rattle.composites.specs.Kinds.{is_joint}
-use Rattle.composites.specs.OpenFields.{all_choices}
+use Rattle.composites.specs.Kinds.{is_joint, same_kind}
+use Rattle.composites.specs.OpenFields.{OpenField, fixed, blank, all_choices, choices_at_once}
 use Rattle.composites.specs.Composites.{Composite, composites, under, relabelled, alone, joint, by_hiding, by_enabling, by_disabling}
 use Rattle.composites.specs.TreeLists.{offered}
 use Rattle.tree_nodes.specs.Origins.{Source, meaning}
@@ -16,6 +26,37 @@ use Rattle.tree_nodes.specs.Shapes as nodes
 use Rattle.tree_nodes.specs.Shapes.{Above, Held, Shape, leaf, ended, over, between, Unary, hidden, enabled, Binary, choosing, beside}
 use Rattle.tree_nodes.specs.Shapes.{disabling, Stands}
 use Rattle.asked_trees.specs.Asked.{TreeQuery, offer_in}
+
+-- a tree, and the query that asks for it
+pub record Candidate : Type 0 where
+  pub query : TreeQuery
+  pub tree : Derivation
+
+abbrev pub candidate : TreeQuery → Derivation → Candidate
+candidate q d = record { query = q; tree = d }
+
+-- an action of this kind meets no offer (`IsUnseenKind`)
+abbrev pub is_unseen : Kind → Bool
+is_unseen inside = true
+is_unseen ends = true
+is_unseen (at_gate g) = false
+
+-- the value is one of these slots
+abbrev pub is_slot : List ℕ → List Slot → Bool
+is_slot u [] = false
+is_slot u (Of v ∷ slots) = bytes_eq v u || is_slot u slots
+is_slot u (Mark ∷ slots) = is_slot u slots
+is_slot u (Blank ∷ slots) = is_slot u slots
+
+-- the entry with the trees of its candidates
+abbrev pub with_trees : {P : Type 0} → Next P Candidate → Next P Derivation
+with_trees (takes p a) = takes p a.tree
+with_trees deadlocks = deadlocks
+with_trees (is_beyond p a) = is_beyond p a.tree
+with_trees (is_not_now p) = is_not_now p
+with_trees (goes_on all) = goes_on (map (λ (a : Candidate). a.tree) all)
+with_trees stalls = stalls
+with_trees nothing = nothing
 
 -- one composite in the place of each
 abbrev pub each_as : (Composite → Composite) → Lazy Composite Composite → Lazy Composite Composite
@@ -53,13 +94,41 @@ module _ (theory : Theory) (w : Windows) where
   waiting_composites (over o x) = over_one o (waiting_composites x)
   waiting_composites (between o x y) = over_two o (waiting_composites x) (waiting_composites y)
 
-  -- the trees of a composite that a query may ask for: each value that may be seen for its offer, if there is one
-  abbrev pub filled : TreeQuery → Composite → List Derivation
-  filled q c = c.trees (all_choices theory w (offered (offer_in q)) c.fields)
+  -- a field that is filled with these slots may meet a field of an offer
+  abbrev pub may_meet : OpenField → List Slot → Field → Bool
+  may_meet (fixed m v) slots (Give u) = bytes_eq v u
+  may_meet (fixed m v) slots (Take sort) = sort_of_value theory v == sort.0
+  may_meet (blank m sort) slots (Give u) = m && sort_of_value theory u == sort || is_slot u slots
+  may_meet (blank m sort) slots (Take other) = sort == other.0
 
-  -- the candidates for a query over a tree of nodes, in order: a test says which trees may be asked for, whatever their predicates say
-  abbrev pub waiting_trees : (TreeQuery → Derivation → Bool) → Shape → TreeQuery → Lazy Composite Derivation
-  waiting_trees may_be_asked t q = each (λ c. of_list (filter (may_be_asked q) (filled q c))) (waiting_composites t)
+  abbrev pub all_may_meet : List OpenField → List (List Slot) → List Field → Bool
+  all_may_meet [] choices [] = true
+  all_may_meet (c ∷ cs) (slots ∷ choices) (field ∷ fields) = may_meet c slots field && all_may_meet cs choices fields
+  all_may_meet _ choices fields = false
+
+  -- an action of the composite's kind may meet the offer, where its fields are filled with these slots
+  abbrev pub may_take : Offer → Composite → List (List Slot) → Bool
+  may_take offer c choices = same_kind c.kind (at_gate offer.gate.0) && all_may_meet c.fields choices offer.fields
+
+  -- A query may ask for this tree of a composite whose fields are filled with these slots, as far as the kind, the fields and the marks
+  -- say. What the predicates say isn't looked at.
+  abbrev pub may_be_asked : TreeQuery → Composite → List (List Slot) → Derivation → Bool
+  may_be_asked (meeting p) c choices d = not (has_mark d) && may_take p.offer c choices
+  may_be_asked any c choices d = not (has_mark d)
+  may_be_asked unseen c choices d = not (has_mark d) && is_unseen c.kind
+  may_be_asked (beyond p) c choices d = has_mark d && may_take p.offer c choices
+  may_be_asked any_beyond c choices d = has_mark d
+  may_be_asked (beyond_or_unseen p) c choices d = has_mark d && (may_take p.offer c choices || is_unseen c.kind)
+
+  -- the trees of a composite that a query may ask for, each value that may be seen for its offer being chosen
+  abbrev pub trees_asked : TreeQuery → Composite → List Derivation
+  trees_asked q c =
+      flat_map (λ choices. filter (may_be_asked q c choices) (c.trees choices))
+      (choices_at_once c.fields (all_choices theory w (offered (offer_in q)) c.fields))
+
+  -- the candidates for a query over a tree of nodes, in order
+  abbrev pub waiting_trees : Shape → TreeQuery → Lazy Composite Candidate
+  waiting_trees t q = each (λ c. of_list (map (candidate q) (trees_asked q c))) (waiting_composites t)
 
 module _ (program : Program) (e : Evaluation) (w : Windows) where
   -- the composites of what an origin stands for

@@ -5,7 +5,7 @@ use Rattle.rule_model.specs.declared.rules.Slot.{Slot}
 use Rattle.rule_model.specs.Derivations.{Derivation, pre, int, exiting, chl, chr, val, gate, guard, letting, parl, parr, both, hiding, pass}
 use Rattle.rule_model.specs.Derivations.{enstep, enend, disstep, disend, distake, calling, rel}
 use Rattle.windowed_trees.specs.Windows.{Windows}
-use Rattle.composites.specs.OpenFields.{OpenField, fixed, blank, all_choices}
+use Rattle.composites.specs.OpenFields.{OpenField, fixed, blank, all_choices, choices_at_once}
 use Rattle.open_composites.specs.declared.column.Column.{Column}
 use Rattle.open_composites.specs.declared.column.Column.TheVariants.{Told, Blank}
 use Rattle.open_composites.specs.declared.scheme.Row.{Row}
@@ -72,6 +72,8 @@ trees_of theory w (prefix takes) slots = map pre (taken_slots takes slots)
 trees_of theory w internal slots = int ∷ []
 trees_of theory w (termination takes) slots = map exiting (taken_slots takes slots)
 trees_of theory w (below row p) slots = map (put_row row) (trees_of theory w p slots)
-trees_of theory w (hidden fields p) slots = map hiding (trees_of theory w p (all_choices theory w [] fields))
-trees_of theory w (handed_on fields p) slots = map enend (trees_of theory w p (all_choices theory w [] fields))
+trees_of theory w (hidden fields p) slots =
+    map hiding (flat_map (λ choices. trees_of theory w p choices) (choices_at_once fields (all_choices theory w [] fields)))
+trees_of theory w (handed_on fields p) slots =
+    map enend (flat_map (λ choices. trees_of theory w p choices) (choices_at_once fields (all_choices theory w [] fields)))
 trees_of theory w (together p q) slots = flat_map (λ left. map (both left) (trees_of theory w q slots)) (trees_of theory w p slots)

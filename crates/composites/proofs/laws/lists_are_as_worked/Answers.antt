@@ -8,6 +8,7 @@ returns c = record {
   offer_gives = refl;
   values_in_order = refl;
   told_and_given = refl;
+  chosen_together = refl;
   hidden = refl;
   alone = refl;
   left_is_slowest = refl;

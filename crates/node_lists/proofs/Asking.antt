@@ -1,0 +1,116 @@
+-- What a query asks for, it may ask for.
+use Rattle.std.proofs.Common.{ℕ, ◌≡◌, ◌==◌, ◌⊎◌, inl, inr, ◌&&◌, ◌||◌, not, List, [], ◌∷◌, refl, sym, ap, subst, ◌∙◌, Some, None, Bool}
+use Rattle.std.proofs.Common.{true, false, length}
+use Rattle.std.specs.Str.{bytes_eq}
+use Rattle.spec_core.specs.Lists.{IsOneOf}
+use Rattle.spec_core.specs.Theories.{Theory}
+use Rattle.spec_core.specs.Code.{Program}
+use Rattle.rule_model.specs.declared.offer.Field.{Field}
+use Rattle.rule_model.specs.declared.offer.Field.TheVariants.{Give, Take}
+use Rattle.rule_model.specs.declared.offer.Offer.{Offer}
+use Rattle.rule_model.specs.declared.rules.Slot.{Slot}
+use Rattle.rule_model.specs.declared.rules.Slot.TheVariants.{Of, Mark, Blank}
+use Rattle.rule_model.specs.Actions.{Kind, inside, ends, at_gate}
+use Rattle.rule_model.specs.Behaviours.{Behaviour}
+use Rattle.rule_model.specs.Derivations.{Derivation}
+use Rattle.windowed_trees.specs.Windows.{Windows, sort_of_value}
+use Rattle.windowed_trees.specs.MarkedTerms.{unmarked}
+use Rattle.windowed_trees.specs.MarkedFields.{MarkedField, told, chosen, given, free}
+use Rattle.windowed_trees.specs.Trees.{has_mark, FieldMayMeet, FieldsMayMeet, IsSeen, IsBeyond}
+use Rattle.courses.specs.Rules.{meeting, any, unseen, beyond, any_beyond, beyond_or_unseen}
+use Rattle.composites.specs.Evaluations.{Evaluation, IsExact}
+use Rattle.composites.specs.Kinds.{same_kind}
+use Rattle.composites.specs.OpenFields.{OpenField, fixed, blank}
+use Rattle.composites.specs.Composites.{Composite, composites}
+use Rattle.composites.specs.Shown.{IsAdmitted, AreAdmitted}
+use Rattle.composites.proofs.Shown.{shown_is_admitted}
+use Rattle.composites.proofs.Tests.{both_true, left_true, right_true, same_value, same_number, same_kind_so}
+use Rattle.asked_trees.specs.Asked.{TreeQuery, IsAsked, IsUnseenKind}
+use Rattle.node_lists.specs.Waiting.{is_slot, is_unseen, may_meet, all_may_meet, may_take, may_be_asked}
+
+slot_is : (u v : List ℕ) (slots : List Slot) → v ≡ u → IsOneOf (Of v) slots → is_slot u slots ≡ true
+slot_is u v [] e h = absurd h
+slot_is u v (Of x ∷ slots) e (inl q) =
+    let same : x ≡ u = cc (q, e) in
+    left_true (bytes_eq x u) (is_slot u slots) (same_value x u same)
+slot_is u v (Of x ∷ slots) e (inr i) = right_true (bytes_eq x u) (is_slot u slots) (slot_is u v slots e i)
+slot_is u v (Mark ∷ slots) e (inl q) = absurd (cc)
+slot_is u v (Mark ∷ slots) e (inr i) = slot_is u v slots e i
+slot_is u v (Blank ∷ slots) e (inl q) = absurd (cc)
+slot_is u v (Blank ∷ slots) e (inr i) = slot_is u v slots e i
+
+unseen_is : (k : Kind) → IsUnseenKind k → is_unseen k ≡ true
+unseen_is inside h = refl
+unseen_is ends h = refl
+unseen_is (at_gate g) h = absurd h
+
+module _ (theory : Theory) (w : Windows) where
+  one_may_meet : (c : OpenField) (slots : List Slot) (f : MarkedField) (field : Field) → IsAdmitted theory c slots f →
+      FieldMayMeet theory w f field → may_meet theory w c slots field ≡ true
+  one_may_meet (fixed m v) slots (told u) (Give x) p h = same_value v x (p ∙ h)
+  one_may_meet (fixed m v) slots (told u) (Take sort) p h =
+      same_number (sort_of_value theory v) sort.0 (ap (sort_of_value theory) p ∙ h.0)
+  one_may_meet (blank m s) slots (chosen v) (Give u) p h =
+      right_true (m && sort_of_value theory u == s) (is_slot u slots) (slot_is u v slots h p.1)
+  one_may_meet (blank m s) slots (given other) (Give u) p h =
+      left_true (m && sort_of_value theory u == s) (is_slot u slots)
+      (both_true m (sort_of_value theory u == s) p.0 (same_number (sort_of_value theory u) s (h ∙ p.1)))
+  one_may_meet (blank m s) slots (free other) (Give u) p h = absurd h
+  one_may_meet (blank m s) slots (chosen v) (Take sort) p h = same_number s sort.0 (sym p.0 ∙ h.0)
+  one_may_meet (blank m s) slots (given other) (Take sort) p h = same_number s sort.0 (sym p.1 ∙ h.0)
+  one_may_meet (blank m s) slots (free other) (Take sort) p h = same_number s sort.0 (sym p.0 ∙ h.0)
+  one_may_meet (fixed m v) slots (chosen u) field p h = absurd p
+  one_may_meet (fixed m v) slots (given u) field p h = absurd p
+  one_may_meet (fixed m v) slots (free u) field p h = absurd p
+  one_may_meet (blank m s) slots (told u) field p h = absurd p
+
+  fields_may_meet : (cs : List OpenField) (choices : List (List Slot)) (fs : List MarkedField) (fields : List Field) →
+      AreAdmitted theory cs choices fs → FieldsMayMeet theory w fs fields → all_may_meet theory w cs choices fields ≡ true
+  fields_may_meet [] choices [] [] p h = refl
+  fields_may_meet (c ∷ cs) (slots ∷ choices) (f ∷ fs) (field ∷ fields) p h =
+      both_true (may_meet theory w c slots field) (all_may_meet theory w cs choices fields) (one_may_meet c slots f field p.0 h.0)
+      (fields_may_meet cs choices fs fields p.1 h.1)
+  fields_may_meet [] choices [] (field ∷ fields) p h = absurd h
+  fields_may_meet [] choices (f ∷ fs) fields p h = absurd p
+  fields_may_meet (c ∷ cs) [] fs fields p h = absurd p
+  fields_may_meet (c ∷ cs) (slots ∷ choices) [] fields p h = absurd p
+  fields_may_meet (c ∷ cs) (slots ∷ choices) (f ∷ fs) [] p h = absurd h
+
+module _ (program : Program) (e : Evaluation) (exact : IsExact program e) (w : Windows) (b : Behaviour) (c : Composite)
+    (one : IsOneOf c (composites program.theory e w (length program.code) unmarked b)) (choices : List (List Slot)) (d : Derivation)
+    (tree : IsOneOf d (c.trees choices)) where
+  shown : (o : _) (k : Kind) (h : IsSeen program w b o d k) → (c.kind ≡ k) × AreAdmitted program.theory c.fields choices h.fields
+  shown o k h = shown_is_admitted program e w exact (length program.code) unmarked b c one choices d tree k h.fields h.derives
+
+  may_take_it : (offer : Offer) (k : Kind) → IsSeen program w b (Some offer) d k → may_take program.theory w offer c choices ≡ true
+  may_take_it offer k h =
+      let s = shown (Some offer) k h in
+      both_true (same_kind c.kind (at_gate offer.gate.0)) (all_may_meet program.theory w c.fields choices offer.fields)
+      (same_kind_so c.kind (at_gate offer.gate.0) (s.0 ∙ h.meets.0))
+      (fields_may_meet program.theory w c.fields choices h.fields offer.fields s.1 h.meets.1)
+
+  is_unseen_it : (k : Kind) → IsSeen program w b None d k → IsUnseenKind k → is_unseen c.kind ≡ true
+  is_unseen_it k h i = ap is_unseen (shown None k h).0 ∙ unseen_is k i
+
+  pub asked_may_be : (q : TreeQuery) → IsAsked program w b q d → may_be_asked program.theory w q c choices d ≡ true
+  asked_may_be (meeting p) h =
+      both_true (not (has_mark d)) (may_take program.theory w p.offer c choices) (ap not h.1.1) (may_take_it p.offer h.0 h.1.0)
+  asked_may_be any h = ap not h.1.1
+  asked_may_be unseen h =
+      both_true (not (has_mark d)) (is_unseen c.kind) (ap not h.1.1) (is_unseen_it h.0 h.1.0 h.2)
+  asked_may_be (beyond p) h =
+      both_true (has_mark d) (may_take program.theory w p.offer c choices) h.1.1 (may_take_it p.offer h.0 h.1.0)
+  asked_may_be any_beyond h = h.1.1
+  asked_may_be (beyond_or_unseen p) h = by_case h
+    where
+      either : Bool
+      either = may_take program.theory w p.offer c choices || is_unseen c.kind
+
+      by_case : ((k : Kind) × IsBeyond program w b (Some p.offer) d k) ⊎ ((k : Kind) × IsBeyond program w b None d k × IsUnseenKind k) →
+          has_mark d && either ≡ true
+      by_case (inl i) =
+          both_true (has_mark d) either i.1.1
+          (left_true (may_take program.theory w p.offer c choices) (is_unseen c.kind) (may_take_it p.offer i.0 i.1.0))
+      by_case (inr i) =
+          both_true (has_mark d) either i.1.1
+          (right_true (may_take program.theory w p.offer c choices) (is_unseen c.kind) (is_unseen_it i.0 i.1.0 i.2))
