@@ -1,0 +1,25 @@
+-- What follows from the definitions.
+use Rattle.std.specs.Prelude.{ℕ, ◌≡◌, List, map, Option, option_map}
+use Rattle.courses.specs.Known.{Knowledge, decided}
+use Rattle.courses.specs.Lazy.{Lazy, first_holding, all_holding}
+use Rattle.courses.specs.Rules.{Query, Waiting, course}
+use Rattle.settling.specs.Rules.{next_decided}
+use Rattle.settling.specs.Numbered.{query_with, entry_with, waiting_with}
+
+-- what the rules decide from searches over what is known is what is decided of their course
+abbrev pub DecidedByRules : (I P A : Type 0) → Type 0
+DecidedByRules I P A =
+    (lazy : Query P → Lazy I A) (w : Waiting P) (known : Knowledge I A) →
+    decided known (course lazy w) ≡
+    next_decided (λ q. decided known (first_holding (lazy q))) (λ q. decided known (all_holding (lazy q))) w
+
+-- what is decided of numbers is decided of the offers and the candidates for which they stand
+abbrev pub NumbersStandForThem : (P A : Type 0) → Type 0
+NumbersStandForThem P A =
+    (offer : ℕ → P) (candidate : ℕ → A) (find : Query ℕ → Option (Option ℕ)) (every : Query ℕ → Option (List ℕ))
+    (find_them : Query P → Option (Option A)) (every_one : Query P → Option (List A)) →
+    ((q : Query ℕ) → find_them (query_with offer candidate q) ≡ option_map (option_map candidate) (find q)) →
+    ((q : Query ℕ) → every_one (query_with offer candidate q) ≡ option_map (map candidate) (every q)) →
+    (w : Waiting ℕ) →
+    next_decided find_them every_one (waiting_with offer candidate w) ≡
+    option_map (entry_with offer candidate) (next_decided find every w)

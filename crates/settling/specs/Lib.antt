@@ -1,0 +1,4 @@
+pub mod Rules
+pub mod Searches
+pub mod Numbered
+pub mod Laws

@@ -1,0 +1,43 @@
+-- What the program's searches and entries stand for. Offers and candidates are numbers here.
+use Rattle.std.specs.Prelude.{ℕ, List, Option, Some, None}
+use Rattle.courses.specs.Rules.{Query, meeting, any, unseen, beyond, any_beyond, beyond_or_unseen, Next, takes, deadlocks, is_beyond}
+use Rattle.courses.specs.Rules.{is_not_now, goes_on, stalls, nothing, Waiting}
+use Rattle.settling.specs.declared.listing.Search.{Search}
+use Rattle.settling.specs.declared.listing.Search.TheVariants.{Meeting, Any, Unseen, Beyond, AnyBeyond, BeyondOrUnseen}
+use Rattle.settling.specs.declared.listing.First.{First}
+use Rattle.settling.specs.declared.listing.First.TheVariants.{Open, Absent, Is}
+use Rattle.settling.specs.declared.listing.All.{All}
+use Rattle.settling.specs.declared.listing.All.TheVariants.{Undecided, These}
+use Rattle.settling.specs.declared.listing.OffersByNumber.{OffersByNumber}
+use Rattle.settling.specs.declared.settle.Settled.{Settled}
+use Rattle.settling.specs.declared.settle.Settled.TheVariants.{Unknown, Takes, Deadlocks, IsBeyond, IsNotNow, GoesOn, Stalls, Nothing}
+
+abbrev pub query_of : Search → Query ℕ
+query_of (Meeting p) = meeting p
+query_of Any = any
+query_of Unseen = unseen
+query_of (Beyond p) = beyond p
+query_of AnyBeyond = any_beyond
+query_of (BeyondOrUnseen p) = beyond_or_unseen p
+
+abbrev pub first_of : First → Option (Option ℕ)
+first_of Open = None
+first_of Absent = Some None
+first_of (Is a) = Some (Some a)
+
+abbrev pub all_of : All → Option (List ℕ)
+all_of Undecided = None
+all_of (These list) = Some list.items
+
+abbrev pub settled_of : Settled → Option (Next ℕ ℕ)
+settled_of Unknown = None
+settled_of (Takes p a) = Some (takes p a)
+settled_of Deadlocks = Some deadlocks
+settled_of (IsBeyond p a) = Some (is_beyond p a)
+settled_of (IsNotNow p) = Some (is_not_now p)
+settled_of (GoesOn list) = Some (goes_on list.items)
+settled_of Stalls = Some stalls
+settled_of Nothing = Some nothing
+
+abbrev pub waiting_of : OffersByNumber → Waiting ℕ
+waiting_of o = record { pending = o.pending.items; asks = o.asks.items; by_client = o.by_client.items; all_wait = o.all_wait }
