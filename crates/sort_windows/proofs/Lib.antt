@@ -1,3 +1,4 @@
+pub mod BySorts
 pub mod Cut
 pub mod Gained
 pub mod Order

@@ -4,7 +4,8 @@ use Rattle.std.specs.List.{slice_get, slice_index_or, insert}
 use Rattle.spec_core.specs.Lists.{Each, IsOneOf}
 use Rattle.spec_core.specs.Theories.{Operation, Theory}
 use Rattle.spec_core.specs.Constructors.{IsConstructor}
-use Rattle.spec_core.specs.Windows.{IsBefore, IsInOrder, IsMember}
+use Rattle.spec_core.specs.Windows.{IsBefore, IsInOrder, IsMember, IsWindow}
+use Rattle.spec_core.specs.declared.window.Window.{Window}
 
 -- the value is one of the window; or the window is full, and all of it comes before the value
 abbrev pub IsFound : ℕ → List (List ℕ) → List ℕ → Type 0
@@ -52,3 +53,8 @@ HaveGained limit sort v windows now = HasGained limit v (windows sort) (now sort
 -- the windows as the program keeps them: that of each sort stands at its number, and beyond the list all are empty
 abbrev pub windows_of : List (List (List ℕ)) → ℕ → List (List ℕ)
 windows_of all s = slice_index_or all s []
+
+-- each of these windows, by its number, has the first k values of the sort with this number
+abbrev pub AreBySorts : Theory → ℕ → List Window → Type 0
+AreBySorts theory k all =
+    (sort : ℕ) (window : Window) → slice_get all sort ≡ Some window → IsWindow theory sort k window.values.items window.complete

@@ -1,9 +1,9 @@
-// The window of a sort.
+// The windows of sorts.
 
-ghost use Rattle.std.specs.Prelude.{◌≡◌, ◌<◌, ◌^◌, IfOk, vec_len};
+ghost use Rattle.std.specs.Prelude.{◌≡◌, ◌<◌, ◌^◌, ◌+◌, IfOk, length, vec_len};
 ghost use Rattle.spec_core.specs.Theories.{theory_of};
 ghost use Rattle.spec_core.specs.Windows.{IsWindow};
-ghost use Rattle.sort_windows.specs.Found.{IsClosed, AreWindows, windows_of};
+ghost use Rattle.sort_windows.specs.Found.{IsClosed, AreWindows, AreBySorts, windows_of};
 
 use crate::filling::{fill_windows, values_of};
 use crate::ordered::OrderedValues;
@@ -22,9 +22,40 @@ pub fn window(alloc: Global, algebra: &DataSpec, sort: Sort, k: u32) -> Result<W
     requires few { vec_len algebra.now.signature.ops < 2 ^ 32 }
     ensures window { IfOk result (λ w. IsWindow (theory_of algebra.now) sort.0 k w.values.items w.complete) }
 {
+    let windows = closed_windows(alloc, algebra, k as usize + 1)?;
+    first_values(alloc, algebra, &windows, sort, k)
+}
+
+/// The windows of all sorts, in the order of their numbers, each as `window` has it. The rounds over the constructors are gone through
+/// once for all sorts.
+pub fn windows(alloc: Global, algebra: &DataSpec, k: u32) -> Result<Vec<Window>, Memory>
+    requires few { vec_len algebra.now.signature.ops < 2 ^ 32 }
+    requires few_sorts { vec_len algebra.now.signature.sorts < 2 ^ 32 }
+    ensures windows { IfOk result (λ all. AreBySorts (theory_of algebra.now) k all.items) }
+    ensures all { IfOk result (λ all. length all.items ≡ length (theory_of algebra.now).sorts) }
+{
+    let windows = closed_windows(alloc, algebra, k as usize + 1)?;
+    let mut all = Vec::new(alloc);
+    for number in 0..algebra.signature.sorts.len() {
+        all.push(first_values(alloc, algebra, &windows, Sort(number as u32), k)?)?;
+    }
+    Ok(all)
+}
+
+// The first values of a sort, from windows of one value more.
+fn first_values(
+    alloc: Global,
+    algebra: &DataSpec,
+    windows: &[OrderedValues],
+    sort: Sort,
+    k: u32,
+) -> Result<Window, Memory>
+    requires windows { AreWindows (theory_of algebra.now) (k + 1) (windows_of windows.now) }
+    requires closed { IsClosed (theory_of algebra.now) (k + 1) (windows_of windows.now) }
+    ensures { IfOk result (λ w. IsWindow (theory_of algebra.now) sort.0 k w.values.items w.complete) }
+{
     let limit = k as usize;
-    let windows = closed_windows(alloc, algebra, limit + 1)?;
-    let mut values = copy_values(alloc, values_of(&windows, sort))?;
+    let mut values = copy_values(alloc, values_of(windows, sort))?;
     let complete = values.len() <= limit;
     values.truncate(limit);
     Ok(Window { values, complete })

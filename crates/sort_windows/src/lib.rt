@@ -6,4 +6,4 @@ mod first_values;
 mod growth;
 mod ordered;
 
-pub use first_values::window;
+pub use first_values::{window, windows};
