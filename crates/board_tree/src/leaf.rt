@@ -27,20 +27,21 @@ use tree_nodes::rows::{are_filled, put_rows, put_slots};
 #[derive(Drop)]
 pub struct Advanced {
     pub action: Action,
-    pub branch: Branch,
+    pub branch: Box<Branch>,
     pub next: u128,
 }
 
-/// What comes of a tree of rules by which there is no step: nothing is said of it. It takes no memory.
-pub fn no_step(next: u128, place: &[u32]) -> Advanced
-    ensures fresh { IsFresh place.now next result.next (shape_of result.branch) }
+/// What comes of a tree of rules by which there is no step: nothing is said of it.
+#[inline(never)]
+pub fn no_step(alloc: Global, next: u128, place: &[u32]) -> Result<Advanced, Memory>
+    ensures fresh { IfOk result (λ a. IsFresh place.now next a.next (shape_of a.branch.value)) }
 {
-    let Fresh { branch, next } = nothing(next, place);
-    Advanced {
+    let Fresh { branch, next } = nothing(alloc, next, place)?;
+    Ok(Advanced {
         action: Action::Inner,
         branch,
         next,
-    }
+    })
 }
 
 // Whether a tree of rules, by its rules and its chosen values, fills that of one way to act.
@@ -80,8 +81,8 @@ fn acted(
     requires fills { Fills (way_of way.now).rules (derivation_of rules.now) }
     ensures acts { IfOk result (λ a.
         Acts (program_of checked.now) (meaning (program_of checked.now) (source_of origin.now)) (way_of way.now ∷ map way_of others.now)
-        (derivation_of rules.now) a.action (shape_of a.branch)) }
-    ensures fresh { IfOk result (λ a. IsFresh place.now next a.next (shape_of a.branch)) }
+        (derivation_of rules.now) a.action (shape_of a.branch.value)) }
+    ensures fresh { IfOk result (λ a. IsFresh place.now next a.next (shape_of a.branch.value)) }
 {
     let action = done_in(alloc, slots, &way.action)?;
     let Fresh { branch, next } = unfolded_rest(alloc, checked, slots, &way.rest, next, place)?;
@@ -110,11 +111,14 @@ fn acted_by(
     requires slots { slots.now ≡ slots_of (derivation_of rules.now) }
     ensures acts { IfOk result (λ a.
         Acts (program_of checked.now) (meaning (program_of checked.now) (source_of origin.now)) (map way_of ways.now)
-        (derivation_of rules.now) a.action (shape_of a.branch)) }
-    ensures fresh { IfOk result (λ a. IsFresh place.now next a.next (shape_of a.branch)) }
+        (derivation_of rules.now) a.action (shape_of a.branch.value)) }
+    ensures fresh { IfOk result (λ a. IsFresh place.now next a.next (shape_of a.branch.value)) }
 {
     match ways {
-        [] => Ok(no_step(next, place)),
+        [] => {
+            let done = no_step(alloc, next, place)?;
+            Ok(done)
+        }
         [first, rest @ ..] => {
             if fills(alloc, first, rules, rows, slots)? {
                 acted(
@@ -142,7 +146,7 @@ fn advance_expanded(
     requires ready { IsReady (program_of checked.now) }
     requires work { (held_of node.now).work ≡ Some (ways_of expansion.now) }
     ensures moves { IfOk result (λ a.
-        Moves (program_of checked.now) place.now (leaf (held_of node.now)) (derivation_of rules.now) a.action (shape_of a.branch) next
+        Moves (program_of checked.now) place.now (leaf (held_of node.now)) (derivation_of rules.now) a.action (shape_of a.branch.value) next
         a.next) }
 {
     let mut rows = Vec::new(alloc);
@@ -158,6 +162,7 @@ fn advance_expanded(
 }
 
 /// The node after a step: what is left of it, unfolded into nodes that wait.
+#[inline(never)]
 pub fn advance_node(
     alloc: Global,
     checked: &Checked,
@@ -168,11 +173,14 @@ pub fn advance_node(
 ) -> Result<Advanced, Memory>
     requires ready { IsReady (program_of checked.now) }
     ensures moves { IfOk result (λ a.
-        Moves (program_of checked.now) place.now (leaf (held_of node.now)) (derivation_of rules.now) a.action (shape_of a.branch) next
+        Moves (program_of checked.now) place.now (leaf (held_of node.now)) (derivation_of rules.now) a.action (shape_of a.branch.value) next
         a.next) }
 {
     match &node.work {
-        None => Ok(no_step(next, place)),
+        None => {
+            let done = no_step(alloc, next, place)?;
+            Ok(done)
+        }
         Some(expansion) => advance_expanded(alloc, checked, node, expansion, rules, next, place),
     }
 }

@@ -1,54 +1,62 @@
-// Steps of operators: what an operator becomes where its parts do.
+// Steps of operators: what an operator becomes where its part does.
 
 ghost use Rattle.std.specs.Prelude.{◌≡◌, ◌++◌, ◌∷◌, [], IfOk, map};
-ghost use Rattle.spec_core.specs.Code.{program_of, variable_of, relabelling_of, synchronised_of};
-ghost use Rattle.spec_core.specs.Numbers.{gate_number};
+ghost use Rattle.spec_core.specs.Code.{program_of, variable_of, relabelling_of};
 ghost use Rattle.spec_core.specs.Ready.{IsReady};
-ghost use Rattle.rule_model.specs.Derivations.{derivation_of, chl, chr, parl, parr, both, hiding, pass, enstep, enend, disstep, disend};
-ghost use Rattle.rule_model.specs.Derivations.{distake, rel};
+ghost use Rattle.rule_model.specs.Derivations.{derivation_of, enend, rel};
 ghost use Rattle.code_behaviours.specs.Values.{values_for};
-ghost use Rattle.tree_nodes.specs.Shapes.{shape_of, stands_for, over, between, hidden, relabelled, enabled, choosing, beside, disabling};
-ghost use Rattle.board_tree.specs.Steps.{Moves, Suits};
 ghost use Rattle.tree_nodes.specs.Constructs.{IsLeaf, IsTidy};
 ghost use Rattle.tree_nodes.specs.Generations.{IsFresh};
+ghost use Rattle.tree_nodes.specs.Shapes.{shape_of, stands_for, over, relabelled, enabled};
+ghost use Rattle.board_tree.specs.Steps.{Moves, Suits};
 
 use crate::leaf::{Advanced, no_step};
 use rule_model::action::Action;
 use rule_model::rules::Rules;
-use spec_core::code::{Checked, GateSet};
+use spec_core::code::Checked;
 use spec_core::items::{Gate, Sort};
 use spec_core::memory::Memory;
 use spec_core::value::Value;
 use std::alloc::Global;
 use substitution::relabelling::renamed;
-use tree_nodes::branch::{Branch, Double, Single};
+use tree_nodes::branch::{Branch, Single};
 use tree_nodes::fresh::Fresh;
 use tree_nodes::origin::copy_values;
 use tree_nodes::renew::{renewed, tidied_branch};
 use tree_nodes::unfold::unfold;
 
 /// A tree of rules that doesn't suit the operator: nothing is said of it.
+#[inline(never)]
 pub fn unsuited(
+    alloc: Global,
     checked: &Checked,
     branch: &Branch,
     rules: &Rules,
     next: u128,
     place: &[u32],
-) -> Advanced
+) -> Result<Advanced, Memory>
     requires operator { IsLeaf (shape_of branch.now) → ⊥ }
     requires unsuited { Suits (derivation_of rules.now) (shape_of branch.now) → ⊥ }
-    ensures moves { Moves (program_of checked.now) place.now (shape_of branch.now) (derivation_of rules.now) result.action
-        (shape_of result.branch) next result.next }
+    ensures moves { IfOk result (λ a.
+        Moves (program_of checked.now) place.now (shape_of branch.now) (derivation_of rules.now) a.action (shape_of a.branch.value) next
+        a.next) }
 {
-    no_step(next, place)
+    let done = no_step(alloc, next, place)?;
+    Ok(done)
 }
 
-// What a part becomes, with new nodes.
-fn anew(alloc: Global, checked: &Checked, one: Advanced, place: &[u32]) -> Result<Advanced, Memory>
+/// What a part becomes, with new nodes.
+#[inline(never)]
+pub fn anew(
+    alloc: Global,
+    checked: &Checked,
+    one: Advanced,
+    place: &[u32],
+) -> Result<Advanced, Memory>
     ensures action { IfOk result (λ a. a.action ≡ one.action) }
     ensures stands { IfOk result (λ a.
-        stands_for (program_of checked.now) (shape_of a.branch) ≡ stands_for (program_of checked.now) (shape_of one.branch)) }
-    ensures fresh { IfOk result (λ a. IsFresh place.now one.next a.next (shape_of a.branch)) }
+        stands_for (program_of checked.now) (shape_of a.branch.value) ≡ stands_for (program_of checked.now) (shape_of one.branch.value)) }
+    ensures fresh { IfOk result (λ a. IsFresh place.now one.next a.next (shape_of a.branch.value)) }
 {
     let Advanced {
         action,
@@ -66,235 +74,11 @@ fn anew(alloc: Global, checked: &Checked, one: Advanced, place: &[u32]) -> Resul
     })
 }
 
-/// A choice whose left side acts: the other side is lost, and what is left has new nodes.
-pub fn choice_left(
-    alloc: Global,
-    checked: &Checked,
-    left: &Branch,
-    right: &Branch,
-    d: &Rules,
-    one: Advanced,
-    low: u128,
-    inner: &[u32],
-    place: &[u32],
-) -> Result<Advanced, Memory>
-    requires moves { Moves (program_of checked.now) inner.now (shape_of left.now) (derivation_of d.now) one.action (shape_of one.branch)
-        low one.next }
-    ensures { IfOk result (λ a.
-        Moves (program_of checked.now) place.now (between choosing (shape_of left.now) (shape_of right.now))
-        (chl (derivation_of d.now)) a.action (shape_of a.branch) low a.next) }
-{
-    let done = anew(alloc, checked, one, place)?;
-    Ok(done)
-}
-
-/// A choice whose right side acts: the other side is lost, and what is left has new nodes.
-pub fn choice_right(
-    alloc: Global,
-    checked: &Checked,
-    left: &Branch,
-    right: &Branch,
-    d: &Rules,
-    one: Advanced,
-    low: u128,
-    inner: &[u32],
-    place: &[u32],
-) -> Result<Advanced, Memory>
-    requires moves { Moves (program_of checked.now) inner.now (shape_of right.now) (derivation_of d.now) one.action (shape_of one.branch)
-        low one.next }
-    ensures { IfOk result (λ a.
-        Moves (program_of checked.now) place.now (between choosing (shape_of left.now) (shape_of right.now))
-        (chr (derivation_of d.now)) a.action (shape_of a.branch) low a.next) }
-{
-    let done = anew(alloc, checked, one, place)?;
-    Ok(done)
-}
-
-/// A parallel composition whose left side acts alone: the other side stays.
-pub fn left_alone(
-    alloc: Global,
-    checked: &Checked,
-    gates: &GateSet,
-    left: &Branch,
-    right: &Branch,
-    d: &Rules,
-    one: Advanced,
-    low: u128,
-    inner: &[u32],
-    place: &[u32],
-) -> Result<Advanced, Memory>
-    requires inner { inner.now ≡ place.now ++ 0 ∷ [] }
-    requires moves { Moves (program_of checked.now) inner.now (shape_of left.now) (derivation_of d.now) one.action (shape_of one.branch)
-        low one.next }
-    ensures { IfOk result (λ a.
-        Moves (program_of checked.now) place.now (between (beside (synchronised_of gates.now)) (shape_of left.now) (shape_of right.now))
-        (parl (derivation_of d.now)) a.action (shape_of a.branch) low a.next) }
-{
-    let Advanced {
-        action,
-        branch,
-        next,
-    } = one;
-    let right = right.copy(alloc)?;
-    let operator = Double::Par(gates.copy(alloc)?);
-    let after = Branch::between(alloc, operator, branch, right)?;
-    Ok(Advanced {
-        action,
-        branch: after,
-        next,
-    })
-}
-
-/// A parallel composition whose right side acts alone: the other side stays.
-pub fn right_alone(
-    alloc: Global,
-    checked: &Checked,
-    gates: &GateSet,
-    left: &Branch,
-    right: &Branch,
-    d: &Rules,
-    one: Advanced,
-    low: u128,
-    inner: &[u32],
-    place: &[u32],
-) -> Result<Advanced, Memory>
-    requires inner { inner.now ≡ place.now ++ 1 ∷ [] }
-    requires moves { Moves (program_of checked.now) inner.now (shape_of right.now) (derivation_of d.now) one.action (shape_of one.branch)
-        low one.next }
-    ensures { IfOk result (λ a.
-        Moves (program_of checked.now) place.now (between (beside (synchronised_of gates.now)) (shape_of left.now) (shape_of right.now))
-        (parr (derivation_of d.now)) a.action (shape_of a.branch) low a.next) }
-{
-    let Advanced {
-        action,
-        branch,
-        next,
-    } = one;
-    let left = left.copy(alloc)?;
-    let operator = Double::Par(gates.copy(alloc)?);
-    let after = Branch::between(alloc, operator, left, branch)?;
-    Ok(Advanced {
-        action,
-        branch: after,
-        next,
-    })
-}
-
-/// A parallel composition whose sides act together.
-pub fn both_together(
-    alloc: Global,
-    checked: &Checked,
-    gates: &GateSet,
-    left: &Branch,
-    right: &Branch,
-    d: &Rules,
-    e: &Rules,
-    one: Advanced,
-    two: Advanced,
-    low: u128,
-    first: &[u32],
-    second: &[u32],
-    place: &[u32],
-) -> Result<Advanced, Memory>
-    requires first { first.now ≡ place.now ++ 0 ∷ [] }
-    requires second { second.now ≡ place.now ++ 1 ∷ [] }
-    requires one { Moves (program_of checked.now) first.now (shape_of left.now) (derivation_of d.now) one.action (shape_of one.branch) low
-        one.next }
-    requires two { Moves (program_of checked.now) second.now (shape_of right.now) (derivation_of e.now) two.action (shape_of two.branch)
-        one.next two.next }
-    ensures { IfOk result (λ a.
-        Moves (program_of checked.now) place.now (between (beside (synchronised_of gates.now)) (shape_of left.now) (shape_of right.now))
-        (both (derivation_of d.now) (derivation_of e.now)) a.action (shape_of a.branch) low a.next) }
-{
-    let Advanced {
-        action,
-        branch: left,
-        next: _,
-    } = one;
-    let Advanced {
-        action: _,
-        branch: right,
-        next,
-    } = two;
-    let operator = Double::Par(gates.copy(alloc)?);
-    let after = Branch::between(alloc, operator, left, right)?;
-    Ok(Advanced {
-        action,
-        branch: after,
-        next,
-    })
-}
-
-/// A hiding whose part acts at a hidden gate.
-pub fn hidden_inside(
-    alloc: Global,
-    checked: &Checked,
-    gates: &[Gate],
-    part: &Branch,
-    d: &Rules,
-    one: Advanced,
-    low: u128,
-    inner: &[u32],
-    place: &[u32],
-) -> Result<Advanced, Memory>
-    requires inner { inner.now ≡ place.now ++ 0 ∷ [] }
-    requires moves { Moves (program_of checked.now) inner.now (shape_of part.now) (derivation_of d.now) one.action (shape_of one.branch)
-        low one.next }
-    ensures { IfOk result (λ a.
-        Moves (program_of checked.now) place.now (over (hidden (map gate_number gates.now)) (shape_of part.now))
-        (hiding (derivation_of d.now)) a.action (shape_of a.branch) low a.next) }
-{
-    let Advanced {
-        action: _,
-        branch,
-        next,
-    } = one;
-    let operator = Single::Hide(Vec::from_slice(alloc, gates)?);
-    let after = Branch::over(alloc, operator, branch)?;
-    Ok(Advanced {
-        action: Action::Inner,
-        branch: after,
-        next,
-    })
-}
-
-/// A hiding whose part does anything else.
-pub fn let_pass(
-    alloc: Global,
-    checked: &Checked,
-    gates: &[Gate],
-    part: &Branch,
-    d: &Rules,
-    one: Advanced,
-    low: u128,
-    inner: &[u32],
-    place: &[u32],
-) -> Result<Advanced, Memory>
-    requires inner { inner.now ≡ place.now ++ 0 ∷ [] }
-    requires moves { Moves (program_of checked.now) inner.now (shape_of part.now) (derivation_of d.now) one.action (shape_of one.branch)
-        low one.next }
-    ensures { IfOk result (λ a.
-        Moves (program_of checked.now) place.now (over (hidden (map gate_number gates.now)) (shape_of part.now))
-        (pass (derivation_of d.now)) a.action (shape_of a.branch) low a.next) }
-{
-    let Advanced {
-        action,
-        branch,
-        next,
-    } = one;
-    let operator = Single::Hide(Vec::from_slice(alloc, gates)?);
-    let after = Branch::over(alloc, operator, branch)?;
-    Ok(Advanced {
-        action,
-        branch: after,
-        next,
-    })
-}
-
 // A relabelling that stays over what its part becomes.
 fn stays_relabelled(
     alloc: Global,
     checked: &Checked,
+    branch: &Branch,
     pairs: &[(Gate, Gate)],
     part: &Branch,
     d: &Rules,
@@ -304,20 +88,21 @@ fn stays_relabelled(
     place: &[u32],
 ) -> Result<Advanced, Memory>
     requires inner { inner.now ≡ place.now ++ 0 ∷ [] }
-    requires tidy { IsTidy (shape_of one.branch) }
-    requires moves { Moves (program_of checked.now) inner.now (shape_of part.now) (derivation_of d.now) one.action (shape_of one.branch)
-        low one.next }
+    requires tidy { IsTidy (shape_of one.branch.value) }
+    requires shape { shape_of branch.now ≡ over (relabelled (map relabelling_of pairs.now)) (shape_of part.now) }
+    requires moves { Moves (program_of checked.now) inner.now (shape_of part.now) (derivation_of d.now) one.action
+        (shape_of one.branch.value) low one.next }
     ensures { IfOk result (λ a.
-        Moves (program_of checked.now) place.now (over (relabelled (map relabelling_of pairs.now)) (shape_of part.now))
-        (rel (derivation_of d.now)) a.action (shape_of a.branch) low a.next) }
+        Moves (program_of checked.now) place.now (shape_of branch.now) (rel (derivation_of d.now)) a.action (shape_of a.branch.value) low
+        a.next) }
 {
     let Advanced {
         action,
-        branch,
+        branch: one,
         next,
     } = one;
     let operator = Single::Relabel(Vec::from_slice(alloc, pairs)?);
-    let after = Branch::over(alloc, operator, branch)?;
+    let after = Branch::over(alloc, operator, one)?;
     Ok(Advanced {
         action: renamed(pairs, action),
         branch: after,
@@ -329,6 +114,7 @@ fn stays_relabelled(
 fn becomes_tidied(
     alloc: Global,
     checked: &Checked,
+    branch: &Branch,
     pairs: &[(Gate, Gate)],
     part: &Branch,
     d: &Rules,
@@ -338,22 +124,23 @@ fn becomes_tidied(
     place: &[u32],
 ) -> Result<Advanced, Memory>
     requires ready { IsReady (program_of checked.now) }
-    requires untidy { IsTidy (shape_of one.branch) → ⊥ }
-    requires moves { Moves (program_of checked.now) inner.now (shape_of part.now) (derivation_of d.now) one.action (shape_of one.branch)
-        low one.next }
+    requires untidy { IsTidy (shape_of one.branch.value) → ⊥ }
+    requires shape { shape_of branch.now ≡ over (relabelled (map relabelling_of pairs.now)) (shape_of part.now) }
+    requires moves { Moves (program_of checked.now) inner.now (shape_of part.now) (derivation_of d.now) one.action
+        (shape_of one.branch.value) low one.next }
     ensures { IfOk result (λ a.
-        Moves (program_of checked.now) place.now (over (relabelled (map relabelling_of pairs.now)) (shape_of part.now))
-        (rel (derivation_of d.now)) a.action (shape_of a.branch) low a.next) }
+        Moves (program_of checked.now) place.now (shape_of branch.now) (rel (derivation_of d.now)) a.action (shape_of a.branch.value) low
+        a.next) }
 {
     let Advanced {
         action,
-        branch,
+        branch: one,
         next,
     } = one;
     let Fresh {
         branch: after,
         next: high,
-    } = tidied_branch(alloc, checked, pairs, &branch, next, place)?;
+    } = tidied_branch(alloc, checked, pairs, &one, next, place)?;
     Ok(Advanced {
         action: renamed(pairs, action),
         branch: after,
@@ -365,6 +152,7 @@ fn becomes_tidied(
 pub fn relabelled_step(
     alloc: Global,
     checked: &Checked,
+    branch: &Branch,
     pairs: &[(Gate, Gate)],
     part: &Branch,
     d: &Rules,
@@ -375,58 +163,22 @@ pub fn relabelled_step(
 ) -> Result<Advanced, Memory>
     requires ready { IsReady (program_of checked.now) }
     requires inner { inner.now ≡ place.now ++ 0 ∷ [] }
-    requires moves { Moves (program_of checked.now) inner.now (shape_of part.now) (derivation_of d.now) one.action (shape_of one.branch)
-        low one.next }
+    requires shape { shape_of branch.now ≡ over (relabelled (map relabelling_of pairs.now)) (shape_of part.now) }
+    requires moves { Moves (program_of checked.now) inner.now (shape_of part.now) (derivation_of d.now) one.action
+        (shape_of one.branch.value) low one.next }
     ensures { IfOk result (λ a.
-        Moves (program_of checked.now) place.now (over (relabelled (map relabelling_of pairs.now)) (shape_of part.now))
-        (rel (derivation_of d.now)) a.action (shape_of a.branch) low a.next) }
+        Moves (program_of checked.now) place.now (shape_of branch.now) (rel (derivation_of d.now)) a.action (shape_of a.branch.value) low
+        a.next) }
 {
     if one.branch.is_tidy() {
-        stays_relabelled(alloc, checked, pairs, part, d, one, low, inner, place)
+        stays_relabelled(
+            alloc, checked, branch, pairs, part, d, one, low, inner, place,
+        )
     } else {
-        becomes_tidied(alloc, checked, pairs, part, d, one, low, inner, place)
+        becomes_tidied(
+            alloc, checked, branch, pairs, part, d, one, low, inner, place,
+        )
     }
-}
-
-/// An enabling whose left side acts and goes on.
-pub fn enabling_step(
-    alloc: Global,
-    checked: &Checked,
-    part: &Branch,
-    vars: &[(u32, Sort)],
-    right: u32,
-    values: &[(u32, Value)],
-    d: &Rules,
-    one: Advanced,
-    low: u128,
-    inner: &[u32],
-    place: &[u32],
-) -> Result<Advanced, Memory>
-    requires inner { inner.now ≡ place.now ++ 0 ∷ [] }
-    requires moves { Moves (program_of checked.now) inner.now (shape_of part.now) (derivation_of d.now) one.action (shape_of one.branch)
-        low one.next }
-    ensures { IfOk result (λ a.
-        Moves (program_of checked.now) place.now (over (enabled (map variable_of vars.now) right values.now) (shape_of part.now))
-        (enstep (derivation_of d.now)) a.action (shape_of a.branch) low a.next) }
-{
-    let Advanced {
-        action,
-        branch,
-        next,
-    } = one;
-    let vars = Vec::from_slice(alloc, vars)?;
-    let values = copy_values(alloc, values)?;
-    let operator = Single::Enable {
-        vars,
-        right,
-        values,
-    };
-    let after = Branch::over(alloc, operator, branch)?;
-    Ok(Advanced {
-        action,
-        branch: after,
-        next,
-    })
 }
 
 // Appends the values that are handed on to variables.
@@ -469,6 +221,7 @@ fn handed_on(
 pub fn enabling_end(
     alloc: Global,
     checked: &Checked,
+    branch: &Branch,
     part: &Branch,
     vars: &[(u32, Sort)],
     right: u32,
@@ -480,11 +233,12 @@ pub fn enabling_end(
     place: &[u32],
 ) -> Result<Advanced, Memory>
     requires ready { IsReady (program_of checked.now) }
-    requires moves { Moves (program_of checked.now) inner.now (shape_of part.now) (derivation_of d.now) one.action (shape_of one.branch)
-        low one.next }
+    requires shape { shape_of branch.now ≡ over (enabled (map variable_of vars.now) right values.now) (shape_of part.now) }
+    requires moves { Moves (program_of checked.now) inner.now (shape_of part.now) (derivation_of d.now) one.action
+        (shape_of one.branch.value) low one.next }
     ensures { IfOk result (λ a.
-        Moves (program_of checked.now) place.now (over (enabled (map variable_of vars.now) right values.now) (shape_of part.now))
-        (enend (derivation_of d.now)) a.action (shape_of a.branch) low a.next) }
+        Moves (program_of checked.now) place.now (shape_of branch.now) (enend (derivation_of d.now)) a.action (shape_of a.branch.value) low
+        a.next) }
 {
     let Advanced {
         action,
@@ -504,84 +258,13 @@ pub fn enabling_end(
                 next: high,
             })
         }
-        Action::Inner => Ok(no_step(next, place)),
-        Action::At(_, _) => Ok(no_step(next, place)),
+        Action::Inner => {
+            let done = no_step(alloc, next, place)?;
+            Ok(done)
+        }
+        Action::At(_, _) => {
+            let done = no_step(alloc, next, place)?;
+            Ok(done)
+        }
     }
-}
-
-/// A disabling whose left side acts and goes on: the right side stays.
-pub fn disabling_step(
-    alloc: Global,
-    checked: &Checked,
-    left: &Branch,
-    right: &Branch,
-    d: &Rules,
-    one: Advanced,
-    low: u128,
-    inner: &[u32],
-    place: &[u32],
-) -> Result<Advanced, Memory>
-    requires inner { inner.now ≡ place.now ++ 0 ∷ [] }
-    requires moves { Moves (program_of checked.now) inner.now (shape_of left.now) (derivation_of d.now) one.action (shape_of one.branch)
-        low one.next }
-    ensures { IfOk result (λ a.
-        Moves (program_of checked.now) place.now (between disabling (shape_of left.now) (shape_of right.now))
-        (disstep (derivation_of d.now)) a.action (shape_of a.branch) low a.next) }
-{
-    let Advanced {
-        action,
-        branch,
-        next,
-    } = one;
-    let right = right.copy(alloc)?;
-    let after = Branch::between(alloc, Double::Disable, branch, right)?;
-    Ok(Advanced {
-        action,
-        branch: after,
-        next,
-    })
-}
-
-/// A disabling whose left side terminates: the right side is lost, and what is left has new nodes.
-pub fn disabling_end(
-    alloc: Global,
-    checked: &Checked,
-    left: &Branch,
-    right: &Branch,
-    d: &Rules,
-    one: Advanced,
-    low: u128,
-    inner: &[u32],
-    place: &[u32],
-) -> Result<Advanced, Memory>
-    requires moves { Moves (program_of checked.now) inner.now (shape_of left.now) (derivation_of d.now) one.action (shape_of one.branch)
-        low one.next }
-    ensures { IfOk result (λ a.
-        Moves (program_of checked.now) place.now (between disabling (shape_of left.now) (shape_of right.now))
-        (disend (derivation_of d.now)) a.action (shape_of a.branch) low a.next) }
-{
-    let done = anew(alloc, checked, one, place)?;
-    Ok(done)
-}
-
-/// A disabling whose right side acts: the left side is lost, and what is left has new nodes.
-pub fn disabling_taken(
-    alloc: Global,
-    checked: &Checked,
-    left: &Branch,
-    right: &Branch,
-    d: &Rules,
-    one: Advanced,
-    low: u128,
-    inner: &[u32],
-    place: &[u32],
-) -> Result<Advanced, Memory>
-    requires moves { Moves (program_of checked.now) inner.now (shape_of right.now) (derivation_of d.now) one.action (shape_of one.branch)
-        low one.next }
-    ensures { IfOk result (λ a.
-        Moves (program_of checked.now) place.now (between disabling (shape_of left.now) (shape_of right.now))
-        (distake (derivation_of d.now)) a.action (shape_of a.branch) low a.next) }
-{
-    let done = anew(alloc, checked, one, place)?;
-    Ok(done)
 }

@@ -39,7 +39,7 @@ fn moved(
 ) -> Result<Fresh, Memory>
     requires ready { IsReady (program_of checked.now) }
     ensures { IfOk result (λ f.
-        Moved (program_of checked.now) place.now (shape_of branch.now) (derivation_of rules.now) (shape_of f.branch) next f.next) }
+        Moved (program_of checked.now) place.now (shape_of branch.now) (derivation_of rules.now) (shape_of f.branch.value) next f.next) }
 {
     let done = advance(alloc, checked, branch, rules, next, place)?;
     Ok(Fresh {
@@ -67,6 +67,7 @@ pub fn ready_for(
         branch: after,
         next,
     } = moved(alloc, checked, branch, rules, next, &place)?;
+    let after = Box::into_inner(after);
     let gone = difference(alloc, branch, &after)?;
     let came = difference(alloc, &after, branch)?;
     Ok(Ready {

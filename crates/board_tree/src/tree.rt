@@ -68,7 +68,7 @@ impl Tree {
         let values = Vec::new(alloc);
         let Fresh { branch, next } = unfold(alloc, checked, checked.start, &values, 0, &place)?;
         Ok(Tree {
-            root: branch,
+            root: Box::into_inner(branch),
             next,
             gone: Vec::new(alloc),
             came: Vec::new(alloc),
@@ -91,7 +91,7 @@ impl Tree {
         ensures gone { IfOk result (λ t. t.gone ≡ self.now.gone) }
         ensures came { IfOk result (λ t. t.came ≡ self.now.came) }
     {
-        let root = self.root.copy(alloc)?;
+        let root = Box::into_inner(self.root.copy(alloc)?);
         let gone = Vec::from_slice(alloc, &self.gone)?;
         let came = Vec::from_slice(alloc, &self.came)?;
         Ok(Tree {

@@ -4,7 +4,7 @@ ghost use Rattle.std.specs.Prelude.{◌≡◌, IfOk};
 ghost use Rattle.spec_core.specs.Code.{program_of};
 ghost use Rattle.spec_core.specs.Ready.{IsReady};
 ghost use Rattle.rule_model.specs.Behaviours.{behaviour_of};
-ghost use Rattle.tree_nodes.specs.Shapes.{shape_of, unary_of, binary_of, over, between, applied, joined, stands_for};
+ghost use Rattle.tree_nodes.specs.Shapes.{shape_of, held_of, unary_of, binary_of, leaf, ended, over, between, applied, joined, stands_for};
 
 use crate::node::Node;
 use crate::origin::copy_values;
@@ -65,6 +65,7 @@ impl Drop for Branch {
 
 impl Single {
     /// An equal operator.
+    #[inline(never)]
     pub fn copy(&self, alloc: Global) -> Result<Single, Memory>
         ensures equal { IfOk result (λ o. unary_of o ≡ unary_of self.now) }
     {
@@ -88,6 +89,7 @@ impl Single {
     }
 
     /// The operator's construct over the behaviour of its part.
+    #[inline(never)]
     pub fn applied(&self, alloc: Global, checked: &Checked, part: Beh) -> Result<Beh, Memory>
         requires ready { IsReady (program_of checked.now) }
         ensures applied { IfOk result (λ b. behaviour_of b ≡ applied (program_of checked.now) (unary_of self.now) (behaviour_of part)) }
@@ -112,6 +114,7 @@ impl Single {
 
 impl Double {
     /// An equal operator.
+    #[inline(never)]
     pub fn copy(&self, alloc: Global) -> Result<Double, Memory>
         ensures equal { IfOk result (λ o. binary_of o ≡ binary_of self.now) }
     {
@@ -123,6 +126,7 @@ impl Double {
     }
 
     /// The operator's construct over the behaviours of its parts.
+    #[inline(never)]
     pub fn joined(&self, alloc: Global, left: Beh, right: Beh) -> Result<Beh, Memory>
         ensures joined { IfOk result (λ b. behaviour_of b ≡ joined (binary_of self.now) (behaviour_of left) (behaviour_of right)) }
     {
@@ -135,36 +139,46 @@ impl Double {
 }
 
 impl Branch {
-    /// An operator over one part.
-    pub fn over(alloc: Global, operator: Single, part: Branch) -> Result<Branch, Memory>
-        ensures made { IfOk result (λ t. shape_of t ≡ over (unary_of operator) (shape_of part)) }
+    /// No node: what is left of an exit.
+    #[inline(never)]
+    pub fn ended(alloc: Global) -> Result<Box<Branch>, Memory>
+        ensures made { IfOk result (λ t. shape_of t.value ≡ ended) }
     {
-        let part = Box::new(alloc, part)?;
-        Ok(Branch::Over(operator, part))
+        let branch = Box::new(alloc, Branch::Ended)?;
+        Ok(branch)
+    }
+
+    /// An operator over one part.
+    #[inline(never)]
+    pub fn over(alloc: Global, operator: Single, part: Box<Branch>) -> Result<Box<Branch>, Memory>
+        ensures made { IfOk result (λ t. shape_of t.value ≡ over (unary_of operator) (shape_of part.value)) }
+    {
+        let branch = Box::new(alloc, Branch::Over(operator, part))?;
+        Ok(branch)
     }
 
     /// An operator over two parts.
+    #[inline(never)]
     pub fn between(
         alloc: Global,
         operator: Double,
-        left: Branch,
-        right: Branch,
-    ) -> Result<Branch, Memory>
-        ensures made { IfOk result (λ t. shape_of t ≡ between (binary_of operator) (shape_of left) (shape_of right)) }
+        left: Box<Branch>,
+        right: Box<Branch>,
+    ) -> Result<Box<Branch>, Memory>
+        ensures made { IfOk result (λ t. shape_of t.value ≡ between (binary_of operator) (shape_of left.value) (shape_of right.value)) }
     {
-        let left = Box::new(alloc, left)?;
-        let right = Box::new(alloc, right)?;
-        Ok(Branch::Between(operator, left, right))
+        let branch = Box::new(alloc, Branch::Between(operator, left, right))?;
+        Ok(branch)
     }
 
-    /// An equal tree.
+    /// An equal tree. It recurs as deep as the operators nest.
     #[cycle(copy)]
-    pub fn copy(&self, alloc: Global) -> Result<Branch, Memory>
-        ensures equal { IfOk result (λ t. shape_of t ≡ shape_of self.now) }
+    pub fn copy(&self, alloc: Global) -> Result<Box<Branch>, Memory>
+        ensures equal { IfOk result (λ t. shape_of t.value ≡ shape_of self.now) }
     {
         match self {
-            Branch::Leaf(node) => Ok(Branch::Leaf(node.copy(alloc)?)),
-            Branch::Ended => Ok(Branch::Ended),
+            Branch::Leaf(node) => copied_leaf(alloc, node),
+            Branch::Ended => Branch::ended(alloc),
             Branch::Over(operator, part) => copied_over(alloc, operator, part),
             Branch::Between(operator, left, right) => copied_between(alloc, operator, left, right),
         }
@@ -191,11 +205,21 @@ impl Branch {
     }
 }
 
+// An equal node as a tree.
+#[inline(never)]
+fn copied_leaf(alloc: Global, node: &Node) -> Result<Box<Branch>, Memory>
+    ensures { IfOk result (λ t. shape_of t.value ≡ leaf (held_of node.now)) }
+{
+    let node = node.copy(alloc)?;
+    let branch = Box::new(alloc, Branch::Leaf(node))?;
+    Ok(branch)
+}
+
 // An equal operator over an equal part. It is a function of its own so that the stack holds deep trees, like those that recur beside it.
 #[cycle(copy)]
 #[inline(never)]
-fn copied_over(alloc: Global, operator: &Single, part: &Branch) -> Result<Branch, Memory>
-    ensures { IfOk result (λ t. shape_of t ≡ over (unary_of operator.now) (shape_of part.now)) }
+fn copied_over(alloc: Global, operator: &Single, part: &Branch) -> Result<Box<Branch>, Memory>
+    ensures { IfOk result (λ t. shape_of t.value ≡ over (unary_of operator.now) (shape_of part.now)) }
 {
     let part = part.copy(alloc)?;
     Branch::over(alloc, operator.copy(alloc)?, part)
@@ -209,8 +233,8 @@ fn copied_between(
     operator: &Double,
     left: &Branch,
     right: &Branch,
-) -> Result<Branch, Memory>
-    ensures { IfOk result (λ t. shape_of t ≡ between (binary_of operator.now) (shape_of left.now) (shape_of right.now)) }
+) -> Result<Box<Branch>, Memory>
+    ensures { IfOk result (λ t. shape_of t.value ≡ between (binary_of operator.now) (shape_of left.now) (shape_of right.now)) }
 {
     let left = left.copy(alloc)?;
     let right = right.copy(alloc)?;

@@ -14,11 +14,12 @@ use std::alloc::Global;
 /// A tree of new nodes, and the next generation.
 #[derive(Drop)]
 pub struct Fresh {
-    pub branch: Branch,
+    pub branch: Box<Branch>,
     pub next: u128,
 }
 
 /// The place of a part.
+#[inline(never)]
 pub fn part_of(alloc: Global, place: &[u32], part: u32) -> Result<Vec<u32>, Memory>
     ensures longer { IfOk result (λ p. p.items ≡ place.now ++ part ∷ []) }
 {
@@ -29,40 +30,42 @@ pub fn part_of(alloc: Global, place: &[u32], part: u32) -> Result<Vec<u32>, Memo
 
 /// A node that waits.
 #[tactic(auto, using(crate::proofs::Growing::fresh_leaf))]
+#[inline(never)]
 pub fn waiting(alloc: Global, origin: Origin, next: u128, place: &[u32]) -> Result<Fresh, Memory>
-    ensures shape { IfOk result (λ f. shape_of f.branch ≡ leaf (new_node next (source_of origin) place.now)) }
-    ensures fresh { IfOk result (λ f. IsFresh place.now next f.next (shape_of f.branch)) }
+    ensures shape { IfOk result (λ f. shape_of f.branch.value ≡ leaf (new_node next (source_of origin) place.now)) }
+    ensures fresh { IfOk result (λ f. IsFresh place.now next f.next (shape_of f.branch.value)) }
 {
     if next == u128::MAX {
         return Err(Memory);
     }
     let place = Vec::from_slice(alloc, place)?;
-    let branch = Branch::Leaf(Node {
+    let node = Node {
         generation: Gen(next),
         origin,
         place,
         work: None,
-    });
+    };
+    let branch = Box::new(alloc, Branch::Leaf(node))?;
     Ok(Fresh {
         branch,
         next: next + 1,
     })
 }
 
-/// No node: what is left of an exit. It takes no memory.
+/// No node: what is left of an exit.
 #[tactic(auto, using(crate::proofs::Growing::fresh_ended))]
-pub fn nothing(next: u128, place: &[u32]) -> Fresh
-    ensures shape { shape_of result.branch ≡ ended }
-    ensures fresh { IsFresh place.now next result.next (shape_of result.branch) }
+#[inline(never)]
+pub fn nothing(alloc: Global, next: u128, place: &[u32]) -> Result<Fresh, Memory>
+    ensures shape { IfOk result (λ f. shape_of f.branch.value ≡ ended) }
+    ensures fresh { IfOk result (λ f. IsFresh place.now next f.next (shape_of f.branch.value)) }
 {
-    Fresh {
-        branch: Branch::Ended,
-        next,
-    }
+    let branch = Branch::ended(alloc)?;
+    Ok(Fresh { branch, next })
 }
 
 /// An operator over new nodes, whose generations are from `low` on.
 #[tactic(auto, using(crate::proofs::Growing::fresh_over))]
+#[inline(never)]
 pub fn put_over(
     alloc: Global,
     operator: Single,
@@ -72,9 +75,9 @@ pub fn put_over(
     place: &[u32],
 ) -> Result<Fresh, Memory>
     requires inner { inner.now ≡ place.now ++ 0 ∷ [] }
-    requires one { IsFresh inner.now low one.next (shape_of one.branch) }
-    ensures shape { IfOk result (λ f. shape_of f.branch ≡ over (unary_of operator) (shape_of one.branch)) }
-    ensures fresh { IfOk result (λ f. IsFresh place.now low f.next (shape_of f.branch)) }
+    requires one { IsFresh inner.now low one.next (shape_of one.branch.value) }
+    ensures shape { IfOk result (λ f. shape_of f.branch.value ≡ over (unary_of operator) (shape_of one.branch.value)) }
+    ensures fresh { IfOk result (λ f. IsFresh place.now low f.next (shape_of f.branch.value)) }
 {
     let Fresh { branch, next } = one;
     let branch = Branch::over(alloc, operator, branch)?;
@@ -83,6 +86,7 @@ pub fn put_over(
 
 /// An operator between new nodes, whose generations are from `low` on, those of the second part after those of the first.
 #[tactic(auto, using(crate::proofs::Growing::fresh_between))]
+#[inline(never)]
 pub fn put_between(
     alloc: Global,
     operator: Double,
@@ -95,10 +99,11 @@ pub fn put_between(
 ) -> Result<Fresh, Memory>
     requires first { first.now ≡ place.now ++ 0 ∷ [] }
     requires second { second.now ≡ place.now ++ 1 ∷ [] }
-    requires one { IsFresh first.now low one.next (shape_of one.branch) }
-    requires two { IsFresh second.now one.next two.next (shape_of two.branch) }
-    ensures shape { IfOk result (λ f. shape_of f.branch ≡ between (binary_of operator) (shape_of one.branch) (shape_of two.branch)) }
-    ensures fresh { IfOk result (λ f. IsFresh place.now low f.next (shape_of f.branch)) }
+    requires one { IsFresh first.now low one.next (shape_of one.branch.value) }
+    requires two { IsFresh second.now one.next two.next (shape_of two.branch.value) }
+    ensures shape { IfOk result (λ f.
+        shape_of f.branch.value ≡ between (binary_of operator) (shape_of one.branch.value) (shape_of two.branch.value)) }
+    ensures fresh { IfOk result (λ f. IsFresh place.now low f.next (shape_of f.branch.value)) }
 {
     let Fresh {
         branch: left,

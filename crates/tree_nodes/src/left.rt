@@ -106,9 +106,9 @@ fn rest_over(
 ) -> Result<Fresh, Memory>
     requires ready { IsReady (program_of checked.now) }
     ensures stands { IfOk result (λ f.
-        stands_for (program_of checked.now) (shape_of f.branch) ≡
+        stands_for (program_of checked.now) (shape_of f.branch.value) ≡
         applied (program_of checked.now) (unary_of operator) (left_in (program_of checked.now) chosen.now (remainder_of rest.now))) }
-    ensures fresh { IfOk result (λ f. IsFresh place.now next f.next (shape_of f.branch)) }
+    ensures fresh { IfOk result (λ f. IsFresh place.now next f.next (shape_of f.branch.value)) }
 {
     let inner = part_of(alloc, place, 0)?;
     let one = unfolded_rest(alloc, checked, chosen, rest, next, &inner)?;
@@ -130,10 +130,10 @@ fn rest_between(
 ) -> Result<Fresh, Memory>
     requires ready { IsReady (program_of checked.now) }
     ensures stands { IfOk result (λ f.
-        stands_for (program_of checked.now) (shape_of f.branch) ≡
+        stands_for (program_of checked.now) (shape_of f.branch.value) ≡
         joined (binary_of operator) (left_in (program_of checked.now) chosen.now (remainder_of left.now))
         (left_in (program_of checked.now) chosen.now (remainder_of right.now))) }
-    ensures fresh { IfOk result (λ f. IsFresh place.now next f.next (shape_of f.branch)) }
+    ensures fresh { IfOk result (λ f. IsFresh place.now next f.next (shape_of f.branch.value)) }
 {
     let first = part_of(alloc, place, 0)?;
     let second = part_of(alloc, place, 1)?;
@@ -156,9 +156,9 @@ fn rest_relabelled(
 ) -> Result<Fresh, Memory>
     requires ready { IsReady (program_of checked.now) }
     ensures stands { IfOk result (λ f.
-        stands_for (program_of checked.now) (shape_of f.branch) ≡
+        stands_for (program_of checked.now) (shape_of f.branch.value) ≡
         tidied (map relabelling_of pairs.now) (left_in (program_of checked.now) chosen.now (remainder_of rest.now))) }
-    ensures fresh { IfOk result (λ f. IsFresh place.now next f.next (shape_of f.branch)) }
+    ensures fresh { IfOk result (λ f. IsFresh place.now next f.next (shape_of f.branch.value)) }
 {
     let one = unfolded_rest(alloc, checked, chosen, rest, next, place)?;
     tidied_later(alloc, checked, pairs, one, next, place)
@@ -176,11 +176,12 @@ pub fn unfolded_rest(
 ) -> Result<Fresh, Memory>
     requires ready { IsReady (program_of checked.now) }
     ensures stands { IfOk result (λ f.
-        stands_for (program_of checked.now) (shape_of f.branch) ≡ left_in (program_of checked.now) chosen.now (remainder_of rest.now)) }
-    ensures fresh { IfOk result (λ f. IsFresh place.now next f.next (shape_of f.branch)) }
+        stands_for (program_of checked.now) (shape_of f.branch.value) ≡
+        left_in (program_of checked.now) chosen.now (remainder_of rest.now)) }
+    ensures fresh { IfOk result (λ f. IsFresh place.now next f.next (shape_of f.branch.value)) }
 {
     match rest {
-        Rest::Ended => Ok(nothing(next, place)),
+        Rest::Ended => nothing(alloc, next, place),
         Rest::At { node, values } => {
             let values = values_in(alloc, chosen, values)?;
             unfold(alloc, checked, *node, &values, next, place)
@@ -230,11 +231,11 @@ fn tidied_later(
     place: &[u32],
 ) -> Result<Fresh, Memory>
     requires ready { IsReady (program_of checked.now) }
-    requires one { IsFresh place.now low one.next (shape_of one.branch) }
+    requires one { IsFresh place.now low one.next (shape_of one.branch.value) }
     ensures stands { IfOk result (λ f.
-        stands_for (program_of checked.now) (shape_of f.branch) ≡
-        tidied (map relabelling_of pairs.now) (stands_for (program_of checked.now) (shape_of one.branch))) }
-    ensures fresh { IfOk result (λ f. IsFresh place.now low f.next (shape_of f.branch)) }
+        stands_for (program_of checked.now) (shape_of f.branch.value) ≡
+        tidied (map relabelling_of pairs.now) (stands_for (program_of checked.now) (shape_of one.branch.value))) }
+    ensures fresh { IfOk result (λ f. IsFresh place.now low f.next (shape_of f.branch.value)) }
 {
     tidied_branch(alloc, checked, pairs, &one.branch, one.next, place)
 }

@@ -36,6 +36,7 @@ impl Node {
     }
 
     /// An equal node.
+    #[inline(never)]
     pub fn copy(&self, alloc: Global) -> Result<Node, Memory>
         ensures equal { IfOk result (λ n. held_of n ≡ held_of self.now) }
     {

@@ -30,6 +30,7 @@ pub struct Origin {
 }
 
 /// Equal values for variables.
+#[inline(never)]
 pub fn copy_values(alloc: Global, values: &[(u32, Value)]) -> Result<Vec<(u32, Value)>, Memory>
     ensures equal { IfOk result (λ all. all.items ≡ values.now) }
 {

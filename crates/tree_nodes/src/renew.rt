@@ -33,9 +33,9 @@ fn renewed_over(
     place: &[u32],
 ) -> Result<Fresh, Memory>
     ensures stands { IfOk result (λ f.
-        stands_for (program_of checked.now) (shape_of f.branch) ≡
+        stands_for (program_of checked.now) (shape_of f.branch.value) ≡
         applied (program_of checked.now) (unary_of operator.now) (stands_for (program_of checked.now) (shape_of part.now))) }
-    ensures fresh { IfOk result (λ f. IsFresh place.now next f.next (shape_of f.branch)) }
+    ensures fresh { IfOk result (λ f. IsFresh place.now next f.next (shape_of f.branch.value)) }
 {
     let inner = part_of(alloc, place, 0)?;
     let one = renewed(alloc, checked, part, next, &inner)?;
@@ -55,10 +55,10 @@ fn renewed_between(
     place: &[u32],
 ) -> Result<Fresh, Memory>
     ensures stands { IfOk result (λ f.
-        stands_for (program_of checked.now) (shape_of f.branch) ≡
+        stands_for (program_of checked.now) (shape_of f.branch.value) ≡
         joined (binary_of operator.now) (stands_for (program_of checked.now) (shape_of left.now))
         (stands_for (program_of checked.now) (shape_of right.now))) }
-    ensures fresh { IfOk result (λ f. IsFresh place.now next f.next (shape_of f.branch)) }
+    ensures fresh { IfOk result (λ f. IsFresh place.now next f.next (shape_of f.branch.value)) }
 {
     let first = part_of(alloc, place, 0)?;
     let second = part_of(alloc, place, 1)?;
@@ -78,12 +78,12 @@ pub fn renewed(
     place: &[u32],
 ) -> Result<Fresh, Memory>
     ensures stands { IfOk result (λ f.
-        stands_for (program_of checked.now) (shape_of f.branch) ≡ stands_for (program_of checked.now) (shape_of branch.now)) }
-    ensures fresh { IfOk result (λ f. IsFresh place.now next f.next (shape_of f.branch)) }
+        stands_for (program_of checked.now) (shape_of f.branch.value) ≡ stands_for (program_of checked.now) (shape_of branch.now)) }
+    ensures fresh { IfOk result (λ f. IsFresh place.now next f.next (shape_of f.branch.value)) }
 {
     match branch {
         Branch::Leaf(node) => waiting(alloc, node.origin.copy(alloc)?, next, place),
-        Branch::Ended => Ok(nothing(next, place)),
+        Branch::Ended => nothing(alloc, next, place),
         Branch::Over(operator, part) => renewed_over(alloc, checked, operator, part, next, place),
         Branch::Between(operator, left, right) => renewed_between(
             alloc, checked, operator, left, right, next, place,
@@ -101,9 +101,9 @@ fn renewed_under(
     place: &[u32],
 ) -> Result<Fresh, Memory>
     ensures stands { IfOk result (λ f.
-        stands_for (program_of checked.now) (shape_of f.branch) ≡
+        stands_for (program_of checked.now) (shape_of f.branch.value) ≡
         relabel (map relabelling_of pairs.now) (stands_for (program_of checked.now) (shape_of branch.now))) }
-    ensures fresh { IfOk result (λ f. IsFresh place.now next f.next (shape_of f.branch)) }
+    ensures fresh { IfOk result (λ f. IsFresh place.now next f.next (shape_of f.branch.value)) }
 {
     let inner = part_of(alloc, place, 0)?;
     let one = renewed(alloc, checked, branch, next, &inner)?;
@@ -123,9 +123,9 @@ fn unfolded_under(
 ) -> Result<Fresh, Memory>
     requires ready { IsReady (program_of checked.now) }
     ensures stands { IfOk result (λ f.
-        stands_for (program_of checked.now) (shape_of f.branch) ≡
+        stands_for (program_of checked.now) (shape_of f.branch.value) ≡
         relabel (map relabelling_of pairs.now) (scoped (program_of checked.now) node values.now)) }
-    ensures fresh { IfOk result (λ f. IsFresh place.now next f.next (shape_of f.branch)) }
+    ensures fresh { IfOk result (λ f. IsFresh place.now next f.next (shape_of f.branch.value)) }
 {
     let inner = part_of(alloc, place, 0)?;
     let one = unfold(alloc, checked, node, values, next, &inner)?;
@@ -146,9 +146,9 @@ fn waiting_under(
 ) -> Result<Fresh, Memory>
     requires call { IsCall (scoped (program_of checked.now) node values.now) }
     ensures stands { IfOk result (λ f.
-        stands_for (program_of checked.now) (shape_of f.branch) ≡
+        stands_for (program_of checked.now) (shape_of f.branch.value) ≡
         tidied (map relabelling_of pairs.now) (scoped (program_of checked.now) node values.now)) }
-    ensures fresh { IfOk result (λ f. IsFresh place.now next f.next (shape_of f.branch)) }
+    ensures fresh { IfOk result (λ f. IsFresh place.now next f.next (shape_of f.branch.value)) }
 {
     let values = copy_values(alloc, values)?;
     let origin = Origin {
@@ -171,9 +171,9 @@ pub fn tidied_at(
 ) -> Result<Fresh, Memory>
     requires ready { IsReady (program_of checked.now) }
     ensures stands { IfOk result (λ f.
-        stands_for (program_of checked.now) (shape_of f.branch) ≡
+        stands_for (program_of checked.now) (shape_of f.branch.value) ≡
         tidied (map relabelling_of pairs.now) (scoped (program_of checked.now) node values.now)) }
-    ensures fresh { IfOk result (λ f. IsFresh place.now next f.next (shape_of f.branch)) }
+    ensures fresh { IfOk result (λ f. IsFresh place.now next f.next (shape_of f.branch.value)) }
 {
     match construct_at(checked, node) {
         None => unfolded_under(alloc, checked, pairs, node, values, next, place),
@@ -217,9 +217,9 @@ pub fn tidied_branch(
 ) -> Result<Fresh, Memory>
     requires ready { IsReady (program_of checked.now) }
     ensures stands { IfOk result (λ f.
-        stands_for (program_of checked.now) (shape_of f.branch) ≡
+        stands_for (program_of checked.now) (shape_of f.branch.value) ≡
         tidied (map relabelling_of pairs.now) (stands_for (program_of checked.now) (shape_of branch.now))) }
-    ensures fresh { IfOk result (λ f. IsFresh place.now next f.next (shape_of f.branch)) }
+    ensures fresh { IfOk result (λ f. IsFresh place.now next f.next (shape_of f.branch.value)) }
 {
     match branch {
         Branch::Leaf(node) => {

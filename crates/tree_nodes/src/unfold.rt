@@ -17,6 +17,7 @@ use spec_core::value::Value;
 use std::alloc::Global;
 
 // A node that waits for the behaviour at this number of the code.
+#[inline(never)]
 fn waiting_at(
     alloc: Global,
     checked: &Checked,
@@ -26,8 +27,8 @@ fn waiting_at(
     place: &[u32],
 ) -> Result<Fresh, Memory>
     ensures stands { IfOk result (λ f.
-        stands_for (program_of checked.now) (shape_of f.branch) ≡ scoped (program_of checked.now) node values.now) }
-    ensures fresh { IfOk result (λ f. IsFresh place.now next f.next (shape_of f.branch)) }
+        stands_for (program_of checked.now) (shape_of f.branch.value) ≡ scoped (program_of checked.now) node values.now) }
+    ensures fresh { IfOk result (λ f. IsFresh place.now next f.next (shape_of f.branch.value)) }
 {
     let values = copy_values(alloc, values)?;
     let origin = Origin {
@@ -56,9 +57,9 @@ fn unfold_between(
     requires left { left < number }
     requires right { right < number }
     ensures stands { IfOk result (λ f.
-        stands_for (program_of checked.now) (shape_of f.branch) ≡
+        stands_for (program_of checked.now) (shape_of f.branch.value) ≡
         joined (binary_of operator) (scoped (program_of checked.now) left values.now) (scoped (program_of checked.now) right values.now)) }
-    ensures fresh { IfOk result (λ f. IsFresh place.now next f.next (shape_of f.branch)) }
+    ensures fresh { IfOk result (λ f. IsFresh place.now next f.next (shape_of f.branch.value)) }
 {
     let first = part_of(alloc, place, 0)?;
     let second = part_of(alloc, place, 1)?;
@@ -83,9 +84,9 @@ fn unfold_over(
     requires ready { IsReady (program_of checked.now) }
     requires part { part < number }
     ensures stands { IfOk result (λ f.
-        stands_for (program_of checked.now) (shape_of f.branch) ≡
+        stands_for (program_of checked.now) (shape_of f.branch.value) ≡
         applied (program_of checked.now) (unary_of operator) (scoped (program_of checked.now) part values.now)) }
-    ensures fresh { IfOk result (λ f. IsFresh place.now next f.next (shape_of f.branch)) }
+    ensures fresh { IfOk result (λ f. IsFresh place.now next f.next (shape_of f.branch.value)) }
 {
     let inner = part_of(alloc, place, 0)?;
     let one = unfold(alloc, checked, part, values, next, &inner)?;
@@ -105,11 +106,11 @@ pub fn unfold(
 ) -> Result<Fresh, Memory>
     requires ready { IsReady (program_of checked.now) }
     ensures stands { IfOk result (λ f.
-        stands_for (program_of checked.now) (shape_of f.branch) ≡ scoped (program_of checked.now) node values.now) }
-    ensures fresh { IfOk result (λ f. IsFresh place.now next f.next (shape_of f.branch)) }
+        stands_for (program_of checked.now) (shape_of f.branch.value) ≡ scoped (program_of checked.now) node values.now) }
+    ensures fresh { IfOk result (λ f. IsFresh place.now next f.next (shape_of f.branch.value)) }
 {
     match construct_at(checked, node) {
-        None => Ok(nothing(next, place)),
+        None => nothing(alloc, next, place),
         Some(construct) => match construct {
             CodeNode::Choice(left, right) => unfold_between(
                 alloc,
@@ -166,7 +167,7 @@ pub fn unfold(
             | CodeNode::Values(..)
             | CodeNode::Gates(..)
             | CodeNode::Call { .. } => waiting_at(alloc, checked, node, values, next, place),
-            CodeNode::Process { .. } => Ok(nothing(next, place)),
+            CodeNode::Process { .. } => nothing(alloc, next, place),
         },
     }
 }

@@ -3,5 +3,5 @@ use Rattle.tree_nodes.specs.Shapes.{held_of}
 use Rattle.board_tree.proofs.Moving.{moves_waiting}
 use Rattle.board_tree.proofs.leaf.advance_node.Goals as goal
 
-pub returns-in-None : goal.returns-in-None
-returns-in-None c = record { moves = moves_waiting _ _ _ _ (held_of c.args.node.now) _ _ _ _ refl (search rules) (search rules) }
+pub returns-in_ok-done-in-None : goal.returns-in_ok-done-in-None
+returns-in_ok-done-in-None c = record { moves = moves_waiting _ _ _ _ (held_of c.args.node.now) _ _ _ _ refl (search rules) (search rules) }

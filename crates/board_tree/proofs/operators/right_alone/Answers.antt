@@ -1,6 +1,0 @@
-use Rattle.std.proofs.Common.{refl, rules}
-use Rattle.board_tree.proofs.Moving.{moves_right_alone}
-use Rattle.board_tree.proofs.operators.right_alone.Goals as goal
-
-pub returns : goal.returns
-returns c = moves_right_alone _ _ _ _ _ _ _ _ _ _ _ _ _ c.requires.inner refl (search rules) c.requires.moves
