@@ -5,4 +5,7 @@ pub mod Choosing
 pub mod Calling
 pub mod Showing
 pub mod Scoping
+pub mod Walking
+pub mod Tidying
+pub mod Few
 pub mod Top

@@ -16,14 +16,15 @@ use Rattle.windowed_trees.proofs.Sorts.{sort_of_ground}
 use Rattle.marked_values.specs.declared.scope.Given.TheVariants.{Value}
 use Rattle.marked_values.specs.Scopes.{marked_of}
 use Rattle.expand.specs.Choosing.{IsChoice}
-use Rattle.expand.specs.Tables.{windows_in, values_of, AreRows}
+use Rattle.expand.specs.Tables.{windows_in, values_of}
+use Rattle.sort_windows.specs.Found.{AreBySorts}
 
 each_listed : {A : Type 0} (P : A → Type 0) (xs : List A) (x : A) → Each P xs → Contains xs x → P x
 each_listed P [] x h (i, l, e) = absurd (omega arith)
 each_listed P (y ∷ xs) x h (zero, l, e) = subst P e h.0
 each_listed P (y ∷ xs) x h (suc i, l, e) = each_listed P xs x h.1 (i, omega arith, e)
 
-module _ (theory : Theory) (k : ℕ) (table : List Window) (rows : AreRows theory k table) (sort : ℕ) where
+module _ (theory : Theory) (k : ℕ) (table : List Window) (rows : AreBySorts theory k table) (sort : ℕ) where
   member : (o : Option Window) → slice_get table sort ≡ o → (v : List ℕ) → Contains (values_of o) v → IsMember theory sort v
   member None e v (i, l, h) = absurd (omega arith)
   member (Some window) e v h = each_listed (IsMember theory sort) window.values.items v (rows sort window e).members h

@@ -1,5 +1,5 @@
 -- What comes of some of the values that a choice of a value may have.
-use Rattle.std.specs.Prelude.{ℕ, ◌≡◌, ◌+◌, ◌++◌, List, flat_map, map, sum_by, Result, Ok, Err}
+use Rattle.std.specs.Prelude.{ℕ, ◌≡◌, ◌+◌, ◌++◌, ◌∷◌, [], List, flat_map, map, sum_by, Result, Ok, Err}
 use Rattle.spec_core.specs.Theories.{Theory}
 use Rattle.spec_core.specs.Code.{Program, Variable}
 use Rattle.rule_model.specs.declared.rules.Slot.{Slot}
@@ -10,6 +10,7 @@ use Rattle.windowed_trees.specs.MarkedTerms.{MarkedTerm, MarkedAssignment, with_
 use Rattle.windowed_trees.specs.MarkedFields.{chosen_by, IsWithin, Chooses}
 use Rattle.composites.specs.Evaluations.{Evaluation, IsExact, chosen_term}
 use Rattle.composites.specs.Composites.{Composite, from_option, under}
+use Rattle.composites.specs.OpenFields.{window_slots}
 use Rattle.open_composites.specs.OpenPlans.{OpenPlan}
 use Rattle.open_composites.specs.Laws.{composites_of}
 use Rattle.reached_terms.specs.Spread.{number_of}
@@ -47,3 +48,11 @@ abbrev pub Added : (program : Program) (w : Windows) (n budget : ℕ) (m : Marke
     Result Expanded Stop → Type 0
 Added program w n budget m x b slots (Ok y) = ExpandsEach program w n m x b slots (plans_in y) y.spread
 Added program w n budget m x b slots (Err s) = Stopped program w n budget m (value_choice x b) s
+
+-- With one more slot behind any that began the window's, the body is expanded with each of these; or it is said why not. The plans and
+-- the spread are those of the slots before.
+abbrev pub AddsChoice : (program : Program) (w : Windows) (n budget : ℕ) (m : MarkedAssignment) (x : Variable) (b : Behaviour) →
+    List OpenPlan → ℕ → Slot → Result Expanded Stop → Type 0
+AddsChoice program w n budget m x b ps k slot r =
+    (slots : List Slot) → IsPrefix (slots ++ slot ∷ []) (window_slots w x.sort) → ExpandsEach program w n m x b slots ps k →
+    Added program w n budget m x b (slots ++ slot ∷ []) r

@@ -1,0 +1,45 @@
+use Rattle.std.proofs.Common.{◌+◌, ◌*◌, map, take}
+use Rattle.spec_core.specs.Code.{program_of}
+use Rattle.rule_model.specs.declared.rules.Slot.TheVariants.{Of}
+use Rattle.code_behaviours.specs.Parts.{behaviour_at}
+use Rattle.open_composites.specs.OpenPlans.{open_plan_of}
+use Rattle.marked_values.specs.Scopes.{marks_of}
+use Rattle.expand.specs.Choosing.{ExpandsEach}
+use Rattle.expand.specs.Tables.{windows_in}
+use Rattle.expand.proofs.walk.+walk.Given as goal
+
+abbrev pub decreases-enter : goal.decreases-enter
+decreases-enter l = 8 * (l.calls * 4294967296)
+
+abbrev pub decreases-call_at : goal.decreases-call_at
+decreases-call_at l = 8 * (l.calls * 4294967296) + 1
+
+abbrev pub decreases-expand_construct : goal.decreases-expand_construct
+decreases-expand_construct l = 8 * (l.calls * 4294967296 + l.number) + 2
+
+abbrev pub decreases-expand_at : goal.decreases-expand_at
+decreases-expand_at l = 8 * (l.calls * 4294967296 + l.node) + 3
+
+abbrev pub decreases-add_choice : goal.decreases-add_choice
+decreases-add_choice l = 8 * (l.calls * 4294967296 + l.body) + 4
+
+abbrev pub decreases-add_value : goal.decreases-add_value
+decreases-add_value l = 8 * (l.calls * 4294967296 + l.body) + 5
+
+abbrev pub decreases-value_choice_at : goal.decreases-value_choice_at
+decreases-value_choice_at l = 8 * (l.calls * 4294967296 + l.body) + 6
+
+abbrev pub decreases-guard_at : goal.decreases-guard_at
+decreases-guard_at l = 8 * (l.calls * 4294967296 + l.body) + 6
+
+abbrev pub decreases-bound_at : goal.decreases-bound_at
+decreases-bound_at l = 8 * (l.calls * 4294967296 + l.body) + 6
+
+abbrev pub decreases-gate_choice_at : goal.decreases-gate_choice_at
+decreases-gate_choice_at l = 8 * (l.calls * 4294967296 + l.body) + 6
+
+abbrev pub invariant-value_choice_at-loop-value : goal.invariant-value_choice_at-loop-value
+invariant-value_choice_at-loop-value l =
+    ExpandsEach (program_of l.checked) (windows_in l.windows) l.calls (marks_of (program_of l.checked).theory l.scope)
+    (record { number = l.x; sort = l.sort.0 }) (behaviour_at (program_of l.checked) l.body) (map Of (take l.value-index l.values))
+    (map open_plan_of l.all.composites.items) l.all.spread

@@ -1,0 +1,133 @@
+// Expansions: of the behaviours with numbers of the code, with values for their variables, and of those that origins stand for.
+
+ghost use Rattle.std.specs.Prelude.{◌≡◌, IfOk, IfErr, map};
+ghost use Rattle.spec_core.specs.Code.{program_of, relabelling_of};
+ghost use Rattle.spec_core.specs.Ready.{IsReady};
+ghost use Rattle.rule_model.specs.Substitution.{put};
+ghost use Rattle.code_behaviours.specs.Parts.{behaviour_at};
+ghost use Rattle.code_behaviours.specs.Values.{assignment};
+ghost use Rattle.open_composites.specs.OpenPlans.{open_plan_of};
+ghost use Rattle.tree_nodes.specs.Origins.{meaning, relabelled_by, scoped, source_of};
+ghost use Rattle.expand.specs.Expansions.{IsExpansion, IsStop};
+ghost use Rattle.expand.specs.Scoping.{scope_over};
+
+use crate::relabelled::expand_relabelled;
+use marked_values::scope::{Given, with};
+use marked_values::stop::Stop;
+use open_composites::composite::OpenComposite;
+use sort_windows::windows;
+use spec_core::code::Checked;
+use spec_core::items::Gate;
+use spec_core::memory::Memory;
+use spec_core::settings::Settings;
+use spec_core::value::Value;
+use spec_core::window::Window;
+use std::alloc::Global;
+use tree_nodes::origin::Origin;
+
+/// What a behaviour can take part in: its composites, in order, and the first values of each sort.
+#[derive(Drop)]
+pub struct Expansion {
+    pub composites: Vec<OpenComposite>,
+    pub windows: Vec<Window>,
+}
+
+// Values for variables, of which the later ones come first, before what is known already.
+fn known(
+    alloc: Global,
+    values: &[(u32, Value)],
+    scope: Vec<(u32, Given)>,
+) -> Result<Vec<(u32, Given)>, Memory>
+    ensures { IfOk result (λ all. all.items ≡ scope_over values.now scope.items) }
+{
+    match values {
+        [] => Ok(scope),
+        [first, rest @ ..] => {
+            let (x, value) = first;
+            let more = with(scope, *x, Given::Value(value.copy(alloc)?))?;
+            known(alloc, rest, more)
+        }
+    }
+}
+
+// The expansion of the behaviour with this number of the code, with values for its variables, under a relabelling; an empty one is none.
+#[tactic(auto, using(crate::proofs::Few::few_operations, crate::proofs::Few::few_sorts, crate::proofs::Top::memory_stops))]
+fn expand_source(
+    alloc: Global,
+    checked: &Checked,
+    node: u32,
+    values: &[(u32, Value)],
+    pairs: &[(Gate, Gate)],
+    settings: &Settings,
+) -> Result<Expansion, Stop>
+    requires ready { IsReady (program_of checked.now) }
+    ensures expansion { IfOk result (λ x. IsExpansion (program_of checked.now) settings.now.values
+        (relabelled_by (map relabelling_of pairs.now) (scoped (program_of checked.now) node values.now)) x.windows.items
+        (map open_plan_of x.composites.items)) }
+    ensures stop { IfErr result (IsStop (program_of checked.now) settings.now.values
+        (relabelled_by (map relabelling_of pairs.now) (scoped (program_of checked.now) node values.now)) settings.now.budget) }
+{
+    let windows = windows(alloc, &checked.algebra, settings.values)?;
+    let scope = known(alloc, values, Vec::new(alloc))?;
+    let calls = checked.code.len();
+    match expand_relabelled(
+        alloc,
+        checked,
+        &windows,
+        &scope,
+        pairs,
+        node,
+        calls,
+        settings.budget,
+    ) {
+        Err(stop) => Err(stop),
+        Ok(x) => Ok(Expansion {
+            composites: x.composites,
+            windows,
+        }),
+    }
+}
+
+/// The composites of the behaviour with this number of the code, with values for its variables, of which the later ones come first, down
+/// to the first actions. A value is found with at most so many uses of equations as the settings say, and so many first values of a sort
+/// are chosen. It recurs as deep as constructs, calls and terms nest.
+pub fn expand_code(
+    alloc: Global,
+    checked: &Checked,
+    node: u32,
+    values: &[(u32, Value)],
+    settings: &Settings,
+) -> Result<Expansion, Stop>
+    requires ready { IsReady (program_of checked.now) }
+    ensures expansion { IfOk result (λ x. IsExpansion (program_of checked.now) settings.now.values
+        (put (assignment (program_of checked.now).theory values.now) (behaviour_at (program_of checked.now) node)) x.windows.items
+        (map open_plan_of x.composites.items)) }
+    ensures stop { IfErr result (IsStop (program_of checked.now) settings.now.values
+        (put (assignment (program_of checked.now).theory values.now) (behaviour_at (program_of checked.now) node)) settings.now.budget) }
+{
+    expand_source(alloc, checked, node, values, &[], settings)
+}
+
+/// The composites of the behaviour that an origin stands for, down to the first actions, as `expand_code` has them. It recurs as deep as
+/// constructs, calls and terms nest.
+pub fn expand(
+    alloc: Global,
+    checked: &Checked,
+    origin: &Origin,
+    settings: &Settings,
+) -> Result<Expansion, Stop>
+    requires ready { IsReady (program_of checked.now) }
+    ensures expansion { IfOk result (λ x. IsExpansion (program_of checked.now) settings.now.values
+        (meaning (program_of checked.now) (source_of origin.now)) x.windows.items (map open_plan_of x.composites.items)) }
+    ensures stop { IfErr result (IsStop (program_of checked.now) settings.now.values
+        (meaning (program_of checked.now) (source_of origin.now)) settings.now.budget) }
+{
+    expand_source(
+        alloc,
+        checked,
+        origin.node,
+        &origin.values,
+        &origin.relabel,
+        settings,
+    )
+}

@@ -1,0 +1,127 @@
+// The walk over the code under a relabelling.
+
+ghost use Rattle.std.specs.Prelude.{ℕ, ◌≡◌, map};
+ghost use Rattle.spec_core.specs.Code.{program_of, relabelling_of};
+ghost use Rattle.spec_core.specs.Ready.{IsReady};
+ghost use Rattle.rule_model.specs.Behaviours.{relabel};
+ghost use Rattle.rule_model.specs.Substitution.{tidied};
+ghost use Rattle.code_behaviours.specs.Parts.{behaviour_at};
+ghost use Rattle.marked_values.specs.Scopes.{marks_of};
+ghost use Rattle.sort_windows.specs.Found.{AreBySorts};
+ghost use Rattle.tree_nodes.specs.Origins.{relabelled_by};
+ghost use Rattle.expand.specs.Outcomes.{Outcome};
+ghost use Rattle.expand.specs.Tables.{windows_in};
+
+use crate::joining;
+use crate::outcome::Expanded;
+use crate::walk::{call_at, expand_at};
+use code_behaviours::code::construct_at;
+use marked_values::scope::Given;
+use marked_values::stop::Stop;
+use spec_core::code::{Checked, CodeNode};
+use spec_core::items::Gate;
+use spec_core::window::Window;
+use std::alloc::Global;
+use substitution::relabelling::{after, renamed_gates};
+
+// The expansion of the behaviour with this number of the code under a relabelling, which stays an operator.
+fn expand_under(
+    alloc: Global,
+    checked: &Checked,
+    windows: &[Window],
+    scope: &[(u32, Given)],
+    pairs: &[(Gate, Gate)],
+    node: u32,
+    calls: usize,
+    budget: u64,
+) -> Result<Expanded, Stop>
+    requires ready { IsReady (program_of checked.now) }
+    requires rows { (k : ℕ) × AreBySorts (program_of checked.now).theory k windows.now }
+    ensures comes { Outcome (program_of checked.now) (windows_in windows.now) calls budget
+        (marks_of (program_of checked.now).theory scope.now)
+        (relabel (map relabelling_of pairs.now) (behaviour_at (program_of checked.now) node)) result }
+{
+    let part = expand_at(alloc, checked, windows, scope, node, calls, budget);
+    joining::relabel(alloc, pairs, part)
+}
+
+/// The expansion of the behaviour with this number of the code under a relabelling, tidied: two relabellings one over the other are one,
+/// and a call is relabelled in its gates. It recurs as deep as constructs and calls nest, and as terms are.
+#[tactic(auto, using(crate::proofs::Tidying::renames_gates))]
+pub fn expand_tidied(
+    alloc: Global,
+    checked: &Checked,
+    windows: &[Window],
+    scope: &[(u32, Given)],
+    pairs: &[(Gate, Gate)],
+    node: u32,
+    calls: usize,
+    budget: u64,
+) -> Result<Expanded, Stop>
+    requires ready { IsReady (program_of checked.now) }
+    requires rows { (k : ℕ) × AreBySorts (program_of checked.now).theory k windows.now }
+    ensures comes { Outcome (program_of checked.now) (windows_in windows.now) calls budget
+        (marks_of (program_of checked.now).theory scope.now)
+        (tidied (map relabelling_of pairs.now) (behaviour_at (program_of checked.now) node)) result }
+{
+    match construct_at(checked, node) {
+        None => expand_under(alloc, checked, windows, scope, pairs, node, calls, budget),
+        Some(construct) => match construct {
+            CodeNode::Relabel(before, body) => match after(alloc, pairs, before) {
+                Err(_) => Err(Stop::Memory),
+                Ok(all) => expand_tidied(
+                    alloc, checked, windows, scope, &all, body.0, calls, budget,
+                ),
+            },
+            CodeNode::Call {
+                process,
+                gates,
+                values,
+            } => match renamed_gates(alloc, pairs, gates) {
+                Err(_) => Err(Stop::Memory),
+                Ok(actual) => call_at(
+                    alloc, checked, windows, scope, *process, &actual, values, calls, budget,
+                ),
+            },
+            CodeNode::Stop
+            | CodeNode::Exit(..)
+            | CodeNode::Inner(..)
+            | CodeNode::Act { .. }
+            | CodeNode::Choice(..)
+            | CodeNode::Guard(..)
+            | CodeNode::Let(..)
+            | CodeNode::Values(..)
+            | CodeNode::Gates(..)
+            | CodeNode::Par(..)
+            | CodeNode::Hide(..)
+            | CodeNode::Enable(..)
+            | CodeNode::Disable(..)
+            | CodeNode::Process { .. } => expand_under(
+                alloc, checked, windows, scope, pairs, node, calls, budget,
+            ),
+        },
+    }
+}
+
+/// The expansion of the behaviour with this number of the code under a relabelling; an empty one is none.
+pub fn expand_relabelled(
+    alloc: Global,
+    checked: &Checked,
+    windows: &[Window],
+    scope: &[(u32, Given)],
+    pairs: &[(Gate, Gate)],
+    node: u32,
+    calls: usize,
+    budget: u64,
+) -> Result<Expanded, Stop>
+    requires ready { IsReady (program_of checked.now) }
+    requires rows { (k : ℕ) × AreBySorts (program_of checked.now).theory k windows.now }
+    ensures comes { Outcome (program_of checked.now) (windows_in windows.now) calls budget
+        (marks_of (program_of checked.now).theory scope.now)
+        (relabelled_by (map relabelling_of pairs.now) (behaviour_at (program_of checked.now) node)) result }
+{
+    match pairs {
+        [] => expand_at(alloc, checked, windows, scope, node, calls, budget),
+        [_, ..] => expand_tidied(alloc, checked, windows, scope, pairs, node, calls, budget),
+    }
+}

@@ -1,0 +1,459 @@
+// The walk over the code, down to the first actions.
+
+ghost use Rattle.std.specs.Prelude.{ℕ, List, ◌≡◌, ◌<◌, ◌∷◌, IfSome, IfNone, Some, map, IfOk, Contains};
+ghost use Rattle.std.specs.List.{slice_get};
+ghost use Rattle.spec_core.specs.Code.{Variable, process, program_of, variable_of, binding_of, node_of};
+ghost use Rattle.spec_core.specs.Numbers.{gate_number};
+ghost use Rattle.spec_core.specs.Lists.{Each};
+ghost use Rattle.spec_core.specs.Ready.{IsReady, IsProcess, parts_of};
+ghost use Rattle.spec_core.specs.Theories.{premise};
+ghost use Rattle.spec_core.specs.Terms.{term_of};
+ghost use Rattle.rule_model.specs.declared.rules.Slot.TheVariants.{Of};
+ghost use Rattle.rule_model.specs.Behaviours.{call, value_choice, gate_choice, guarded, bound};
+ghost use Rattle.code_behaviours.specs.Parts.{behaviour_at, over_parts};
+ghost use Rattle.open_composites.specs.OpenPlans.{open_plan_of};
+ghost use Rattle.marked_values.specs.Scopes.{marks_of, marked_of};
+ghost use Rattle.expand.specs.Choosing.{AddsChoice, IsChoice};
+ghost use Rattle.expand.specs.Outcomes.{Outcome, BelowOutcome};
+ghost use Rattle.expand.specs.Tables.{windows_in};
+ghost use Rattle.sort_windows.specs.Found.{AreBySorts};
+
+use crate::joining;
+use crate::joining::{nothing, under_rule};
+use crate::leaves::{action_at, exit_at, inner_at};
+use crate::outcome::Expanded;
+use crate::tables::{is_complete, values_at};
+use code_behaviours::code::construct_at;
+use marked_values::fields::{bind, bind_arguments};
+use marked_values::scope::{Given, copy_scope, with};
+use marked_values::stop::Stop;
+use marked_values::value::may_hold;
+use open_composites::scheme::Row;
+use rule_model::rules::Slot;
+use spec_core::code::{Checked, CodeNode, Part};
+use spec_core::items::{Gate, Sort};
+use spec_core::memory::Memory;
+use spec_core::term::Term;
+use spec_core::value::Value;
+use spec_core::window::Window;
+use std::alloc::Global;
+use substitution::relabelling::pairs;
+
+// The gates, the variables and the body of a process.
+fn definition_at(checked: &Checked, number: u32) -> Option<(&[Gate], &[(u32, Sort)], Part)>
+    ensures some { IfSome result (λ r.
+        slice_get (program_of checked.now).code number ≡
+        Some (process (map gate_number r.0.now) (map variable_of r.1.now) r.2.0)) }
+    ensures none { IfNone result ((formal : List ℕ) (xs : List Variable) (body : ℕ) →
+        slice_get (program_of checked.now).code number ≡ Some (process formal xs body) → ⊥) }
+{
+    match checked.code.get(number as usize) {
+        None => None,
+        Some(node) => match node {
+            CodeNode::Process { gates, vars, body } => Some((gates, vars, *body)),
+            CodeNode::Stop
+            | CodeNode::Exit(..)
+            | CodeNode::Inner(..)
+            | CodeNode::Act { .. }
+            | CodeNode::Choice(..)
+            | CodeNode::Guard(..)
+            | CodeNode::Let(..)
+            | CodeNode::Values(..)
+            | CodeNode::Gates(..)
+            | CodeNode::Par(..)
+            | CodeNode::Hide(..)
+            | CodeNode::Enable(..)
+            | CodeNode::Disable(..)
+            | CodeNode::Call { .. }
+            | CodeNode::Relabel(..) => None,
+        },
+    }
+}
+
+// What is known for the variables, with this for one of them.
+fn extended(
+    alloc: Global,
+    scope: &[(u32, Given)],
+    x: u32,
+    given: Given,
+) -> Result<Vec<(u32, Given)>, Memory>
+    ensures { IfOk result (λ all. all.items ≡ (x, given) ∷ scope.now) }
+{
+    let all = copy_scope(alloc, scope)?;
+    with(all, x, given)
+}
+
+// With no more than so many calls in one another, the expansion of the body of a process; with none there is nothing in it.
+#[cycle(walk)]
+fn enter(
+    alloc: Global,
+    checked: &Checked,
+    windows: &[Window],
+    scope: &[(u32, Given)],
+    body: u32,
+    calls: usize,
+    budget: u64,
+) -> Result<Expanded, Stop>
+    requires ready { IsReady (program_of checked.now) }
+    requires rows { (k : ℕ) × AreBySorts (program_of checked.now).theory k windows.now }
+    ensures comes { BelowOutcome (program_of checked.now) (windows_in windows.now) calls budget
+        (marks_of (program_of checked.now).theory scope.now) (behaviour_at (program_of checked.now) body) result }
+{
+    if calls == 0 {
+        nothing(alloc, false)
+    } else {
+        expand_at(alloc, checked, windows, scope, body, calls - 1, budget)
+    }
+}
+
+/// The expansion of a call. It recurs as deep as constructs and calls nest, and as terms are.
+#[cycle(walk)]
+pub fn call_at(
+    alloc: Global,
+    checked: &Checked,
+    windows: &[Window],
+    scope: &[(u32, Given)],
+    number: u32,
+    gates: &[Gate],
+    values: &[Term],
+    calls: usize,
+    budget: u64,
+) -> Result<Expanded, Stop>
+    requires ready { IsReady (program_of checked.now) }
+    requires rows { (k : ℕ) × AreBySorts (program_of checked.now).theory k windows.now }
+    ensures comes { Outcome (program_of checked.now) (windows_in windows.now) calls budget
+        (marks_of (program_of checked.now).theory scope.now) (call number (map gate_number gates.now) (map term_of values.now)) result }
+{
+    match definition_at(checked, number) {
+        None => nothing(alloc, true),
+        Some((formal, vars, body)) => {
+            match bind_arguments(alloc, checked, scope, Vec::new(alloc), vars, values, budget) {
+                Err(stop) => Err(stop),
+                Ok(None) => nothing(alloc, true),
+                Ok(Some(inner)) => match pairs(alloc, formal, gates) {
+                    Err(_) => Err(Stop::Memory),
+                    Ok(renamed) => {
+                        let part = enter(alloc, checked, windows, &inner, body.0, calls, budget);
+                        let relabelled = joining::relabel(alloc, &renamed, part);
+                        under_rule(alloc, &Row::Call, relabelled)
+                    }
+                },
+            }
+        }
+    }
+}
+
+// What is there already, with the expansion of a body in which a slot chooses this for the variable.
+#[cycle(walk)]
+fn add_choice(
+    alloc: Global,
+    checked: &Checked,
+    windows: &[Window],
+    scope: &[(u32, Given)],
+    x: u32,
+    sort: Sort,
+    slot: Slot,
+    given: Given,
+    body: u32,
+    calls: usize,
+    budget: u64,
+    all: Expanded,
+) -> Result<Expanded, Stop>
+    requires ready { IsReady (program_of checked.now) }
+    requires rows { (k : ℕ) × AreBySorts (program_of checked.now).theory k windows.now }
+    requires choice { IsChoice (program_of checked.now).theory (windows_in windows.now) sort.0 slot
+        (marked_of (program_of checked.now).theory x given) }
+    ensures added { AddsChoice (program_of checked.now) (windows_in windows.now) calls budget
+        (marks_of (program_of checked.now).theory scope.now) (record { number = x; sort = sort.0 })
+        (behaviour_at (program_of checked.now) body) (map open_plan_of all.composites.items) all.spread slot result }
+{
+    match extended(alloc, scope, x, given) {
+        Err(_) => Err(Stop::Memory),
+        Ok(inner) => {
+            let part = expand_at(alloc, checked, windows, &inner, body, calls, budget);
+            joining::beside(alloc, slot, all, part)
+        }
+    }
+}
+
+// The same with a value of the sort's window.
+#[cycle(walk)]
+fn add_value(
+    alloc: Global,
+    checked: &Checked,
+    windows: &[Window],
+    scope: &[(u32, Given)],
+    x: u32,
+    sort: Sort,
+    value: &Value,
+    body: u32,
+    calls: usize,
+    budget: u64,
+    all: Expanded,
+) -> Result<Expanded, Stop>
+    requires ready { IsReady (program_of checked.now) }
+    requires rows { (k : ℕ) × AreBySorts (program_of checked.now).theory k windows.now }
+    requires listed { Contains ((windows_in windows.now).values sort.0) value.now }
+    ensures added { AddsChoice (program_of checked.now) (windows_in windows.now) calls budget
+        (marks_of (program_of checked.now).theory scope.now) (record { number = x; sort = sort.0 })
+        (behaviour_at (program_of checked.now) body) (map open_plan_of all.composites.items) all.spread (Of value.now) result }
+{
+    match value.copy(alloc) {
+        Err(_) => Err(Stop::Memory),
+        Ok(first) => match value.copy(alloc) {
+            Err(_) => Err(Stop::Memory),
+            Ok(second) => {
+                let slot = Slot::Of(first);
+                let given = Given::Value(second);
+                add_choice(
+                    alloc, checked, windows, scope, x, sort, slot, given, body, calls, budget, all,
+                )
+            }
+        },
+    }
+}
+
+// The expansion of a choice of a value.
+#[cycle(walk)]
+fn value_choice_at(
+    alloc: Global,
+    checked: &Checked,
+    windows: &[Window],
+    scope: &[(u32, Given)],
+    x: u32,
+    sort: Sort,
+    body: u32,
+    calls: usize,
+    budget: u64,
+) -> Result<Expanded, Stop>
+    requires ready { IsReady (program_of checked.now) }
+    requires rows { (k : ℕ) × AreBySorts (program_of checked.now).theory k windows.now }
+    ensures comes { Outcome (program_of checked.now) (windows_in windows.now) calls budget
+        (marks_of (program_of checked.now).theory scope.now)
+        (value_choice (record { number = x; sort = sort.0 }) (behaviour_at (program_of checked.now) body)) result }
+{
+    let mut all = match nothing(alloc, true) {
+        Err(stop) => return Err(stop),
+        Ok(begun) => begun,
+    };
+    let values = values_at(windows, sort);
+    for value in values {
+        match add_value(
+            alloc, checked, windows, scope, x, sort, value, body, calls, budget, all,
+        ) {
+            Err(stop) => return Err(stop),
+            Ok(more) => all = more,
+        }
+    }
+    if is_complete(windows, sort) {
+        return Ok(all);
+    }
+    let given = Given::Mark(sort);
+    add_choice(
+        alloc,
+        checked,
+        windows,
+        scope,
+        x,
+        sort,
+        Slot::Mark,
+        given,
+        body,
+        calls,
+        budget,
+        all,
+    )
+}
+
+// The expansion of a guarded behaviour.
+#[cycle(walk)]
+fn guard_at(
+    alloc: Global,
+    checked: &Checked,
+    windows: &[Window],
+    scope: &[(u32, Given)],
+    left: &Term,
+    right: &Term,
+    body: u32,
+    calls: usize,
+    budget: u64,
+) -> Result<Expanded, Stop>
+    requires ready { IsReady (program_of checked.now) }
+    requires rows { (k : ℕ) × AreBySorts (program_of checked.now).theory k windows.now }
+    ensures comes { Outcome (program_of checked.now) (windows_in windows.now) calls budget
+        (marks_of (program_of checked.now).theory scope.now)
+        (guarded (premise (term_of left.now) (term_of right.now)) (behaviour_at (program_of checked.now) body)) result }
+{
+    match may_hold(alloc, checked, scope, left, right, budget) {
+        Err(stop) => Err(stop),
+        Ok(holds) => if holds {
+            let part = expand_at(alloc, checked, windows, scope, body, calls, budget);
+            under_rule(alloc, &Row::Guard, part)
+        } else {
+            nothing(alloc, true)
+        },
+    }
+}
+
+// The expansion of a behaviour in which `let` binds variables.
+#[cycle(walk)]
+fn bound_at(
+    alloc: Global,
+    checked: &Checked,
+    windows: &[Window],
+    scope: &[(u32, Given)],
+    bindings: &[(u32, Sort, Term)],
+    body: u32,
+    calls: usize,
+    budget: u64,
+) -> Result<Expanded, Stop>
+    requires ready { IsReady (program_of checked.now) }
+    requires rows { (k : ℕ) × AreBySorts (program_of checked.now).theory k windows.now }
+    ensures comes { Outcome (program_of checked.now) (windows_in windows.now) calls budget
+        (marks_of (program_of checked.now).theory scope.now)
+        (bound (map binding_of bindings.now) (behaviour_at (program_of checked.now) body)) result }
+{
+    match copy_scope(alloc, scope) {
+        Err(_) => Err(Stop::Memory),
+        Ok(copied) => match bind(alloc, checked, scope, copied, bindings, budget) {
+            Err(stop) => Err(stop),
+            Ok(None) => nothing(alloc, true),
+            Ok(Some(inner)) => {
+                let part = expand_at(alloc, checked, windows, &inner, body, calls, budget);
+                under_rule(alloc, &Row::Let, part)
+            }
+        },
+    }
+}
+
+// The expansion of a choice of a gate.
+#[cycle(walk)]
+fn gate_choice_at(
+    alloc: Global,
+    checked: &Checked,
+    windows: &[Window],
+    scope: &[(u32, Given)],
+    gate: Gate,
+    gates: &[Gate],
+    body: u32,
+    calls: usize,
+    budget: u64,
+) -> Result<Expanded, Stop>
+    requires ready { IsReady (program_of checked.now) }
+    requires rows { (k : ℕ) × AreBySorts (program_of checked.now).theory k windows.now }
+    ensures comes { Outcome (program_of checked.now) (windows_in windows.now) calls budget
+        (marks_of (program_of checked.now).theory scope.now)
+        (gate_choice gate.0 (map gate_number gates.now) (behaviour_at (program_of checked.now) body)) result }
+{
+    match gates {
+        [] => nothing(alloc, true),
+        [_, ..] => {
+            let part = expand_at(alloc, checked, windows, scope, body, calls, budget);
+            joining::gate_choice(alloc, gate, gates, part)
+        }
+    }
+}
+
+// The expansion of a construct over parts with lower numbers than this.
+#[cycle(walk)]
+fn expand_construct(
+    alloc: Global,
+    checked: &Checked,
+    windows: &[Window],
+    scope: &[(u32, Given)],
+    construct: &CodeNode,
+    number: u32,
+    calls: usize,
+    budget: u64,
+) -> Result<Expanded, Stop>
+    requires ready { IsReady (program_of checked.now) }
+    requires rows { (k : ℕ) × AreBySorts (program_of checked.now).theory k windows.now }
+    requires below { (IsProcess (node_of construct.now) → ⊥) → Each (λ part. part < number) (parts_of (node_of construct.now)) }
+    ensures comes { Outcome (program_of checked.now) (windows_in windows.now) calls budget
+        (marks_of (program_of checked.now).theory scope.now)
+        (over_parts (behaviour_at (program_of checked.now)) (Some (node_of construct.now))) result }
+{
+    match construct {
+        CodeNode::Stop => nothing(alloc, false),
+        CodeNode::Process { .. } => nothing(alloc, false),
+        CodeNode::Exit(fields) => exit_at(alloc, checked, scope, fields, budget),
+        CodeNode::Inner(_) => inner_at(alloc),
+        CodeNode::Act {
+            gate,
+            fields,
+            guard: _,
+            rest: _,
+        } => action_at(alloc, checked, scope, *gate, fields, budget),
+        CodeNode::Choice(left, right) => {
+            let first = expand_at(alloc, checked, windows, scope, left.0, calls, budget);
+            let second = expand_at(alloc, checked, windows, scope, right.0, calls, budget);
+            joining::choice(alloc, first, second)
+        }
+        CodeNode::Guard(left, right, body) => guard_at(
+            alloc, checked, windows, scope, left, right, body.0, calls, budget,
+        ),
+        CodeNode::Let(bindings, body) => bound_at(
+            alloc, checked, windows, scope, bindings, body.0, calls, budget,
+        ),
+        CodeNode::Values(x, sort, body) => value_choice_at(
+            alloc, checked, windows, scope, *x, *sort, body.0, calls, budget,
+        ),
+        CodeNode::Gates(gate, gates, body) => gate_choice_at(
+            alloc, checked, windows, scope, *gate, gates, body.0, calls, budget,
+        ),
+        CodeNode::Par(gates, left, right) => {
+            let first = expand_at(alloc, checked, windows, scope, left.0, calls, budget);
+            let second = expand_at(alloc, checked, windows, scope, right.0, calls, budget);
+            joining::parallel(alloc, &checked.algebra, gates, first, second)
+        }
+        CodeNode::Hide(gates, body) => {
+            let part = expand_at(alloc, checked, windows, scope, body.0, calls, budget);
+            joining::hide(alloc, gates, part)
+        }
+        CodeNode::Enable(left, _, _) => {
+            let part = expand_at(alloc, checked, windows, scope, left.0, calls, budget);
+            joining::enable(alloc, part)
+        }
+        CodeNode::Disable(left, right) => {
+            let first = expand_at(alloc, checked, windows, scope, left.0, calls, budget);
+            let second = expand_at(alloc, checked, windows, scope, right.0, calls, budget);
+            joining::disable(alloc, first, second)
+        }
+        CodeNode::Call {
+            process,
+            gates,
+            values,
+        } => call_at(
+            alloc, checked, windows, scope, *process, gates, values, calls, budget,
+        ),
+        CodeNode::Relabel(pairs, body) => {
+            let part = expand_at(alloc, checked, windows, scope, body.0, calls, budget);
+            joining::relabel(alloc, pairs, part)
+        }
+    }
+}
+
+/// The expansion of the behaviour with this number of the code, with what is known for its variables, and with no more than so many calls
+/// in one another. It recurs as deep as constructs and calls nest, and as terms are.
+#[cycle(walk)]
+pub fn expand_at(
+    alloc: Global,
+    checked: &Checked,
+    windows: &[Window],
+    scope: &[(u32, Given)],
+    node: u32,
+    calls: usize,
+    budget: u64,
+) -> Result<Expanded, Stop>
+    requires ready { IsReady (program_of checked.now) }
+    requires rows { (k : ℕ) × AreBySorts (program_of checked.now).theory k windows.now }
+    ensures comes { Outcome (program_of checked.now) (windows_in windows.now) calls budget
+        (marks_of (program_of checked.now).theory scope.now) (behaviour_at (program_of checked.now) node) result }
+{
+    match construct_at(checked, node) {
+        None => nothing(alloc, false),
+        Some(construct) => expand_construct(
+            alloc, checked, windows, scope, construct, node, calls, budget,
+        ),
+    }
+}
