@@ -1,0 +1,15 @@
+// Tests of expansions, whose composites were worked out by hand from the rules of the operators.
+#![tactic(auto)]
+
+#[cfg(test)]
+mod limits;
+#[cfg(test)]
+mod lines;
+#[cfg(test)]
+mod operators;
+#[cfg(test)]
+mod origins;
+#[cfg(test)]
+mod program;
+#[cfg(test)]
+mod values;

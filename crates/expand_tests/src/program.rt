@@ -1,0 +1,114 @@
+// Specifications over small data, and what comes of expanding them.
+
+ghost use Rattle.std.specs.Prelude.{IfOk, IfSome};
+ghost use Rattle.spec_core.specs.Code.{program_of};
+ghost use Rattle.spec_core.specs.Ready.{IsReady};
+
+use crate::lines::{lines, put_term};
+use accepted_laws::laws::accepted_is_ready;
+use expand::expansion::{Expansion, expand, expand_code};
+use lotos_ast::refusal::FrontFault;
+use lotos_front::accept;
+use marked_values::stop::Stop;
+use spec_core::code::Checked;
+use spec_core::items::Gate;
+use spec_core::memory::Memory;
+use spec_core::settings::Settings;
+use spec_core::term::Term;
+use spec_core::value::Value;
+use std::alloc::Global;
+use tree_nodes::origin::Origin;
+
+// Two truth values; natural numbers, with the number before one; and trees, with the tree that has one twice.
+const OPERATIONS: &str =
+    "opns t : -> B f : -> B 0 : -> N s : N -> N p : N -> N z : -> T c : T, T -> T w : T -> T";
+
+const EQUATIONS: &str =
+    "eqns forall x : N, y : T ofsort N p(0) = 0; p(s(x)) = x; ofsort T w(y) = c(y, y);";
+
+/// The specification with this functionality and this behaviour, over three gates.
+pub fn program(alloc: Global, ends: &str, behaviour: &str) -> Result<Option<Checked>, Memory>
+    ensures ready { IfOk result (λ o. IfSome o (λ checked. IsReady (program_of checked))) }
+{
+    accepted_is_ready();
+    let operations = OPERATIONS;
+    let equations = EQUATIONS;
+    let data = format!(in alloc; "type Data is sorts B, N, T {operations} {equations} endtype")?;
+    let text = format!(in alloc;
+        "specification S [a, b, c] : {ends} {data} behaviour {behaviour} endspec"
+    )?;
+    match accept(alloc, text.as_bytes()) {
+        Ok(checked) => Ok(Some(checked)),
+        Err(FrontFault::Refused(_)) => Ok(None),
+        Err(FrontFault::Memory) => Err(Memory),
+    }
+}
+
+/// So many values of a sort are shown, and so many uses of equations are made.
+pub fn settings(values: u32, budget: u64) -> Settings {
+    Settings {
+        budget,
+        values,
+        steps: 1,
+        seed: 0,
+    }
+}
+
+fn stop_text(alloc: Global, checked: &Checked, front: &str, term: &Term) -> Result<String, Memory> {
+    let mut text = String::from_str(alloc, front)?;
+    put_term(&mut text, checked, term)?;
+    Ok(text)
+}
+
+/// The composites, or the stop with its term or its number.
+pub fn told(
+    alloc: Global,
+    checked: &Checked,
+    outcome: Result<Expansion, Stop>,
+) -> Result<String, Memory> {
+    match outcome {
+        Ok(x) => lines(alloc, checked, &x.composites),
+        Err(Stop::Spent(term)) => stop_text(alloc, checked, "spent", &term),
+        Err(Stop::TooLarge(term)) => {
+            let _large = term;
+            Ok(String::from_str(alloc, "too large")?)
+        }
+        Err(Stop::Wide(n)) => Ok(format!(in alloc; "wide {n}")?),
+        Err(Stop::Memory) => Err(Memory),
+    }
+}
+
+/// What is told of the expansion of the specification with this behaviour.
+pub fn expanded(
+    alloc: Global,
+    ends: &str,
+    behaviour: &str,
+    settings: Settings,
+) -> Result<String, Memory> {
+    match program(alloc, ends, behaviour)? {
+        None => Ok(String::from_str(alloc, "refused")?),
+        Some(checked) => {
+            let outcome = expand_code(alloc, &checked, checked.start, &[], &settings);
+            told(alloc, &checked, outcome)
+        }
+    }
+}
+
+/// The same of the behaviour under a relabelling, and with values.
+pub fn expanded_from(
+    alloc: Global,
+    checked: &Checked,
+    node: u32,
+    values: Vec<(u32, Value)>,
+    relabel: Vec<(Gate, Gate)>,
+) -> Result<String, Memory>
+    requires ready { IsReady (program_of checked.now) }
+{
+    let origin = Origin {
+        node,
+        values,
+        relabel,
+    };
+    let outcome = expand(alloc, checked, &origin, &settings(2, 100));
+    told(alloc, checked, outcome)
+}
