@@ -1,0 +1,12 @@
+// The ways in which one node can act: what is done along a tree of rules with blanks, and what is left then.
+#![tactic(auto, using(crate::proofs::Memory::memory))]
+
+pub mod blanks;
+mod entering;
+mod fields;
+pub mod laws;
+mod leaves;
+mod leaving;
+mod telling;
+mod turn;
+pub mod walking;
