@@ -1,6 +1,6 @@
 // A table with those nodes alone of which something is still made.
 
-ghost use Rattle.std.specs.Prelude.{◌≡◌, ◌≤◌, IfOk, OnOk, length, map};
+ghost use Rattle.std.specs.Prelude.{◌≡◌, ◌≤◌, ◌<◌, IfOk, OnOk, length, map};
 ghost use Rattle.spec_core.specs.Theories.{theory_of};
 ghost use Rattle.value_nodes.specs.Nodes.{tree_at};
 ghost use Rattle.rewriter.specs.Runs.{IsReady};
@@ -17,9 +17,9 @@ use value_nodes::node::Nodes;
 /// A table of fewer nodes isn't worth a copy.
 pub const FEWEST: usize = 1_048_576;
 
-/// Leaves of the table's nodes those of which the steps and the values are made, once there are as many as the limit; the next limit
-/// is twice as many nodes as are left, and at least 2^20: there are no more nodes than that. So the table grows with
-/// what is in use, and not with the number of uses.
+/// Leaves of the table's nodes those of which the steps and the values are made, once there are as many as the limit, and changes nothing
+/// below it; the next limit is twice as many nodes as are left, and at least 2^20: there are no more nodes than that. So the table grows
+/// with what is in use, and not with the number of uses.
 pub fn tidy(
     alloc: Global,
     algebra: &DataSpec,
@@ -34,6 +34,8 @@ pub fn tidy(
         map (task_of (theory_of algebra.now) nodes.new) todo.new ≡ map (task_of (theory_of algebra.now) nodes.old) todo.old) }
     ensures values { IfOk result (λ l. map (tree_at nodes.new) values.new ≡ map (tree_at nodes.old) values.old) }
     ensures room { IfOk result (λ l. length nodes.new ≤ l) }
+    ensures idle { IfOk result (λ l. length nodes.old < limit →
+        (l ≡ limit) × (nodes.new ≡ nodes.old) × (todo.new ≡ todo.old) × (values.new ≡ values.old)) }
 {
     if nodes.len() < limit {
         return Ok(limit);
