@@ -1,4 +1,5 @@
 pub mod Asking
 pub mod Following
+pub mod Gaps
 pub mod Needing
 pub mod Searching

@@ -1,9 +1,10 @@
 -- What follows from the definitions.
-use Rattle.std.specs.Prelude.{ℕ, ◌≡◌, ◌⊎◌, ◌++◌, List, [], ◌∷◌, filter, flat_map, Some, None}
+use Rattle.std.specs.Prelude.{ℕ, ◌≡◌, ◌⊎◌, ◌++◌, List, [], ◌∷◌, map, filter, flat_map, Option, Some, None}
 use Rattle.spec_core.specs.Lists.{IsOneOf}
 use Rattle.courses.specs.Courses.{Question, Answers, Course, result, asked, after}
 use Rattle.courses.specs.Known.{Knowledge, Extends, decided, IsNeeded, found}
 use Rattle.courses.specs.Lazy.{Lazy, whole, of_list, joined, each, first, first_holding, all_holding}
+use Rattle.courses.specs.Gaps.{element, with_gaps, in_its_place, first_known, all_known, missing_to_first, all_missing}
 use Rattle.courses.specs.Rules.{Query, Waiting, next_of, course}
 
 -- what is decided from what is known is the result under all answers that extend it
@@ -44,3 +45,22 @@ pub record SearchesAreSo (I A B R S : Type 0) : Type 0 where
 abbrev pub CourseIsNext : (I P A : Type 0) → Type 0
 CourseIsNext I P A = (lazy : Query P → Lazy I A) (w : Waiting P) (s : Answers I A) →
     result s (course lazy w) ≡ next_of (λ q. filter s.verdict (whole s (lazy q))) w
+
+-- what is decided of a search, and what it finds to be asked, is read off the list with its gaps
+pub record GapsAreSo (I A : Type 0) : Type 0 where
+  pub firsts : (known : Knowledge I A) (l : Lazy I A) →
+      decided known (first_holding l) ≡ first_known known.verdict (with_gaps known.items l)
+  pub alls : (known : Knowledge I A) (l : Lazy I A) →
+      decided known (all_holding l) ≡ all_known known.verdict (with_gaps known.items l)
+  pub missing_to_firsts : (known : Knowledge I A) (l : Lazy I A) →
+      found known (first_holding l) ≡ missing_to_first known.verdict (with_gaps known.items l)
+  pub all_missings : (known : Knowledge I A) (l : Lazy I A) →
+      found known (all_holding l) ≡ all_missing known.verdict (with_gaps known.items l)
+
+-- the list with gaps of what is put together from parts, from those of the parts
+pub record PartsAreSo (I A B : Type 0) : Type 0 where
+  pub listed : (items : ℕ → Option (List I)) (xs : List A) → with_gaps items (of_list xs) ≡ map element xs
+  pub joins : (items : ℕ → Option (List I)) (l m : Lazy I A) →
+      with_gaps items (joined l m) ≡ with_gaps items l ++ with_gaps items m
+  pub flat : (items : ℕ → Option (List I)) (f : A → Lazy I B) (l : Lazy I A) →
+      with_gaps items (each f l) ≡ flat_map (in_its_place (λ a. with_gaps items (f a))) (with_gaps items l)

@@ -1,4 +1,5 @@
 pub mod Courses
+pub mod Gaps
 pub mod Known
 pub mod Laws
 pub mod Lazy

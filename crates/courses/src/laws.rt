@@ -1,7 +1,7 @@
 // Laws of the definitions: a call does nothing, and its contract is the law.
 
 ghost use Rattle.courses.specs.Laws.{DecidedIsSo, DecidedOrFound, FirstIsAsked, FoundAreNeeded, NeededIsFound};
-ghost use Rattle.courses.specs.Laws.{SearchesAreSo, CourseIsNext};
+ghost use Rattle.courses.specs.Laws.{SearchesAreSo, CourseIsNext, GapsAreSo, PartsAreSo};
 
 /// What is decided from what is known is so under all answers that extend it.
 pub fn decided_is_so<I, A, R>()
@@ -36,4 +36,14 @@ pub fn searches_are_so<I, A, B, R, S>()
 /// The course of the rules comes to what they say of the whole lists.
 pub fn course_is_next<I, P, A>()
     ensures { CourseIsNext I P A }
+{}
+
+/// What is decided of a search, and what it finds to be asked, is read off the list with its gaps.
+pub fn gaps_are_so<I, A>()
+    ensures { GapsAreSo I A }
+{}
+
+/// The list with gaps of what is put together from parts is made from those of the parts.
+pub fn parts_are_so<I, A, B>()
+    ensures { PartsAreSo I A B }
 {}
