@@ -1,5 +1,5 @@
 -- What follows from the definitions.
-use Rattle.std.specs.Prelude.{ℕ, ◌≡◌, List, map, Option, option_map}
+use Rattle.std.specs.Prelude.{ℕ, ◌≡◌, List, Option, option_map}
 use Rattle.courses.specs.Known.{Knowledge, decided}
 use Rattle.courses.specs.Lazy.{Lazy, first_holding, all_holding}
 use Rattle.courses.specs.Rules.{Query, Waiting, course}
@@ -13,13 +13,9 @@ DecidedByRules I P A =
     decided known (course lazy w) ≡
     next_decided (λ q. decided known (first_holding (lazy q))) (λ q. decided known (all_holding (lazy q))) w
 
--- what is decided of numbers is decided of the offers and the candidates for which they stand
+-- what is decided of numbers of offers is decided of the offers for which they stand
 abbrev pub NumbersStandForThem : (P A : Type 0) → Type 0
 NumbersStandForThem P A =
-    (offer : ℕ → P) (candidate : ℕ → A) (find : Query ℕ → Option (Option ℕ)) (every : Query ℕ → Option (List ℕ))
-    (find_them : Query P → Option (Option A)) (every_one : Query P → Option (List A)) →
-    ((q : Query ℕ) → find_them (query_with offer candidate q) ≡ option_map (option_map candidate) (find q)) →
-    ((q : Query ℕ) → every_one (query_with offer candidate q) ≡ option_map (map candidate) (every q)) →
-    (w : Waiting ℕ) →
-    next_decided find_them every_one (waiting_with offer candidate w) ≡
-    option_map (entry_with offer candidate) (next_decided find every w)
+    (offer : ℕ → P) (find : Query P → Option (Option A)) (every : Query P → Option (List A)) (w : Waiting ℕ) →
+    next_decided find every (waiting_with offer w) ≡
+    option_map (entry_with offer) (next_decided (λ q. find (query_with offer q)) (λ q. every (query_with offer q)) w)

@@ -1,9 +1,9 @@
--- What numbers of offers and of candidates stand for.
+-- What numbers of offers stand for.
 use Rattle.std.specs.Prelude.{ℕ, map}
 use Rattle.courses.specs.Rules.{Query, meeting, any, unseen, beyond, any_beyond, beyond_or_unseen, Next, takes, deadlocks, is_beyond}
 use Rattle.courses.specs.Rules.{is_not_now, goes_on, stalls, nothing, Waiting}
 
-module _ {P A : Type 0} (offer : ℕ → P) (candidate : ℕ → A) where
+module _ {P : Type 0} (offer : ℕ → P) where
   abbrev pub query_with : Query ℕ → Query P
   query_with (meeting p) = meeting (offer p)
   query_with any = any
@@ -12,12 +12,12 @@ module _ {P A : Type 0} (offer : ℕ → P) (candidate : ℕ → A) where
   query_with any_beyond = any_beyond
   query_with (beyond_or_unseen p) = beyond_or_unseen (offer p)
 
-  abbrev pub entry_with : Next ℕ ℕ → Next P A
-  entry_with (takes p a) = takes (offer p) (candidate a)
+  abbrev pub entry_with : {A : Type 0} → Next ℕ A → Next P A
+  entry_with (takes p a) = takes (offer p) a
   entry_with deadlocks = deadlocks
-  entry_with (is_beyond p a) = is_beyond (offer p) (candidate a)
+  entry_with (is_beyond p a) = is_beyond (offer p) a
   entry_with (is_not_now p) = is_not_now (offer p)
-  entry_with (goes_on those) = goes_on (map candidate those)
+  entry_with (goes_on those) = goes_on those
   entry_with stalls = stalls
   entry_with nothing = nothing
 

@@ -1,5 +1,5 @@
--- What the program's searches and entries stand for. Offers and candidates are numbers here.
-use Rattle.std.specs.Prelude.{ℕ, List, Option, Some, None}
+-- What the program's searches and entries stand for. Offers are numbers here; of a candidate that was found is given what it stands for.
+use Rattle.std.specs.Prelude.{ℕ, List, map, Option, Some, None}
 use Rattle.courses.specs.Rules.{Query, meeting, any, unseen, beyond, any_beyond, beyond_or_unseen, Next, takes, deadlocks, is_beyond}
 use Rattle.courses.specs.Rules.{is_not_now, goes_on, stalls, nothing, Waiting}
 use Rattle.settling.specs.declared.listing.Search.{Search}
@@ -20,24 +20,25 @@ query_of (Beyond p) = beyond p
 query_of AnyBeyond = any_beyond
 query_of (BeyondOrUnseen p) = beyond_or_unseen p
 
-abbrev pub first_of : First → Option (Option ℕ)
-first_of Open = None
-first_of Absent = Some None
-first_of (Is a) = Some (Some a)
+module _ {F A : Type 0} (candidate_of : F → A) where
+  abbrev pub first_of : First F → Option (Option A)
+  first_of Open = None
+  first_of Absent = Some None
+  first_of (Is a) = Some (Some (candidate_of a))
 
-abbrev pub all_of : All → Option (List ℕ)
-all_of Undecided = None
-all_of (These list) = Some list.items
+  abbrev pub all_of : All F → Option (List A)
+  all_of Undecided = None
+  all_of (These list) = Some (map candidate_of list.items)
 
-abbrev pub settled_of : Settled → Option (Next ℕ ℕ)
-settled_of Unknown = None
-settled_of (Takes p a) = Some (takes p a)
-settled_of Deadlocks = Some deadlocks
-settled_of (IsBeyond p a) = Some (is_beyond p a)
-settled_of (IsNotNow p) = Some (is_not_now p)
-settled_of (GoesOn list) = Some (goes_on list.items)
-settled_of Stalls = Some stalls
-settled_of Nothing = Some nothing
+  abbrev pub settled_of : Settled F → Option (Next ℕ A)
+  settled_of Unknown = None
+  settled_of (Takes p a) = Some (takes p (candidate_of a))
+  settled_of Deadlocks = Some deadlocks
+  settled_of (IsBeyond p a) = Some (is_beyond p (candidate_of a))
+  settled_of (IsNotNow p) = Some (is_not_now p)
+  settled_of (GoesOn list) = Some (goes_on (map candidate_of list.items))
+  settled_of Stalls = Some stalls
+  settled_of Nothing = Some nothing
 
 abbrev pub waiting_of : OffersByNumber → Waiting ℕ
 waiting_of o = record { pending = o.pending.items; asks = o.asks.items; by_client = o.by_client.items; all_wait = o.all_wait }

@@ -7,7 +7,7 @@ pub fn decided_by_rules<I, P, A>()
     ensures { DecidedByRules I P A }
 {}
 
-/// What is decided of numbers is decided of the offers and the candidates for which they stand.
+/// What is decided of numbers of offers is decided of the offers for which they stand.
 pub fn numbers_stand_for_them<P, A>()
     ensures { NumbersStandForThem P A }
 {}

@@ -1,4 +1,4 @@
-// Searches among candidates, of which some are known.
+// Searches among candidates, as far as what is known.
 
 ghost use Rattle.std.specs.Prelude.{ℕ, ◌≡◌, IfOk, List, Option};
 ghost use Rattle.courses.specs.Rules.{Query};
@@ -19,19 +19,19 @@ pub enum Search {
     BeyondOrUnseen(u32),
 }
 
-/// The number of the first candidate that holds; that there is none; or that it isn't known.
-#[derive(Clone, Copy)]
-pub enum First {
+/// The first candidate that holds; that there is none; or that it isn't known.
+#[derive(Drop)]
+pub enum First<F> {
     Open,
     Absent,
-    Is(u32),
+    Is(F),
 }
 
-/// The numbers of all candidates that hold, in order; or that they aren't known.
+/// All candidates that hold, in order; or that they aren't known.
 #[derive(Drop)]
-pub enum All {
+pub enum All<F> {
     Undecided,
-    These(Vec<u32>),
+    These(Vec<F>),
 }
 
 /// Numbers of offers: the pending ones in the order of the log, those that only ask by client, all of them by client; and whether each open
@@ -44,17 +44,25 @@ pub struct OffersByNumber {
     pub all_wait: bool,
 }
 
-/// Lists of candidates, by their numbers, of which some wait for nodes that aren't expanded, or for verdicts.
+/// Lists of candidates, of which some wait for nodes that aren't expanded, or for verdicts.
 pub trait Listing {
-    ghost find: { Self → Query ℕ → Option (Option ℕ) };
+    /// A candidate that was found.
+    type Found: Drop;
 
-    ghost every: { Self → Query ℕ → Option (List ℕ) };
+    /// What candidates are.
+    ghost Candidate: { Type 0 };
+
+    ghost candidate_of: { Self.Found → Candidate };
+
+    ghost find: { Self → Query ℕ → Option (Option Candidate) };
+
+    ghost every: { Self → Query ℕ → Option (List Candidate) };
 
     /// The first candidate that holds.
-    fn first(&self, alloc: Global, search: Search) -> Result<First, Memory>
-        ensures { IfOk result (λ f. first_of f ≡ find self.now (query_of search)) };
+    fn first(&self, alloc: Global, search: Search) -> Result<First<Self::Found>, Memory>
+        ensures { IfOk result (λ f. first_of candidate_of f ≡ find self.now (query_of search)) };
 
     /// All candidates that hold.
-    fn all(&self, alloc: Global, search: Search) -> Result<All, Memory>
-        ensures { IfOk result (λ a. all_of a ≡ every self.now (query_of search)) };
+    fn all(&self, alloc: Global, search: Search) -> Result<All<Self::Found>, Memory>
+        ensures { IfOk result (λ a. all_of candidate_of a ≡ every self.now (query_of search)) };
 }

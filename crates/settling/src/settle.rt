@@ -1,6 +1,6 @@
 // The next entry by the rules, from what is known. Each function tries one rule, and then those behind it.
 
-ghost use Rattle.std.specs.Prelude.{ℕ, ◌≡◌, IfOk, Some};
+ghost use Rattle.std.specs.Prelude.{ℕ, ◌≡◌, IfOk, map, Some};
 ghost use Rattle.courses.specs.Rules.{meeting, takes, beyond_or_unseen, is_beyond, stalls, deadlocks, nothing, if_some};
 ghost use Rattle.settling.specs.Rules.{first_decided, stalled_decided, unseen_decided, waiting_decided, asked_decided, marked_decided};
 ghost use Rattle.settling.specs.Rules.{unmet_decided, next_decided};
@@ -10,21 +10,21 @@ use crate::listing::{All, First, Listing, OffersByNumber, Search};
 use spec_core::memory::Memory;
 use std::alloc::Global;
 
-/// The next entry, with the numbers of its offer and of its candidate; or that it isn't decided by what is known.
+/// The next entry, with the number of its offer and with its candidate; or that it isn't decided by what is known.
 #[derive(Drop)]
-pub enum Settled {
+pub enum Settled<F> {
     /// A node has to be expanded first, or a candidate to be judged.
     Unknown,
     /// The offer is taken by the candidate.
-    Takes(u32, u32),
+    Takes(u32, F),
     /// There is no step at all.
     Deadlocks,
     /// The offer is answered beyond, with the candidate's tree.
-    IsBeyond(u32, u32),
+    IsBeyond(u32, F),
     /// The offer, which only asks, meets nothing now.
     IsNotNow(u32),
     /// One of these candidates does an action that nobody sees.
-    GoesOn(Vec<u32>),
+    GoesOn(Vec<F>),
     /// All pending offers are stalled.
     Stalls,
     /// Nothing comes next.
@@ -32,8 +32,8 @@ pub enum Settled {
 }
 
 // A stall, where an offer is pending.
-fn stalled(offers: &OffersByNumber) -> Settled
-    ensures { settled_of result ≡ Some (if_some offers.now.pending.items (λ ps. stalls) nothing) }
+fn stalled<L: Listing>(offers: &OffersByNumber) -> Settled<L::Found>
+    ensures { settled_of L.candidate_of result ≡ Some (if_some offers.now.pending.items (λ ps. stalls) nothing) }
 {
     if offers.pending.is_empty() {
         Settled::Nothing
@@ -43,8 +43,8 @@ fn stalled(offers: &OffersByNumber) -> Settled
 }
 
 // A deadlock, where an offer is pending.
-fn dead(offers: &OffersByNumber) -> Settled
-    ensures { settled_of result ≡ Some (if_some offers.now.pending.items (λ ps. deadlocks) nothing) }
+fn dead<L: Listing>(offers: &OffersByNumber) -> Settled<L::Found>
+    ensures { settled_of L.candidate_of result ≡ Some (if_some offers.now.pending.items (λ ps. deadlocks) nothing) }
 {
     if offers.pending.is_empty() {
         Settled::Nothing
@@ -59,13 +59,13 @@ fn beyond<L: Listing>(
     alloc: Global,
     listing: &L,
     offers: &OffersByNumber,
-) -> Result<Settled, Memory>
-    ensures { IfOk result (λ s. settled_of s ≡
+) -> Result<Settled<L::Found>, Memory>
+    ensures { IfOk result (λ s. settled_of L.candidate_of s ≡
         first_decided (L.find listing.now) (L.every listing.now) (waiting_of offers.now) beyond_or_unseen is_beyond those.now
         (stalled_decided (L.find listing.now) (L.every listing.now) (waiting_of offers.now))) }
 {
     match those {
-        [] => Ok(stalled(offers)),
+        [] => Ok(stalled::<L>(offers)),
         [offer, rest @ ..] => match listing.first(alloc, Search::BeyondOrUnseen(*offer))? {
             First::Open => Ok(Settled::Unknown),
             First::Absent => beyond(rest, alloc, listing, offers),
@@ -76,13 +76,13 @@ fn beyond<L: Listing>(
 
 // One of these unseen actions is done; where there is none, an offer is answered beyond, or there is a stall.
 fn unseen<L: Listing>(
-    those: Vec<u32>,
+    those: Vec<L::Found>,
     alloc: Global,
     listing: &L,
     offers: &OffersByNumber,
-) -> Result<Settled, Memory>
-    ensures { IfOk result (λ s. settled_of s ≡
-        unseen_decided (L.find listing.now) (L.every listing.now) (waiting_of offers.now) those.items) }
+) -> Result<Settled<L::Found>, Memory>
+    ensures { IfOk result (λ s. settled_of L.candidate_of s ≡
+        unseen_decided (L.find listing.now) (L.every listing.now) (waiting_of offers.now) (map L.candidate_of those.items)) }
 {
     if those.is_empty() {
         beyond(&offers.by_client, alloc, listing, offers)
@@ -96,8 +96,8 @@ fn waiting<L: Listing>(
     alloc: Global,
     listing: &L,
     offers: &OffersByNumber,
-) -> Result<Settled, Memory>
-    ensures { IfOk result (λ s. settled_of s ≡ waiting_decided (L.find listing.now) (L.every listing.now) (waiting_of offers.now)) }
+) -> Result<Settled<L::Found>, Memory>
+    ensures { IfOk result (λ s. settled_of L.candidate_of s ≡ waiting_decided (L.find listing.now) (L.every listing.now) (waiting_of offers.now)) }
 {
     if offers.all_wait {
         match listing.all(alloc, Search::Unseen)? {
@@ -110,8 +110,12 @@ fn waiting<L: Listing>(
 }
 
 // The first offer that only asks is answered; where there is none, each open client may wait.
-fn asked<L: Listing>(alloc: Global, listing: &L, offers: &OffersByNumber) -> Result<Settled, Memory>
-    ensures { IfOk result (λ s. settled_of s ≡
+fn asked<L: Listing>(
+    alloc: Global,
+    listing: &L,
+    offers: &OffersByNumber,
+) -> Result<Settled<L::Found>, Memory>
+    ensures { IfOk result (λ s. settled_of L.candidate_of s ≡
         asked_decided (L.find listing.now) (L.every listing.now) (waiting_of offers.now) offers.now.asks.items) }
 {
     match offers.asks.as_slice() {
@@ -129,19 +133,23 @@ fn marked<L: Listing>(
     alloc: Global,
     listing: &L,
     offers: &OffersByNumber,
-) -> Result<Settled, Memory>
-    ensures { IfOk result (λ s. settled_of s ≡ marked_decided (L.find listing.now) (L.every listing.now) (waiting_of offers.now)) }
+) -> Result<Settled<L::Found>, Memory>
+    ensures { IfOk result (λ s. settled_of L.candidate_of s ≡ marked_decided (L.find listing.now) (L.every listing.now) (waiting_of offers.now)) }
 {
     match listing.first(alloc, Search::AnyBeyond)? {
         First::Open => Ok(Settled::Unknown),
-        First::Absent => Ok(dead(offers)),
+        First::Absent => Ok(dead::<L>(offers)),
         First::Is(_) => asked(alloc, listing, offers),
     }
 }
 
 // No windowed tree meets a pending offer.
-fn unmet<L: Listing>(alloc: Global, listing: &L, offers: &OffersByNumber) -> Result<Settled, Memory>
-    ensures { IfOk result (λ s. settled_of s ≡ unmet_decided (L.find listing.now) (L.every listing.now) (waiting_of offers.now)) }
+fn unmet<L: Listing>(
+    alloc: Global,
+    listing: &L,
+    offers: &OffersByNumber,
+) -> Result<Settled<L::Found>, Memory>
+    ensures { IfOk result (λ s. settled_of L.candidate_of s ≡ unmet_decided (L.find listing.now) (L.every listing.now) (waiting_of offers.now)) }
 {
     match listing.first(alloc, Search::Any)? {
         First::Open => Ok(Settled::Unknown),
@@ -156,8 +164,8 @@ fn taken<L: Listing>(
     alloc: Global,
     listing: &L,
     offers: &OffersByNumber,
-) -> Result<Settled, Memory>
-    ensures { IfOk result (λ s. settled_of s ≡
+) -> Result<Settled<L::Found>, Memory>
+    ensures { IfOk result (λ s. settled_of L.candidate_of s ≡
         first_decided (L.find listing.now) (L.every listing.now) (waiting_of offers.now) meeting takes those.now
         (unmet_decided (L.find listing.now) (L.every listing.now) (waiting_of offers.now))) }
 {
@@ -177,9 +185,9 @@ pub fn settle<L: Listing>(
     alloc: Global,
     listing: &L,
     offers: &OffersByNumber,
-) -> Result<Settled, Memory>
+) -> Result<Settled<L::Found>, Memory>
     ensures next { IfOk result (λ s.
-        settled_of s ≡ next_decided (L.find listing.now) (L.every listing.now) (waiting_of offers.now)) }
+        settled_of L.candidate_of s ≡ next_decided (L.find listing.now) (L.every listing.now) (waiting_of offers.now)) }
 {
     taken(&offers.pending, alloc, listing, offers)
 }
