@@ -1,11 +1,13 @@
 -- Searches in lists that wait, read off the lists with their gaps.
-use Rattle.std.proofs.Common.{ℕ, ◌≡◌, ◌++◌, List, [], ◌∷◌, map, refl, sym, ap, ◌∙◌, Option, Some, None, option_map, Bool, true, false, if◌then◌else◌}
+use Rattle.std.proofs.Common.{ℕ, ◌≡◌, ◌++◌, List, [], ◌∷◌, map, filter, refl, sym, ap, ◌∙◌, Option, Some, None, option_map, Bool, true, false, if◌then◌else◌}
 use Rattle.std.specs.Prelude.{flat_map}
-use Rattle.courses.specs.Courses.{Question, expand, judge, Course, ends, asks_items, asks_verdict, after}
-use Rattle.courses.specs.Known.{Knowledge, where_known, decided, known_or, unless_known, found}
-use Rattle.courses.specs.Lazy.{Lazy, nil, cons, waits, of_list, joined, each, stops_at, first_holding, keeps, all_holding}
-use Rattle.courses.specs.Gaps.{OrGap, element, gap, with_gaps, in_its_place, first_known, all_known, missing_to_first, all_missing}
+use Rattle.courses.specs.Courses.{Question, expand, judge, Course, ends, asks_items, asks_verdict, result, after}
+use Rattle.courses.specs.Known.{Knowledge, where_known, decided, known_or, unless_known, found, completed}
+use Rattle.courses.specs.Lazy.{Lazy, nil, cons, waits, whole, of_list, joined, each, first, stops_at, first_holding, keeps, all_holding}
+use Rattle.courses.specs.Gaps.{OrGap, element, gap, with_gaps, in_its_place, elements, first_known, all_known, missing_to_first}
+use Rattle.courses.specs.Gaps.{all_missing, known_to_hold}
 use Rattle.courses.specs.Laws.{GapsAreSo, PartsAreSo}
+use Rattle.courses.proofs.Searching as searching
 
 -- what an unknown or a known answer makes of both sides
 node_decided : {X A R : Type 0} (o : Option X) (y : X) (g : ℕ) (d : X → Option R) (n : X → List (OrGap A)) (read : List (OrGap A) → Option R) →
@@ -106,8 +108,34 @@ module _ {I A : Type 0} (known : Knowledge I A) where
       node_found (known.items g) [] g (λ xs. found known (all_holding (k xs))) (λ xs. with_gaps known.items (k xs))
       (all_missing known.verdict) (λ l. refl) (λ xs. all_missings (k xs))
 
+elements_are : {I A : Type 0} (known : Knowledge I A) (l : Lazy I A) → whole (completed known) l ≡ elements (with_gaps known.items l)
+elements_are known nil = refl
+elements_are known (cons a l) = ap (λ xs. a ∷ xs) (elements_are known l)
+elements_are known (waits g k) =
+    passed (known.items g) g (with_gaps known.items (k (known_or (known.items g) []))) (elements_are known (k (known_or (known.items g) [])))
+  where
+    passed : {X A : Type 0} {xs : List A} (o : Option X) (g : ℕ) (l : List (OrGap A)) → xs ≡ elements l → xs ≡ elements (unless_known o (gap g) l)
+    passed None g l e = e
+    passed (Some x) g l e = e
+
+first_held : {I A : Type 0} (known : Knowledge I A) (l : Lazy I A) →
+    result (completed known) (first_holding l) ≡ first (known_to_hold known.verdict (with_gaps known.items l))
+first_held {I} {A} known l =
+    searching.firsts I A (completed known) l ∙ ap (λ xs. first (filter (completed known).verdict xs)) (elements_are known l)
+
+all_held : {I A : Type 0} (known : Knowledge I A) (l : Lazy I A) →
+    result (completed known) (all_holding l) ≡ known_to_hold known.verdict (with_gaps known.items l)
+all_held {I} {A} known l = searching.alls I A (completed known) l ∙ ap (filter (completed known).verdict) (elements_are known l)
+
 pub gaps_are_so : (I A : Type 0) → GapsAreSo I A
-gaps_are_so I A = record { firsts = firsts; alls = alls; missing_to_firsts = missing_to_firsts; all_missings = all_missings }
+gaps_are_so I A = record {
+  firsts = firsts;
+  alls = alls;
+  missing_to_firsts = missing_to_firsts;
+  all_missings = all_missings;
+  first_held = first_held;
+  all_held = all_held;
+}
 
 module _ {I : Type 0} (items : ℕ → Option (List I)) where
   listed : {A : Type 0} (xs : List A) → with_gaps items (of_list xs) ≡ map element xs

@@ -1,14 +1,10 @@
 -- What the walk finds is needed, and it finds something where anything is needed.
-use Rattle.std.proofs.Common.{◌≡◌, inl, inr, List, [], ◌∷◌, refl, sym, ap, subst, Option, Some, None, false}
+use Rattle.std.proofs.Common.{◌≡◌, inl, inr, List, [], ◌∷◌, ◌++◌, refl, sym, ap, subst, Option, Some, None, false}
 use Rattle.spec_core.specs.Lists.{IsOneOf}
-use Rattle.courses.specs.Courses.{Question, expand, judge, Answers, Course, ends, asks_items, asks_verdict, asked}
-use Rattle.courses.specs.Known.{Knowledge, Extends, decided, IsMissing, known_or, unless_known, found}
-use Rattle.courses.specs.Laws.{FoundAreNeeded, NeededIsFound}
+use Rattle.courses.specs.Courses.{Question, expand, judge, Answers, Course, ends, asks_items, asks_verdict, result, asked, after}
+use Rattle.courses.specs.Known.{Knowledge, Extends, decided, IsMissing, known_or, unless_known, found, completed}
+use Rattle.courses.specs.Laws.{FoundAreNeeded, NeededIsFound, FoundAfter}
 use Rattle.courses.proofs.Asking.{known_case, decided_or_found}
-
--- nothing, where no answer is known
-abbrev completed : {I A : Type 0} → Knowledge I A → Answers I A
-completed known = record { items = λ g. known_or (known.items g) []; verdict = λ a. known_or (known.verdict a) false }
 
 among_case : {X A : Type 0} (P : Question A → Type 0) (o : Option X) (p q : Question A) (ns others : List (Question A)) → (o ≡ None → P p) →
     (IsOneOf q ns → P q × IsOneOf q others) → IsOneOf q (unless_known o p ns) → P q × IsOneOf q (p ∷ others)
@@ -64,3 +60,19 @@ needed_is_found I A R known c q n e = elim (decided_or_found I A R known c) [
   | inl d ↦ all_known known c d.0 n.answers n.possible d.1 q n.asks n.missing
   | inr f ↦ not_both (found known c) e f.3
 ]
+
+after_case : {X Q : Type 0} (o : Option X) (q : Q) (ns ms others : List Q) → ns ≡ ms ++ others →
+    unless_known o q ns ≡ unless_known o q ms ++ others
+after_case None q ns ms others e = ap (λ qs. q ∷ qs) e
+after_case (Some x) q ns ms others e = e
+
+pub found_after : (I A R S : Type 0) → FoundAfter I A R S
+found_after I A R S known (ends r) f = refl
+found_after I A R S known (asks_items g k) f =
+    let xs = known_or (known.items g) [] in
+    after_case (known.items g) (expand g) (found known (after (k xs) f)) (found known (k xs))
+    (found known (f (result (completed known) (k xs)))) (found_after I A R S known (k xs) f)
+found_after I A R S known (asks_verdict a k) f =
+    let b = known_or (known.verdict a) false in
+    after_case (known.verdict a) (judge a) (found known (after (k b) f)) (found known (k b))
+    (found known (f (result (completed known) (k b)))) (found_after I A R S known (k b) f)

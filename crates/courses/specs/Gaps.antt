@@ -1,5 +1,5 @@
 -- Lists that wait, as far as what is known, and searches in them (this profile).
-use Rattle.std.specs.Prelude.{ℕ, List, [], ◌∷◌, Option, Some, None, option_map, Bool, false, if◌then◌else◌}
+use Rattle.std.specs.Prelude.{ℕ, List, [], ◌∷◌, filter, Option, Some, None, option_map, Bool, false, if◌then◌else◌}
 use Rattle.courses.specs.Courses.{Question, expand, judge}
 use Rattle.courses.specs.Known.{where_known, known_or, unless_known}
 use Rattle.courses.specs.Lazy.{Lazy, nil, cons, waits}
@@ -19,6 +19,12 @@ with_gaps items (waits g k) = unless_known (items g) (gap g) (with_gaps items (k
 abbrev pub in_its_place : {A B : Type 0} → (A → List (OrGap B)) → OrGap A → List (OrGap B)
 in_its_place f (element a) = f a
 in_its_place f (gap g) = gap g ∷ []
+
+-- the elements alone
+abbrev pub elements : {A : Type 0} → List (OrGap A) → List A
+elements [] = []
+elements (element a ∷ l) = a ∷ elements l
+elements (gap g ∷ l) = elements l
 
 module _ {A : Type 0} (verdict : A → Option Bool) where
   -- the first element that holds, or that there is none; unless before it there is a gap, or an element of which that isn't known
@@ -45,3 +51,7 @@ module _ {A : Type 0} (verdict : A → Option Bool) where
   all_missing [] = []
   all_missing (gap g ∷ l) = expand g ∷ all_missing l
   all_missing (element a ∷ l) = unless_known (verdict a) (judge a) (all_missing l)
+
+  -- the elements that are known to hold
+  abbrev pub known_to_hold : List (OrGap A) → List A
+  known_to_hold l = filter (λ a. known_or (verdict a) false) (elements l)

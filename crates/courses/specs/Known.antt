@@ -51,3 +51,7 @@ abbrev pub found : {I A R : Type 0} → Knowledge I A → Course I A R → List 
 found known (ends r) = []
 found known (asks_items g k) = unless_known (known.items g) (expand g) (found known (k (known_or (known.items g) [])))
 found known (asks_verdict a k) = unless_known (known.verdict a) (judge a) (found known (k (known_or (known.verdict a) false)))
+
+-- answers to all questions: those that are known, and nothing for each that isn't
+abbrev pub completed : {I A : Type 0} → Knowledge I A → Answers I A
+completed known = record { items = λ g. known_or (known.items g) []; verdict = λ a. known_or (known.verdict a) false }

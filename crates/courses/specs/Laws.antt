@@ -2,9 +2,9 @@
 use Rattle.std.specs.Prelude.{ℕ, ◌≡◌, ◌⊎◌, ◌++◌, List, [], ◌∷◌, map, filter, flat_map, Option, Some, None}
 use Rattle.spec_core.specs.Lists.{IsOneOf}
 use Rattle.courses.specs.Courses.{Question, Answers, Course, result, asked, after}
-use Rattle.courses.specs.Known.{Knowledge, Extends, decided, IsNeeded, found}
+use Rattle.courses.specs.Known.{Knowledge, Extends, decided, IsNeeded, found, completed}
 use Rattle.courses.specs.Lazy.{Lazy, whole, of_list, joined, each, first, first_holding, all_holding}
-use Rattle.courses.specs.Gaps.{element, with_gaps, in_its_place, first_known, all_known, missing_to_first, all_missing}
+use Rattle.courses.specs.Gaps.{element, with_gaps, in_its_place, first_known, all_known, missing_to_first, all_missing, known_to_hold}
 use Rattle.courses.specs.Rules.{Query, Waiting, next_of, course}
 
 -- what is decided from what is known is the result under all answers that extend it
@@ -31,6 +31,11 @@ FoundAreNeeded I A R = (known : Knowledge I A) (c : Course I A R) (q : Question 
 abbrev pub NeededIsFound : (I A R : Type 0) → Type 0
 NeededIsFound I A R = (known : Knowledge I A) (c : Course I A R) (q : Question A) → IsNeeded known c q → found known c ≡ [] → ⊥
 
+-- behind a course the walk goes on with what this comes to where each answer that isn't known is nothing
+abbrev pub FoundAfter : (I A R S : Type 0) → Type 0
+FoundAfter I A R S = (known : Knowledge I A) (c : Course I A R) (f : R → Course I A S) →
+    found known (after c f) ≡ found known c ++ found known (f (result (completed known) c))
+
 -- the results of one course after another, and of searches; and what lists that wait come to
 pub record SearchesAreSo (I A B R S : Type 0) : Type 0 where
   pub one_after_another : (s : Answers I A) (c : Course I A R) (f : R → Course I A S) → result s (after c f) ≡ result s (f (result s c))
@@ -46,7 +51,8 @@ abbrev pub CourseIsNext : (I P A : Type 0) → Type 0
 CourseIsNext I P A = (lazy : Query P → Lazy I A) (w : Waiting P) (s : Answers I A) →
     result s (course lazy w) ≡ next_of (λ q. filter s.verdict (whole s (lazy q))) w
 
--- what is decided of a search, and what it finds to be asked, is read off the list with its gaps
+-- what is decided of a search, what it finds to be asked, and what it comes to where each answer that isn't known is nothing, are read off
+-- the list with its gaps
 pub record GapsAreSo (I A : Type 0) : Type 0 where
   pub firsts : (known : Knowledge I A) (l : Lazy I A) →
       decided known (first_holding l) ≡ first_known known.verdict (with_gaps known.items l)
@@ -56,6 +62,10 @@ pub record GapsAreSo (I A : Type 0) : Type 0 where
       found known (first_holding l) ≡ missing_to_first known.verdict (with_gaps known.items l)
   pub all_missings : (known : Knowledge I A) (l : Lazy I A) →
       found known (all_holding l) ≡ all_missing known.verdict (with_gaps known.items l)
+  pub first_held : (known : Knowledge I A) (l : Lazy I A) →
+      result (completed known) (first_holding l) ≡ first (known_to_hold known.verdict (with_gaps known.items l))
+  pub all_held : (known : Knowledge I A) (l : Lazy I A) →
+      result (completed known) (all_holding l) ≡ known_to_hold known.verdict (with_gaps known.items l)
 
 -- the list with gaps of what is put together from parts, from those of the parts
 pub record PartsAreSo (I A B : Type 0) : Type 0 where

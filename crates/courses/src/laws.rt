@@ -1,7 +1,7 @@
 // Laws of the definitions: a call does nothing, and its contract is the law.
 
 ghost use Rattle.courses.specs.Laws.{DecidedIsSo, DecidedOrFound, FirstIsAsked, FoundAreNeeded, NeededIsFound};
-ghost use Rattle.courses.specs.Laws.{SearchesAreSo, CourseIsNext, GapsAreSo, PartsAreSo};
+ghost use Rattle.courses.specs.Laws.{FoundAfter, SearchesAreSo, CourseIsNext, GapsAreSo, PartsAreSo};
 
 /// What is decided from what is known is so under all answers that extend it.
 pub fn decided_is_so<I, A, R>()
@@ -28,6 +28,11 @@ pub fn needed_is_found<I, A, R>()
     ensures { NeededIsFound I A R }
 {}
 
+/// Behind a course the walk goes on with what this comes to where each answer that isn't known is nothing.
+pub fn found_after<I, A, R, S>()
+    ensures { FoundAfter I A R S }
+{}
+
 /// Searches in lists that wait find what they look for in the whole lists.
 pub fn searches_are_so<I, A, B, R, S>()
     ensures { SearchesAreSo I A B R S }
@@ -38,7 +43,8 @@ pub fn course_is_next<I, P, A>()
     ensures { CourseIsNext I P A }
 {}
 
-/// What is decided of a search, and what it finds to be asked, is read off the list with its gaps.
+/// What is decided of a search, what it finds to be asked, and what it comes to where each answer that isn't known is nothing, are read off
+/// the list with its gaps.
 pub fn gaps_are_so<I, A>()
     ensures { GapsAreSo I A }
 {}
