@@ -118,12 +118,12 @@ elements_are known (waits g k) =
     passed None g l e = e
     passed (Some x) g l e = e
 
-first_held : {I A : Type 0} (known : Knowledge I A) (l : Lazy I A) →
+pub first_held : {I A : Type 0} (known : Knowledge I A) (l : Lazy I A) →
     result (completed known) (first_holding l) ≡ first (known_to_hold known.verdict (with_gaps known.items l))
 first_held {I} {A} known l =
     searching.firsts I A (completed known) l ∙ ap (λ xs. first (filter (completed known).verdict xs)) (elements_are known l)
 
-all_held : {I A : Type 0} (known : Knowledge I A) (l : Lazy I A) →
+pub all_held : {I A : Type 0} (known : Knowledge I A) (l : Lazy I A) →
     result (completed known) (all_holding l) ≡ known_to_hold known.verdict (with_gaps known.items l)
 all_held {I} {A} known l = searching.alls I A (completed known) l ∙ ap (filter (completed known).verdict) (elements_are known l)
 

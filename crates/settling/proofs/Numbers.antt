@@ -1,10 +1,11 @@
 -- What is decided of numbers of offers is decided of the offers.
-use Rattle.std.proofs.Common.{ℕ, ◌≡◌, List, [], ◌∷◌, map, refl, ap, ◌∙◌, Option, Some, None, option_map, Bool, true, false}
+use Rattle.std.proofs.Common.{ℕ, ◌≡◌, List, [], ◌∷◌, ◌++◌, map, refl, ap, ◌∙◌, Option, Some, None, option_map, Bool, true, false}
 use Rattle.courses.specs.Known.{where_known}
 use Rattle.courses.specs.Rules.{Query, meeting, any, unseen, beyond, any_beyond, beyond_or_unseen, Next, takes, deadlocks, is_beyond}
 use Rattle.courses.specs.Rules.{is_not_now, stalls, nothing, Waiting, if_there, if_some, when}
 use Rattle.settling.specs.Rules.{first_decided, stalled_decided, unseen_decided, waiting_decided, asked_decided, dead_decided}
 use Rattle.settling.specs.Rules.{marked_decided, unmet_decided, next_decided}
+use Rattle.settling.specs.Needed.{first_needed, unseen_needed, asked_needed, marked_needed, unmet_needed, next_needed}
 use Rattle.settling.specs.Numbered.{query_with, entry_with, waiting_with}
 use Rattle.settling.specs.Laws.{NumbersStandForThem}
 
@@ -103,5 +104,49 @@ module _ {P A : Type 0} (offer : ℕ → P) (find : Query P → Option (Option A
       firsts meeting meeting takes takes (λ p. refl) (λ p a. refl) w.pending (unmet_decided find_it all_of_it w)
       (unmet_decided find every them) unmet_is
 
-pub numbers_stand_for_them : (P A : Type 0) → NumbersStandForThem P A
-numbers_stand_for_them P A offer find every w = next_is offer find every w
+module _ {P Q : Type 0} (offer : ℕ → P) (missing every_missing : Query P → List Q) (is_there : Query P → Bool) (w : Waiting ℕ) where
+  -- searches by number
+  abbrev missing_it : Query ℕ → List Q
+  missing_it q = missing (query_with offer q)
+
+  abbrev every_it : Query ℕ → List Q
+  every_it q = every_missing (query_with offer q)
+
+  abbrev there_it : Query ℕ → Bool
+  there_it q = is_there (query_with offer q)
+
+  firsts_needed : (query : ℕ → Query ℕ) (query_them : P → Query P) → ((p : ℕ) → query_them (offer p) ≡ query_with offer (query p)) →
+      (ps : List ℕ) (xs ys : List Q) → xs ≡ ys →
+      first_needed missing every_missing is_there (waiting_with offer w) query_them (map offer ps) xs ≡
+      first_needed missing_it every_it there_it w query ps ys
+  firsts_needed query query_them asks [] xs ys e = e
+  firsts_needed query query_them asks (p ∷ ps) xs ys e =
+      ap (λ q. missing q ++ when (is_there q) []
+      (first_needed missing every_missing is_there (waiting_with offer w) query_them (map offer ps) xs)) (asks p)
+      ∙ ap (λ qs. missing_it (query p) ++ when (there_it (query p)) [] qs) (firsts_needed query query_them asks ps xs ys e)
+
+  unseen_asks : unseen_needed missing every_missing is_there (waiting_with offer w) ≡ unseen_needed missing_it every_it there_it w
+  unseen_asks =
+      ap (λ qs. every_missing unseen ++ when (is_there unseen) [] qs)
+      (firsts_needed beyond_or_unseen beyond_or_unseen (λ p. refl) w.by_client [] [] refl)
+
+  ask_asks : (ps : List ℕ) → asked_needed missing every_missing is_there (waiting_with offer w) (map offer ps) ≡
+      asked_needed missing_it every_it there_it w ps
+  ask_asks [] = ap (λ qs. when w.all_wait qs []) unseen_asks
+  ask_asks (p ∷ ps) = refl
+
+  marked_asks : marked_needed missing every_missing is_there (waiting_with offer w) ≡ marked_needed missing_it every_it there_it w
+  marked_asks = ap (λ qs. missing any_beyond ++ when (is_there any_beyond) qs []) (ask_asks w.asks)
+
+  unmet_asks : unmet_needed missing every_missing is_there (waiting_with offer w) ≡ unmet_needed missing_it every_it there_it w
+  unmet_asks =
+      ap (λ qs. missing any ++ when (is_there any) qs (marked_needed missing every_missing is_there (waiting_with offer w))) (ask_asks w.asks)
+      ∙ ap (λ qs. missing any ++ when (is_there any) (asked_needed missing_it every_it there_it w w.asks) qs) marked_asks
+
+  pub next_asks : next_needed missing every_missing is_there (waiting_with offer w) ≡ next_needed missing_it every_it there_it w
+  next_asks =
+      firsts_needed meeting meeting (λ p. refl) w.pending (unmet_needed missing every_missing is_there (waiting_with offer w))
+      (unmet_needed missing_it every_it there_it w) unmet_asks
+
+pub numbers_stand_for_them : (P A Q : Type 0) → NumbersStandForThem P A Q
+numbers_stand_for_them P A Q = record { decided = next_is; needed = next_asks }
