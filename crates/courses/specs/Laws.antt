@@ -1,11 +1,12 @@
 -- What follows from the definitions.
-use Rattle.std.specs.Prelude.{ℕ, ◌≡◌, ◌⊎◌, ◌++◌, List, [], ◌∷◌, map, filter, flat_map, Option, Some, None}
+use Rattle.std.specs.Prelude.{ℕ, ◌≡◌, ◌⊎◌, ◌++◌, List, [], ◌∷◌, map, filter, flat_map, Option, Some, None, option_map, is_some, Bool}
 use Rattle.spec_core.specs.Lists.{IsOneOf}
 use Rattle.courses.specs.Courses.{Question, Answers, Course, result, asked, after}
-use Rattle.courses.specs.Known.{Knowledge, Extends, decided, IsNeeded, found, completed}
+use Rattle.courses.specs.Known.{Knowledge, Extends, where_known, decided, IsNeeded, found, completed}
 use Rattle.courses.specs.Lazy.{Lazy, whole, of_list, joined, each, first, first_holding, all_holding}
-use Rattle.courses.specs.Gaps.{element, with_gaps, in_its_place, first_known, all_known, missing_to_first, all_missing, known_to_hold}
-use Rattle.courses.specs.Rules.{Query, Waiting, next_of, course}
+use Rattle.courses.specs.Gaps.{OrGap, element, with_gaps, in_its_place, first_known, all_known, missing_to_first, all_missing}
+use Rattle.courses.specs.Gaps.{known_to_hold}
+use Rattle.courses.specs.Rules.{Query, Waiting, if_there, when, next_of, course}
 
 -- what is decided from what is known is the result under all answers that extend it
 abbrev pub DecidedIsSo : (I A R : Type 0) → Type 0
@@ -74,3 +75,18 @@ pub record PartsAreSo (I A B : Type 0) : Type 0 where
       with_gaps items (joined l m) ≡ with_gaps items l ++ with_gaps items m
   pub flat : (items : ℕ → Option (List I)) (f : A → Lazy I B) (l : Lazy I A) →
       with_gaps items (each f l) ≡ flat_map (in_its_place (λ a. with_gaps items (f a))) (with_gaps items l)
+
+-- searches in one list behind another, from searches in the two
+pub record SearchesInParts (A : Type 0) : Type 0 where
+  pub firsts : (verdict : A → Option Bool) (l m : List (OrGap A)) →
+      first_known verdict (l ++ m) ≡
+      where_known (first_known verdict l) (λ r. if_there r (λ a. Some (Some a)) (first_known verdict m))
+  pub alls : (verdict : A → Option Bool) (l m : List (OrGap A)) →
+      all_known verdict (l ++ m) ≡ where_known (all_known verdict l) (λ xs. option_map (λ ys. xs ++ ys) (all_known verdict m))
+  pub missing_to_firsts : (verdict : A → Option Bool) (l m : List (OrGap A)) →
+      missing_to_first verdict (l ++ m) ≡
+      missing_to_first verdict l ++ when (is_some (first (known_to_hold verdict l))) [] (missing_to_first verdict m)
+  pub all_missings : (verdict : A → Option Bool) (l m : List (OrGap A)) →
+      all_missing verdict (l ++ m) ≡ all_missing verdict l ++ all_missing verdict m
+  pub held : (verdict : A → Option Bool) (l m : List (OrGap A)) →
+      known_to_hold verdict (l ++ m) ≡ known_to_hold verdict l ++ known_to_hold verdict m

@@ -1,7 +1,7 @@
 // Laws of the definitions: a call does nothing, and its contract is the law.
 
 ghost use Rattle.courses.specs.Laws.{DecidedIsSo, DecidedOrFound, FirstIsAsked, FoundAreNeeded, NeededIsFound};
-ghost use Rattle.courses.specs.Laws.{FoundAfter, SearchesAreSo, CourseIsNext, GapsAreSo, PartsAreSo};
+ghost use Rattle.courses.specs.Laws.{FoundAfter, SearchesAreSo, CourseIsNext, GapsAreSo, PartsAreSo, SearchesInParts};
 
 /// What is decided from what is known is so under all answers that extend it.
 pub fn decided_is_so<I, A, R>()
@@ -52,4 +52,9 @@ pub fn gaps_are_so<I, A>()
 /// The list with gaps of what is put together from parts is made from those of the parts.
 pub fn parts_are_so<I, A, B>()
     ensures { PartsAreSo I A B }
+{}
+
+/// What searches in one list behind another come to, and find to be asked, is made from searches in the two.
+pub fn searches_in_parts<A>()
+    ensures { SearchesInParts A }
 {}
