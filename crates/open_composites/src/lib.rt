@@ -3,6 +3,7 @@
 
 pub mod column;
 pub mod composite;
+pub mod kind;
 pub mod laws;
 pub mod operators;
 pub mod scheme;

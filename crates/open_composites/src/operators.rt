@@ -4,111 +4,20 @@ ghost use Rattle.std.specs.Prelude.{◌≡◌, ◌∷◌, [], ◌++◌, ◌&&◌
 ghost use Rattle.spec_core.specs.Code.{relabelling_of, synchronised_of};
 ghost use Rattle.spec_core.specs.Numbers.{gate_number};
 ghost use Rattle.spec_core.specs.Theories.{theory_of};
-ghost use Rattle.rule_model.specs.Actions.{synchronises};
-ghost use Rattle.windowed_trees.specs.MayDerive.{renamed_kind};
-ghost use Rattle.composites.specs.Kinds as kinds;
 ghost use Rattle.open_composites.specs.Plans.{field_of};
-ghost use Rattle.open_composites.specs.OpenPlans.{kind_in, open_plan_of, under_row, under_relabelling, plans_alone, paired_plan};
+ghost use Rattle.open_composites.specs.OpenPlans.{open_plan_of, under_row, under_relabelling, plans_alone, paired_plan};
 ghost use Rattle.open_composites.specs.OpenPlans.{plans_joint, plan_by_hiding, plan_by_enabling, plan_by_disabling, plans_of_choice};
 ghost use Rattle.open_composites.specs.OpenPlans.{plans_of_parallel, plans_of_disable, plans_of_gates};
 
 use crate::column::{Column, all_together};
 use crate::composite::{ActionKind, OpenComposite};
+use crate::kind::{is_alone, is_end, is_hidden, is_joint, renamed, same_kind};
 use crate::scheme::{Row, Scheme};
 use spec_core::code::GateSet;
 use spec_core::equation::DataSpec;
 use spec_core::items::Gate;
 use spec_core::memory::Memory;
 use std::alloc::Global;
-use substitution::relabelling::{is_among, renamed_gate};
-
-// Whether a parallel composition synchronises at the gate.
-fn is_synchronised(gates: &GateSet, gate: Gate) -> bool
-    ensures { result ≡ synchronises (synchronised_of gates.now) gate.0 }
-{
-    match gates {
-        GateSet::Every => true,
-        GateSet::These(these) => is_among(gate, these),
-    }
-}
-
-// Whether one side of a parallel composition does it alone.
-fn is_alone(gates: &GateSet, kind: ActionKind) -> bool
-    ensures { result ≡ kinds.is_alone (synchronised_of gates.now) (kind_in kind) }
-{
-    match kind {
-        ActionKind::Inner => true,
-        ActionKind::Exit => false,
-        ActionKind::At(gate) => !is_synchronised(gates, gate),
-    }
-}
-
-// Whether both sides of a parallel composition do it together.
-fn is_joint(gates: &GateSet, kind: ActionKind) -> bool
-    ensures { result ≡ kinds.is_joint (synchronised_of gates.now) (kind_in kind) }
-{
-    match kind {
-        ActionKind::Inner => false,
-        ActionKind::Exit => true,
-        ActionKind::At(gate) => is_synchronised(gates, gate),
-    }
-}
-
-// Whether a hiding makes it internal.
-fn is_hidden(gates: &[Gate], kind: ActionKind) -> bool
-    ensures { result ≡ kinds.is_hidden (map gate_number gates.now) (kind_in kind) }
-{
-    match kind {
-        ActionKind::Inner => false,
-        ActionKind::Exit => false,
-        ActionKind::At(gate) => is_among(gate, gates),
-    }
-}
-
-// Whether it is the termination.
-fn is_end(kind: ActionKind) -> bool
-    ensures { result ≡ kinds.is_end (kind_in kind) }
-{
-    match kind {
-        ActionKind::Inner => false,
-        ActionKind::Exit => true,
-        ActionKind::At(_) => false,
-    }
-}
-
-// Whether two actions are of one kind.
-fn same_kind(left: ActionKind, right: ActionKind) -> bool
-    ensures { result ≡ kinds.same_kind (kind_in left) (kind_in right) }
-{
-    match left {
-        ActionKind::Inner => match right {
-            ActionKind::Inner => true,
-            ActionKind::Exit => false,
-            ActionKind::At(_) => false,
-        },
-        ActionKind::Exit => match right {
-            ActionKind::Inner => false,
-            ActionKind::Exit => true,
-            ActionKind::At(_) => false,
-        },
-        ActionKind::At(gate) => match right {
-            ActionKind::Inner => false,
-            ActionKind::Exit => false,
-            ActionKind::At(other) => gate.0 == other.0,
-        },
-    }
-}
-
-// The kind at the gate that stands in the place of its own.
-fn renamed(pairs: &[(Gate, Gate)], kind: ActionKind) -> ActionKind
-    ensures { kind_in result ≡ renamed_kind (map relabelling_of pairs.now) (kind_in kind) }
-{
-    match kind {
-        ActionKind::Inner => ActionKind::Inner,
-        ActionKind::Exit => ActionKind::Exit,
-        ActionKind::At(gate) => ActionKind::At(renamed_gate(pairs, gate)),
-    }
-}
 
 // A composite under a rule.
 fn below(alloc: Global, row: Row, composite: OpenComposite) -> Result<OpenComposite, Memory>
