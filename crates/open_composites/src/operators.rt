@@ -1,9 +1,10 @@
-// The operators over lists of composites.
+// What operators make of composites: of one, of two, and of lists of them.
 
-ghost use Rattle.std.specs.Prelude.{◌≡◌, ◌∷◌, [], ◌++◌, ◌&&◌, IfOk, map, flat_map};
+ghost use Rattle.std.specs.Prelude.{◌≡◌, ◌∷◌, [], ◌++◌, ◌&&◌, IfOk, map, flat_map, option_map};
 ghost use Rattle.spec_core.specs.Code.{relabelling_of, synchronised_of};
 ghost use Rattle.spec_core.specs.Numbers.{gate_number};
 ghost use Rattle.spec_core.specs.Theories.{theory_of};
+ghost use Rattle.composites.specs.Composites.{from_option};
 ghost use Rattle.open_composites.specs.Plans.{field_of};
 ghost use Rattle.open_composites.specs.OpenPlans.{open_plan_of, under_row, under_relabelling, plans_alone, paired_plan};
 ghost use Rattle.open_composites.specs.OpenPlans.{plans_joint, plan_by_hiding, plan_by_enabling, plan_by_disabling, plans_of_choice};
@@ -19,9 +20,9 @@ use spec_core::items::Gate;
 use spec_core::memory::Memory;
 use std::alloc::Global;
 
-// A composite under a rule.
-fn below(alloc: Global, row: Row, composite: OpenComposite) -> Result<OpenComposite, Memory>
-    ensures { IfOk result (λ c. open_plan_of c ≡ under_row row (open_plan_of composite)) }
+/// A composite under a rule.
+pub fn below(alloc: Global, row: Row, composite: OpenComposite) -> Result<OpenComposite, Memory>
+    ensures below { IfOk result (λ c. open_plan_of c ≡ under_row row (open_plan_of composite)) }
 {
     let OpenComposite {
         kind,
@@ -110,27 +111,41 @@ fn put_alone(
         flat_map (plans_alone (synchronised_of gates.now) row.now) (map open_plan_of composites.now)) }
 {
     for composite in composites {
-        put_if_alone(alloc, gates, row, composite, all)?;
+        put_option(alone(alloc, gates, row, composite)?, all)?;
     }
     Ok(())
 }
 
-// Appends a composite under a rule, where one side of a parallel composition has it alone.
-fn put_if_alone(
+// Appends what there is.
+fn put_option(composite: Option<OpenComposite>, all: &mut Vec<OpenComposite>) -> Result<(), Memory>
+    ensures { IfOk result (λ _.
+        map open_plan_of all.new.items ≡ map open_plan_of all.old.items ++ from_option (option_map open_plan_of composite) (λ p. p ∷ [])) }
+{
+    match composite {
+        None => Ok(()),
+        Some(composite) => {
+            all.push(composite)?;
+            Ok(())
+        }
+    }
+}
+
+/// A composite of one side of a parallel composition under a rule; None where that side doesn't have it alone.
+pub fn alone(
     alloc: Global,
     gates: &GateSet,
     row: &Row,
     composite: &OpenComposite,
-    all: &mut Vec<OpenComposite>,
-) -> Result<(), Memory>
-    ensures { IfOk result (λ _.
-        map open_plan_of all.new.items ≡
-        map open_plan_of all.old.items ++ plans_alone (synchronised_of gates.now) row.now (open_plan_of composite.now)) }
+) -> Result<Option<OpenComposite>, Memory>
+    ensures alone { IfOk result (λ o.
+        from_option (option_map open_plan_of o) (λ p. p ∷ []) ≡
+        plans_alone (synchronised_of gates.now) row.now (open_plan_of composite.now)) }
 {
     if is_alone(gates, composite.kind) {
-        all.push(below(alloc, row.copy(alloc)?, composite.copy(alloc)?)?)?;
+        Ok(Some(below(alloc, row.copy(alloc)?, composite.copy(alloc)?)?))
+    } else {
+        Ok(None)
     }
-    Ok(())
 }
 
 // The composite of two sides together, with these fields.
@@ -153,30 +168,25 @@ fn paired(
     })
 }
 
-// Appends the composite of two sides together, if there is one.
-fn put_joint(
+/// The composite of two sides of a parallel composition together; None where they don't do it together.
+pub fn joint(
     alloc: Global,
     algebra: &DataSpec,
     gates: &GateSet,
     left: &OpenComposite,
     right: &OpenComposite,
-    all: &mut Vec<OpenComposite>,
-) -> Result<(), Memory>
-    ensures { IfOk result (λ _.
-        map open_plan_of all.new.items ≡
-        map open_plan_of all.old.items ++
+) -> Result<Option<OpenComposite>, Memory>
+    ensures joint { IfOk result (λ o.
+        from_option (option_map open_plan_of o) (λ p. p ∷ []) ≡
         plans_joint (theory_of algebra.now) (synchronised_of gates.now) (open_plan_of left.now) (open_plan_of right.now)) }
 {
     if same_kind(left.kind, right.kind) && is_joint(gates, left.kind) {
         match all_together(alloc, algebra, &left.columns, &right.columns)? {
-            None => Ok(()),
-            Some(columns) => {
-                all.push(paired(alloc, left, right, columns)?)?;
-                Ok(())
-            }
+            None => Ok(None),
+            Some(columns) => Ok(Some(paired(alloc, left, right, columns)?)),
         }
     } else {
-        Ok(())
+        Ok(None)
     }
 }
 
@@ -195,7 +205,7 @@ fn put_joints(
         flat_map (plans_joint (theory_of algebra.now) (synchronised_of gates.now) (open_plan_of left.now)) (map open_plan_of right.now)) }
 {
     for other in right {
-        put_joint(alloc, algebra, gates, left, other, all)?;
+        put_option(joint(alloc, algebra, gates, left, other)?, all)?;
     }
     Ok(())
 }
@@ -240,13 +250,13 @@ pub fn parallel(
     Ok(all)
 }
 
-// A composite under a hiding.
-fn by_hiding(
+/// A composite under a hiding.
+pub fn by_hiding(
     alloc: Global,
     gates: &[Gate],
     composite: OpenComposite,
 ) -> Result<OpenComposite, Memory>
-    ensures { IfOk result (λ c. open_plan_of c ≡ plan_by_hiding (map gate_number gates.now) (open_plan_of composite)) }
+    ensures made { IfOk result (λ c. open_plan_of c ≡ plan_by_hiding (map gate_number gates.now) (open_plan_of composite)) }
 {
     if is_hidden(gates, composite.kind) {
         let OpenComposite {
@@ -281,9 +291,9 @@ pub fn hide(
     Ok(all)
 }
 
-// A composite of the left side of an enabling.
-fn by_enabling(alloc: Global, composite: OpenComposite) -> Result<OpenComposite, Memory>
-    ensures { IfOk result (λ c. open_plan_of c ≡ plan_by_enabling (open_plan_of composite)) }
+/// A composite of the left side of an enabling.
+pub fn by_enabling(alloc: Global, composite: OpenComposite) -> Result<OpenComposite, Memory>
+    ensures made { IfOk result (λ c. open_plan_of c ≡ plan_by_enabling (open_plan_of composite)) }
 {
     if is_end(composite.kind) {
         let OpenComposite {
@@ -313,9 +323,9 @@ pub fn enable(alloc: Global, composites: Vec<OpenComposite>) -> Result<Vec<OpenC
     Ok(all)
 }
 
-// A composite of the left side of a disabling.
-fn by_disabling(alloc: Global, composite: OpenComposite) -> Result<OpenComposite, Memory>
-    ensures { IfOk result (λ c. open_plan_of c ≡ plan_by_disabling (open_plan_of composite)) }
+/// A composite of the left side of a disabling.
+pub fn by_disabling(alloc: Global, composite: OpenComposite) -> Result<OpenComposite, Memory>
+    ensures made { IfOk result (λ c. open_plan_of c ≡ plan_by_disabling (open_plan_of composite)) }
 {
     if is_end(composite.kind) {
         below(alloc, Row::Disend, composite)
@@ -341,13 +351,13 @@ pub fn disable(
     Ok(all)
 }
 
-// A composite under a relabelling.
-fn by_relabelling(
+/// A composite under a relabelling.
+pub fn by_relabelling(
     alloc: Global,
     pairs: &[(Gate, Gate)],
     composite: OpenComposite,
 ) -> Result<OpenComposite, Memory>
-    ensures { IfOk result (λ c. open_plan_of c ≡ under_relabelling (map relabelling_of pairs.now) (open_plan_of composite)) }
+    ensures made { IfOk result (λ c. open_plan_of c ≡ under_relabelling (map relabelling_of pairs.now) (open_plan_of composite)) }
 {
     let OpenComposite {
         kind,
@@ -378,9 +388,9 @@ pub fn relabel(
     Ok(all)
 }
 
-// Equal composites, in the same order.
-fn copies(alloc: Global, composites: &[OpenComposite]) -> Result<Vec<OpenComposite>, Memory>
-    ensures { IfOk result (λ all. map open_plan_of all.items ≡ map open_plan_of composites.now) }
+/// Equal composites, in the same order.
+pub fn copies(alloc: Global, composites: &[OpenComposite]) -> Result<Vec<OpenComposite>, Memory>
+    ensures equal { IfOk result (λ all. map open_plan_of all.items ≡ map open_plan_of composites.now) }
 {
     let mut all = Vec::new(alloc);
     for composite in composites {
