@@ -102,6 +102,11 @@ module _ (theory : Theory) (w : Windows) where
 
 pub plans_make_composites : PlansMakeComposites
 plans_make_composites theory w = record {
+  one_alone = one_alone theory w;
+  one_joint = one_joint theory w;
+  one_hiding = one_hiding theory w;
+  one_enabling = one_enabling theory w;
+  one_disabling = one_disabling theory w;
   rows = rows theory w;
   choice = λ ps qs.
       map_append (of theory w) (map (under_row Chl) ps) (map (under_row Chr) qs)

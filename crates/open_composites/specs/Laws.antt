@@ -3,10 +3,12 @@ use Rattle.std.specs.Prelude.{ℕ, ◌≡◌, List, map}
 use Rattle.spec_core.specs.Theories.{Theory}
 use Rattle.spec_core.specs.Code.{Relabelling, Synchronised}
 use Rattle.windowed_trees.specs.Windows.{Windows}
-use Rattle.composites.specs.Composites.{Composite, under, by_hiding, by_enabling, of_choice, of_parallel, of_disable, of_relabel, of_gates}
+use Rattle.composites.specs.Composites.{Composite, under, alone, joint, by_hiding, by_enabling, by_disabling, of_choice, of_parallel}
+use Rattle.composites.specs.Composites.{of_disable, of_relabel, of_gates}
 use Rattle.open_composites.specs.declared.scheme.Row.{Row}
 use Rattle.open_composites.specs.Plans.{put_row}
-use Rattle.open_composites.specs.OpenPlans.{OpenPlan, composite_of, under_row, under_relabelling, plan_by_hiding, plan_by_enabling}
+use Rattle.open_composites.specs.OpenPlans.{OpenPlan, composite_of, under_row, under_relabelling, plans_alone, plans_joint, plan_by_hiding}
+use Rattle.open_composites.specs.OpenPlans.{plan_by_enabling, plan_by_disabling}
 use Rattle.open_composites.specs.OpenPlans.{plans_of_choice, plans_of_parallel, plans_of_disable, plans_of_gates}
 
 -- the composites of plans
@@ -14,6 +16,16 @@ abbrev pub composites_of : Theory → Windows → List OpenPlan → List Composi
 composites_of theory w ps = map (composite_of theory w) ps
 
 pub record PlansAreOfComposites (theory : Theory) (w : Windows) : Type 0 where
+  -- of one composite, or of two
+  pub one_alone : (gates : Synchronised) (row : Row) (p : OpenPlan) →
+      composites_of theory w (plans_alone gates row p) ≡ alone gates (put_row row) (composite_of theory w p)
+  pub one_joint : (gates : Synchronised) (p q : OpenPlan) →
+      composites_of theory w (plans_joint theory gates p q) ≡ joint theory gates (composite_of theory w p) (composite_of theory w q)
+  pub one_hiding : (gates : List ℕ) (p : OpenPlan) →
+      composite_of theory w (plan_by_hiding gates p) ≡ by_hiding theory w gates (composite_of theory w p)
+  pub one_enabling : (p : OpenPlan) → composite_of theory w (plan_by_enabling p) ≡ by_enabling theory w (composite_of theory w p)
+  pub one_disabling : (p : OpenPlan) → composite_of theory w (plan_by_disabling p) ≡ by_disabling (composite_of theory w p)
+  -- and of lists of them
   pub rows : (row : Row) (ps : List OpenPlan) →
       composites_of theory w (map (under_row row) ps) ≡ map (under (put_row row)) (composites_of theory w ps)
   pub choice : (ps qs : List OpenPlan) →
