@@ -15,7 +15,7 @@ use Rattle.code_behaviours.proofs.Handing.{handed_on_values_join}
 use Rattle.substitution_laws.proofs.Nothing.{empty_many, empty_substitutions_change_nothing}
 use Rattle.tree_nodes.specs.Generations.{IsFresh}
 use Rattle.tree_nodes.specs.Origins.{scoped, meaning}
-use Rattle.tree_nodes.specs.Rests.{Way, Fills, slots_of, done_in, left_in}
+use Rattle.tree_nodes.specs.Rests.{Way, Work, Fills, slots_of, done_in, left_in}
 use Rattle.tree_nodes.specs.Shapes.{Held, Shape, leaf, ended, over, between, Unary, hidden, relabelled, enabled, Binary, choosing, beside}
 use Rattle.tree_nodes.specs.Shapes.{disabling}
 use Rattle.tree_nodes.specs.Shapes.{under, first_of, second_of, stands_for, IsRight, IsWorkOf}
@@ -434,10 +434,10 @@ module _ (program : Program) where
     acts = λ each any. m.acts each.1 (⊎_elim (λ f. absurd (never f)) (λ f. f) any);
   }
 
-  pub moves_node : (place : List ℕ) (low high : ℕ) (n : Held) (ways : List Way) (s t : Shape) (d : Derivation) (a : Action) →
-      s ≡ leaf n → n.work ≡ Some ways → Acts program (meaning program n.source) ways d a t → IsFresh place low high t →
+  pub moves_node : (place : List ℕ) (low high : ℕ) (n : Held) (work : Work) (s t : Shape) (d : Derivation) (a : Action) →
+      s ≡ leaf n → n.work ≡ Some work → Acts program (meaning program n.source) work.ways d a t → IsFresh place low high t →
       Moves program place s d a t low high
-  moves_node place low high n ways s t d a e w m f = record {
+  moves_node place low high n work s t d a e w m f = record {
     becomes = becomes_at s t (leaf n) t d a e refl (record {
       becomes = λ right follows.
           m.acts (subst (IsWorkOf program n.source) w (right [] n refl)) (subst (λ k. IsDone k d) w follows);

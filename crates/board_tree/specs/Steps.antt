@@ -9,7 +9,7 @@ use Rattle.rule_model.specs.Derivations.{pass}
 use Rattle.rule_model.specs.Derivations.{enstep, enend, disstep, disend, distake, calling, rel}
 use Rattle.rule_model.specs.Derives.{Derives}
 use Rattle.board_tree.specs.Keeping.{IsUntouched, Goes}
-use Rattle.tree_nodes.specs.Rests.{Way, Fills, IsWayOf}
+use Rattle.tree_nodes.specs.Rests.{Way, Work, Fills, IsWayOf}
 use Rattle.tree_nodes.specs.Shapes.{Shape, leaf, over, between, hidden, relabelled, enabled, choosing, beside, disabling}
 use Rattle.tree_nodes.specs.Shapes.{stands_for, IsRight}
 use Rattle.tree_nodes.specs.Constructs.{IsChoosing, IsBeside, IsDisabling, IsHidden, IsRelabelled, IsEnabled}
@@ -19,9 +19,9 @@ abbrev pub AnyFilled : List Way → Derivation → Type 0
 AnyFilled [] d = ⊥
 AnyFilled (way ∷ ways) d = Fills way.rules d ⊎ AnyFilled ways d
 
-abbrev pub IsDone : Option (List Way) → Derivation → Type 0
+abbrev pub IsDone : Option Work → Derivation → Type 0
 IsDone None d = ⊥
-IsDone (Some ways) d = AnyFilled ways d
+IsDone (Some work) d = AnyFilled work.ways d
 
 -- each node that takes part in the tree of rules is expanded, and its part of the tree fills one of its ways to act
 abbrev pub Follows : Shape → Derivation → Type 0

@@ -6,7 +6,7 @@ ghost use Rattle.spec_core.specs.Ready.{IsReady};
 ghost use Rattle.rule_model.specs.Derivations.{derivation_of};
 ghost use Rattle.tree_nodes.specs.Generations.{IsFresh};
 ghost use Rattle.tree_nodes.specs.Origins.{source_of, meaning};
-ghost use Rattle.tree_nodes.specs.Rests.{way_of, ways_of, rows_of, slots_of, Fills};
+ghost use Rattle.tree_nodes.specs.Rests.{way_of, expansion_of, rows_of, slots_of, Fills};
 ghost use Rattle.tree_nodes.specs.Shapes.{shape_of, held_of, leaf};
 ghost use Rattle.board_tree.specs.Steps.{Acts, Moves};
 
@@ -144,7 +144,7 @@ fn advance_expanded(
     place: &[u32],
 ) -> Result<Advanced, Memory>
     requires ready { IsReady (program_of checked.now) }
-    requires work { (held_of node.now).work ≡ Some (ways_of expansion.now) }
+    requires work { (held_of node.now).work ≡ Some (expansion_of expansion.now) }
     ensures moves { IfOk result (λ a.
         Moves (program_of checked.now) place.now (leaf (held_of node.now)) (derivation_of rules.now) a.action (shape_of a.branch.value) next
         a.next) }

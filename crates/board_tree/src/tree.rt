@@ -7,7 +7,7 @@ ghost use Rattle.rule_model.specs.Behaviours.{behaviour_of};
 ghost use Rattle.rule_model.specs.Code.{IsStart};
 ghost use Rattle.rule_model.specs.Derivations.{derivation_of};
 ghost use Rattle.tree_nodes.specs.Generations.{AreApart, AreBelow, ArePlaced};
-ghost use Rattle.tree_nodes.specs.Rests.{ways_of};
+ghost use Rattle.tree_nodes.specs.Rests.{expansion_of};
 ghost use Rattle.tree_nodes.specs.Shapes.{stands_for, held_of, posted, Lives, IsNodeOf, IsRight, IsWorkFor, AllWait};
 ghost use Rattle.board_tree.specs.Views.{shape, IsReserved, IsStep};
 
@@ -121,9 +121,9 @@ impl Tree {
     /// Expands the node of a live generation. The work is what its origin can do, if the tree is to be right. It takes no memory.
     pub fn post(&mut self, generation: Gen, work: Expansion)
         requires lives { Lives (shape self.old) generation.0 }
-        ensures posted { shape self.new ≡ posted generation.0 (ways_of work) (shape self.old) }
+        ensures posted { shape self.new ≡ posted generation.0 (expansion_of work) (shape self.old) }
         ensures stands { (program : Program) → stands_for program (shape self.new) ≡ stands_for program (shape self.old) }
-        ensures right { (program : Program) → IsWorkFor program (shape self.old) generation.0 (ways_of work) →
+        ensures right { (program : Program) → IsWorkFor program (shape self.old) generation.0 (expansion_of work) →
             IsRight program (shape self.old) → IsRight program (shape self.new) }
         ensures next { self.new.next ≡ self.old.next }
         ensures gone { self.new.gone ≡ self.old.gone }

@@ -16,6 +16,7 @@ use Rattle.rule_model.specs.Derives.{Derives}
 use Rattle.rule_model.specs.Substitution.{without, put, tidied}
 use Rattle.code_behaviours.specs.Parts.{behaviour_at}
 use Rattle.code_behaviours.specs.Values.{assignment}
+use Rattle.open_composites.specs.OpenPlans.{OpenPlan, open_plan_of}
 use Rattle.tree_nodes.specs.declared.rest.Known.{Known}
 use Rattle.tree_nodes.specs.declared.rest.Known.TheVariants.{Told, Chosen}
 use Rattle.tree_nodes.specs.declared.rest.Deed.{Deed}
@@ -158,8 +159,13 @@ pub record Way : Type 0 where
 abbrev pub way_of : Alternative → Way
 way_of a = record { rules = derivation_of a.rules; action = does_of a.action; rest = remainder_of a.rest }
 
-abbrev pub ways_of : Expansion → List Way
-ways_of e = map way_of e.alternatives.items
+-- what an origin can do: the plans of its composites, in order, and the ways to act
+pub record Work : Type 0 where
+  pub plans : List OpenPlan
+  pub ways : List Way
+
+abbrev pub expansion_of : Expansion → Work
+expansion_of e = record { plans = map open_plan_of e.composites.items; ways = map way_of e.alternatives.items }
 
 -- what the behaviour does by a tree that fills this one is its action, and what it becomes is what is left
 abbrev pub IsWayOf : Program → Behaviour → Way → Type 0

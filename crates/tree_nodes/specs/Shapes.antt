@@ -16,14 +16,14 @@ use Rattle.tree_nodes.specs.declared.branch.Double.TheVariants.{Choice, Par, Dis
 use Rattle.tree_nodes.specs.declared.branch.Branch.{Branch}
 use Rattle.tree_nodes.specs.declared.branch.Branch.TheVariants.{Leaf, Ended, Over', Between'}
 use Rattle.tree_nodes.specs.Origins.{Source, source_of, meaning}
-use Rattle.tree_nodes.specs.Rests.{Way, ways_of, IsWayOf}
+use Rattle.tree_nodes.specs.Rests.{Work, expansion_of, IsWayOf}
 
 -- A node: its generation, its origin, its place from the root, and what its origin can do once it is expanded. One without that waits.
 pub record Held : Type 0 where
   pub generation : ℕ
   pub source : Source
   pub place : List ℕ
-  pub work : Option (List Way)
+  pub work : Option Work
 
 -- a node that waits
 abbrev pub new_node : ℕ → Source → List ℕ → Held
@@ -48,9 +48,9 @@ pub data Shape : Type 0 where
   over : Unary → Shape → Shape
   between : Binary → Shape → Shape → Shape
 
-abbrev pub work_of : Option Expansion → Option (List Way)
+abbrev pub work_of : Option Expansion → Option Work
 work_of None = None
-work_of (Some e) = Some (ways_of e)
+work_of (Some e) = Some (expansion_of e)
 
 abbrev pub held_of : Node → Held
 held_of n = record { generation = n.generation.0; source = source_of n.origin; place = n.place.items; work = work_of n.work }
@@ -132,27 +132,27 @@ node_at g (over o x) = node_at g x
 node_at g (between o x y) = first_found (node_at g x) (node_at g y)
 
 -- the node of this generation with this work, and each other node as it is
-abbrev pub with_work : ℕ → List Way → Held → Held
-with_work g ways n =
-    if n.generation == g then record { generation = n.generation; source = n.source; place = n.place; work = Some ways } else n
+abbrev pub with_work : ℕ → Work → Held → Held
+with_work g work n =
+    if n.generation == g then record { generation = n.generation; source = n.source; place = n.place; work = Some work } else n
 
-abbrev pub posted : ℕ → List Way → Shape → Shape
-posted g ways (leaf n) = leaf (with_work g ways n)
-posted g ways ended = ended
-posted g ways (over o x) = over o (posted g ways x)
-posted g ways (between o x y) = between o (posted g ways x) (posted g ways y)
+abbrev pub posted : ℕ → Work → Shape → Shape
+posted g work (leaf n) = leaf (with_work g work n)
+posted g work ended = ended
+posted g work (over o x) = over o (posted g work x)
+posted g work (between o x y) = between o (posted g work x) (posted g work y)
 
--- the work of a node is what its origin can do
-abbrev pub IsWorkOf : Program → Source → Option (List Way) → Type 0
+-- the ways of a node's work are ways of its origin to act
+abbrev pub IsWorkOf : Program → Source → Option Work → Type 0
 IsWorkOf program o None = Unit {0}
-IsWorkOf program o (Some ways) = Each (IsWayOf program (meaning program o)) ways
+IsWorkOf program o (Some work) = Each (IsWayOf program (meaning program o)) work.ways
 
 abbrev pub IsRight : Program → Shape → Type 0
 IsRight program t = (up : List Above) (n : Held) → Stands t up n → IsWorkOf program n.source n.work
 
 -- this is the work of the node of this generation
-abbrev pub IsWorkFor : Program → Shape → ℕ → List Way → Type 0
-IsWorkFor program t g ways = (n : Held) → IsNodeOf t g n → IsWorkOf program n.source (Some ways)
+abbrev pub IsWorkFor : Program → Shape → ℕ → Work → Type 0
+IsWorkFor program t g work = (n : Held) → IsNodeOf t g n → IsWorkOf program n.source (Some work)
 
 -- every node waits
 abbrev pub AllWait : Shape → Type 0

@@ -1,9 +1,11 @@
 // Expansions of nodes.
 
 ghost use Rattle.std.specs.Prelude.{◌≡◌, IfOk, map};
-ghost use Rattle.tree_nodes.specs.Rests.{way_of, ways_of};
+ghost use Rattle.tree_nodes.specs.Rests.{way_of, expansion_of};
 
 use crate::rest::{Deed, Rest};
+use open_composites::composite::OpenComposite;
+use open_composites::operators::copies;
 use rule_model::rules::Rules;
 use spec_core::memory::Memory;
 use std::alloc::Global;
@@ -17,9 +19,10 @@ pub struct Alternative {
     pub rest: Rest,
 }
 
-/// What an origin can do.
+/// What an origin can do: what it can take part in, its composites in their order; and the ways to act by them.
 #[derive(Drop)]
 pub struct Expansion {
+    pub composites: Vec<OpenComposite>,
     pub alternatives: Vec<Alternative>,
 }
 
@@ -39,15 +42,30 @@ impl Alternative {
     }
 }
 
+// Equal ways to act, in the same order.
+fn copy_alternatives(
+    alloc: Global,
+    alternatives: &[Alternative],
+) -> Result<Vec<Alternative>, Memory>
+    ensures { IfOk result (λ all. map way_of all.items ≡ map way_of alternatives.now) }
+{
+    let mut all = Vec::new(alloc);
+    for alternative in alternatives {
+        all.push(alternative.copy(alloc)?)?;
+    }
+    Ok(all)
+}
+
 impl Expansion {
     /// An equal expansion.
     pub fn copy(&self, alloc: Global) -> Result<Expansion, Memory>
-        ensures equal { IfOk result (λ e. ways_of e ≡ ways_of self.now) }
+        ensures equal { IfOk result (λ e. expansion_of e ≡ expansion_of self.now) }
     {
-        let mut alternatives = Vec::new(alloc);
-        for alternative in &self.alternatives {
-            alternatives.push(alternative.copy(alloc)?)?;
-        }
-        Ok(Expansion { alternatives })
+        let composites = copies(alloc, &self.composites)?;
+        let alternatives = copy_alternatives(alloc, &self.alternatives)?;
+        Ok(Expansion {
+            composites,
+            alternatives,
+        })
     }
 }

@@ -3,7 +3,7 @@
 ghost use Rattle.std.specs.Prelude.{◌≡◌, ◌++◌, IfOk, IfSome, IfNone, None, Some};
 ghost use Rattle.tree_nodes.specs.Differences.{IsDifference, missing};
 ghost use Rattle.tree_nodes.specs.Posting.{is_there, posted_first};
-ghost use Rattle.tree_nodes.specs.Rests.{ways_of};
+ghost use Rattle.tree_nodes.specs.Rests.{expansion_of};
 ghost use Rattle.tree_nodes.specs.Shapes.{shape_of, held_of, node_at};
 
 use crate::branch::Branch;
@@ -48,7 +48,7 @@ impl Branch {
 
     /// Expands the first node of this generation, from the left. It takes no memory.
     pub fn post(&mut self, generation: Gen, work: Expansion)
-        ensures posted { shape_of self.new ≡ posted_first generation.0 (ways_of work) (shape_of self.old) }
+        ensures posted { shape_of self.new ≡ posted_first generation.0 (expansion_of work) (shape_of self.old) }
     {
         match self {
             Branch::Leaf(node) => {

@@ -1,5 +1,5 @@
 use Rattle.std.proofs.Common.{◌≡◌, [], rules, ap, subst, ◌∙◌}
-use Rattle.tree_nodes.specs.Rests.{ways_of}
+use Rattle.tree_nodes.specs.Rests.{expansion_of}
 use Rattle.tree_nodes.specs.Shapes.{shape_of, posted, stands_for, IsRight, IsWorkFor}
 use Rattle.board_tree.specs.Views.{shape}
 use Rattle.tree_nodes.proofs.Posts.{post_is_posted, post_stands, post_right, post_sound, post_placed}
@@ -7,30 +7,30 @@ use Rattle.board_tree.proofs.tree.Tree.post.Goals as goal
 
 pub invariant_of-self : goal.invariant_of-self
 invariant_of-self c = (
-  post_sound c.args.generation.0 c.self.inside.next (ways_of c.args.work) (shape_of c.self.inside.root) (shape_of c.post.new.self)
+  post_sound c.args.generation.0 c.self.inside.next (expansion_of c.args.work) (shape_of c.self.inside.root) (shape_of c.post.new.self)
       c.post.ensures.posted c.self.invariant.0,
-  post_placed c.args.generation.0 c.self.inside.next (ways_of c.args.work) [] (shape_of c.self.inside.root) (shape_of c.post.new.self)
+  post_placed c.args.generation.0 c.self.inside.next (expansion_of c.args.work) [] (shape_of c.self.inside.root) (shape_of c.post.new.self)
       c.post.ensures.posted c.self.invariant.0 c.self.invariant.1,
 )
 
 pub returns-clause-posted : goal.returns-clause-posted
 returns-clause-posted c =
     let same : shape_of c.self.inside.root ≡ shape c.args.self.now = search rules in
-    post_is_posted c.args.generation.0 c.self.inside.next (ways_of c.args.work) (shape_of c.self.inside.root) (shape_of c.post.new.self)
+    post_is_posted c.args.generation.0 c.self.inside.next (expansion_of c.args.work) (shape_of c.self.inside.root) (shape_of c.post.new.self)
     c.post.ensures.posted c.self.invariant.0
-    ∙ ap (posted c.args.generation.0 (ways_of c.args.work)) same
+    ∙ ap (posted c.args.generation.0 (expansion_of c.args.work)) same
 
 pub returns-clause-stands : goal.returns-clause-stands
 returns-clause-stands c program =
     let same : shape_of c.self.inside.root ≡ shape c.args.self.now = search rules in
-    post_stands c.args.generation.0 c.self.inside.next (ways_of c.args.work) (shape_of c.self.inside.root) (shape_of c.post.new.self)
+    post_stands c.args.generation.0 c.self.inside.next (expansion_of c.args.work) (shape_of c.self.inside.root) (shape_of c.post.new.self)
     c.post.ensures.posted c.self.invariant.0 program
     ∙ ap (stands_for program) same
 
 pub returns-clause-right : goal.returns-clause-right
 returns-clause-right c program for right =
     let same : shape c.args.self.now ≡ shape_of c.self.inside.root = search rules in
-    post_right c.args.generation.0 c.self.inside.next (ways_of c.args.work) (shape_of c.self.inside.root) (shape_of c.post.new.self)
+    post_right c.args.generation.0 c.self.inside.next (expansion_of c.args.work) (shape_of c.self.inside.root) (shape_of c.post.new.self)
     c.post.ensures.posted c.self.invariant.0 program
-    (subst (λ t. IsWorkFor program t c.args.generation.0 (ways_of c.args.work)) same for)
+    (subst (λ t. IsWorkFor program t c.args.generation.0 (expansion_of c.args.work)) same for)
     (subst (IsRight program) same right)
