@@ -1,0 +1,30 @@
+-- What follows from the definitions.
+use Rattle.std.specs.Prelude.{ℕ, ◌≡◌, List, map, Option, option_map}
+use Rattle.spec_core.specs.Theories.{Theory}
+use Rattle.windowed_trees.specs.Windows.{Windows}
+use Rattle.courses.specs.Gaps.{OrGap, element, gap, with_gaps}
+use Rattle.composites.specs.Composites.{Composite}
+use Rattle.open_composites.specs.OpenPlans.{composite_of}
+use Rattle.open_composites.specs.Laws.{composites_of}
+use Rattle.node_lists.specs.Waiting.{waiting_composites}
+use Rattle.tree_nodes.specs.Rests.{Work}
+use Rattle.tree_nodes.specs.Shapes.{Above, Held, Shape, Stands}
+use Rattle.tree_composites.specs.Known.{PlanOrGap, known_plans}
+
+module _ (theory : Theory) (w : Windows) where
+  -- the composite with the trees of a plan
+  abbrev pub composite_or_gap : PlanOrGap → OrGap Composite
+  composite_or_gap (element p) = element (composite_of theory w p)
+  composite_or_gap (gap g) = gap g
+
+  -- what is known of each node is what its expansion says
+  abbrev pub AreExpanded : (ℕ → Option (List Composite)) → Shape → Type 0
+  AreExpanded items t = (up : List Above) (n : Held) → Stands t up n →
+      items n.generation ≡ option_map (λ (x : Work). composites_of theory w x.plans) n.work
+
+-- the plans of a tree make its composites, with the same gaps
+abbrev pub KnownPlansAreThose : Type 0
+KnownPlansAreThose =
+    (theory : Theory) (w : Windows) (items : ℕ → Option (List Composite)) (t : Shape) →
+    AreExpanded theory w items t →
+    map (composite_or_gap theory w) (known_plans theory t) ≡ with_gaps items (waiting_composites theory w t)

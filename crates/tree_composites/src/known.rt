@@ -1,0 +1,67 @@
+// The composites of a tree of nodes, as far as they are known.
+
+ghost use Rattle.std.specs.Prelude.{◌≡◌, IfOk, map};
+ghost use Rattle.spec_core.specs.Theories.{theory_of};
+ghost use Rattle.courses.specs.Gaps.{element};
+ghost use Rattle.open_composites.specs.OpenPlans.{open_plan_of};
+ghost use Rattle.tree_nodes.specs.Shapes.{shape_of, held_of};
+ghost use Rattle.tree_composites.specs.Known.{part_of, plans_at, known_plans};
+
+use crate::operators::{over_parts, over_sides};
+use crate::part::Part;
+use open_composites::composite::OpenComposite;
+use spec_core::equation::DataSpec;
+use spec_core::memory::Memory;
+use std::alloc::Global;
+use tree_nodes::branch::Branch;
+use tree_nodes::node::Node;
+
+// Equal composites as parts.
+fn parts(alloc: Global, composites: &[OpenComposite]) -> Result<Vec<Part>, Memory>
+    ensures { IfOk result (λ all. map part_of all.items ≡ map element (map open_plan_of composites.now)) }
+{
+    let mut all = Vec::new(alloc);
+    for composite in composites {
+        all.push(Part::Composite(composite.copy(alloc)?))?;
+    }
+    Ok(all)
+}
+
+// The composites of a node, or a gap.
+#[inline(never)]
+fn at_node(alloc: Global, node: &Node) -> Result<Vec<Part>, Memory>
+    ensures { IfOk result (λ all. map part_of all.items ≡ plans_at (held_of node.now).generation (held_of node.now).work) }
+{
+    match &node.work {
+        None => {
+            let mut all = Vec::new(alloc);
+            all.push(Part::Gap(node.generation))?;
+            Ok(all)
+        }
+        Some(expansion) => parts(alloc, &expansion.composites),
+    }
+}
+
+/// The composites of a tree, in the order of trees of rules, with a gap in the place of each node that isn't expanded. It recurs as deep
+/// as operators nest.
+pub fn known_composites(
+    alloc: Global,
+    algebra: &DataSpec,
+    branch: &Branch,
+) -> Result<Vec<Part>, Memory>
+    ensures known { IfOk result (λ all. map part_of all.items ≡ known_plans (theory_of algebra.now) (shape_of branch.now)) }
+{
+    match branch {
+        Branch::Leaf(node) => at_node(alloc, node),
+        Branch::Ended => Ok(Vec::new(alloc)),
+        Branch::Over(operator, part) => {
+            let parts = known_composites(alloc, algebra, part)?;
+            over_parts(alloc, operator, parts)
+        }
+        Branch::Between(operator, left, right) => {
+            let first = known_composites(alloc, algebra, left)?;
+            let second = known_composites(alloc, algebra, right)?;
+            over_sides(alloc, algebra, operator, first, second)
+        }
+    }
+}
