@@ -16,7 +16,7 @@ use Rattle.windowed_trees.proofs.Sorts.{sort_of_ground}
 use Rattle.marked_values.specs.declared.scope.Given.TheVariants.{Value}
 use Rattle.marked_values.specs.Scopes.{marked_of}
 use Rattle.expand.specs.Choosing.{IsChoice}
-use Rattle.expand.specs.Tables.{windows_in, values_of}
+use Rattle.window_tables.specs.Tables.{windows_in, values_of}
 use Rattle.sort_windows.specs.Found.{AreBySorts}
 
 each_listed : {A : Type 0} (P : A → Type 0) (xs : List A) (x : A) → Each P xs → Contains xs x → P x

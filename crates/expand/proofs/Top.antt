@@ -32,7 +32,7 @@ use Rattle.marked_values.specs.Scopes.{marks_of}
 use Rattle.expand.specs.declared.outcome.Expanded.{Expanded}
 use Rattle.expand.specs.Outcomes.{Expands, Stopped, Outcome}
 use Rattle.expand.specs.Scoping.{scope_over}
-use Rattle.expand.specs.Tables.{windows_in, values_of, complete_of}
+use Rattle.window_tables.specs.Tables.{windows_in, values_of, complete_of}
 use Rattle.expand.specs.Expansions.{IsExpansion, IsReachedFrom, IsTooWideFor, IsStop}
 use Rattle.expand.proofs.Scoping.{scope_known}
 

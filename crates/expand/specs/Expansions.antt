@@ -16,7 +16,7 @@ use Rattle.reached_terms.specs.Reached.{Reaches}
 use Rattle.reached_terms.specs.Spread.{spread}
 use Rattle.marked_values.specs.declared.stop.Stop.{Stop}
 use Rattle.marked_values.specs.Stops.{OnSpent, OnTooLarge, OnWide}
-use Rattle.expand.specs.Tables.{windows_in}
+use Rattle.window_tables.specs.Tables.{windows_in}
 
 module _ (program : Program) (k : ℕ) (b : Behaviour) where
   -- The plans are those of the closed behaviour's composites, in order, whichever exact answers about data and code they are made with. The

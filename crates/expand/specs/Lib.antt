@@ -1,7 +1,6 @@
 pub mod Outcomes
 pub mod Joins
 pub mod Taking
-pub mod Tables
 pub mod Choosing
 pub mod Scoping
 pub mod Expansions

@@ -6,5 +6,4 @@ pub mod joining;
 pub mod leaves;
 pub mod outcome;
 mod relabelled;
-pub mod tables;
 mod walk;

@@ -10,7 +10,7 @@ ghost use Rattle.marked_values.specs.Scopes.{marks_of};
 ghost use Rattle.sort_windows.specs.Found.{AreBySorts};
 ghost use Rattle.tree_nodes.specs.Origins.{relabelled_by};
 ghost use Rattle.expand.specs.Outcomes.{Outcome};
-ghost use Rattle.expand.specs.Tables.{windows_in};
+ghost use Rattle.window_tables.specs.Tables.{windows_in};
 
 use crate::joining;
 use crate::outcome::Expanded;

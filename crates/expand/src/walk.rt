@@ -15,14 +15,14 @@ ghost use Rattle.open_composites.specs.OpenPlans.{open_plan_of};
 ghost use Rattle.marked_values.specs.Scopes.{marks_of, marked_of};
 ghost use Rattle.expand.specs.Choosing.{AddsChoice, IsChoice};
 ghost use Rattle.expand.specs.Outcomes.{Outcome, BelowOutcome};
-ghost use Rattle.expand.specs.Tables.{windows_in};
+ghost use Rattle.window_tables.specs.Tables.{windows_in};
 ghost use Rattle.sort_windows.specs.Found.{AreBySorts};
 
 use crate::joining;
 use crate::joining::{nothing, under_rule};
 use crate::leaves::{action_at, exit_at, inner_at};
 use crate::outcome::Expanded;
-use crate::tables::{is_complete, values_at};
+use window_tables::{is_complete, values_at};
 use code_behaviours::code::construct_at;
 use marked_values::fields::{bind, bind_arguments};
 use marked_values::scope::{Given, copy_scope, with};

@@ -7,7 +7,7 @@ use Rattle.sort_windows.specs.Found.{AreBySorts}
 use Rattle.tree_nodes.specs.Origins.{relabelled_by}
 use Rattle.expand.specs.Outcomes.{Outcome}
 use Rattle.expand.specs.Scoping.{scope_over}
-use Rattle.expand.specs.Tables.{windows_in}
+use Rattle.window_tables.specs.Tables.{windows_in}
 use Rattle.expand.proofs.Top.{table_windows, source_expanded, source_stops}
 use Rattle.expand.proofs.expansion.expand_source.Goals as goal
 

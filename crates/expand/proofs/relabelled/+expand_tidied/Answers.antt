@@ -6,7 +6,7 @@ use Rattle.rule_model.specs.Actions.{after}
 use Rattle.rule_model.specs.Behaviours.{stop}
 use Rattle.code_behaviours.specs.Parts.{behaviour_at, over_parts}
 use Rattle.marked_values.specs.Scopes.{marks_of}
-use Rattle.expand.specs.Tables.{windows_in}
+use Rattle.window_tables.specs.Tables.{windows_in}
 use Rattle.expand.proofs.Tidying.{stays, joins_relabelling, renames_gates}
 use Rattle.expand.proofs.relabelled.+expand_tidied.Goals as goal
 

@@ -17,7 +17,7 @@ use Rattle.marked_values.proofs.Finding.{of_none, of_some}
 use Rattle.expand.specs.Choosing.{IsChoice, AddsChoice, ExpandsEach}
 use Rattle.expand.specs.Joins.{Turns}
 use Rattle.expand.specs.Outcomes.{Outcome, BelowOutcome}
-use Rattle.expand.specs.Tables.{windows_in}
+use Rattle.window_tables.specs.Tables.{windows_in}
 use Rattle.expand.proofs.Calling.{is_definition, nothing_below, call_comes, no_arguments_come, argument_stops, no_definition_comes}
 use Rattle.expand.proofs.Choosing.{added, all_chosen}
 use Rattle.expand.proofs.Rows.{ended_comes, inner_comes, choice_comes, parallel_comes, disable_comes, hide_comes, enable_comes}

@@ -5,7 +5,7 @@ use Rattle.code_behaviours.specs.Parts.{behaviour_at}
 use Rattle.open_composites.specs.OpenPlans.{open_plan_of}
 use Rattle.marked_values.specs.Scopes.{marks_of}
 use Rattle.expand.specs.Choosing.{ExpandsEach}
-use Rattle.expand.specs.Tables.{windows_in}
+use Rattle.window_tables.specs.Tables.{windows_in}
 use Rattle.expand.proofs.walk.+walk.Given as goal
 
 abbrev pub decreases-enter : goal.decreases-enter

@@ -1,7 +1,7 @@
 // Windows by the numbers of the sorts.
 
 ghost use Rattle.std.specs.Prelude.{◌≡◌};
-ghost use Rattle.expand.specs.Tables.{windows_in};
+ghost use Rattle.window_tables.specs.Tables.{windows_in};
 
 use spec_core::items::Sort;
 use spec_core::value::Value;
