@@ -1,0 +1,4 @@
+pub mod Deciding
+pub mod Shows
+pub mod Laws
+pub mod Models
