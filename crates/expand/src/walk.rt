@@ -22,7 +22,6 @@ use crate::joining;
 use crate::joining::{nothing, under_rule};
 use crate::leaves::{action_at, exit_at, inner_at};
 use crate::outcome::Expanded;
-use window_tables::{is_complete, values_at};
 use code_behaviours::code::construct_at;
 use marked_values::fields::{bind, bind_arguments};
 use marked_values::scope::{Given, copy_scope, with};
@@ -38,6 +37,7 @@ use spec_core::value::Value;
 use spec_core::window::Window;
 use std::alloc::Global;
 use substitution::relabelling::pairs;
+use window_tables::{is_complete, values_at};
 
 // The gates, the variables and the body of a process.
 fn definition_at(checked: &Checked, number: u32) -> Option<(&[Gate], &[(u32, Sort)], Part)>
