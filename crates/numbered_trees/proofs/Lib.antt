@@ -1,0 +1,4 @@
+pub mod Pieces
+pub mod Capped
+pub mod Fronts
+pub mod Trees
