@@ -46,7 +46,7 @@ unseen_is (at_gate g) h = absurd h
 
 module _ (theory : Theory) (w : Windows) where
   one_may_meet : (c : OpenField) (slots : List Slot) (f : MarkedField) (field : Field) → IsAdmitted theory c slots f →
-      FieldMayMeet theory w f field → may_meet theory w c slots field ≡ true
+      FieldMayMeet theory w f field → may_meet theory c slots field ≡ true
   one_may_meet (fixed m v) slots (told u) (Give x) p h = same_value v x (p ∙ h)
   one_may_meet (fixed m v) slots (told u) (Take sort) p h =
       same_number (sort_of_value theory v) sort.0 (ap (sort_of_value theory) p ∙ h.0)
@@ -65,10 +65,10 @@ module _ (theory : Theory) (w : Windows) where
   one_may_meet (blank m s) slots (told u) field p h = absurd p
 
   fields_may_meet : (cs : List OpenField) (choices : List (List Slot)) (fs : List MarkedField) (fields : List Field) →
-      AreAdmitted theory cs choices fs → FieldsMayMeet theory w fs fields → all_may_meet theory w cs choices fields ≡ true
+      AreAdmitted theory cs choices fs → FieldsMayMeet theory w fs fields → all_may_meet theory cs choices fields ≡ true
   fields_may_meet [] choices [] [] p h = refl
   fields_may_meet (c ∷ cs) (slots ∷ choices) (f ∷ fs) (field ∷ fields) p h =
-      both_true (may_meet theory w c slots field) (all_may_meet theory w cs choices fields) (one_may_meet c slots f field p.0 h.0)
+      both_true (may_meet theory c slots field) (all_may_meet theory cs choices fields) (one_may_meet c slots f field p.0 h.0)
       (fields_may_meet cs choices fs fields p.1 h.1)
   fields_may_meet [] choices [] (field ∷ fields) p h = absurd h
   fields_may_meet [] choices (f ∷ fs) fields p h = absurd p
@@ -82,10 +82,10 @@ module _ (program : Program) (e : Evaluation) (exact : IsExact program e) (w : W
   shown : (o : _) (k : Kind) (h : IsSeen program w b o d k) → (c.kind ≡ k) × AreAdmitted program.theory c.fields choices h.fields
   shown o k h = shown_is_admitted program e w exact (length program.code) unmarked b c one choices d tree k h.fields h.derives
 
-  may_take_it : (offer : Offer) (k : Kind) → IsSeen program w b (Some offer) d k → may_take program.theory w offer c choices ≡ true
+  may_take_it : (offer : Offer) (k : Kind) → IsSeen program w b (Some offer) d k → may_take program.theory offer c choices ≡ true
   may_take_it offer k h =
       let s = shown (Some offer) k h in
-      both_true (same_kind c.kind (at_gate offer.gate.0)) (all_may_meet program.theory w c.fields choices offer.fields)
+      both_true (same_kind c.kind (at_gate offer.gate.0)) (all_may_meet program.theory c.fields choices offer.fields)
       (same_kind_so c.kind (at_gate offer.gate.0) (s.0 ∙ h.meets.0))
       (fields_may_meet program.theory w c.fields choices h.fields offer.fields s.1 h.meets.1)
 
@@ -94,23 +94,23 @@ module _ (program : Program) (e : Evaluation) (exact : IsExact program e) (w : W
 
   pub asked_may_be : (q : TreeQuery) → IsAsked program w b q d → may_be_asked program.theory w q c choices d ≡ true
   asked_may_be (meeting p) h =
-      both_true (not (has_mark d)) (may_take program.theory w p.offer c choices) (ap not h.1.1) (may_take_it p.offer h.0 h.1.0)
+      both_true (not (has_mark d)) (may_take program.theory p.offer c choices) (ap not h.1.1) (may_take_it p.offer h.0 h.1.0)
   asked_may_be any h = ap not h.1.1
   asked_may_be unseen h =
       both_true (not (has_mark d)) (is_unseen c.kind) (ap not h.1.1) (is_unseen_it h.0 h.1.0 h.2)
   asked_may_be (beyond p) h =
-      both_true (has_mark d) (may_take program.theory w p.offer c choices) h.1.1 (may_take_it p.offer h.0 h.1.0)
+      both_true (has_mark d) (may_take program.theory p.offer c choices) h.1.1 (may_take_it p.offer h.0 h.1.0)
   asked_may_be any_beyond h = h.1.1
   asked_may_be (beyond_or_unseen p) h = by_case h
     where
       either : Bool
-      either = may_take program.theory w p.offer c choices || is_unseen c.kind
+      either = may_take program.theory p.offer c choices || is_unseen c.kind
 
       by_case : ((k : Kind) × IsBeyond program w b (Some p.offer) d k) ⊎ ((k : Kind) × IsBeyond program w b None d k × IsUnseenKind k) →
           has_mark d && either ≡ true
       by_case (inl i) =
           both_true (has_mark d) either i.1.1
-          (left_true (may_take program.theory w p.offer c choices) (is_unseen c.kind) (may_take_it p.offer i.0 i.1.0))
+          (left_true (may_take program.theory p.offer c choices) (is_unseen c.kind) (may_take_it p.offer i.0 i.1.0))
       by_case (inr i) =
           both_true (has_mark d) either i.1.1
-          (right_true (may_take program.theory w p.offer c choices) (is_unseen c.kind) (is_unseen_it i.0 i.1.0 i.2))
+          (right_true (may_take program.theory p.offer c choices) (is_unseen c.kind) (is_unseen_it i.0 i.1.0 i.2))

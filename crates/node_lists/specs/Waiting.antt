@@ -67,6 +67,23 @@ abbrev pub where_asked : Bool → Lazy Composite Composite → Lazy Composite Co
 where_asked true l = l
 where_asked false l = nil
 
+module _ (theory : Theory) where
+  -- a field that is filled with these slots may meet a field of an offer
+  abbrev pub may_meet : OpenField → List Slot → Field → Bool
+  may_meet (fixed m v) slots (Give u) = bytes_eq v u
+  may_meet (fixed m v) slots (Take sort) = sort_of_value theory v == sort.0
+  may_meet (blank m sort) slots (Give u) = m && sort_of_value theory u == sort || is_slot u slots
+  may_meet (blank m sort) slots (Take other) = sort == other.0
+
+  abbrev pub all_may_meet : List OpenField → List (List Slot) → List Field → Bool
+  all_may_meet [] choices [] = true
+  all_may_meet (c ∷ cs) (slots ∷ choices) (field ∷ fields) = may_meet c slots field && all_may_meet cs choices fields
+  all_may_meet _ choices fields = false
+
+  -- an action of the composite's kind may meet the offer, where its fields are filled with these slots
+  abbrev pub may_take : Offer → Composite → List (List Slot) → Bool
+  may_take offer c choices = same_kind c.kind (at_gate offer.gate.0) && all_may_meet c.fields choices offer.fields
+
 module _ (theory : Theory) (w : Windows) where
   -- both sides together: the right side is asked only for what may be done together
   abbrev pub together : Synchronised → Lazy Composite Composite → Lazy Composite Composite → Lazy Composite Composite
@@ -94,31 +111,15 @@ module _ (theory : Theory) (w : Windows) where
   waiting_composites (over o x) = over_one o (waiting_composites x)
   waiting_composites (between o x y) = over_two o (waiting_composites x) (waiting_composites y)
 
-  -- a field that is filled with these slots may meet a field of an offer
-  abbrev pub may_meet : OpenField → List Slot → Field → Bool
-  may_meet (fixed m v) slots (Give u) = bytes_eq v u
-  may_meet (fixed m v) slots (Take sort) = sort_of_value theory v == sort.0
-  may_meet (blank m sort) slots (Give u) = m && sort_of_value theory u == sort || is_slot u slots
-  may_meet (blank m sort) slots (Take other) = sort == other.0
-
-  abbrev pub all_may_meet : List OpenField → List (List Slot) → List Field → Bool
-  all_may_meet [] choices [] = true
-  all_may_meet (c ∷ cs) (slots ∷ choices) (field ∷ fields) = may_meet c slots field && all_may_meet cs choices fields
-  all_may_meet _ choices fields = false
-
-  -- an action of the composite's kind may meet the offer, where its fields are filled with these slots
-  abbrev pub may_take : Offer → Composite → List (List Slot) → Bool
-  may_take offer c choices = same_kind c.kind (at_gate offer.gate.0) && all_may_meet c.fields choices offer.fields
-
   -- A query may ask for this tree of a composite whose fields are filled with these slots, as far as the kind, the fields and the marks
   -- say. What the predicates say isn't looked at.
   abbrev pub may_be_asked : TreeQuery → Composite → List (List Slot) → Derivation → Bool
-  may_be_asked (meeting p) c choices d = not (has_mark d) && may_take p.offer c choices
+  may_be_asked (meeting p) c choices d = not (has_mark d) && may_take theory p.offer c choices
   may_be_asked any c choices d = not (has_mark d)
   may_be_asked unseen c choices d = not (has_mark d) && is_unseen c.kind
-  may_be_asked (beyond p) c choices d = has_mark d && may_take p.offer c choices
+  may_be_asked (beyond p) c choices d = has_mark d && may_take theory p.offer c choices
   may_be_asked any_beyond c choices d = has_mark d
-  may_be_asked (beyond_or_unseen p) c choices d = has_mark d && (may_take p.offer c choices || is_unseen c.kind)
+  may_be_asked (beyond_or_unseen p) c choices d = has_mark d && (may_take theory p.offer c choices || is_unseen c.kind)
 
   -- the trees of a composite that a query may ask for, each value that may be seen for its offer being chosen
   abbrev pub trees_asked : TreeQuery → Composite → List Derivation
