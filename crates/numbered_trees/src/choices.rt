@@ -18,9 +18,9 @@ use spec_core::window::Window;
 use std::alloc::Global;
 use window_tables::{is_complete, values_at};
 
-// Whether two values are one.
-fn is_same(left: &Value, right: &Value) -> bool
-    ensures { result ≡ bytes_eq left.now right.now }
+/// Whether two values are one. It takes no memory.
+pub fn is_same(left: &Value, right: &Value) -> bool
+    ensures same { result ≡ bytes_eq left.now right.now }
 {
     left.same(right)
 }

@@ -114,9 +114,9 @@ fn nth_with(
     }
 }
 
-// Equal slots, in the same order.
-fn copies(alloc: Global, choices: &[Slots]) -> Result<Vec<Slots>, Memory>
-    ensures { IfOk result (λ all. all.items ≡ choices.now) }
+/// Equal slots, in the same order.
+pub fn copies(alloc: Global, choices: &[Slots]) -> Result<Vec<Slots>, Memory>
+    ensures equal { IfOk result (λ all. all.items ≡ choices.now) }
 {
     let mut all = Vec::new(alloc);
     for slots in choices {
