@@ -132,7 +132,8 @@ module _ (theory : Theory) where
       by_option : (o : Option (List (List Slot))) →
           flat_map (λ slot. map (λ others. (slot ∷ []) ∷ others) (from_option o (λ others. one_each others)))
           (filter (λ slot. may_meet theory f (slot ∷ []) field) slots) ≡
-          from_option (option_map (λ others. filter (λ slot. may_meet theory f (slot ∷ []) field) slots ∷ others) o) (λ others. one_each others)
+          from_option (option_map (λ others. filter (λ slot. may_meet theory f (slot ∷ []) field) slots ∷ others) o)
+          (λ others. one_each others)
       by_option None = flat_none (λ slot. []) (filter (λ slot. may_meet theory f (slot ∷ []) field) slots) (λ slot. refl)
       by_option (Some others) = refl
 
@@ -147,14 +148,16 @@ module _ (theory : Theory) where
 
       by_mark : (b : Bool) →
           filter (λ slots. all_may_meet theory fs slots fields) (if b then choices ∷ [] else one_each choices) ≡
-          from_option (if b then (if all_may_meet theory fs choices fields then Some choices else None) else each_meeting theory fs choices fields)
+          from_option (if b then (if all_may_meet theory fs choices fields then Some choices else None) else each_meeting theory fs choices
+          fields)
           (λ own. if b then own ∷ [] else one_each own)
       by_mark true = by_test (all_may_meet theory fs choices fields)
       by_mark false = meeting_each fs choices fields
 
 module _ (theory : Theory) (w : Windows) (p : OpenPlan) where
   taking_all : (offer : Offer) →
-      filter (may_take theory offer (composite_of theory w p)) (choices_at_once p.fields (all_choices theory w (given_in offer.fields) p.fields)) ≡
+      filter (may_take theory offer (composite_of theory w p)) (choices_at_once p.fields
+      (all_choices theory w (given_in offer.fields) p.fields)) ≡
       from_option (slots_taking theory w offer p) (choices_at_once p.fields)
   taking_all offer = by_kind (same_kind p.kind (at_gate offer.gate.0))
     where
@@ -182,7 +185,8 @@ module _ (theory : Theory) (w : Windows) (p : OpenPlan) where
   where_so : (f : Derivation → Bool) (b : Bool) (xs : List (List (List Slot))) →
       flat_map (λ slots. filter (λ d. f d && b) (trees_of theory w p.plan slots)) xs ≡
       filter f (flat_map (trees_of theory w p.plan) (if b then xs else []))
-  where_so f b xs = filter_pieces f (λ slots. b) (trees_of theory w p.plan) xs ∙ ap (λ z. filter f (flat_map (trees_of theory w p.plan) z)) (by_test b xs)
+  where_so f b xs = filter_pieces f (λ slots. b) (trees_of theory w p.plan) xs ∙ ap (λ z. filter f (flat_map (trees_of theory w p.plan) z))
+      (by_test b xs)
     where
       by_test : (b : Bool) (xs : List (List (List Slot))) → filter (λ slots. b) xs ≡ (if b then xs else [])
       by_test true [] = refl
@@ -199,7 +203,8 @@ module _ (theory : Theory) (w : Windows) (p : OpenPlan) where
   unseen_those false = where_so (λ d. not (has_mark d)) false (choices_at_once p.fields (all_choices theory w [] p.fields))
 
   beyond_those : (offer : Offer) (b : Bool) →
-      flat_map (λ slots. filter (λ d. has_mark d && (may_take theory offer (composite_of theory w p) slots || b)) (trees_of theory w p.plan slots))
+      flat_map (λ slots. filter (λ d. has_mark d && (may_take theory offer (composite_of theory w p) slots || b))
+      (trees_of theory w p.plan slots))
       (choices_at_once p.fields (all_choices theory w (given_in offer.fields) p.fields)) ≡
       filter has_mark
       (from_option (if b then Some (all_choices theory w (given_in offer.fields) p.fields) else slots_taking theory w offer p)
@@ -209,20 +214,24 @@ module _ (theory : Theory) (w : Windows) (p : OpenPlan) where
       ∙ where_so has_mark true (choices_at_once p.fields (all_choices theory w (given_in offer.fields) p.fields))
     where
       flat_tests : ((slots : List (List Slot)) → may_take theory offer (composite_of theory w p) slots || true ≡ true) →
-          flat_map (λ slots. filter (λ d. has_mark d && (may_take theory offer (composite_of theory w p) slots || true)) (trees_of theory w p.plan slots))
+          flat_map (λ slots. filter (λ d. has_mark d && (may_take theory offer (composite_of theory w p) slots || true))
+          (trees_of theory w p.plan slots))
           (choices_at_once p.fields (all_choices theory w (given_in offer.fields) p.fields)) ≡
           flat_map (λ slots. filter (λ d. has_mark d && true) (trees_of theory w p.plan slots))
           (choices_at_once p.fields (all_choices theory w (given_in offer.fields) p.fields))
       flat_tests e =
-          flat_same (λ slots. filter (λ d. has_mark d && (may_take theory offer (composite_of theory w p) slots || true)) (trees_of theory w p.plan slots))
+          flat_same (λ slots. filter (λ d. has_mark d && (may_take theory offer (composite_of theory w p) slots || true))
+          (trees_of theory w p.plan slots))
           (λ slots. filter (λ d. has_mark d && true) (trees_of theory w p.plan slots))
           (choices_at_once p.fields (all_choices theory w (given_in offer.fields) p.fields))
           (λ slots. ap (λ b. filter (λ d. has_mark d && b) (trees_of theory w p.plan slots)) (e slots))
   beyond_those offer false =
-      flat_same (λ slots. filter (λ d. has_mark d && (may_take theory offer (composite_of theory w p) slots || false)) (trees_of theory w p.plan slots))
+      flat_same (λ slots. filter (λ d. has_mark d && (may_take theory offer (composite_of theory w p) slots || false))
+      (trees_of theory w p.plan slots))
       (λ slots. filter (λ d. has_mark d && may_take theory offer (composite_of theory w p) slots) (trees_of theory w p.plan slots))
       (choices_at_once p.fields (all_choices theory w (given_in offer.fields) p.fields))
-      (λ slots. ap (λ b. filter (λ d. has_mark d && b) (trees_of theory w p.plan slots)) (or_false (may_take theory offer (composite_of theory w p) slots)))
+      (λ slots. ap (λ b. filter (λ d. has_mark d && b) (trees_of theory w p.plan slots))
+      (or_false (may_take theory offer (composite_of theory w p) slots)))
       ∙ takes_those has_mark offer
 
 pub searches_find_all : SearchesFindAll

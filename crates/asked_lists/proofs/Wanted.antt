@@ -1,5 +1,6 @@
 -- Wanted trees, one after another.
-use Rattle.std.proofs.Common.{ℕ, zero, suc, ◌≡◌, ◌+◌, ◌≤◌, ◌∙◌, List, [], ◌∷◌, drop, filter, length, refl, sym, ap, arith, Bool, true, false, cond}
+use Rattle.std.proofs.Common.{ℕ, zero, suc, ◌≡◌, ◌+◌, ◌≤◌, ◌∙◌, List, [], ◌∷◌, drop, filter, length, refl, sym, ap, arith, Bool, true}
+use Rattle.std.proofs.Common.{false, cond}
 use Rattle.std.proofs.Common.{Some, None}
 use Rattle.std.specs.List.{slice_get}
 use Rattle.rule_model.specs.Derivations.{Derivation}

@@ -1,5 +1,6 @@
 -- What a search looks through: the trees of a composite that a query may ask for, by their numbers. (This profile.)
-use Rattle.std.specs.Prelude.{ℕ, ◌≡◌, ◌+◌, ◌≤◌, ◌<◌, not, length, List, [], ◌∷◌, drop, filter, Option, Some, None, Bool, if◌then◌else◌, option_map}
+use Rattle.std.specs.Prelude.{ℕ, ◌≡◌, ◌+◌, ◌≤◌, ◌<◌, not, length, List, [], ◌∷◌, drop, filter, Option, Some, None, Bool, if◌then◌else◌}
+use Rattle.std.specs.Prelude.{option_map}
 use Rattle.spec_core.specs.Theories.{Theory}
 use Rattle.rule_model.specs.declared.offer.Field.{Field}
 use Rattle.rule_model.specs.declared.offer.Offer.{Offer}

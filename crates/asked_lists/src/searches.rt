@@ -138,7 +138,8 @@ pub fn slots_asked(
     search: TreeSearch<'_>,
 ) -> Result<Option<Vec<Slots>>, Memory>
     ensures slots { IfOk result (λ o. option_map (λ all. all.items) o ≡
-        searches.slots_asked (theory_of algebra.now) (windows_in windows.now) (searches.query_of search.entry) (open_plan_of composite.now)) }
+        searches.slots_asked (theory_of algebra.now) (windows_in windows.now) (searches.query_of search.entry)
+        (open_plan_of composite.now)) }
 {
     match search {
         TreeSearch::Meeting(offer) => slots_taking(alloc, algebra, windows, composite, offer),
@@ -175,7 +176,8 @@ pub fn search_count(
     search: TreeSearch<'_>,
 ) -> Result<u64, Memory>
     ensures counted { IfOk result (λ n. n ≡ counted (length
-        (searches.trees_searched (theory_of algebra.now) (windows_in windows.now) (searches.query_of search.entry) (open_plan_of composite.now)))) }
+        (searches.trees_searched (theory_of algebra.now) (windows_in windows.now) (searches.query_of search.entry)
+        (open_plan_of composite.now)))) }
 {
     match slots_asked(alloc, algebra, windows, composite, search)? {
         None => Ok(0),
@@ -203,7 +205,8 @@ fn wanted_at(
 ) -> Result<Option<Rules>, Memory>
     requires small { number < 2 ^ 64 - 1 }
     ensures at { IfOk result (λ o.
-        let trees = trees_at_once (theory_of algebra.now) (windows_in windows.now) (map field_of columns.now) (plan_of scheme.now) choices.now in
+        let trees = trees_at_once (theory_of algebra.now) (windows_in windows.now) (map field_of columns.now) (plan_of scheme.now)
+        choices.now in
         searches.wanted_from (searches.is_wanted (searches.query_of search.now)) trees number ≡
         option_to_list (option_map derivation_of o) ++
         searches.wanted_from (searches.is_wanted (searches.query_of search.now)) trees (number + 1)) }
@@ -236,7 +239,8 @@ fn next_wanted(
         (trees_at_once (theory_of algebra.now) (windows_in windows.now) (map field_of columns.now) (plan_of scheme.now) choices.now) }
     requires small { count < 2 ^ 64 - 1 }
     ensures next { IfOk result (λ o. searches.IsNext (searches.is_wanted (searches.query_of search.now))
-        (trees_at_once (theory_of algebra.now) (windows_in windows.now) (map field_of columns.now) (plan_of scheme.now) choices.now) from o) }
+        (trees_at_once (theory_of algebra.now) (windows_in windows.now) (map field_of columns.now) (plan_of scheme.now)
+        choices.now) from o) }
 {
     let mut number = from;
     while number < count {
@@ -251,9 +255,35 @@ fn next_wanted(
     Ok(None)
 }
 
-/// The first tree from this number on for which a query may ask; None where there is none. A search from 0, and then each time from the
-/// number after the one that was found, finds all trees of the composite for which the query may ask, in order. Want of memory is also
+/// The first tree from this number on that is wanted, among those of a composite whose fields may have these slots. Want of memory is also
 /// answered where there are 2^64 - 1 trees or more, which no machine can look through.
+pub fn next_among(
+    alloc: Global,
+    algebra: &DataSpec,
+    windows: &[Window],
+    composite: &OpenComposite,
+    choices: &[Slots],
+    search: &TreeSearch<'_>,
+    from: u64,
+) -> Result<Option<AskedTree>, Memory>
+    ensures next { IfOk result (λ o. searches.IsNext (searches.is_wanted (searches.query_of search.now))
+        (trees_at_once (theory_of algebra.now) (windows_in windows.now) (open_plan_of composite.now).fields
+        (open_plan_of composite.now).plan choices.now) from o) }
+{
+    let columns = composite.columns.as_slice();
+    let scheme = &composite.scheme;
+    let count = count_at_once(alloc, algebra, windows, columns, scheme, choices)?;
+    if count == u64::MAX {
+        return Err(Memory);
+    }
+    next_wanted(
+        alloc, algebra, windows, columns, scheme, choices, search, count, from,
+    )
+}
+
+/// The first tree from this number on for which a query may ask; None where there is none. A search from 0, and then each time from the
+/// number after the one that was found, finds all trees of the composite for which the query may ask, in order. Who asks many times for the
+/// same query keeps what `slots_asked` gives, and asks `next_among`.
 pub fn next_asked(
     alloc: Global,
     algebra: &DataSpec,
@@ -263,21 +293,11 @@ pub fn next_asked(
     from: u64,
 ) -> Result<Option<AskedTree>, Memory>
     ensures next { IfOk result (λ o. searches.IsNext (searches.is_wanted (searches.query_of search.entry))
-        (searches.trees_searched (theory_of algebra.now) (windows_in windows.now) (searches.query_of search.entry) (open_plan_of composite.now))
-        from o) }
+        (searches.trees_searched (theory_of algebra.now) (windows_in windows.now) (searches.query_of search.entry)
+        (open_plan_of composite.now)) from o) }
 {
     match slots_asked(alloc, algebra, windows, composite, search)? {
         None => Ok(None),
-        Some(choices) => {
-            let columns = composite.columns.as_slice();
-            let scheme = &composite.scheme;
-            let count = count_at_once(alloc, algebra, windows, columns, scheme, &choices)?;
-            if count == u64::MAX {
-                return Err(Memory);
-            }
-            next_wanted(
-                alloc, algebra, windows, columns, scheme, &choices, &search, count, from,
-            )
-        }
+        Some(choices) => { next_among(alloc, algebra, windows, composite, &choices, &search, from) }
     }
 }

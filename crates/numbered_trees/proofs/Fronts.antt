@@ -1,5 +1,6 @@
 -- Ways to fill fields, and lists of slots of an action.
-use Rattle.std.proofs.Common.{ℕ, zero, suc, ◌≡◌, ◌<◌, ◌-◌, ◌^◌, ◌*◌, ◌%◌, ◌/◌, ◌∙◌, List, [], ◌∷◌, map, flat_map, length, refl, sym, ap, subst, arith}
+use Rattle.std.proofs.Common.{ℕ, zero, suc, ◌≡◌, ◌<◌, ◌-◌, ◌^◌, ◌*◌, ◌%◌, ◌/◌, ◌∙◌, List, [], ◌∷◌, map, flat_map, length, refl, sym, ap}
+use Rattle.std.proofs.Common.{subst, arith}
 use Rattle.std.proofs.Common.{Bool, true, false, if◌then◌else◌, Option, Some, None}
 use Rattle.std.specs.Prelude.{option_map, option_and_then}
 use Rattle.std.specs.List.{slice_get}
@@ -62,14 +63,17 @@ module _ {A B : Type 0} (join : A → B → B) (ys : List B) where
       None ≡ slice_get ys (n % k) → None ≡ slice_get (flat_map in_front xs) n
   no_rest xs k n x e l p f g =
       let q : 0 < k = omega (arith, p) in
-      sym (fronts_at xs k n e l q ∙ ap (option_and_then (λ x. option_map (join x) (slice_get ys (n % k)))) (sym f) ∙ ap (option_map (join x)) (sym g))
+      sym (fronts_at xs k n e l q ∙ ap (option_and_then (λ x. option_map (join x) (slice_get ys (n % k)))) (sym f) ∙ ap
+      (option_map (join x)) (sym g))
 
-  pub both_parts : (xs : List A) (k n : ℕ) (x : A) (y r : B) → k ≡ counted (length ys) → n < most → (k ≡ 0 → ⊥) → Some x ≡ slice_get xs (n / k) →
+  pub both_parts : (xs : List A) (k n : ℕ) (x : A) (y r : B) → k ≡ counted (length ys) → n < most → (k ≡ 0 → ⊥) → Some x ≡ slice_get xs
+      (n / k) →
       Some y ≡ slice_get ys (n % k) → r ≡ join x y → Some r ≡ slice_get (flat_map in_front xs) n
   both_parts xs k n x y r e l p f g h =
       let q : 0 < k = omega (arith, p) in
       ap Some h
-      ∙ sym (fronts_at xs k n e l q ∙ ap (option_and_then (λ x. option_map (join x) (slice_get ys (n % k)))) (sym f) ∙ ap (option_map (join x)) (sym g))
+      ∙ sym (fronts_at xs k n e l q ∙ ap (option_and_then (λ x. option_map (join x) (slice_get ys (n % k)))) (sym f) ∙ ap
+      (option_map (join x)) (sym g))
 
 abbrev pub widths : List (List Slot) → List ℕ
 widths slots = map length slots
@@ -96,8 +100,10 @@ ways_width fields choices first e = by_mark (any_marked fields) e
         Each (λ x. widths x ≡ widths first) (if b then choices ∷ [] else one_each choices)
     by_mark true e = let q : choices ≡ first = cc in (ap widths q, tt)
     by_mark false e =
-        let ones : widths first ≡ map (λ slots. 1) choices = each_at (λ x. widths x ≡ map (λ slots. 1) choices) (one_each choices) 0 first (each_width choices) e in
-        each_by (λ x. widths x ≡ map (λ slots. 1) choices) (λ x. widths x ≡ widths first) (one_each choices) (λ x h. h ∙ sym ones) (each_width choices)
+        let ones : widths first ≡ map (λ slots. 1) choices = each_at (λ x. widths x ≡ map (λ slots. 1) choices) (one_each choices) 0 first
+        (each_width choices) e in
+        each_by (λ x. widths x ≡ map (λ slots. 1) choices) (λ x. widths x ≡ widths first) (one_each choices) (λ x h. h ∙ sym ones)
+        (each_width choices)
 
 pub taken_same : (takes : List Bool) (xs ys : List (List Slot)) → widths xs ≡ widths ys →
     length (taken_slots takes xs) ≡ length (taken_slots takes ys)

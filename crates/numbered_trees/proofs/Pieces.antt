@@ -1,5 +1,6 @@
 -- Lists that are joined of pieces of one length.
-use Rattle.std.proofs.Common.{ℕ, zero, suc, ◌≡◌, ◌≤◌, ◌<◌, ◌+◌, ◌-◌, ◌*◌, ◌/◌, ◌%◌, ◌++◌, ◌∙◌, List, [], ◌∷◌, map, flat_map, length, refl, sym, ap}
+use Rattle.std.proofs.Common.{ℕ, zero, suc, ◌≡◌, ◌≤◌, ◌<◌, ◌+◌, ◌-◌, ◌*◌, ◌/◌, ◌%◌, ◌++◌, ◌∙◌, List, [], ◌∷◌, map, flat_map, length, refl}
+use Rattle.std.proofs.Common.{sym, ap}
 use Rattle.std.proofs.Common.{arith, inl, inr, length-append, ◌⊎◌}
 use Rattle.std.specs.Prelude.{option_and_then}
 use Rattle.std.specs.List.{slice_get}
@@ -33,7 +34,8 @@ pub length_pieces : {A B : Type 0} (f : A → List B) (c : ℕ) (xs : List A) �
     length (flat_map f xs) ≡ length xs * c
 length_pieces f c [] h = grind arith
 length_pieces f c (x ∷ xs) (e, h) =
-    length-append (f x) (flat_map f xs) ∙ ap (λ z. z + length (flat_map f xs)) e ∙ ap (λ z. c + z) (length_pieces f c xs h) ∙ one_more c (length xs)
+    length-append (f x) (flat_map f xs) ∙ ap (λ z. z + length (flat_map f xs)) e ∙ ap (λ z. c + z) (length_pieces f c xs h) ∙ one_more c
+    (length xs)
   where
     one_more : (c n : ℕ) → c + n * c ≡ suc n * c
     one_more c n = grind arith

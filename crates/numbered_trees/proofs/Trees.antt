@@ -1,5 +1,6 @@
 -- Trees of plans.
-use Rattle.std.proofs.Common.{ℕ, ◌≡◌, ◌<◌, ◌*◌, ◌/◌, ◌%◌, ◌∙◌, List, [], ◌∷◌, map, flat_map, length, refl, sym, ap, arith, Option, Some, None}
+use Rattle.std.proofs.Common.{ℕ, ◌≡◌, ◌<◌, ◌*◌, ◌/◌, ◌%◌, ◌∙◌, List, [], ◌∷◌, map, flat_map, length, refl, sym, ap, arith, Option, Some}
+use Rattle.std.proofs.Common.{None}
 use Rattle.std.specs.Prelude.{option_and_then, option_map, Result, Ok, Err, IfOk}
 use Rattle.std.proofs.lemmas.Option.{slice_get-map}
 use Rattle.std.specs.List.{slice_get}
@@ -10,7 +11,8 @@ use Rattle.rule_model.specs.declared.rules.Slot.{Slot}
 use Rattle.rule_model.specs.Derivations.{Derivation, pre, exiting, both}
 use Rattle.windowed_trees.specs.Windows.{Windows}
 use Rattle.composites.specs.OpenFields.{OpenField, choices_at_once}
-use Rattle.open_composites.specs.Plans.{Plan, prefix, internal, termination, below, hidden, handed_on, together, taken_slots, trees_of, put_row}
+use Rattle.open_composites.specs.Plans.{Plan, prefix, internal, termination, below, hidden, handed_on, together, taken_slots, trees_of}
+use Rattle.open_composites.specs.Plans.{put_row}
 use Rattle.numbered_trees.specs.Numbers.{counted, trees_at_once}
 use Rattle.numbered_trees.proofs.Pieces.{each_by, length_pieces}
 use Rattle.numbered_trees.proofs.Capped.{capped_both, get_capped, get_empty}
@@ -49,7 +51,8 @@ module _ (theory : Theory) (w : Windows) where
     some_counted ways each r e a b c =
         c
         ∙ capped_both most ways each (length (choices_at_once fields choices)) (length (trees_of theory w p first)) a b
-        ∙ sym (ap counted (length_pieces (λ own. trees_of theory w p own) (length (trees_of theory w p first)) (choices_at_once fields choices) (each_way (sym e))))
+        ∙ sym (ap counted (length_pieces (λ own. trees_of theory w p own) (length (trees_of theory w p first))
+        (choices_at_once fields choices) (each_way (sym e))))
 
     module _ (each n : ℕ) (first_is : Some first ≡ slice_get (choices_at_once fields choices) 0)
         (each_is : each ≡ counted (length (trees_of theory w p first))) (small : n < most) where
@@ -70,7 +73,8 @@ module _ (theory : Theory) (w : Windows) where
           None ≡ slice_get (trees_at_once theory w fields p choices) n
       no_way z e = sym (there z ∙ ap (option_and_then (λ own. slice_get (trees_of theory w p own) (n % each))) (sym e))
 
-      pub by_way : (way : List (List Slot)) (o : Option Derivation) → (each ≡ 0 → ⊥) → Some way ≡ slice_get (choices_at_once fields choices) (n / each) →
+      pub by_way : (way : List (List Slot)) (o : Option Derivation) → (each ≡ 0 → ⊥) → Some way ≡ slice_get (choices_at_once fields choices)
+          (n / each) →
           o ≡ slice_get (trees_of theory w p way) (n % each) → o ≡ slice_get (trees_at_once theory w fields p choices) n
       by_way way o z e f = f ∙ sym (there z ∙ ap (option_and_then (λ own. slice_get (trees_of theory w p own) (n % each))) (sym e))
 
@@ -83,7 +87,8 @@ module _ (theory : Theory) (w : Windows) where
       by_ways [] e = refl
       by_ways (x ∷ xs) e = cc
 
-  pub none_counted : (fields : List OpenField) (p : Plan) (choices : List (List Slot)) → None ≡ slice_get (choices_at_once fields choices) 0 →
+  pub none_counted : (fields : List OpenField) (p : Plan) (choices : List (List Slot)) → None ≡ slice_get (choices_at_once fields choices) 0
+      →
       0 ≡ counted (length (trees_at_once theory w fields p choices))
   none_counted fields p choices e = sym (ap (λ z. counted (length z)) (none_there fields p choices e))
 

@@ -184,7 +184,8 @@ fn nth_both(
 ) -> Result<Option<Rules>, Memory>
     requires small { n < 2 ^ 64 - 1 }
     ensures tree { IfOk result (λ o. option_map derivation_of o ≡
-        slice_get (trees_of (theory_of algebra.now) (windows_in windows.now) (together (plan_of left.now) (plan_of right.now)) choices.now) n) }
+        slice_get (trees_of (theory_of algebra.now) (windows_in windows.now) (together (plan_of left.now) (plan_of right.now))
+        choices.now) n) }
 {
     let count = tree_count(alloc, algebra, windows, right, choices)?;
     if count == 0 {

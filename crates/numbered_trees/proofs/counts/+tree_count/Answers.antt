@@ -7,13 +7,15 @@ use Rattle.numbered_trees.proofs.counts.+tree_count.Goals as goal
 
 pub count_at_once-returns-in-None : goal.count_at_once-returns-in-None
 count_at_once-returns-in-None t c = record {
-  counted = none_counted (theory_of c.args.algebra.now) (windows_in c.args.windows.now) (map field_of c.args.columns.now) (plan_of c.args.part.now)
+  counted = none_counted (theory_of c.args.algebra.now) (windows_in c.args.windows.now) (map field_of c.args.columns.now)
+      (plan_of c.args.part.now)
       c.args.choices.now (rw c.in-None.is at c.in_ok-nth_way.ensures.way);
 }
 
 pub count_at_once-returns-in_ok-each-in-Some : goal.count_at_once-returns-in_ok-each-in-Some
 count_at_once-returns-in_ok-each-in-Some t c = record {
-  counted = some_counted (theory_of c.args.algebra.now) (windows_in c.args.windows.now) (map field_of c.args.columns.now) (plan_of c.args.part.now)
+  counted = some_counted (theory_of c.args.algebra.now) (windows_in c.args.windows.now) (map field_of c.args.columns.now)
+      (plan_of c.args.part.now)
       c.args.choices.now c.in-Some.first.items c.way_count.result c.in_ok-each-in-Some.each c.saturating_mul.result
       (rw c.in-Some.is at c.in_ok-nth_way.ensures.way) c.way_count.ensures.counted
       (rw c.deref.ensures.value at c.in_ok-each-in-Some.ensures.counted) c.saturating_mul.ensures;
