@@ -1,0 +1,4 @@
+pub mod Known
+pub mod Missing
+pub mod Asked
+pub mod Verdicts
