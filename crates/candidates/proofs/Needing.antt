@@ -1,0 +1,112 @@
+-- What searches still ask, as jobs at nodes.
+use Rattle.std.proofs.Common.{◌≡◌, ◌++◌, ◌∙◌, List, [], ◌∷◌, flat_map, refl, sym, ap, Bool, true, false, append_assoc}
+use Rattle.std.specs.Prelude.{is_some}
+use Rattle.spec_core.specs.Theories.{Theory}
+use Rattle.rule_model.specs.States.{PendingOffer}
+use Rattle.windowed_trees.specs.Windows.{Windows}
+use Rattle.courses.specs.Known.{Knowledge, found}
+use Rattle.courses.specs.Lazy.{Lazy, first, first_holding, all_holding}
+use Rattle.courses.specs.Gaps.{missing_to_first, all_missing, known_to_hold}
+use Rattle.courses.specs.Rules.{Query, meeting, any, unseen, any_beyond, beyond_or_unseen, Waiting, when}
+use Rattle.courses.proofs.Gaps.{gaps_are_so}
+use Rattle.settling.specs.Laws.{is_held}
+use Rattle.settling.specs.Needed.{first_needed, unseen_needed, waiting_needed, asked_needed, marked_needed, unmet_needed, next_needed}
+use Rattle.settling.proofs.Needing.{needed_by_rules}
+use Rattle.composites.specs.Composites.{Composite}
+use Rattle.asked_trees.specs.Asked.{TreeQuery}
+use Rattle.node_lists.specs.Waiting.{Candidate, waiting_trees}
+use Rattle.tree_nodes.specs.Generations.{AreApart}
+use Rattle.tree_nodes.specs.Shapes.{Shape}
+use Rattle.known_shows.specs.Known.{Pieces}
+use Rattle.candidates.specs.Listed.{knowledge, asked_for_first, asked_for_all, is_known_to_hold}
+use Rattle.candidates.specs.Jobs.{jobs_of, all_jobs}
+use Rattle.candidates.specs.Laws.{JobsAreNeeded}
+use Rattle.candidates.proofs.Listing.{are_those}
+
+flat_join : {A B : Type 0} (f : A → List B) (xs ys : List A) → flat_map f (xs ++ ys) ≡ flat_map f xs ++ flat_map f ys
+flat_join f [] ys = refl
+flat_join f (x ∷ xs) ys = ap (λ z. f x ++ z) (flat_join f xs ys) ∙ sym (append_assoc (f x) (flat_map f xs) (flat_map f ys))
+
+-- What is asked by the rules, each question in parts.
+module _ {P Q R : Type 0} (f : Q → List R) (missing every : Query P → List Q) (is_there : Query P → Bool) (w : Waiting P) where
+  abbrev missing_parts : Query P → List R
+  missing_parts q = flat_map f (missing q)
+
+  abbrev every_part : Query P → List R
+  every_part q = flat_map f (every q)
+
+  behind : (xs ys : List Q) (b : Bool) (zs : List R) → zs ≡ flat_map f ys →
+      flat_map f xs ++ when b [] zs ≡ flat_map f (xs ++ when b [] ys)
+  behind xs ys true zs e = sym (flat_join f xs [])
+  behind xs ys false zs e = ap (λ z. flat_map f xs ++ z) e ∙ sym (flat_join f xs ys)
+
+  firsts : (query : P → Query P) (ps : List P) (rest : List R) (those : List Q) → rest ≡ flat_map f those →
+      first_needed missing_parts every_part is_there w query ps rest ≡ flat_map f (first_needed missing every is_there w query ps those)
+  firsts query [] rest those e = e
+  firsts query (p ∷ ps) rest those e =
+      behind (missing (query p)) (first_needed missing every is_there w query ps those) (is_there (query p))
+      (first_needed missing_parts every_part is_there w query ps rest) (firsts query ps rest those e)
+
+  unseens : unseen_needed missing_parts every_part is_there w ≡ flat_map f (unseen_needed missing every is_there w)
+  unseens =
+      behind (every unseen) (first_needed missing every is_there w beyond_or_unseen w.by_client []) (is_there unseen)
+      (first_needed missing_parts every_part is_there w beyond_or_unseen w.by_client []) (firsts beyond_or_unseen w.by_client [] [] refl)
+
+  chosen : (b : Bool) (xs ys : List Q) (zs us : List R) → zs ≡ flat_map f xs → us ≡ flat_map f ys → when b zs us ≡ flat_map f (when b xs ys)
+  chosen true xs ys zs us e h = e
+  chosen false xs ys zs us e h = h
+
+  waits : waiting_needed missing_parts every_part is_there w ≡ flat_map f (waiting_needed missing every is_there w)
+  waits = chosen w.all_wait (unseen_needed missing every is_there w) [] (unseen_needed missing_parts every_part is_there w) [] unseens refl
+
+  asks : (ps : List P) → asked_needed missing_parts every_part is_there w ps ≡ flat_map f (asked_needed missing every is_there w ps)
+  asks [] = waits
+  asks (p ∷ ps) = refl
+
+  marks : marked_needed missing_parts every_part is_there w ≡ flat_map f (marked_needed missing every is_there w)
+  marks =
+      ap (λ z. flat_map f (missing any_beyond) ++ z)
+      (chosen (is_there any_beyond) (asked_needed missing every is_there w w.asks) [] (asked_needed missing_parts every_part is_there w w.asks) []
+      (asks w.asks) refl)
+      ∙ sym (flat_join f (missing any_beyond) (when (is_there any_beyond) (asked_needed missing every is_there w w.asks) []))
+
+  unmets : unmet_needed missing_parts every_part is_there w ≡ flat_map f (unmet_needed missing every is_there w)
+  unmets =
+      ap (λ z. flat_map f (missing any) ++ z)
+      (chosen (is_there any) (asked_needed missing every is_there w w.asks) (marked_needed missing every is_there w)
+      (asked_needed missing_parts every_part is_there w w.asks) (marked_needed missing_parts every_part is_there w) (asks w.asks) marks)
+      ∙ sym (flat_join f (missing any)
+      (when (is_there any) (asked_needed missing every is_there w w.asks) (marked_needed missing every is_there w)))
+
+  pub in_parts : next_needed missing_parts every_part is_there w ≡ flat_map f (next_needed missing every is_there w)
+  in_parts = firsts meeting w.pending (unmet_needed missing_parts every_part is_there w) (unmet_needed missing every is_there w) unmets
+
+module _ (theory : Theory) (w : Windows) (t : Shape) (pieces : Pieces) (apart : AreApart t) where
+  abbrev known : Knowledge Composite Candidate
+  known = knowledge theory w pieces t
+
+  abbrev lazy : TreeQuery → Lazy Composite Candidate
+  lazy = waiting_trees theory w t
+
+  for_first : (λ q. found known (first_holding (lazy q))) ≡ asked_for_first theory w pieces t
+  for_first i q =
+      ((gaps_are_so Composite Candidate).missing_to_firsts known (lazy q)
+      ∙ ap (missing_to_first known.verdict) (are_those theory w t q apart)) i
+
+  for_all : (λ q. found known (all_holding (lazy q))) ≡ asked_for_all theory w pieces t
+  for_all i q =
+      ((gaps_are_so Composite Candidate).all_missings known (lazy q) ∙ ap (all_missing known.verdict) (are_those theory w t q apart)) i
+
+  held : (λ q. is_held known (lazy q)) ≡ is_known_to_hold theory w pieces t
+  held i q = (ap (λ l. is_some (first (known_to_hold known.verdict l))) (are_those theory w t q apart)) i
+
+pub jobs_are_needed : JobsAreNeeded
+jobs_are_needed theory w t pieces apart state =
+    let known = knowledge theory w pieces t in
+    let lazy = waiting_trees theory w t in
+    in_parts (jobs_of pieces t) (asked_for_first theory w pieces t) (asked_for_all theory w pieces t) (is_known_to_hold theory w pieces t) state
+    ∙ ap (all_jobs pieces t) (sym (
+    needed_by_rules Composite PendingOffer Candidate lazy state known
+    ∙ ap (λ m. next_needed m (λ q. found known (all_holding (lazy q))) (λ q. is_held known (lazy q)) state) (for_first theory w t pieces apart)
+    ∙ ap (λ m. next_needed (asked_for_first theory w pieces t) m (λ q. is_held known (lazy q)) state) (for_all theory w t pieces apart)
+    ∙ ap (λ h. next_needed (asked_for_first theory w pieces t) (asked_for_all theory w pieces t) h state) (held theory w t pieces apart)))

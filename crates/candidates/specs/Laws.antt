@@ -1,0 +1,66 @@
+-- What follows from the definitions.
+use Rattle.std.specs.Prelude.{ℕ, ◌≡◌, List, Some}
+use Rattle.spec_core.specs.Theories.{Theory}
+use Rattle.spec_core.specs.Code.{Program}
+use Rattle.spec_core.specs.Ready.{IsReady}
+use Rattle.rule_model.specs.States.{PendingOffer}
+use Rattle.windowed_trees.specs.Windows.{Windows, AreWindows}
+use Rattle.courses.specs.Known.{found}
+use Rattle.courses.specs.Gaps.{with_gaps}
+use Rattle.courses.specs.Rules.{Waiting, Next, course}
+use Rattle.settling.specs.Rules.{next_decided}
+use Rattle.settling.specs.Needed.{next_needed}
+use Rattle.composites.specs.Evaluations.{Evaluation, IsExact}
+use Rattle.open_composites.specs.Laws.{composites_of}
+use Rattle.asked_trees.specs.Asked.{TreeQuery}
+use Rattle.asked_trees.specs.Laws.{IsSoundWaiting, EntryHolds}
+use Rattle.node_lists.specs.Waiting as lists
+use Rattle.node_lists.specs.Waiting.{Candidate, with_trees, waiting_trees}
+use Rattle.tree_nodes.specs.Generations.{AreApart}
+use Rattle.tree_nodes.specs.Rests.{Work}
+use Rattle.tree_nodes.specs.Shapes.{Above, Held, Shape, Stands, stands_for}
+use Rattle.known_shows.specs.Known.{Pieces}
+use Rattle.known_shows.specs.Laws.{ArePiecesOf}
+use Rattle.candidates.specs.Listed.{known_candidates, items_in, knowledge, found_first, found_all, asked_for_first, asked_for_all}
+use Rattle.candidates.specs.Listed.{is_known_to_hold}
+use Rattle.candidates.specs.Jobs.{all_jobs}
+
+-- the candidates of a tree, as far as it is expanded, are those of its list that waits, with the same gaps
+abbrev pub KnownCandidatesAreThose : Type 0
+KnownCandidatesAreThose =
+    (theory : Theory) (w : Windows) (t : Shape) →
+    AreApart t →
+    (q : TreeQuery) →
+    with_gaps (items_in theory w t) (waiting_trees theory w t q) ≡ known_candidates theory w t q
+
+-- What is known of a tree is so: the answers about a specification that is ready are exact, these are its windows, generations are apart,
+-- each expansion has the composites of its node's origin, and what is known of nodes is what their origins show.
+pub record IsKnownTree (program : Program) (e : Evaluation) (size : ℕ) (w : Windows) (t : Shape) (pieces : Pieces) : Type 0 where
+  pub ready : IsReady program
+  pub exact : IsExact program e
+  pub windows : AreWindows program.theory size w
+  pub apart : AreApart t
+  pub expanded : (up : List Above) (n : Held) → Stands t up n → (x : Work) → n.work ≡ Some x →
+      composites_of program.theory w x.plans ≡ lists.composites_of program e w n.source
+  pub shown : ArePiecesOf program w pieces t
+
+-- then the entry that the rules decide from searches in it says what is so of the steps of the behaviour that it stands for
+abbrev pub DecidedEntriesAreSo : Type 0
+DecidedEntriesAreSo =
+    (program : Program) (e : Evaluation) (size : ℕ) (w : Windows) (t : Shape) (pieces : Pieces) →
+    IsKnownTree program e size w t pieces →
+    (state : Waiting PendingOffer) →
+    IsSoundWaiting state →
+    (entry : Next PendingOffer Candidate) →
+    next_decided (found_first program.theory w pieces t) (found_all program.theory w pieces t) state ≡ Some entry →
+    EntryHolds program w (stands_for program t) state (with_trees entry)
+
+-- the jobs at nodes that searches still ask by the rules are those of the questions that the walk along their course finds
+abbrev pub JobsAreNeeded : Type 0
+JobsAreNeeded =
+    (theory : Theory) (w : Windows) (t : Shape) (pieces : Pieces) →
+    AreApart t →
+    (state : Waiting PendingOffer) →
+    next_needed (λ q. all_jobs pieces t (asked_for_first theory w pieces t q)) (λ q. all_jobs pieces t (asked_for_all theory w pieces t q))
+    (is_known_to_hold theory w pieces t) state ≡
+    all_jobs pieces t (found (knowledge theory w pieces t) (course (waiting_trees theory w t) state))

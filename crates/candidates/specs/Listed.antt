@@ -1,0 +1,57 @@
+-- The candidates of a tree of nodes, as far as its nodes are expanded, and searches among them, as far as what nodes show is known.
+-- (This profile.)
+use Rattle.std.specs.Prelude.{ℕ, List, map, flat_map, Option, Bool, is_some, option_map, option_and_then}
+use Rattle.spec_core.specs.Theories.{Theory}
+use Rattle.windowed_trees.specs.Windows.{Windows}
+use Rattle.courses.specs.Courses.{Question}
+use Rattle.courses.specs.Known.{Knowledge}
+use Rattle.courses.specs.Lazy.{first}
+use Rattle.courses.specs.Gaps.{OrGap, element, in_its_place, first_known, all_known, missing_to_first, all_missing, known_to_hold}
+use Rattle.composites.specs.Composites.{Composite}
+use Rattle.open_composites.specs.OpenPlans.{OpenPlan}
+use Rattle.open_composites.specs.Laws.{composites_of}
+use Rattle.asked_trees.specs.Asked.{TreeQuery}
+use Rattle.node_lists.specs.Waiting.{Candidate, candidate}
+use Rattle.asked_lists.specs.Searches.{for_offer, asked_from}
+use Rattle.tree_nodes.specs.Rests.{Work}
+use Rattle.tree_nodes.specs.Shapes.{Held, Shape, node_at}
+use Rattle.tree_composites.specs.Known.{PlanOrGap, known_plans}
+use Rattle.known_shows.specs.Known.{Pieces}
+use Rattle.known_shows.specs.Asked.{known_verdict}
+
+module _ (theory : Theory) (w : Windows) where
+  -- the candidates of a plan for a query, in order
+  abbrev pub candidates_of : TreeQuery → OpenPlan → List Candidate
+  candidates_of q p = map (candidate q) (asked_from theory w (for_offer q) p 0)
+
+  -- of plans with gaps, each gap in its place
+  abbrev pub candidates_in : TreeQuery → List PlanOrGap → List (OrGap Candidate)
+  candidates_in q ps = flat_map (in_its_place (λ p. map element (candidates_of q p))) ps
+
+  -- of a tree of nodes
+  abbrev pub known_candidates : Shape → TreeQuery → List (OrGap Candidate)
+  known_candidates t q = candidates_in q (known_plans theory t)
+
+  -- the composites of each node that is expanded, and the verdicts that are known
+  abbrev pub items_in : Shape → ℕ → Option (List Composite)
+  items_in t g = option_and_then (λ (n : Held). option_map (λ (x : Work). composites_of theory w x.plans) n.work) (node_at g t)
+
+  abbrev pub knowledge : Pieces → Shape → Knowledge Composite Candidate
+  knowledge pieces t = record { items = items_in t; verdict = known_verdict theory w pieces t }
+
+  -- Searches: the first candidate that holds, and all of them; what they still ask; whether a candidate is known to hold.
+  module _ (pieces : Pieces) (t : Shape) (q : TreeQuery) where
+    abbrev pub found_first : Option (Option Candidate)
+    found_first = first_known (known_verdict theory w pieces t) (known_candidates t q)
+
+    abbrev pub found_all : Option (List Candidate)
+    found_all = all_known (known_verdict theory w pieces t) (known_candidates t q)
+
+    abbrev pub asked_for_first : List (Question Candidate)
+    asked_for_first = missing_to_first (known_verdict theory w pieces t) (known_candidates t q)
+
+    abbrev pub asked_for_all : List (Question Candidate)
+    asked_for_all = all_missing (known_verdict theory w pieces t) (known_candidates t q)
+
+    abbrev pub is_known_to_hold : Bool
+    is_known_to_hold = is_some (first (known_to_hold (known_verdict theory w pieces t) (known_candidates t q)))

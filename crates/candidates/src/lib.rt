@@ -1,0 +1,4 @@
+// The agreements that a session may commit, from what is known of its tree.
+#![tactic(auto)]
+
+pub mod laws;
