@@ -1,5 +1,5 @@
 -- What is decided from what is known of a tree.
-use Rattle.std.proofs.Common.{ℕ, ◌≡◌, ◌∙◌, List, [], refl, sym, ap, Option, Some, None, option_map, Bool}
+use Rattle.std.proofs.Common.{ℕ, ◌≡◌, ◌∙◌, List, [], map, refl, sym, ap, subst, Option, Some, None, option_map, Bool}
 use Rattle.std.specs.Prelude.{option_and_then}
 use Rattle.spec_core.specs.Code.{Program}
 use Rattle.rule_model.specs.Derivations.{Derivation}
@@ -8,7 +8,7 @@ use Rattle.windowed_trees.specs.Windows.{Windows}
 use Rattle.courses.specs.Known.{Knowledge, decided}
 use Rattle.courses.specs.Lazy.{Lazy, first_holding, all_holding}
 use Rattle.courses.specs.Gaps.{first_known, all_known}
-use Rattle.courses.specs.Rules.{course}
+use Rattle.courses.specs.Rules.{Waiting, Next, course}
 use Rattle.courses.proofs.Gaps.{gaps_are_so}
 use Rattle.settling.specs.Rules.{next_decided}
 use Rattle.settling.proofs.Deciding.{decided_by_rules}
@@ -16,9 +16,10 @@ use Rattle.composites.specs.Composites.{Composite}
 use Rattle.composites.specs.Evaluations.{Evaluation}
 use Rattle.open_composites.specs.Laws.{composites_of}
 use Rattle.asked_trees.specs.Asked.{TreeQuery, TestsAsked}
+use Rattle.asked_trees.specs.Laws.{IsSoundWaiting, EntryHolds}
 use Rattle.asked_trees.proofs.Testing.{asked_can_be_tested}
 use Rattle.node_lists.specs.Waiting as lists
-use Rattle.node_lists.specs.Waiting.{Candidate, waiting_trees}
+use Rattle.node_lists.specs.Waiting.{Candidate, with_trees, waiting_trees}
 use Rattle.node_lists.specs.Laws.{IsKnownOf}
 use Rattle.node_lists.proofs.Decided.{decided_entries_hold}
 use Rattle.tree_nodes.specs.Rests.{Work}
@@ -26,9 +27,11 @@ use Rattle.tree_nodes.specs.Shapes.{Held, Shape, node_at, stands_for}
 use Rattle.tree_nodes.proofs.Finding.{found_is_node}
 use Rattle.known_shows.specs.Known.{Pieces}
 use Rattle.known_shows.proofs.Verdicts.{known_verdicts_are_so}
-use Rattle.candidates.specs.Listed.{knowledge, found_first, found_all}
+use Rattle.candidates.specs.Listed.{knowledge, known_trees, first_tree, all_trees}
 use Rattle.candidates.specs.Laws.{IsKnownTree, DecidedEntriesAreSo}
 use Rattle.candidates.proofs.Listing.{node_found, are_those}
+use Rattle.candidates.proofs.Trees.{tree_of, candidates_are, firsts as firsts_are, alls as alls_are}
+use Rattle.candidates.proofs.Entries.{next_is}
 
 module _ (program : Program) (e : Evaluation) (size : ℕ) (w : Windows) (t : Shape) (pieces : Pieces)
     (k : IsKnownTree program e size w t pieces) where
@@ -72,23 +75,44 @@ module _ (program : Program) (e : Evaluation) (size : ℕ) (w : Windows) (t : Sh
   abbrev lazy : TreeQuery → Lazy Composite Candidate
   lazy = waiting_trees program.theory w t
 
-  firsts : (λ q. decided known (first_holding (lazy q))) ≡ found_first program.theory w pieces t
-  firsts i q =
-      ((gaps_are_so Composite Candidate).firsts known (lazy q)
-      ∙ ap (first_known known.verdict) (are_those program.theory w t q k.apart)) i
+  firsts : (q : TreeQuery) → option_map (option_map tree_of) (decided known (first_holding (lazy q))) ≡ first_tree program.theory w pieces t q
+  firsts q =
+      ap (option_map (option_map tree_of)) (
+      (gaps_are_so Composite Candidate).firsts known (lazy q)
+      ∙ ap (first_known known.verdict) (are_those program.theory w t q k.apart ∙ sym (candidates_are q program.theory w t)))
+      ∙ firsts_are q known.verdict (known_trees program.theory w t q)
 
-  alls : (λ q. decided known (all_holding (lazy q))) ≡ found_all program.theory w pieces t
-  alls i q =
-      ((gaps_are_so Composite Candidate).alls known (lazy q)
-      ∙ ap (all_known known.verdict) (are_those program.theory w t q k.apart)) i
+  alls : (q : TreeQuery) → option_map (map tree_of) (decided known (all_holding (lazy q))) ≡ all_trees program.theory w pieces t q
+  alls q =
+      ap (option_map (map tree_of)) (
+      (gaps_are_so Composite Candidate).alls known (lazy q)
+      ∙ ap (all_known known.verdict) (are_those program.theory w t q k.apart ∙ sym (candidates_are q program.theory w t)))
+      ∙ alls_are q known.verdict (known_trees program.theory w t q)
+
+  abbrev outcome : Waiting PendingOffer → Option (Next PendingOffer Candidate)
+  outcome state = decided known (course lazy state)
+
+  trees_decided : (state : Waiting PendingOffer) →
+      option_map with_trees (outcome state) ≡
+      next_decided (first_tree program.theory w pieces t) (all_trees program.theory w pieces t) state
+  trees_decided state =
+      ap (option_map with_trees) (decided_by_rules Composite PendingOffer Candidate lazy state known)
+      ∙ next_is (λ q. decided known (first_holding (lazy q))) (λ q. decided known (all_holding (lazy q)))
+      (first_tree program.theory w pieces t) (all_trees program.theory w pieces t) state firsts alls
+
+  pub are_so : (state : Waiting PendingOffer) → IsSoundWaiting state → (entry : Next PendingOffer Derivation) →
+      next_decided (first_tree program.theory w pieces t) (all_trees program.theory w pieces t) state ≡ Some entry →
+      EntryHolds program w (stands_for program t) state entry
+  are_so state sound entry h = by_outcome (outcome state) refl (trees_decided state ∙ h)
+    where
+      by_outcome : (o : Option (Next PendingOffer Candidate)) → outcome state ≡ o → option_map with_trees o ≡ Some entry →
+          EntryHolds program w (stands_for program t) state entry
+      by_outcome None f g = let no : ⊥ = cc in absurd no
+      by_outcome (Some a) f g =
+          let same : with_trees a ≡ entry = cc in
+          let test = asked_can_be_tested program e w k.exact (stands_for program t) in
+          subst (EntryHolds program w (stands_for program t) state) same
+          (decided_entries_hold program e size w t test.0 known (known_of test.0 test.1) state sound a f).1
 
 pub decided_entries_are_so : DecidedEntriesAreSo
-decided_entries_are_so program e size w t pieces k state sound entry h =
-    let known = knowledge program.theory w pieces t in
-    let lazy = waiting_trees program.theory w t in
-    let test = asked_can_be_tested program e w k.exact (stands_for program t) in
-    let is_decided : decided known (course lazy state) ≡ Some entry =
-    decided_by_rules Composite PendingOffer Candidate lazy state known
-    ∙ ap (λ find. next_decided find (λ q. decided known (all_holding (lazy q))) state) (firsts program e size w t pieces k)
-    ∙ ap (λ every. next_decided (found_first program.theory w pieces t) every state) (alls program e size w t pieces k) ∙ h in
-    (decided_entries_hold program e size w t test.0 known (known_of program e size w t pieces k test.0 test.1) state sound entry is_decided).1
+decided_entries_are_so program e size w t pieces k state sound entry h = are_so program e size w t pieces k state sound entry h

@@ -1,13 +1,14 @@
 -- What searches still ask, as jobs at nodes.
-use Rattle.std.proofs.Common.{◌≡◌, ◌++◌, ◌∙◌, List, [], ◌∷◌, flat_map, refl, sym, ap, Bool, true, false, append_assoc}
+use Rattle.std.proofs.Common.{◌≡◌, ◌++◌, ◌∙◌, List, [], ◌∷◌, map, flat_map, refl, sym, ap, Bool, true, false, append_assoc}
 use Rattle.std.specs.Prelude.{is_some}
 use Rattle.spec_core.specs.Theories.{Theory}
 use Rattle.rule_model.specs.States.{PendingOffer}
 use Rattle.windowed_trees.specs.Windows.{Windows}
+use Rattle.courses.specs.Courses.{Question}
 use Rattle.courses.specs.Known.{Knowledge, found}
 use Rattle.courses.specs.Lazy.{Lazy, first, first_holding, all_holding}
 use Rattle.courses.specs.Gaps.{missing_to_first, all_missing, known_to_hold}
-use Rattle.courses.specs.Rules.{Query, meeting, any, unseen, any_beyond, beyond_or_unseen, Waiting, when}
+use Rattle.courses.specs.Rules.{Query, meeting, any, unseen, any_beyond, beyond_or_unseen, Waiting, when, course}
 use Rattle.courses.proofs.Gaps.{gaps_are_so}
 use Rattle.settling.specs.Laws.{is_held}
 use Rattle.settling.specs.Needed.{first_needed, unseen_needed, waiting_needed, asked_needed, marked_needed, unmet_needed, next_needed}
@@ -18,10 +19,11 @@ use Rattle.node_lists.specs.Waiting.{Candidate, waiting_trees}
 use Rattle.tree_nodes.specs.Generations.{AreApart}
 use Rattle.tree_nodes.specs.Shapes.{Shape}
 use Rattle.known_shows.specs.Known.{Pieces}
-use Rattle.candidates.specs.Listed.{knowledge, asked_for_first, asked_for_all, is_known_to_hold}
-use Rattle.candidates.specs.Jobs.{jobs_of, all_jobs}
+use Rattle.candidates.specs.Listed.{knowledge, known_trees, asked_for_first, asked_for_all, is_known_to_hold}
+use Rattle.candidates.specs.Jobs.{NodeJob, jobs_of, all_jobs, of_tree}
 use Rattle.candidates.specs.Laws.{JobsAreNeeded}
 use Rattle.candidates.proofs.Listing.{are_those}
+use Rattle.candidates.proofs.Trees.{candidates_are, missing_firsts, missing_alls, held}
 
 flat_join : {A B : Type 0} (f : A → List B) (xs ys : List A) → flat_map f (xs ++ ys) ≡ flat_map f xs ++ flat_map f ys
 flat_join f [] ys = refl
@@ -88,25 +90,57 @@ module _ (theory : Theory) (w : Windows) (t : Shape) (pieces : Pieces) (apart : 
   abbrev lazy : TreeQuery → Lazy Composite Candidate
   lazy = waiting_trees theory w t
 
-  for_first : (λ q. found known (first_holding (lazy q))) ≡ asked_for_first theory w pieces t
-  for_first i q =
-      ((gaps_are_so Composite Candidate).missing_to_firsts known (lazy q)
-      ∙ ap (missing_to_first known.verdict) (are_those theory w t q apart)) i
+  for_first : (q : TreeQuery) → map of_tree (found known (first_holding (lazy q))) ≡ asked_for_first theory w pieces t q
+  for_first q =
+      ap (map of_tree) (
+      (gaps_are_so Composite Candidate).missing_to_firsts known (lazy q)
+      ∙ ap (missing_to_first known.verdict) (are_those theory w t q apart ∙ sym (candidates_are q theory w t)))
+      ∙ missing_firsts q known.verdict (known_trees theory w t q)
 
-  for_all : (λ q. found known (all_holding (lazy q))) ≡ asked_for_all theory w pieces t
-  for_all i q =
-      ((gaps_are_so Composite Candidate).all_missings known (lazy q) ∙ ap (all_missing known.verdict) (are_those theory w t q apart)) i
+  for_all : (q : TreeQuery) → map of_tree (found known (all_holding (lazy q))) ≡ asked_for_all theory w pieces t q
+  for_all q =
+      ap (map of_tree) (
+      (gaps_are_so Composite Candidate).all_missings known (lazy q)
+      ∙ ap (all_missing known.verdict) (are_those theory w t q apart ∙ sym (candidates_are q theory w t)))
+      ∙ missing_alls q known.verdict (known_trees theory w t q)
 
-  held : (λ q. is_held known (lazy q)) ≡ is_known_to_hold theory w pieces t
-  held i q = (ap (λ l. is_some (first (known_to_hold known.verdict l))) (are_those theory w t q apart)) i
+  held_is : (q : TreeQuery) → is_held known (lazy q) ≡ is_known_to_hold theory w pieces t q
+  held_is q =
+      ap (λ l. is_some (first (known_to_hold known.verdict l))) (are_those theory w t q apart ∙ sym (candidates_are q theory w t))
+      ∙ held q known.verdict (known_trees theory w t q)
+
+  -- the jobs of questions about candidates are those about their trees
+  one_by_one : (qs : List (Question Candidate)) → flat_map (λ x. jobs_of pieces t (of_tree x)) qs ≡ all_jobs pieces t (map of_tree qs)
+  one_by_one [] = refl
+  one_by_one (x ∷ qs) = ap (λ z. jobs_of pieces t (of_tree x) ++ z) (one_by_one qs)
+
+  jobs_first : ◌≡◌ {A = TreeQuery → List NodeJob} (λ q. all_jobs pieces t (asked_for_first theory w pieces t q))
+      (λ q. flat_map (λ x. jobs_of pieces t (of_tree x)) (found known (first_holding (lazy q))))
+  jobs_first i q = (ap (all_jobs pieces t) (sym (for_first q)) ∙ sym (one_by_one (found known (first_holding (lazy q))))) i
+
+  jobs_all : ◌≡◌ {A = TreeQuery → List NodeJob} (λ q. all_jobs pieces t (asked_for_all theory w pieces t q))
+      (λ q. flat_map (λ x. jobs_of pieces t (of_tree x)) (found known (all_holding (lazy q))))
+  jobs_all i q = (ap (all_jobs pieces t) (sym (for_all q)) ∙ sym (one_by_one (found known (all_holding (lazy q))))) i
+
+  held_all : is_known_to_hold theory w pieces t ≡ (λ q. is_held known (lazy q))
+  held_all i q = (sym (held_is q)) i
+
+  abbrev jobs : Question Candidate → List NodeJob
+  jobs x = jobs_of pieces t (of_tree x)
+
+  pub are_needed : (state : Waiting PendingOffer) →
+      next_needed (λ q. all_jobs pieces t (asked_for_first theory w pieces t q)) (λ q. all_jobs pieces t (asked_for_all theory w pieces t q))
+      (is_known_to_hold theory w pieces t) state ≡ all_jobs pieces t (map of_tree (found known (course lazy state)))
+  are_needed state =
+      let every : TreeQuery → List NodeJob = λ q. all_jobs pieces t (asked_for_all theory w pieces t q) in
+      let firsts : TreeQuery → List NodeJob = λ q. flat_map jobs (found known (first_holding (lazy q))) in
+      let alls : TreeQuery → List NodeJob = λ q. flat_map jobs (found known (all_holding (lazy q))) in
+      ap (λ m. next_needed m every (is_known_to_hold theory w pieces t) state) jobs_first
+      ∙ ap (λ m. next_needed firsts m (is_known_to_hold theory w pieces t) state) jobs_all
+      ∙ ap (λ h. next_needed firsts alls h state) held_all
+      ∙ in_parts jobs (λ q. found known (first_holding (lazy q))) (λ q. found known (all_holding (lazy q))) (λ q. is_held known (lazy q)) state
+      ∙ ap (flat_map jobs) (sym (needed_by_rules Composite PendingOffer Candidate lazy state known))
+      ∙ one_by_one (found known (course lazy state))
 
 pub jobs_are_needed : JobsAreNeeded
-jobs_are_needed theory w t pieces apart state =
-    let known = knowledge theory w pieces t in
-    let lazy = waiting_trees theory w t in
-    in_parts (jobs_of pieces t) (asked_for_first theory w pieces t) (asked_for_all theory w pieces t) (is_known_to_hold theory w pieces t) state
-    ∙ ap (all_jobs pieces t) (sym (
-    needed_by_rules Composite PendingOffer Candidate lazy state known
-    ∙ ap (λ m. next_needed m (λ q. found known (all_holding (lazy q))) (λ q. is_held known (lazy q)) state) (for_first theory w t pieces apart)
-    ∙ ap (λ m. next_needed (asked_for_first theory w pieces t) m (λ q. is_held known (lazy q)) state) (for_all theory w t pieces apart)
-    ∙ ap (λ h. next_needed (asked_for_first theory w pieces t) (asked_for_all theory w pieces t) h state) (held theory w t pieces apart)))
+jobs_are_needed theory w t pieces apart state = are_needed theory w t pieces apart state

@@ -1,6 +1,7 @@
 -- What is to be done at nodes, so that searches are decided. (This profile.)
 use Rattle.std.specs.Prelude.{ℕ, List, [], ◌∷◌, map, flat_map}
 use Rattle.courses.specs.Courses.{Question, expand, judge}
+use Rattle.rule_model.specs.Derivations.{Derivation}
 use Rattle.node_lists.specs.Waiting.{Candidate}
 use Rattle.tree_nodes.specs.Shapes.{Shape}
 use Rattle.known_shows.specs.Known.{Pieces, NodePart, missing_parts}
@@ -11,10 +12,15 @@ pub data NodeJob : Type 0 where
   to_judge : NodePart → NodeJob
 
 module _ (pieces : Pieces) (t : Shape) where
-  -- what a question asks of nodes: a candidate, each of its parts of which it isn't known what is shown by it
-  abbrev pub jobs_of : Question Candidate → List NodeJob
+  -- what a question asks of nodes: a tree of rules, each of its parts of which it isn't known what is shown by it
+  abbrev pub jobs_of : Question Derivation → List NodeJob
   jobs_of (expand g) = to_expand g ∷ []
-  jobs_of (judge a) = map to_judge (missing_parts pieces t a.tree)
+  jobs_of (judge d) = map to_judge (missing_parts pieces t d)
 
-  abbrev pub all_jobs : List (Question Candidate) → List NodeJob
+  abbrev pub all_jobs : List (Question Derivation) → List NodeJob
   all_jobs questions = flat_map jobs_of questions
+
+-- what a question about a candidate asks of its tree
+abbrev pub of_tree : Question Candidate → Question Derivation
+of_tree (expand g) = expand g
+of_tree (judge a) = judge a.tree

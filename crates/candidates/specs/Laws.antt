@@ -1,8 +1,9 @@
 -- What follows from the definitions.
-use Rattle.std.specs.Prelude.{ℕ, ◌≡◌, List, Some}
+use Rattle.std.specs.Prelude.{ℕ, ◌≡◌, List, Some, map}
 use Rattle.spec_core.specs.Theories.{Theory}
 use Rattle.spec_core.specs.Code.{Program}
 use Rattle.spec_core.specs.Ready.{IsReady}
+use Rattle.rule_model.specs.Derivations.{Derivation}
 use Rattle.rule_model.specs.States.{PendingOffer}
 use Rattle.windowed_trees.specs.Windows.{Windows, AreWindows}
 use Rattle.courses.specs.Known.{found}
@@ -15,15 +16,15 @@ use Rattle.open_composites.specs.Laws.{composites_of}
 use Rattle.asked_trees.specs.Asked.{TreeQuery}
 use Rattle.asked_trees.specs.Laws.{IsSoundWaiting, EntryHolds}
 use Rattle.node_lists.specs.Waiting as lists
-use Rattle.node_lists.specs.Waiting.{Candidate, with_trees, waiting_trees}
+use Rattle.node_lists.specs.Waiting.{waiting_trees}
 use Rattle.tree_nodes.specs.Generations.{AreApart}
 use Rattle.tree_nodes.specs.Rests.{Work}
 use Rattle.tree_nodes.specs.Shapes.{Above, Held, Shape, Stands, stands_for}
 use Rattle.known_shows.specs.Known.{Pieces}
 use Rattle.known_shows.specs.Laws.{ArePiecesOf}
-use Rattle.candidates.specs.Listed.{known_candidates, items_in, knowledge, found_first, found_all, asked_for_first, asked_for_all}
+use Rattle.candidates.specs.Listed.{known_candidates, items_in, knowledge, first_tree, all_trees, asked_for_first, asked_for_all}
 use Rattle.candidates.specs.Listed.{is_known_to_hold}
-use Rattle.candidates.specs.Jobs.{all_jobs}
+use Rattle.candidates.specs.Jobs.{all_jobs, of_tree}
 
 -- the candidates of a tree, as far as it is expanded, are those of its list that waits, with the same gaps
 abbrev pub KnownCandidatesAreThose : Type 0
@@ -51,9 +52,9 @@ DecidedEntriesAreSo =
     IsKnownTree program e size w t pieces →
     (state : Waiting PendingOffer) →
     IsSoundWaiting state →
-    (entry : Next PendingOffer Candidate) →
-    next_decided (found_first program.theory w pieces t) (found_all program.theory w pieces t) state ≡ Some entry →
-    EntryHolds program w (stands_for program t) state (with_trees entry)
+    (entry : Next PendingOffer Derivation) →
+    next_decided (first_tree program.theory w pieces t) (all_trees program.theory w pieces t) state ≡ Some entry →
+    EntryHolds program w (stands_for program t) state entry
 
 -- the jobs at nodes that searches still ask by the rules are those of the questions that the walk along their course finds
 abbrev pub JobsAreNeeded : Type 0
@@ -63,4 +64,4 @@ JobsAreNeeded =
     (state : Waiting PendingOffer) →
     next_needed (λ q. all_jobs pieces t (asked_for_first theory w pieces t q)) (λ q. all_jobs pieces t (asked_for_all theory w pieces t q))
     (is_known_to_hold theory w pieces t) state ≡
-    all_jobs pieces t (found (knowledge theory w pieces t) (course (waiting_trees theory w t) state))
+    all_jobs pieces t (map of_tree (found (knowledge theory w pieces t) (course (waiting_trees theory w t) state)))

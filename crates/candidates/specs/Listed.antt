@@ -2,6 +2,7 @@
 -- (This profile.)
 use Rattle.std.specs.Prelude.{ℕ, List, map, flat_map, Option, Bool, is_some, option_map, option_and_then}
 use Rattle.spec_core.specs.Theories.{Theory}
+use Rattle.rule_model.specs.Derivations.{Derivation}
 use Rattle.windowed_trees.specs.Windows.{Windows}
 use Rattle.courses.specs.Courses.{Question}
 use Rattle.courses.specs.Known.{Knowledge}
@@ -39,19 +40,26 @@ module _ (theory : Theory) (w : Windows) where
   abbrev pub knowledge : Pieces → Shape → Knowledge Composite Candidate
   knowledge pieces t = record { items = items_in t; verdict = known_verdict theory w pieces t }
 
-  -- Searches: the first candidate that holds, and all of them; what they still ask; whether a candidate is known to hold.
+  -- the trees of the candidates, in order, with the same gaps; and whether the query asks for one, as far as it is known
+  abbrev pub known_trees : Shape → TreeQuery → List (OrGap Derivation)
+  known_trees t q = flat_map (in_its_place (λ p. map element (asked_from theory w (for_offer q) p 0))) (known_plans theory t)
+
+  abbrev pub tree_verdict : Pieces → Shape → TreeQuery → Derivation → Option Bool
+  tree_verdict pieces t q d = known_verdict theory w pieces t (candidate q d)
+
+  -- Searches: the first tree for which a query asks, and all of them; what they still ask; whether it is known that it asks for one.
   module _ (pieces : Pieces) (t : Shape) (q : TreeQuery) where
-    abbrev pub found_first : Option (Option Candidate)
-    found_first = first_known (known_verdict theory w pieces t) (known_candidates t q)
+    abbrev pub first_tree : Option (Option Derivation)
+    first_tree = first_known (tree_verdict pieces t q) (known_trees t q)
 
-    abbrev pub found_all : Option (List Candidate)
-    found_all = all_known (known_verdict theory w pieces t) (known_candidates t q)
+    abbrev pub all_trees : Option (List Derivation)
+    all_trees = all_known (tree_verdict pieces t q) (known_trees t q)
 
-    abbrev pub asked_for_first : List (Question Candidate)
-    asked_for_first = missing_to_first (known_verdict theory w pieces t) (known_candidates t q)
+    abbrev pub asked_for_first : List (Question Derivation)
+    asked_for_first = missing_to_first (tree_verdict pieces t q) (known_trees t q)
 
-    abbrev pub asked_for_all : List (Question Candidate)
-    asked_for_all = all_missing (known_verdict theory w pieces t) (known_candidates t q)
+    abbrev pub asked_for_all : List (Question Derivation)
+    asked_for_all = all_missing (tree_verdict pieces t q) (known_trees t q)
 
     abbrev pub is_known_to_hold : Bool
-    is_known_to_hold = is_some (first (known_to_hold (known_verdict theory w pieces t) (known_candidates t q)))
+    is_known_to_hold = is_some (first (known_to_hold (tree_verdict pieces t q) (known_trees t q)))
