@@ -1,8 +1,9 @@
 // The trees of a composite that a query may ask for, one after another.
 
-ghost use Rattle.std.specs.Prelude.{◌≡◌, ◌+◌, ◌-◌, ◌^◌, ◌<◌, ◌++◌, [], IfOk, length, map, option_map, option_to_list};
+ghost use Rattle.std.specs.Prelude.{◌≡◌, ◌+◌, ◌-◌, ◌^◌, ◌<◌, ◌++◌, [], IfOk, IfSome, IsTrue, length, map, option_map, option_to_list};
 ghost use Rattle.spec_core.specs.Theories.{theory_of};
-ghost use Rattle.rule_model.specs.Derivations.{derivation_of};
+ghost use Rattle.rule_model.specs.Derivations.{Derivation, derivation_of};
+ghost use Rattle.windowed_trees.specs.Trees as trees;
 ghost use Rattle.courses.specs.Rules.{unseen, beyond_or_unseen};
 ghost use Rattle.composites.specs.OpenFields as fields;
 ghost use Rattle.node_lists.specs.Waiting as waiting;
@@ -12,7 +13,7 @@ ghost use Rattle.window_tables.specs.Tables.{windows_in};
 ghost use Rattle.numbered_trees.specs.Numbers.{counted, trees_at_once};
 ghost use Rattle.asked_lists.specs.Searches as searches;
 
-use crate::marks::has_mark;
+use crate::marks::{any_mark, has_mark, may_be_marked};
 use crate::meeting::all_meeting;
 use numbered_trees::choices::choices_of;
 use numbered_trees::counts::count_at_once;
@@ -153,7 +154,21 @@ pub fn slots_asked(
     }
 }
 
-/// Whether a query asks for trees with marks. It takes no memory.
+// Whether a query asks for trees with marks alone.
+fn wants_marks(search: &TreeSearch<'_>) -> bool
+    ensures { IsTrue result → (d : Derivation) → searches.is_wanted (searches.query_of search.now) d ≡ trees.has_mark d }
+{
+    match search {
+        TreeSearch::Meeting(_) => false,
+        TreeSearch::Any => false,
+        TreeSearch::Unseen => false,
+        TreeSearch::Beyond(_) => true,
+        TreeSearch::AnyBeyond => true,
+        TreeSearch::BeyondOrUnseen(_) => true,
+    }
+}
+
+/// Whether a query asks for a tree, as far as its marks say. It takes no memory.
 pub fn is_wanted(search: &TreeSearch<'_>, tree: &Rules) -> bool
     ensures wanted { result ≡ searches.is_wanted (searches.query_of search.now) (derivation_of tree.now) }
 {
@@ -241,6 +256,7 @@ fn next_wanted(
     ensures next { IfOk result (λ o. searches.IsNext (searches.is_wanted (searches.query_of search.now))
         (trees_at_once (theory_of algebra.now) (windows_in windows.now) (map field_of columns.now) (plan_of scheme.now)
         choices.now) from o) }
+    ensures below { IfOk result (λ o. IfSome o (λ asked. asked.number < 2 ^ 64 - 1)) }
 {
     let mut number = from;
     while number < count {
@@ -269,9 +285,13 @@ pub fn next_among(
     ensures next { IfOk result (λ o. searches.IsNext (searches.is_wanted (searches.query_of search.now))
         (trees_at_once (theory_of algebra.now) (windows_in windows.now) (open_plan_of composite.now).fields
         (open_plan_of composite.now).plan choices.now) from o) }
+    ensures small { IfOk result (λ o. IfSome o (λ asked. asked.number < 2 ^ 64 - 1)) }
 {
     let columns = composite.columns.as_slice();
     let scheme = &composite.scheme;
+    if wants_marks(search) && !may_be_marked(alloc, algebra, windows, scheme, any_mark(choices))? {
+        return Ok(None);
+    }
     let count = count_at_once(alloc, algebra, windows, columns, scheme, choices)?;
     if count == u64::MAX {
         return Err(Memory);
@@ -295,6 +315,7 @@ pub fn next_asked(
     ensures next { IfOk result (λ o. searches.IsNext (searches.is_wanted (searches.query_of search.entry))
         (searches.trees_searched (theory_of algebra.now) (windows_in windows.now) (searches.query_of search.entry)
         (open_plan_of composite.now)) from o) }
+    ensures small { IfOk result (λ o. IfSome o (λ asked. asked.number < 2 ^ 64 - 1)) }
 {
     match slots_asked(alloc, algebra, windows, composite, search)? {
         None => Ok(None),
