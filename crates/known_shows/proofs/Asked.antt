@@ -18,6 +18,7 @@ use Rattle.shown_actions.specs.Deciding.{may_meet}
 use Rattle.shown_actions.specs.Shows.{Show, Shows}
 use Rattle.shown_actions.proofs.Deciding.{fields_are_decided, no_true}
 use Rattle.node_lists.specs.Waiting.{is_unseen}
+use Rattle.asked_lists.specs.Searches.{for_offer}
 use Rattle.known_shows.specs.Asked.{suits, asked_by}
 use Rattle.known_shows.specs.Laws.{ShowsDecideQueries}
 
@@ -74,7 +75,7 @@ module _ (program : Program) (e : Evaluation) (w : Windows) (exact : IsExact pro
     past : (o : Option Offer) → has_mark d && may_meet program.theory w s.kind s.fields o ≡ true → IsBeyond program w b o d s.kind
     past o t = let r = each_true (has_mark d) (may_meet program.theory w s.kind s.fields o) t in (seen o r.1, r.0)
 
-    asked_so : (q : TreeQuery) → asked_by program.theory w q d (Some s) ≡ true → IsAsked program w b q d
+    asked_so : (q : TreeQuery) → asked_by program.theory w (for_offer q) d (Some s) ≡ true → IsAsked program w b q d
     asked_so (meeting p) t = (s.kind, within (Some p.offer) t)
     asked_so any t = (s.kind, within None t)
     asked_so unseen t =
@@ -84,7 +85,7 @@ module _ (program : Program) (e : Evaluation) (w : Windows) (exact : IsExact pro
     asked_so (beyond p) t = (s.kind, past (Some p.offer) t)
     asked_so any_beyond t = (s.kind, past None t)
     asked_so (beyond_or_unseen p) t =
-        let r = each_true (has_mark d) (suits program.theory w (beyond_or_unseen p) s) t in
+        let r = each_true (has_mark d) (suits program.theory w (beyond_or_unseen p.offer) s) t in
         by_case r.0
         (either_true (may_meet program.theory w s.kind s.fields (Some p.offer))
         (may_meet program.theory w s.kind s.fields None && is_unseen s.kind) r.1)
@@ -98,7 +99,7 @@ module _ (program : Program) (e : Evaluation) (w : Windows) (exact : IsExact pro
             let r = each_true (may_meet program.theory w s.kind s.fields None) (is_unseen s.kind) m in
             inr (s.kind, (seen None r.0, marked), (unseen_is s.kind).1 r.1)
 
-    is_so : (q : TreeQuery) → IsAsked program w b q d → asked_by program.theory w q d (Some s) ≡ true
+    is_so : (q : TreeQuery) → IsAsked program w b q d → asked_by program.theory w (for_offer q) d (Some s) ≡ true
     is_so (meeting p) h =
         both_true (not (has_mark d)) (may_meet program.theory w s.kind s.fields (Some p.offer)) (ap not h.1.1)
         (meets_it (Some p.offer) h.0 h.1.0)
@@ -112,11 +113,11 @@ module _ (program : Program) (e : Evaluation) (w : Windows) (exact : IsExact pro
         both_true (has_mark d) (may_meet program.theory w s.kind s.fields (Some p.offer)) h.1.1 (meets_it (Some p.offer) h.0 h.1.0)
     is_so any_beyond h = both_true (has_mark d) (may_meet program.theory w s.kind s.fields None) h.1.1 (meets_it None h.0 h.1.0)
     is_so (beyond_or_unseen p) (inl h) =
-        both_true (has_mark d) (suits program.theory w (beyond_or_unseen p) s) h.1.1
+        both_true (has_mark d) (suits program.theory w (beyond_or_unseen p.offer) s) h.1.1
         (left_true (may_meet program.theory w s.kind s.fields (Some p.offer))
         (may_meet program.theory w s.kind s.fields None && is_unseen s.kind) (meets_it (Some p.offer) h.0 h.1.0))
     is_so (beyond_or_unseen p) (inr h) =
-        both_true (has_mark d) (suits program.theory w (beyond_or_unseen p) s) h.1.1
+        both_true (has_mark d) (suits program.theory w (beyond_or_unseen p.offer) s) h.1.1
         (right_true (may_meet program.theory w s.kind s.fields (Some p.offer))
         (may_meet program.theory w s.kind s.fields None && is_unseen s.kind)
         (both_true (may_meet program.theory w s.kind s.fields None) (is_unseen s.kind) (meets_it None h.0 h.1.0)

@@ -1,5 +1,5 @@
 -- What is known of the nodes of a tree makes what the whole shows.
-use Rattle.std.proofs.Common.{◌≡◌, [], ◌∷◌, refl, subst, Option, Some, None, option_map, option_and_then}
+use Rattle.std.proofs.Common.{◌≡◌, [], ◌∷◌, refl, subst, Option, Some, None}
 use Rattle.spec_core.specs.Code.{Program, Synchronised}
 use Rattle.rule_model.specs.Behaviours.{Behaviour, stop, choice, parallel, hide, disable, relabel}
 use Rattle.rule_model.specs.Derivations.{Derivation, pre, chl, chr, parl, parr, both, hiding, pass, enstep, enend, disstep, disend}
@@ -15,7 +15,7 @@ use Rattle.shown_actions.proofs.Folding.{shows_are_made_of_shows}
 use Rattle.tree_nodes.specs.Shapes.{Shape, leaf, ended, over, between, Unary, hidden, relabelled, enabled, Binary, choosing, beside}
 use Rattle.tree_nodes.specs.Shapes.{disabling, applied, joined, stands_for, under, first_of, second_of}
 use Rattle.known_shows.specs.Parts.{part_under, sides_under}
-use Rattle.known_shows.specs.Known.{KnownShow, Pieces, known_together, known_under, known_between, known_show}
+use Rattle.known_shows.specs.Known.{KnownShow, Pieces, known_over, known_together, known_under, known_between, known_show}
 use Rattle.known_shows.specs.Laws.{ArePiecesOf, KnownShowsAreSo}
 
 module _ (program : Program) (e : Evaluation) (w : Windows) (exact : IsExact program e) where
@@ -28,7 +28,7 @@ module _ (program : Program) (e : Evaluation) (w : Windows) (exact : IsExact pro
   IsSo b d (Some o) = Shows program w b d o
 
   over_so : (r : PartRule) (b c : Behaviour) → IsOver r b c → (d : Derivation) (o : KnownShow) → IsSo c d o →
-      IsSo b (tree_over r d) (option_map (λ s. option_and_then (over_part program.theory w r) s) o)
+      IsSo b (tree_over r d) (known_over program.theory w r o)
   over_so r b c i d None h = tt
   over_so r b c i d (Some o) h = made.over_part r b c i d o h
 

@@ -1,16 +1,15 @@
 -- What is missing where it isn't known what a tree of nodes shows.
-use Rattle.std.proofs.Common.{ℕ, ◌≡◌, ◌⊎◌, inl, inr, ⊎_elim, ◌∙◌, List, [], ◌∷◌, ◌++◌, refl, sym, ap, subst, Option, Some, None, option_map}
-use Rattle.std.proofs.Common.{option_and_then}
+use Rattle.std.proofs.Common.{ℕ, ◌≡◌, ◌⊎◌, inl, inr, ⊎_elim, ◌∙◌, List, [], ◌∷◌, ◌++◌, refl, sym, ap, subst, Option, Some, None}
 use Rattle.spec_core.specs.Lists.{IsOneOf}
 use Rattle.spec_core.specs.Code.{Synchronised}
 use Rattle.spec_core.specs.Theories.{Theory}
 use Rattle.rule_model.specs.Derivations.{Derivation}
 use Rattle.windowed_trees.specs.Windows.{Windows}
 use Rattle.courses.specs.Known.{unless_known}
-use Rattle.shown_actions.specs.Shows.{Show, over_part, over_both}
+use Rattle.shown_actions.specs.Shows.{Show, PartRule, over_part, over_both}
 use Rattle.tree_nodes.specs.Shapes.{Held, Shape, leaf, ended, over, between, Unary, Binary, under, first_of, second_of, Lives}
 use Rattle.known_shows.specs.Parts.{RuledPart, part_under, Sides, neither, left_side, right_side, both_sides, sides_under}
-use Rattle.known_shows.specs.Known.{KnownShow, Pieces, known_together, known_under, known_between, known_show, NodePart}
+use Rattle.known_shows.specs.Known.{KnownShow, Pieces, known_over, known_together, known_under, known_between, known_show, NodePart}
 use Rattle.known_shows.specs.Known.{node_part, parts_under, parts_between, missing_parts}
 use Rattle.known_shows.specs.Laws.{MissingPartsAreMissing}
 
@@ -52,10 +51,10 @@ AreWhole (Some (Some s)) parts = parts ≡ []
 
 -- In this module: P holds of what is known and what is missing, whatever the tree of rules.
 module _ (theory : Theory) (w : Windows) where
-  have_over : (p : RuledPart) (o : KnownShow) (parts : List NodePart) → HaveKnown o parts →
-      HaveKnown (option_map (λ s. option_and_then (over_part theory w p.rule) s) o) parts
-  have_over p None parts h = h
-  have_over p (Some o) parts h = tt
+  have_over : (r : PartRule) (o : KnownShow) (parts : List NodePart) → HaveKnown o parts →
+      HaveKnown (known_over theory w r o) parts
+  have_over r None parts h = h
+  have_over r (Some o) parts h = tt
 
   have_together : (gates : Synchronised) (o q : KnownShow) (parts others : List NodePart) → HaveKnown o parts → HaveKnown q others →
       HaveKnown (known_together theory w gates o q) (parts ++ others)
@@ -70,22 +69,22 @@ module _ (theory : Theory) (w : Windows) where
   have_under : (p : Option RuledPart) (part : Derivation → KnownShow) (parts : Derivation → List NodePart) →
       ((d : Derivation) → HaveKnown (part d) (parts d)) → HaveKnown (known_under theory w p part) (parts_under p parts)
   have_under None part parts h = tt
-  have_under (Some p) part parts h = have_over p (part p.rules) (parts p.rules) (h p.rules)
+  have_under (Some p) part parts h = have_over p.rule (part p.rules) (parts p.rules) (h p.rules)
 
   have_between : (s : Sides) (left right : Derivation → KnownShow) (parts others : Derivation → List NodePart) →
       ((d : Derivation) → HaveKnown (left d) (parts d)) → ((d : Derivation) → HaveKnown (right d) (others d)) →
       HaveKnown (known_between theory w s left right) (parts_between s parts others)
   have_between neither left right parts others g h = tt
-  have_between (left_side p) left right parts others g h = have_over p (left p.rules) (parts p.rules) (g p.rules)
-  have_between (right_side p) left right parts others g h = have_over p (right p.rules) (others p.rules) (h p.rules)
+  have_between (left_side p) left right parts others g h = have_over p.rule (left p.rules) (parts p.rules) (g p.rules)
+  have_between (right_side p) left right parts others g h = have_over p.rule (right p.rules) (others p.rules) (h p.rules)
   have_between (both_sides gates d e) left right parts others g h =
       have_together gates (left d) (right e) (parts d) (others e) (g d) (h e)
 
-  whole_over : (p : RuledPart) (o : KnownShow) (parts : List NodePart) → AreWhole o parts →
-      AreWhole (option_map (λ s. option_and_then (over_part theory w p.rule) s) o) parts
-  whole_over p None parts h = tt
-  whole_over p (Some None) parts h = tt
-  whole_over p (Some (Some s)) parts h = by_show (over_part theory w p.rule s)
+  whole_over : (r : PartRule) (o : KnownShow) (parts : List NodePart) → AreWhole o parts →
+      AreWhole (known_over theory w r o) parts
+  whole_over r None parts h = tt
+  whole_over r (Some None) parts h = tt
+  whole_over r (Some (Some s)) parts h = by_show (over_part theory w r s)
     where
       by_show : (o : Option Show) → AreWhole (Some o) parts
       by_show None = tt
@@ -108,14 +107,14 @@ module _ (theory : Theory) (w : Windows) where
   whole_under : (p : Option RuledPart) (part : Derivation → KnownShow) (parts : Derivation → List NodePart) →
       ((d : Derivation) → AreWhole (part d) (parts d)) → AreWhole (known_under theory w p part) (parts_under p parts)
   whole_under None part parts h = tt
-  whole_under (Some p) part parts h = whole_over p (part p.rules) (parts p.rules) (h p.rules)
+  whole_under (Some p) part parts h = whole_over p.rule (part p.rules) (parts p.rules) (h p.rules)
 
   whole_between : (s : Sides) (left right : Derivation → KnownShow) (parts others : Derivation → List NodePart) →
       ((d : Derivation) → AreWhole (left d) (parts d)) → ((d : Derivation) → AreWhole (right d) (others d)) →
       AreWhole (known_between theory w s left right) (parts_between s parts others)
   whole_between neither left right parts others g h = tt
-  whole_between (left_side p) left right parts others g h = whole_over p (left p.rules) (parts p.rules) (g p.rules)
-  whole_between (right_side p) left right parts others g h = whole_over p (right p.rules) (others p.rules) (h p.rules)
+  whole_between (left_side p) left right parts others g h = whole_over p.rule (left p.rules) (parts p.rules) (g p.rules)
+  whole_between (right_side p) left right parts others g h = whole_over p.rule (right p.rules) (others p.rules) (h p.rules)
   whole_between (both_sides gates d e) left right parts others g h =
       whole_together gates (left d) (right e) (parts d) (others e) (g d) (h e)
 

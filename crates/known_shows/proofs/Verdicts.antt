@@ -4,6 +4,7 @@ use Rattle.asked_trees.specs.Asked.{IsAsked}
 use Rattle.shown_actions.proofs.Deciding.{map_some, no_some}
 use Rattle.tree_nodes.specs.Shapes.{stands_for}
 use Rattle.known_shows.specs.Known.{known_show}
+use Rattle.asked_lists.specs.Searches.{for_offer}
 use Rattle.known_shows.specs.Asked.{asked_by}
 use Rattle.known_shows.specs.Laws.{ArePiecesOf, KnownVerdictsAreSo, PiecesOutliveSteps}
 use Rattle.known_shows.proofs.Known.{known_shows_are_so}
@@ -18,10 +19,10 @@ same_test P false true f g = f.1 (g.0 refl)
 
 pub known_verdicts_are_so : KnownVerdictsAreSo
 known_verdicts_are_so program e w exact pieces t h is_asked tests a b q =
-    let known = map_some (known_show program.theory w pieces t a.tree) (asked_by program.theory w a.query a.tree) b q in
+    let known = map_some (known_show program.theory w pieces t a.tree) (asked_by program.theory w (for_offer a.query) a.tree) b q in
     let shown = known_shows_are_so program e w exact pieces t h a.tree known.0 known.1 in
     same_test (IsAsked program w (stands_for program t) a.query a.tree) (is_asked a.query a.tree)
-    (asked_by program.theory w a.query a.tree known.0) (tests a.query a.tree)
+    (asked_by program.theory w (for_offer a.query) a.tree known.0) (tests a.query a.tree)
     (shows_decide_queries program e w exact (stands_for program t) a.tree known.0 shown a.query) ∙ known.2
 
 pub pieces_outlive_steps : PiecesOutliveSteps

@@ -5,7 +5,7 @@ use Rattle.spec_core.specs.Code.{Synchronised}
 use Rattle.rule_model.specs.Derivations.{Derivation}
 use Rattle.windowed_trees.specs.Windows.{Windows}
 use Rattle.courses.specs.Known.{unless_known}
-use Rattle.shown_actions.specs.Shows.{Show, over_part, over_both}
+use Rattle.shown_actions.specs.Shows.{Show, PartRule, over_part, over_both}
 use Rattle.tree_nodes.specs.Shapes.{Shape, leaf, ended, over, between}
 use Rattle.known_shows.specs.Parts.{RuledPart, part_under, Sides, neither, left_side, right_side, both_sides, sides_under}
 
@@ -19,8 +19,8 @@ Pieces = ℕ → Derivation → KnownShow
 
 module _ (theory : Theory) (w : Windows) where
   -- what is known of the whole by a rule over a part, from what is known of the part
-  abbrev pub known_over : RuledPart → (Derivation → KnownShow) → KnownShow
-  known_over p part = option_map (λ o. option_and_then (over_part theory w p.rule) o) (part p.rules)
+  abbrev pub known_over : PartRule → KnownShow → KnownShow
+  known_over r o = option_map (λ s. option_and_then (over_part theory w r) s) o
 
   -- The same by the rule for both sides of a parallel composition. Where one side is known to show nothing, the whole shows nothing,
   -- whatever the other side shows.
@@ -36,13 +36,13 @@ module _ (theory : Theory) (w : Windows) where
   -- what is known of an operator over one part; nothing is shown where the rule isn't about it
   abbrev pub known_under : Option RuledPart → (Derivation → KnownShow) → KnownShow
   known_under None part = Some None
-  known_under (Some p) part = known_over p part
+  known_under (Some p) part = known_over p.rule (part p.rules)
 
   -- what is known of an operator over two parts
   abbrev pub known_between : Sides → (Derivation → KnownShow) → (Derivation → KnownShow) → KnownShow
   known_between neither left right = Some None
-  known_between (left_side p) left right = known_over p left
-  known_between (right_side p) left right = known_over p right
+  known_between (left_side p) left right = known_over p.rule (left p.rules)
+  known_between (right_side p) left right = known_over p.rule (right p.rules)
   known_between (both_sides gates d e) left right = known_together gates (left d) (right e)
 
   -- What is known of what a tree of nodes shows by a tree of rules, from what is known of its nodes. What is over shows nothing.

@@ -14,6 +14,7 @@ use Rattle.tree_nodes.specs.Origins.{meaning}
 use Rattle.tree_nodes.specs.Shapes.{Above, Held, Shape, Stands, Lives, stands_for}
 use Rattle.tree_nodes.specs.declared.origin.Gen.{Gen}
 use Rattle.board_tree.specs.Views.{IsStep}
+use Rattle.asked_lists.specs.Searches.{for_offer}
 use Rattle.known_shows.specs.Known.{Pieces, known_show, NodePart, missing_parts}
 use Rattle.known_shows.specs.Asked.{asked_by, known_verdict}
 
@@ -55,7 +56,7 @@ ShowsDecideQueries =
     (b : Behaviour) (d : Derivation) (o : Option Show) →
     Shows program w b d o →
     (q : TreeQuery) →
-    (asked_by program.theory w q d o ≡ true) ↔ IsAsked program w b q d
+    (asked_by program.theory w (for_offer q) d o ≡ true) ↔ IsAsked program w b q d
 
 -- a verdict that is known says whether the candidate's query asks for its tree
 abbrev pub KnownVerdictsAreSo : Type 0

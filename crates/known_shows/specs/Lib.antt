@@ -1,4 +1,6 @@
+pub mod Models
 pub mod Parts
+pub mod Same
 pub mod Known
 pub mod Asked
 pub mod Laws
