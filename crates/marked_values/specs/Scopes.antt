@@ -27,3 +27,8 @@ marked_term_of (Marked sort) = mark sort.0
 abbrev pub all_joined : List MarkedTerm → Option TermTrees
 all_joined [] = Some no_terms
 all_joined (k ∷ ks) = joined k (all_joined ks)
+
+-- the values, of which the later ones come first, before what is known already
+abbrev pub scope_over : List (ℕ × List ℕ) → List (ℕ × Given) → List (ℕ × Given)
+scope_over [] scope = scope
+scope_over (b ∷ values) scope = scope_over values ((b.0, Value b.1) ∷ scope)

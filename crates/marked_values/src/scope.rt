@@ -5,7 +5,7 @@ ghost use Rattle.spec_core.specs.Terms.{term_of, terms};
 ghost use Rattle.spec_core.specs.Theories.{theory_of};
 ghost use Rattle.windowed_trees.specs.MarkedTerms as marked;
 ghost use Rattle.windowed_trees.specs.MarkedTerms.{marked_instance};
-ghost use Rattle.marked_values.specs.Scopes.{marked_of, marks_of, marked_term_of, all_joined};
+ghost use Rattle.marked_values.specs.Scopes.{marked_of, marks_of, marked_term_of, all_joined, scope_over};
 
 use code_behaviours::values::term_of_value;
 use rule_model::sorts::result_sort;
@@ -116,6 +116,24 @@ pub fn with(scope: Vec<(u32, Given)>, x: u32, given: Given) -> Result<Vec<(u32, 
     match all.insert(0, (x, given)) {
         Ok(()) => Ok(all),
         Err(_) => Err(Memory),
+    }
+}
+
+/// Values for variables, of which the later ones come first, before what is known already.
+pub fn known(
+    alloc: Global,
+    values: &[(u32, Value)],
+    scope: Vec<(u32, Given)>,
+) -> Result<Vec<(u32, Given)>, Memory>
+    ensures known { IfOk result (λ all. all.items ≡ scope_over values.now scope.items) }
+{
+    match values {
+        [] => Ok(scope),
+        [first, rest @ ..] => {
+            let (x, value) = first;
+            let more = with(scope, *x, Given::Value(value.copy(alloc)?))?;
+            known(alloc, rest, more)
+        }
     }
 }
 

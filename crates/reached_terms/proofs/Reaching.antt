@@ -20,7 +20,7 @@ use Rattle.reached_terms.specs.Reached.{Asks, PremiseAsks, GuardAsks, FieldAsks,
 use Rattle.reached_terms.specs.Reached.{ReachesIn, ReachesBelow}
 use Rattle.reached_terms.specs.Laws.{ReachedOfOrigins}
 
-either_way : {A B C D : Type 0} → A ↔ C → B ↔ D → (A ⊎ B) ↔ (C ⊎ D)
+pub either_way : {A B C D : Type 0} → A ↔ C → B ↔ D → (A ⊎ B) ↔ (C ⊎ D)
 either_way {A} {B} {C} {D} f g = (to, from)
   where
     to : A ⊎ B → C ⊎ D
@@ -31,7 +31,7 @@ either_way {A} {B} {C} {D} f g = (to, from)
     from (inl c) = inl (f.1 c)
     from (inr d) = inr (g.1 d)
 
-both_ways : {A B C D : Type 0} → A ↔ C → B ↔ D → (A × B) ↔ (C × D)
+pub both_ways : {A B C D : Type 0} → A ↔ C → B ↔ D → (A × B) ↔ (C × D)
 both_ways f g = (λ h. (f.0 h.0, g.0 h.1), λ h. (f.1 h.0, g.1 h.1))
 
 -- along an equation, both ways
@@ -39,7 +39,7 @@ along : {A : Type 0} (P : A → Type 0) {x y : A} → x ≡ y → P x ↔ P y
 along P e = (subst P e, subst P (sym e))
 
 -- some element of the list of images
-one_of_images : {A B : Type 0} (P : B → Type 0) (Q : A → Type 0) (f : A → B) → ((x : A) → P (f x) ↔ Q x) → (xs : List A) →
+pub one_of_images : {A B : Type 0} (P : B → Type 0) (Q : A → Type 0) (f : A → B) → ((x : A) → P (f x) ↔ Q x) → (xs : List A) →
     OneOf P (map f xs) ↔ OneOf Q xs
 one_of_images P Q f h [] = (λ q. q, λ q. q)
 one_of_images P Q f h (x ∷ xs) = either_way (h x) (one_of_images P Q f h xs)
@@ -52,37 +52,37 @@ module _ (theory : Theory) (r : MarkedAssignment) (s : Assignment) (t : MarkedAs
   same_term : (u : TermTree) → marked_instance theory r (instance s u) ≡ marked_instance theory t u
   same_term = term_put theory nothing_known r s t leads
 
-  asked : (u x : TermTree) → Asks theory r (instance s u) x ↔ Asks theory t u x
+  pub asked : (u x : TermTree) → Asks theory r (instance s u) x ↔ Asks theory t u x
   asked u x = along (λ z. z ≡ plain x) (same_term u)
 
-  premise_asked : (p : Premise) (x : TermTree) → PremiseAsks theory r (put_in_premise s p) x ↔ PremiseAsks theory t p x
+  pub premise_asked : (p : Premise) (x : TermTree) → PremiseAsks theory r (put_in_premise s p) x ↔ PremiseAsks theory t p x
   premise_asked (premise a b) x =
       (λ h. (h.0, h.1, (asked a h.0).0 h.2, (asked b h.1).0 h.3, h.4), λ h. (h.0, h.1, (asked a h.0).1 h.2, (asked b h.1).1 h.3, h.4))
 
-  guard_asked : (p : Option Premise) (x : TermTree) → GuardAsks theory r (put_in_guard s p) x ↔ GuardAsks theory t p x
+  pub guard_asked : (p : Option Premise) (x : TermTree) → GuardAsks theory r (put_in_guard s p) x ↔ GuardAsks theory t p x
   guard_asked None x = (λ h. h, λ h. h)
   guard_asked (Some p) x = premise_asked p x
 
-  field_asked : (x : TermTree) (f : ActionField) → FieldAsks theory r x (put_in_field s f) ↔ FieldAsks theory t x f
+  pub field_asked : (x : TermTree) (f : ActionField) → FieldAsks theory r x (put_in_field s f) ↔ FieldAsks theory t x f
   field_asked x (give u) = asked u x
   field_asked x (accept y) = (λ h. h, λ h. h)
 
-  exit_asked : (x : TermTree) (f : ExitValue) → ExitAsks theory r x (put_in_exit s f) ↔ ExitAsks theory t x f
+  pub exit_asked : (x : TermTree) (f : ExitValue) → ExitAsks theory r x (put_in_exit s f) ↔ ExitAsks theory t x f
   exit_asked x (exit_given u) = asked u x
   exit_asked x (exit_any sort) = (λ h. h, λ h. h)
 
-  premise_holds : (p : Premise) → PremiseMayHold theory r (put_in_premise s p) ↔ PremiseMayHold theory t p
+  pub premise_holds : (p : Premise) → PremiseMayHold theory r (put_in_premise s p) ↔ PremiseMayHold theory t p
   premise_holds (premise a b) =
       let left = along (λ z. MayBeEqual theory z (marked_instance theory r (instance s b))) (same_term a) in
       let right = along (λ z. MayBeEqual theory (marked_instance theory t a) z) (same_term b) in
       (λ h. right.0 (left.0 h), λ h. left.1 (right.1 h))
 
-  value_there : (u : TermTree) (k : MarkedTerm) →
+  pub value_there : (u : TermTree) (k : MarkedTerm) →
       MayHaveValue theory (marked_instance theory r (instance s u)) k ↔ MayHaveValue theory (marked_instance theory t u) k
   value_there u k = along (λ z. MayHaveValue theory z k) (same_term u)
 
   -- what `let` binds, from one side to the other
-  bindings_to : (i : MarkedAssignment) (j : Assignment) (l : MarkedAssignment) (bindings : List Binding) → Leads i j l →
+  pub bindings_to : (i : MarkedAssignment) (j : Assignment) (l : MarkedAssignment) (bindings : List Binding) → Leads i j l →
       (a : MarkedAssignment) → BindingsMayHave theory r i (map (put_in_binding s) bindings) a →
       (c : MarkedAssignment) × BindingsMayHave theory t l bindings c × Leads a (without (bound_variables bindings) j) c
   bindings_to i j l [] lead a h = (l, refl, subst (λ z. Leads z j l) (sym h) lead)
@@ -92,7 +92,7 @@ module _ (theory : Theory) (r : MarkedAssignment) (s : Assignment) (t : MarkedAs
       (with_one_bound x h.0 i j l lead) a h.2 in
       (q.0, (h.0, (value_there b.term h.0).0 h.1, q.1), q.2)
 
-  bindings_from : (i : MarkedAssignment) (j : Assignment) (l : MarkedAssignment) (bindings : List Binding) → Leads i j l →
+  pub bindings_from : (i : MarkedAssignment) (j : Assignment) (l : MarkedAssignment) (bindings : List Binding) → Leads i j l →
       (c : MarkedAssignment) → BindingsMayHave theory t l bindings c →
       (a : MarkedAssignment) × BindingsMayHave theory r i (map (put_in_binding s) bindings) a ×
       Leads a (without (bound_variables bindings) j) c
@@ -126,7 +126,7 @@ module _ (theory : Theory) (r : MarkedAssignment) (s : Assignment) (t : MarkedAs
         (q.0, (h.0, h.1, h.2, h.3, q.1), q.2)
 
   -- the terms of a call, from one side to the other
-  arguments_same : (i : MarkedAssignment) (xs : List Variable) (terms : List TermTree) (a : MarkedAssignment) →
+  pub arguments_same : (i : MarkedAssignment) (xs : List Variable) (terms : List TermTree) (a : MarkedAssignment) →
       ArgumentsMayHave theory r i xs (map (instance s) terms) a ↔ ArgumentsMayHave theory t i xs terms a
   arguments_same i [] [] a = (λ h. h, λ h. h)
   arguments_same i [] (u ∷ terms) a = (λ h. h, λ h. h)
