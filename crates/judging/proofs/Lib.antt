@@ -1,0 +1,7 @@
+pub mod Memory
+pub mod Gates
+pub mod Filling
+pub mod Rows
+pub mod Putting
+pub mod Asked
+pub mod Top
