@@ -1,0 +1,13 @@
+// Tests of searches among the trees of composites, whose finds were worked out by hand.
+#![tactic(auto)]
+
+#[cfg(test)]
+mod composites;
+#[cfg(test)]
+mod data;
+#[cfg(test)]
+mod finds;
+#[cfg(test)]
+mod lines;
+#[cfg(test)]
+mod sizes;
