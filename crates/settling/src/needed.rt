@@ -2,7 +2,8 @@
 
 ghost use Rattle.std.specs.Prelude.{ℕ, ◌≡◌, IfOk, [], option_map};
 ghost use Rattle.courses.specs.Rules.{meeting, beyond_or_unseen};
-ghost use Rattle.settling.specs.Needed.{first_needed, unseen_needed, waiting_needed, asked_needed, marked_needed, unmet_needed, next_needed};
+ghost use Rattle.settling.specs.Needed.{first_needed, unseen_needed, waiting_needed, asked_needed, marked_needed, unmet_needed};
+ghost use Rattle.settling.specs.Needed.{next_needed};
 ghost use Rattle.settling.specs.Searches.{waiting_of};
 ghost use Rattle.settling.specs.Jobs.{first_not_out};
 

@@ -97,7 +97,8 @@ fn waiting<L: Listing>(
     listing: &L,
     offers: &OffersByNumber,
 ) -> Result<Settled<L::Found>, Memory>
-    ensures { IfOk result (λ s. settled_of L.candidate_of s ≡ waiting_decided (L.find listing.now) (L.every listing.now) (waiting_of offers.now)) }
+    ensures { IfOk result (λ s. settled_of L.candidate_of s ≡
+        waiting_decided (L.find listing.now) (L.every listing.now) (waiting_of offers.now)) }
 {
     if offers.all_wait {
         match listing.all(alloc, Search::Unseen)? {
@@ -134,7 +135,8 @@ fn marked<L: Listing>(
     listing: &L,
     offers: &OffersByNumber,
 ) -> Result<Settled<L::Found>, Memory>
-    ensures { IfOk result (λ s. settled_of L.candidate_of s ≡ marked_decided (L.find listing.now) (L.every listing.now) (waiting_of offers.now)) }
+    ensures { IfOk result (λ s. settled_of L.candidate_of s ≡
+        marked_decided (L.find listing.now) (L.every listing.now) (waiting_of offers.now)) }
 {
     match listing.first(alloc, Search::AnyBeyond)? {
         First::Open => Ok(Settled::Unknown),
@@ -149,7 +151,8 @@ fn unmet<L: Listing>(
     listing: &L,
     offers: &OffersByNumber,
 ) -> Result<Settled<L::Found>, Memory>
-    ensures { IfOk result (λ s. settled_of L.candidate_of s ≡ unmet_decided (L.find listing.now) (L.every listing.now) (waiting_of offers.now)) }
+    ensures { IfOk result (λ s. settled_of L.candidate_of s ≡
+        unmet_decided (L.find listing.now) (L.every listing.now) (waiting_of offers.now)) }
 {
     match listing.first(alloc, Search::Any)? {
         First::Open => Ok(Settled::Unknown),

@@ -8,7 +8,8 @@ use Rattle.open_composites.specs.declared.scheme.Row.TheVariants.{Chl, Chr, Parl
 use Rattle.open_composites.specs.OpenPlans.{OpenPlan, open_plan_of, under_row, under_relabelling, plans_alone, plans_joint, plan_by_hiding}
 use Rattle.open_composites.specs.OpenPlans.{plan_by_enabling, plan_by_disabling}
 use Rattle.tree_nodes.specs.Rests.{Work}
-use Rattle.tree_nodes.specs.Shapes.{Shape, leaf, ended, over, between, Unary, hidden, relabelled, enabled, Binary, choosing, beside, disabling}
+use Rattle.tree_nodes.specs.Shapes.{Shape, leaf, ended, over, between, Unary, hidden, relabelled, enabled, Binary, choosing, beside}
+use Rattle.tree_nodes.specs.Shapes.{disabling}
 use Rattle.tree_composites.specs.declared.part.Part.{Part}
 use Rattle.tree_composites.specs.declared.part.Part.TheVariants.{Gap, Composite}
 

@@ -107,7 +107,8 @@ fn disabled_parts(alloc: Global, parts: Vec<Part>) -> Result<Vec<Part>, Memory>
 // Appends a composite, if there is one.
 fn put_composite(composite: Option<OpenComposite>, all: &mut Vec<Part>) -> Result<(), Memory>
     ensures { IfOk result (λ _.
-        map part_of all.new.items ≡ map part_of all.old.items ++ map element (from_option (option_map open_plan_of composite) (λ p. p ∷ []))) }
+        map part_of all.new.items ≡
+        map part_of all.old.items ++ map element (from_option (option_map open_plan_of composite) (λ p. p ∷ []))) }
 {
     match composite {
         None => Ok(()),
