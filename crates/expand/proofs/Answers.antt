@@ -1,8 +1,8 @@
 -- What exact answers say of what was found, and of what wasn't.
-use Rattle.std.proofs.Common.{ℕ, ◌≡◌, List, [], ◌∷◌, map, flat_map, refl, sym, ap, subst, ◌∙◌, Option, Some, None, Bool, true, false, ◌↔◌}
+use Rattle.std.proofs.Common.{◌≡◌, List, [], ◌∷◌, map, flat_map, refl, sym, ap, ◌∙◌, Option, Some, None, Bool, true, false}
 use Rattle.std.proofs.Common.{option_map, option_and_then}
 use Rattle.spec_core.specs.Terms.{TermTree}
-use Rattle.spec_core.specs.Theories.{Premise, premise, Theory}
+use Rattle.spec_core.specs.Theories.{Premise, premise}
 use Rattle.spec_core.specs.Code.{Program, Variable, Binding, ExitValue, exit_given, exit_any, ActionField, give, accept}
 use Rattle.rule_model.specs.declared.rules.Slot.{Slot}
 use Rattle.windowed_trees.specs.MarkedTerms.{MarkedTerm, plain, mark, MarkedAssignment, with_marked, marked_instance, MayHaveValue}

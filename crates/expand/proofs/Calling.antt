@@ -1,8 +1,9 @@
 -- What comes of a call.
-use Rattle.std.proofs.Common.{ℕ, zero, suc, ◌≡◌, ◌+◌, ◌<◌, ◌≤◌, inl, inr, List, [], ◌∷◌, map, refl, sym, ap, subst, ◌∙◌, arith}
-use Rattle.std.proofs.Common.{Option, Some, None, Result, Ok, Err}
+use Rattle.std.proofs.Common.{ℕ, zero, suc, ◌≡◌, ◌+◌, ◌<◌, inl, inr, List, [], map, sym, ap, subst, ◌∙◌, arith}
+use Rattle.std.proofs.Common.{Option, Some, Result, Ok, Err}
 use Rattle.std.specs.List.{slice_get}
-use Rattle.spec_core.specs.Lists.{OneOf}
+use Rattle.spec_core.specs.Executable.{IsExecutable}
+use Rattle.spec_core.specs.Lists.{Each, OneOf}
 use Rattle.spec_core.specs.Terms.{TermTree}
 use Rattle.spec_core.specs.Code.{Program, Variable, process}
 use Rattle.spec_core.specs.Ready.{IsReady}
@@ -29,9 +30,10 @@ use Rattle.marked_values.specs.declared.stop.Stop.TheVariants.{Spent, TooLarge, 
 use Rattle.marked_values.specs.Stops.{Stops, Never}
 use Rattle.marked_values.proofs.Stopping.{stops_on}
 use Rattle.expand.specs.declared.outcome.Expanded.{Expanded}
-use Rattle.expand.specs.Outcomes.{plans_in, spread_with, IsReached, IsTooWide, Stopped, Outcome, BelowOutcome}
-use Rattle.expand.specs.Joins.{OnlyWide, Sized, HandedOn, Turns}
+use Rattle.expand.specs.Outcomes.{plans_in, AsksReached, spread_with, IsReached, IsTooWide, Stopped, Outcome, BelowOutcome}
+use Rattle.expand.specs.Joins.{OnlyWide, Sized, Turns}
 use Rattle.expand.proofs.Answers.{none_of, arguments_arent}
+use Rattle.expand.proofs.Asking.{asked_call}
 use Rattle.expand.proofs.Rows.{sized_comes, wide_above}
 
 -- the body of a process stands at its number
@@ -48,11 +50,16 @@ module _ (program : Program) (w : Windows) (budget : ℕ) where
   record IsBelow (n : ℕ) (l : MarkedAssignment) (b : Behaviour) (ps : List OpenPlan) (k : ℕ) : Type 0 where
     composites : (e : Evaluation) → IsExact program e → composites_of program.theory w ps ≡ below_calls program.theory e w n l b
     spread : (e : Evaluation) → IsExact program e → k ≡ spread_below program.theory e w n l b
+    asked : Each (AsksReached program (ReachesBelow program w [] n l b) l b) ps
 
   is_below : (n : ℕ) (l : MarkedAssignment) (b : Behaviour) (x : Expanded) → BelowOutcome program w n budget l b (Ok x) →
       IsBelow n l b (plans_in x) x.spread
-  is_below zero l b x h = record { composites = λ e q. ap (composites_of program.theory w) h.0; spread = λ e q. h.1 }
-  is_below (suc n) l b x h = record { composites = h.composites; spread = h.spread }
+  is_below zero l b x h = record {
+    composites = λ e q. ap (composites_of program.theory w) h.0;
+    spread = λ e q. h.1;
+    asked = subst (λ z. Each (AsksReached program (ReachesBelow program w [] zero l b) l b) z) (sym h.0) tt;
+  }
+  is_below (suc n) l b x h = record { composites = h.composites; spread = h.spread; asked = h.asked }
 
   below_stops : (n : ℕ) (l : MarkedAssignment) (b : Behaviour) (s : Stop) → BelowOutcome program w n budget l b (Err s) →
       Stops program.theory budget (ReachesBelow program w [] n l b)
@@ -74,7 +81,8 @@ module _ (program : Program) (w : Windows) (budget : ℕ) where
       by_stop Memory h = record { spent = tt; too_large = tt; wide = tt }
 
   module _ (n : ℕ) (m l : MarkedAssignment) (p : ℕ) (actual formal : List ℕ) (xs : List Variable) (terms : List TermTree) (body : Behaviour)
-      (definition : IsDefinition program p formal xs body) (has : ArgumentsMayHave program.theory m unmarked xs terms l) where
+      (definition : IsDefinition program p formal xs body) (has : ArgumentsMayHave program.theory m unmarked xs terms l)
+      (executable : IsExecutable program.theory) where
     abbrev found : Definition
     found = record { gates = formal; variables = xs; body = body }
 
@@ -109,6 +117,10 @@ module _ (program : Program) (w : Windows) (budget : ℕ) where
               ((q.definition p found).0 definition)
               ∙ ap (made_by e found) (arguments_are program e q m unmarked l xs terms has));
           spread = λ e q. ap (λ z. 1 + z) (h.1 ∙ ap (λ z. 1 + z) (below.spread e q)) ∙ sym (count_is e q);
+          asked =
+              subst (λ z. Each (AsksReached program (IsReached program w n m (call p actual terms)) m (call p actual terms))
+              (map (under_row Call) z)) (sym h.0)
+              (asked_call program w n executable m l p actual formal xs terms body ps definition has below.asked);
         })
     comes_of ps k (Err s) (Ok z) below h turns = absurd turns
     comes_of ps k (Err s) (Err t) below h turns =
@@ -160,6 +172,7 @@ module _ (program : Program) (w : Windows) (budget : ℕ) where
             ((q.definition p d).0 definition)
             ∙ ap (λ z. 1 + number_of z (λ j. 1 + spread_below program.theory e w n j body))
             (arguments_arent program e q m unmarked xs terms none));
+        asked = tt;
       })
 
   pub argument_stops : (n : ℕ) (m : MarkedAssignment) (p : ℕ) (actual formal : List ℕ) (xs : List Variable) (terms : List TermTree)
@@ -187,4 +200,5 @@ module _ (program : Program) (w : Windows) (budget : ℕ) where
         spread = λ e q.
             sym (ap (λ z. 1 + number_of z (λ d. number_of (with_arguments program.theory e m unmarked d.variables terms)
             (λ j. 1 + spread_below program.theory e w n j d.body))) (gone e q));
+        asked = tt;
       })

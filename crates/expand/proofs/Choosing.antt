@@ -1,20 +1,18 @@
 -- A choice of a value, slot by slot.
-use Rattle.std.proofs.Common.{ℕ, suc, ◌≡◌, ◌+◌, ◌<◌, ◌≤◌, inl, inr, List, [], ◌∷◌, ◌++◌, map, flat_map, refl, sym, ap, subst, ◌∙◌, arith}
-use Rattle.std.proofs.Common.{append_assoc, Option, Some, Result, Ok, Err, false, sum_by, Contains}
+use Rattle.std.proofs.Common.{ℕ, ◌≡◌, ◌+◌, ◌≤◌, List, [], ◌∷◌, ◌++◌, map, flat_map, refl, sym, ap, subst, ◌∙◌, arith}
+use Rattle.std.proofs.Common.{append_assoc, Result, Ok, Err, sum_by}
 use Rattle.std.proofs.lemmas.List.{append-nil}
 use Rattle.std.proofs.lemmas.List.Sums.{sum_by-append}
-use Rattle.spec_core.specs.Terms.{TermTree, preorder}
 use Rattle.spec_core.specs.Code.{Program, Variable}
 use Rattle.rule_model.specs.declared.rules.Slot.{Slot}
-use Rattle.rule_model.specs.declared.rules.Slot.TheVariants.{Of, Mark}
 use Rattle.rule_model.specs.Behaviours.{Behaviour, value_choice}
 use Rattle.rule_model.specs.Derivations.{val}
 use Rattle.windowed_trees.specs.Windows.{Windows}
 use Rattle.windowed_trees.specs.MarkedTerms.{MarkedTerm, MarkedAssignment, with_marked}
-use Rattle.windowed_trees.specs.MarkedFields.{chosen_by, IsWithin, Chooses}
-use Rattle.composites.specs.Evaluations.{Evaluation, IsExact, chosen_term}
+use Rattle.windowed_trees.specs.MarkedFields.{Chooses}
+use Rattle.composites.specs.Evaluations.{Evaluation, IsExact}
 use Rattle.composites.specs.OpenFields.{window_slots}
-use Rattle.composites.specs.Composites.{Composite, from_option, under}
+use Rattle.composites.specs.Composites.{from_option, under}
 use Rattle.composites.proofs.Exact.{chosen_is}
 use Rattle.open_composites.specs.declared.scheme.Row.TheVariants.{Val}
 use Rattle.open_composites.specs.OpenPlans.{OpenPlan, composite_of, under_row}
@@ -23,9 +21,10 @@ use Rattle.open_composites.proofs.Made.{map_append, plans_make_composites}
 use Rattle.reached_terms.specs.Spread.{number_of}
 use Rattle.marked_values.specs.declared.stop.Stop.{Stop}
 use Rattle.expand.specs.declared.outcome.Expanded.{Expanded}
-use Rattle.expand.specs.Outcomes.{plans_in, composites_with, spread_with, Expands, IsReached, IsTooWide, Stopped, Outcome}
-use Rattle.expand.specs.Joins.{OnlyWide, Sized, HandedOn, Adds}
+use Rattle.expand.specs.Outcomes.{plans_in, AsksReached, composites_with, spread_with, Expands, IsReached, Stopped, Outcome}
+use Rattle.expand.specs.Joins.{Adds}
 use Rattle.expand.specs.Choosing.{composites_at, spread_at, ExpandsEach, IsChoice, IsPrefix, Added}
+use Rattle.expand.proofs.Asking.{each_append, asked_chosen}
 use Rattle.expand.proofs.Rows.{wide_above, part_stops}
 
 flat_more : {A B : Type 0} (f : A → List B) (xs : List A) (x : A) → flat_map f (xs ++ x ∷ []) ≡ flat_map f xs ++ f x
@@ -33,20 +32,20 @@ flat_more f [] x = append-nil (f x)
 flat_more f (y ∷ xs) x = ap (λ z. f y ++ z) (flat_more f xs x) ∙ sym (append_assoc (f y) (flat_map f xs) (f x))
 
 module _ (program : Program) (w : Windows) (n budget : ℕ) (m : MarkedAssignment) (x : Variable) (b : Behaviour) where
-  abbrev Each : List Slot → List OpenPlan → ℕ → Type 0
-  Each slots ps k = ExpandsEach program w n m x b slots ps k
+  abbrev EachSlot : List Slot → List OpenPlan → ℕ → Type 0
+  EachSlot slots ps k = ExpandsEach program w n m x b slots ps k
 
   abbrev Spread : Evaluation → Slot → ℕ
   Spread e slot = spread_at program w n m x b e slot
 
-  pub begins : Each [] [] 1
-  begins = record { composites = λ e q. refl; spread = λ e q. refl }
+  pub begins : EachSlot [] [] 1
+  begins = record { composites = λ e q. refl; spread = λ e q. refl; asked = tt }
 
   -- with one more slot
-  more : (slots : List Slot) (slot : Slot) (k : MarkedTerm) (ps qs : List OpenPlan) (j i : ℕ) → Each slots ps j →
-      Chooses program.theory w slot x.sort k → Expands program w n (with_marked x k m) b qs i →
-      Each (slots ++ slot ∷ []) (ps ++ map (under_row (Val slot)) qs) (j + i)
-  more slots slot k ps qs j i all chooses part = record {
+  more : (slots : List Slot) (slot : Slot) (k : MarkedTerm) (ps qs : List OpenPlan) (j i : ℕ) → EachSlot slots ps j →
+      IsChoice program.theory w x.sort slot k → Expands program w n (with_marked x k m) b qs i →
+      EachSlot (slots ++ slot ∷ []) (ps ++ map (under_row (Val slot)) qs) (j + i)
+  more slots slot k ps qs j i all choice part = record {
     composites = λ e q.
         let f = composites_at program w n m x b e in
         map_append (composite_of program.theory w) ps (map (under_row (Val slot)) qs)
@@ -55,17 +54,20 @@ module _ (program : Program) (w : Windows) (n budget : ℕ) (m : MarkedAssignmen
         ((plans_make_composites program.theory w).rows (Val slot) qs
         ∙ ap (map (under (val slot))) (part.composites e q)
         ∙ sym (ap (λ z. from_option z (λ t. map (under (val slot)) (composites_with program w n e (with_marked x t m) b)))
-        (chosen_is program e q w slot x.sort k chooses)))
+        (chosen_is program e q w slot x.sort k choice.chooses)))
         ∙ sym (flat_more f slots slot);
     spread = λ e q.
         let one : Spread e slot ≡ spread_with program w n e (with_marked x k m) b =
-        ap (λ z. number_of z (λ t. spread_with program w n e (with_marked x t m) b)) (chosen_is program e q w slot x.sort k chooses) in
+        ap (λ z. number_of z (λ t. spread_with program w n e (with_marked x t m) b)) (chosen_is program e q w slot x.sort k choice.chooses) in
         let a : j ≡ 1 + sum_by (Spread e) slots = all.spread e q in
         let c : i ≡ spread_with program w n e (with_marked x k m) b = part.spread e q in
         let d : sum_by (Spread e) (slots ++ slot ∷ []) ≡ sum_by (Spread e) slots + sum_by (Spread e) (slot ∷ []) =
         sum_by-append (Spread e) slots (slot ∷ []) in
         let s : sum_by (Spread e) (slot ∷ []) ≡ 0 + Spread e slot = refl in
         omega arith;
+    asked =
+        each_append (AsksReached program (IsReached program w n m (value_choice x b)) m (value_choice x b)) ps
+        (map (under_row (Val slot)) qs) all.asked (asked_chosen program w n m x b slot k qs choice part.asked);
   }
 
   -- what some of the slots come to is no more than what all do
@@ -90,14 +92,14 @@ module _ (program : Program) (w : Windows) (n budget : ℕ) (m : MarkedAssignmen
 
   -- one more slot, from what comes of the body with it
   pub added : (slots : List Slot) (slot : Slot) (k : MarkedTerm) (ps : List OpenPlan) (j : ℕ) (part r : Result Expanded Stop) →
-      IsPrefix (slots ++ slot ∷ []) (window_slots w x.sort) → IsChoice program.theory w x.sort slot k → Each slots ps j →
+      IsPrefix (slots ++ slot ∷ []) (window_slots w x.sort) → IsChoice program.theory w x.sort slot k → EachSlot slots ps j →
       Outcome program w n budget (with_marked x k m) b part → Adds slot ps j part r → Added program w n budget m x b (slots ++ slot ∷ []) r
   added slots slot k ps j (Ok y) (Ok z) prefix choice all part h =
-      let e = more slots slot k ps (plans_in y) j y.spread all choice.chooses part in
-      subst (λ t. Each (slots ++ slot ∷ []) t z.spread) (sym h.0)
-      (subst (λ t. Each (slots ++ slot ∷ []) (ps ++ map (under_row (Val slot)) (plans_in y)) t) (sym h.1) e)
+      let e = more slots slot k ps (plans_in y) j y.spread all choice part in
+      subst (λ t. EachSlot (slots ++ slot ∷ []) t z.spread) (sym h.0)
+      (subst (λ t. EachSlot (slots ++ slot ∷ []) (ps ++ map (under_row (Val slot)) (plans_in y)) t) (sym h.1) e)
   added slots slot k ps j (Ok y) (Err s) prefix choice all part h =
-      let t = more slots slot k ps (plans_in y) j y.spread all choice.chooses part in
+      let t = more slots slot k ps (plans_in y) j y.spread all choice part in
       wide_above program w n budget m (value_choice x b) (j + y.spread) s h
       (λ e q.
       let a : j + y.spread ≡ 1 + sum_by (Spread e) (slots ++ slot ∷ []) = t.spread e q in
@@ -113,6 +115,6 @@ module _ (program : Program) (w : Windows) (n budget : ℕ) (m : MarkedAssignmen
   pub all_chosen : (slots : List Slot) (r : Result Expanded Stop) → slots ≡ window_slots w x.sort →
       Added program w n budget m x b slots r → Outcome program w n budget m (value_choice x b) r
   all_chosen slots (Ok y) is h =
-      let k = subst (λ z. Each z (plans_in y) y.spread) is h in
-      record { composites = k.composites; spread = k.spread }
+      let k = subst (λ z. EachSlot z (plans_in y) y.spread) is h in
+      record { composites = k.composites; spread = k.spread; asked = k.asked }
   all_chosen slots (Err s) is h = h

@@ -1,5 +1,6 @@
 pub mod Memory
 pub mod Answers
+pub mod Asking
 pub mod Rows
 pub mod Choosing
 pub mod Calling

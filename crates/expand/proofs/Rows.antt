@@ -1,20 +1,20 @@
 -- What comes of a construct, from what comes of its parts.
-use Rattle.std.proofs.Common.{ℕ, suc, ◌≡◌, ◌+◌, ◌*◌, ◌<◌, ◌≤◌, ◌⊎◌, inl, inr, List, [], ◌∷◌, ◌++◌, length, map, flat_map}
-use Rattle.std.proofs.Common.{refl, sym, ap, subst, ◌∙◌, arith, Option, Some, None, Bool, true, false, if◌then◌else◌, Result, Ok, Err}
-use Rattle.spec_core.specs.Lists.{OneOf}
+use Rattle.std.proofs.Common.{ℕ, ◌≡◌, ◌+◌, ◌*◌, ◌<◌, ◌≤◌, inl, inr, List, [], ◌∷◌, length, map}
+use Rattle.std.proofs.Common.{refl, sym, ap, subst, ◌∙◌, arith, Option, if◌then◌else◌, Result, Ok, Err}
+use Rattle.spec_core.specs.Executable.{IsExecutable}
+use Rattle.spec_core.specs.Lists.{Each, OneOf}
 use Rattle.spec_core.specs.Terms.{TermTree}
 use Rattle.spec_core.specs.Theories.{Premise}
 use Rattle.spec_core.specs.Code.{Program, Variable, Binding, Relabelling, ExitValue, ActionField, Synchronised}
-use Rattle.rule_model.specs.declared.rules.Slot.{Slot}
 use Rattle.rule_model.specs.Actions.{inside, ends, at_gate}
-use Rattle.rule_model.specs.Behaviours.{Behaviour, stop, exit, inner, action, choice, guarded, bound, value_choice, gate_choice, parallel}
-use Rattle.rule_model.specs.Behaviours.{hide, enable, disable, call, relabel}
+use Rattle.rule_model.specs.Behaviours.{Behaviour, stop, exit, inner, action, choice, guarded, bound, gate_choice, parallel}
+use Rattle.rule_model.specs.Behaviours.{hide, enable, disable, relabel}
 use Rattle.rule_model.specs.Derivations.{pre, exiting, guard, letting}
 use Rattle.windowed_trees.specs.Windows.{Windows}
 use Rattle.windowed_trees.specs.MarkedTerms.{MarkedAssignment, PremiseMayHold}
 use Rattle.windowed_trees.specs.MarkedFields.{BindingsMayHave}
-use Rattle.composites.specs.Evaluations.{Evaluation, IsExact, premise_may_hold, with_bindings}
-use Rattle.composites.specs.OpenFields.{OpenField, open_fields, open_exit, slots_of, exit_slots_of}
+use Rattle.composites.specs.Evaluations.{Evaluation, IsExact}
+use Rattle.composites.specs.OpenFields.{OpenField, slots_of, exit_slots_of}
 use Rattle.composites.specs.Composites.{Composite, from_option, under, by_hiding, by_enabling, of_choice, of_parallel, of_disable}
 use Rattle.composites.specs.Composites.{of_relabel, of_gates}
 use Rattle.composites.proofs.Exact.{premise_is, bindings_are}
@@ -32,9 +32,11 @@ use Rattle.marked_values.specs.Stops.{Stops, Never}
 use Rattle.marked_values.specs.Found.{FieldsOpen, ExitOpen}
 use Rattle.marked_values.proofs.Stopping.{stops_on}
 use Rattle.expand.specs.declared.outcome.Expanded.{Expanded}
-use Rattle.expand.specs.Outcomes.{plans_in, composites_with, spread_with, Expands, IsReached, IsTooWide, Stopped, Outcome}
+use Rattle.expand.specs.Outcomes.{plans_in, AsksReached, composites_with, spread_with, Expands, IsReached, IsTooWide, Stopped, Outcome}
 use Rattle.expand.specs.Joins.{OnlyWide, Sized, HandedOn, Turns, Joins}
 use Rattle.expand.specs.Taking.{takes_value, takes_any}
+use Rattle.expand.proofs.Asking.{asked_inner, asked_action, asked_exit, asked_choice, asked_parallel, asked_disable, asked_hide}
+use Rattle.expand.proofs.Asking.{asked_enable, asked_relabel, asked_gates, asked_guarded, asked_bound}
 use Rattle.expand.proofs.Answers.{premise_isnt, bindings_arent, fields_are, fields_arent, exit_is, exit_isnt, slots_taken, exit_slots_taken}
 
 module _ (program : Program) (w : Windows) (n : ℕ) (budget : ℕ) where
@@ -78,7 +80,11 @@ module _ (program : Program) (w : Windows) (n : ℕ) (budget : ℕ) where
   pub sized_comes : (m : MarkedAssignment) (b : Behaviour) (ps : List OpenPlan) (k : ℕ) (r : Result Expanded Stop) → Sized ps k r →
       Is m b ps k → Comes m b r
   sized_comes m b ps k (Ok x) h is =
-      record { composites = λ e q. ap (composites_of program.theory w) h.0 ∙ is.composites e q; spread = λ e q. h.1 ∙ is.spread e q }
+      record {
+        composites = λ e q. ap (composites_of program.theory w) h.0 ∙ is.composites e q;
+        spread = λ e q. h.1 ∙ is.spread e q;
+        asked = subst (λ z. Each (AsksReached program (IsReached program w n m b) m b) z) (sym h.0) is.asked;
+      }
   sized_comes m b ps k (Err s) h is = wide_stops m b k s h is.spread
 
   pub part_stops : (m : MarkedAssignment) (b : Behaviour) (l : MarkedAssignment) (c : Behaviour) (s : Stop) →
@@ -121,13 +127,20 @@ module _ (program : Program) (w : Windows) (n : ℕ) (budget : ℕ) where
       handed_comes m c s r h (part_stops m x m c s reach_left wider_left a)
 
   pub ended_comes : (m : MarkedAssignment) (r : Result Expanded Stop) → Sized [] 0 r → Comes m stop r
-  ended_comes m r h = sized_comes m stop [] 0 r h (record { composites = λ e q. refl; spread = λ e q. refl })
+  ended_comes m r h = sized_comes m stop [] 0 r h (record { composites = λ e q. refl; spread = λ e q. refl; asked = tt })
 
   pub inner_comes : (m : MarkedAssignment) (b : Behaviour) (r : Result Expanded Stop) →
       Sized (record { kind = inside; fields = []; plan = internal } ∷ []) 1 r → Comes m (inner b) r
   inner_comes m b r h =
       sized_comes m (inner b) (record { kind = inside; fields = []; plan = internal } ∷ []) 1 r h
-      (record { composites = λ e q. refl; spread = λ e q. refl })
+      (record {
+        composites = λ e q. refl;
+        spread = λ e q. refl;
+        asked = (
+          asked_inner program w n m (inner b) (record { kind = inside; fields = []; plan = internal }) (λ s t k. k),
+          tt,
+        );
+      })
 
   pub action_comes : (m : MarkedAssignment) (g : ℕ) (fields : List ActionField) (p : Option Premise) (b : Behaviour) (fs : List OpenField)
       (r : Result Expanded Stop) → FieldsOpen program.theory m fields fs →
@@ -141,6 +154,11 @@ module _ (program : Program) (w : Windows) (n : ℕ) (budget : ℕ) where
             (λ cs. record { kind = at_gate g; fields = cs; trees = λ slots. map pre (slots_of fields slots) } ∷ []))
             (fields_are program e q m fields fs opened));
         spread = λ e q. refl;
+        asked = (
+          asked_action program w n m g fields p b
+              (record { kind = at_gate g; fields = fs; plan = prefix (map takes_value fields) }) (map takes_value fields) refl,
+          tt,
+        );
       })
 
   pub no_action_comes : (m : MarkedAssignment) (g : ℕ) (fields : List ActionField) (p : Option Premise) (b : Behaviour)
@@ -154,6 +172,7 @@ module _ (program : Program) (w : Windows) (n : ℕ) (budget : ℕ) where
             (λ cs. record { kind = at_gate g; fields = cs; trees = λ slots. map pre (slots_of fields slots) } ∷ []))
             (fields_arent program e q m fields none));
         spread = λ e q. refl;
+        asked = tt;
       })
 
   pub action_stops : (m : MarkedAssignment) (g : ℕ) (fields : List ActionField) (p : Option Premise) (b : Behaviour) (s : Stop) →
@@ -176,6 +195,11 @@ module _ (program : Program) (w : Windows) (n : ℕ) (budget : ℕ) where
             (λ cs. record { kind = ends; fields = cs; trees = λ slots. map exiting (exit_slots_of fields slots) } ∷ []))
             (exit_is program e q m fields fs opened));
         spread = λ e q. refl;
+        asked = (
+          asked_exit program w n m fields (record { kind = ends; fields = fs; plan = termination (map takes_any fields) })
+              (map takes_any fields) refl,
+          tt,
+        );
       })
 
   pub no_exit_comes : (m : MarkedAssignment) (fields : List ExitValue) (r : Result Expanded Stop) →
@@ -188,6 +212,7 @@ module _ (program : Program) (w : Windows) (n : ℕ) (budget : ℕ) where
             (λ cs. record { kind = ends; fields = cs; trees = λ slots. map exiting (exit_slots_of fields slots) } ∷ []))
             (exit_isnt program e q m fields none));
         spread = λ e q. refl;
+        asked = tt;
       })
 
   pub exit_stops : (m : MarkedAssignment) (fields : List ExitValue) (s : Stop) →
@@ -207,6 +232,7 @@ module _ (program : Program) (w : Windows) (n : ℕ) (budget : ℕ) where
             ∙ ap (λ z. of_choice z (Made qs)) (u.composites e q)
             ∙ ap (of_choice (Of e m x)) (v.composites e q);
         spread = λ e q. ap (λ z. 1 + (z + k)) (u.spread e q) ∙ ap (λ z. 1 + (Count e m x + z)) (v.spread e q);
+        asked = asked_choice program w n m x y ps qs u.asked v.asked;
       })
       (λ t z. inl z) (λ t z. inr z) (λ e q. omega arith) (λ e q. omega arith)
 
@@ -220,6 +246,7 @@ module _ (program : Program) (w : Windows) (n : ℕ) (budget : ℕ) where
             ∙ ap (λ z. of_parallel program.theory gates z (Made qs)) (u.composites e q)
             ∙ ap (of_parallel program.theory gates (Of e m x)) (v.composites e q);
         spread = λ e q. ap (λ z. 1 + (z + k)) (u.spread e q) ∙ ap (λ z. 1 + (Count e m x + z)) (v.spread e q);
+        asked = asked_parallel program w n m gates x y ps qs u.asked v.asked;
       })
       (λ t z. inl z) (λ t z. inr z) (λ e q. omega arith) (λ e q. omega arith)
 
@@ -233,6 +260,7 @@ module _ (program : Program) (w : Windows) (n : ℕ) (budget : ℕ) where
             ∙ ap (λ z. of_disable z (Made qs)) (u.composites e q)
             ∙ ap (of_disable (Of e m x)) (v.composites e q);
         spread = λ e q. ap (λ z. 1 + (z + k)) (u.spread e q) ∙ ap (λ z. 1 + (Count e m x + z)) (v.spread e q);
+        asked = asked_disable program w n m x y ps qs u.asked v.asked;
       })
       (λ t z. inl z) (λ t z. inr z) (λ e q. omega arith) (λ e q. omega arith)
 
@@ -244,6 +272,7 @@ module _ (program : Program) (w : Windows) (n : ℕ) (budget : ℕ) where
         composites = λ e q.
             (plans_make_composites program.theory w).hide gates ps ∙ ap (map (by_hiding program.theory w gates)) (u.composites e q);
         spread = λ e q. ap (λ z. 1 + z) (u.spread e q);
+        asked = asked_hide program w n m gates b ps u.asked;
       })
       (λ t z. z) (λ e q. omega arith)
 
@@ -255,6 +284,7 @@ module _ (program : Program) (w : Windows) (n : ℕ) (budget : ℕ) where
         composites = λ e q.
             (plans_make_composites program.theory w).enable ps ∙ ap (map (by_enabling program.theory w)) (u.composites e q);
         spread = λ e q. ap (λ z. 1 + z) (u.spread e q);
+        asked = asked_enable program w n m b xs c ps u.asked;
       })
       (λ t z. z) (λ e q. omega arith)
 
@@ -265,6 +295,7 @@ module _ (program : Program) (w : Windows) (n : ℕ) (budget : ℕ) where
       (λ ps k u. record {
         composites = λ e q. (plans_make_composites program.theory w).relabel pairs ps ∙ ap (of_relabel pairs) (u.composites e q);
         spread = λ e q. ap (λ z. 1 + z) (u.spread e q);
+        asked = asked_relabel program w n m pairs b ps u.asked;
       })
       (λ t z. z) (λ e q. omega arith)
 
@@ -277,13 +308,14 @@ module _ (program : Program) (w : Windows) (n : ℕ) (budget : ℕ) where
         composites = λ e q.
             (plans_make_composites program.theory w).gates g 1 (h ∷ gates) ps ∙ ap (of_gates g 1 (h ∷ gates)) (u.composites e q);
         spread = λ e q. ap (λ z. 1 + length (h ∷ gates) * (1 + z)) (u.spread e q);
+        asked = asked_gates program w n m g (h ∷ gates) b (λ none. let never : ⊥ = cc in never) 1 (h ∷ gates) ps u.asked;
       })
       (λ t z. (λ none. let never : ⊥ = cc in never, z)) (λ e q. omega arith)
 
   pub no_gates_come : (m : MarkedAssignment) (g : ℕ) (b : Behaviour) (r : Result Expanded Stop) → Sized [] 1 r →
       Comes m (gate_choice g [] b) r
   no_gates_come m g b r h =
-      sized_comes m (gate_choice g [] b) [] 1 r h (record { composites = λ e q. refl; spread = λ e q. omega arith })
+      sized_comes m (gate_choice g [] b) [] 1 r h (record { composites = λ e q. refl; spread = λ e q. omega arith; asked = tt })
 
   pub guarded_comes : (m : MarkedAssignment) (p : Premise) (b : Behaviour) (part r : Result Expanded Stop) →
       PremiseMayHold program.theory m p → Turns (map (under_row Guard)) (λ k. 1 + k) part r → Comes m b part → Comes m (guarded p b) r
@@ -296,6 +328,7 @@ module _ (program : Program) (w : Windows) (n : ℕ) (budget : ℕ) where
             ∙ sym (ap (λ z. if z then map (under guard) (Of e m b) else []) (premise_is program e q m p holds));
         spread = λ e q.
             ap (λ z. 1 + z) (u.spread e q) ∙ sym (ap (λ z. 1 + (if z then Count e m b else 0)) (premise_is program e q m p holds));
+        asked = asked_guarded program w n m p b ps holds u.asked;
       })
       (λ t z. inr (holds, z))
       (λ e q. subst (λ z. Count e m b ≤ 1 + (if z then Count e m b else 0)) (sym (premise_is program e q m p holds)) (omega arith))
@@ -307,6 +340,7 @@ module _ (program : Program) (w : Windows) (n : ℕ) (budget : ℕ) where
       (record {
         composites = λ e q. sym (ap (λ z. if z then map (under guard) (Of e m b) else []) (premise_isnt program e q m p fails));
         spread = λ e q. sym (ap (λ z. 1 + (if z then Count e m b else 0)) (premise_isnt program e q m p fails));
+        asked = tt;
       })
 
   pub guard_stops : (m : MarkedAssignment) (p : Premise) (b : Behaviour) (s : Stop) →
@@ -315,10 +349,10 @@ module _ (program : Program) (w : Windows) (n : ℕ) (budget : ℕ) where
       stops_on program.theory budget (PremiseAsks program.theory m p) (IsReached program w n m (guarded p b)) Never
       (IsTooWide program w n m (guarded p b)) s (λ t k. inl k) (λ k q. absurd q) h
 
-  pub bound_comes : (m l : MarkedAssignment) (bindings : List Binding) (b : Behaviour) (part r : Result Expanded Stop) →
-      BindingsMayHave program.theory m m bindings l → Turns (map (under_row Let)) (λ k. 1 + k) part r → Comes l b part →
+  pub bound_comes : IsExecutable program.theory → (m l : MarkedAssignment) (bindings : List Binding) (b : Behaviour)
+      (part r : Result Expanded Stop) → BindingsMayHave program.theory m m bindings l → Turns (map (under_row Let)) (λ k. 1 + k) part r → Comes l b part →
       Comes m (bound bindings b) r
-  bound_comes m l bindings b part r has h a =
+  bound_comes executable m l bindings b part r has h a =
       turned l b m (bound bindings b) (map (under_row Let)) (λ k. 1 + k) part r h a
       (λ ps k u. record {
         composites = λ e q.
@@ -328,6 +362,7 @@ module _ (program : Program) (w : Windows) (n : ℕ) (budget : ℕ) where
         spread = λ e q.
             ap (λ z. 1 + z) (u.spread e q)
             ∙ sym (ap (λ z. 1 + number_of z (λ j. Count e j b)) (bindings_are program e q m m l bindings has));
+        asked = asked_bound program w n executable m l bindings b ps has u.asked;
       })
       (λ t z. inr (l, has, z))
       (λ e q. subst (λ z. Count e l b ≤ 1 + number_of z (λ j. Count e j b)) (sym (bindings_are program e q m m l bindings has))
@@ -341,6 +376,7 @@ module _ (program : Program) (w : Windows) (n : ℕ) (budget : ℕ) where
         composites = λ e q.
             sym (ap (λ z. from_option z (λ j. map (under letting) (Of e j b))) (bindings_arent program e q m m bindings none));
         spread = λ e q. sym (ap (λ z. 1 + number_of z (λ j. Count e j b)) (bindings_arent program e q m m bindings none));
+        asked = tt;
       })
 
   pub binding_stops : (m : MarkedAssignment) (bindings : List Binding) (b : Behaviour) (s : Stop) →

@@ -1,10 +1,10 @@
 -- What is known of values for variables.
 use Rattle.std.proofs.Common.{ℕ, ◌≡◌, ◌==◌, List, [], ◌∷◌, refl, Bool, true, false, if◌then◌else◌}
-use Rattle.spec_core.specs.Terms.{TermTree, variable}
+use Rattle.spec_core.specs.Terms.{variable}
 use Rattle.spec_core.specs.Theories.{Theory}
 use Rattle.rule_model.specs.Substitution.{Assignment, with_term}
 use Rattle.code_behaviours.specs.Values.{term_spelled, with_values, assignment}
-use Rattle.windowed_trees.specs.MarkedTerms.{plain, unmarked}
+use Rattle.windowed_trees.specs.MarkedTerms.{plain}
 use Rattle.marked_values.specs.declared.scope.Given.{Given}
 use Rattle.marked_values.specs.declared.scope.Given.TheVariants.{Value}
 use Rattle.marked_values.specs.Scopes.{marks_of}

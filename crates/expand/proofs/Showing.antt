@@ -1,8 +1,8 @@
 -- What the windows of a table let a choice of a value choose.
-use Rattle.std.proofs.Common.{ℕ, zero, suc, ◌≡◌, ◌<◌, List, [], ◌∷◌, refl, sym, ap, subst, ◌∙◌, arith, Option, Some, None, Contains, false}
+use Rattle.std.proofs.Common.{ℕ, zero, suc, ◌≡◌, List, [], ◌∷◌, refl, sym, ap, subst, ◌∙◌, arith, Option, Some, None, Contains, false}
 use Rattle.std.specs.List.{slice_get}
 use Rattle.spec_core.specs.Lists.{Each}
-use Rattle.spec_core.specs.Terms.{TermTree, preorder}
+use Rattle.spec_core.specs.Terms.{preorder}
 use Rattle.spec_core.specs.Theories.{Theory}
 use Rattle.spec_core.specs.Windows.{IsMember}
 use Rattle.spec_core.specs.declared.window.Window.{Window}

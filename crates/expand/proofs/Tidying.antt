@@ -1,18 +1,13 @@
 -- What comes of code under a relabelling, tidied.
-use Rattle.std.proofs.Common.{ℕ, ◌≡◌, ◌<◌, ◌≤◌, List, [], ◌∷◌, map, length, refl, sym, ap, subst, ◌∙◌, arith, Some, Result}
-use Rattle.spec_core.specs.Code.{Program, Relabelling, node_of, relabelling_of}
-use Rattle.spec_core.specs.Numbers.{gate_number}
-use Rattle.spec_core.specs.Terms.{TermTree, term_of}
-use Rattle.spec_core.specs.declared.code.CodeNode.{CodeNode}
-use Rattle.spec_core.specs.declared.items.Gate.{Gate}
+use Rattle.std.proofs.Common.{ℕ, ◌≡◌, List, map, sym, ap, subst, ◌∙◌, Result}
+use Rattle.spec_core.specs.Code.{Program, Relabelling}
+use Rattle.spec_core.specs.Terms.{TermTree}
 use Rattle.rule_model.specs.Actions.{renamed, after}
 use Rattle.rule_model.specs.Behaviours.{Behaviour, call, relabel}
 use Rattle.rule_model.specs.Substitution.{tidied}
-use Rattle.code_behaviours.specs.Parts.{behaviour_at, over_parts}
 use Rattle.windowed_trees.specs.Windows.{Windows}
 use Rattle.windowed_trees.specs.MarkedTerms.{MarkedAssignment}
 use Rattle.marked_values.specs.declared.stop.Stop.{Stop}
-use Rattle.tree_nodes.specs.Origins.{relabelled_by}
 use Rattle.expand.specs.declared.outcome.Expanded.{Expanded}
 use Rattle.expand.specs.Outcomes.{Outcome}
 
@@ -39,13 +34,3 @@ module _ (program : Program) (w : Windows) (n budget : ℕ) (m : MarkedAssignmen
       subst (λ z. Outcome program w n budget m (tidied pairs z) r) (sym is)
       (subst (λ z. Outcome program w n budget m (call p z terms) r) same
       (subst (λ z. Outcome program w n budget m (call p actual z) r) equal h))
-
--- an empty relabelling is none, and one with a pair stays
-pub none_relabelled : (pairs : List (Gate × Gate)) (b : Behaviour) → length pairs < 1 → relabelled_by (map relabelling_of pairs) b ≡ b
-none_relabelled [] b h = refl
-none_relabelled (m ∷ pairs) b h = absurd (omega (arith, h))
-
-pub some_relabelled : (pairs : List (Gate × Gate)) (b : Behaviour) → 1 ≤ length pairs →
-    relabelled_by (map relabelling_of pairs) b ≡ tidied (map relabelling_of pairs) b
-some_relabelled [] b h = absurd (omega (arith, h))
-some_relabelled (m ∷ pairs) b h = refl

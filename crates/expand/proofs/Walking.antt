@@ -1,6 +1,6 @@
 -- What the walk over the code hands on.
 use Rattle.std.proofs.Common.{ℕ, zero, suc, ◌≡◌, ◌-◌, ◌+◌, ◌*◌, ◌<◌, ◌≤◌, List, [], ◌∷◌, ◌++◌, map, take, drop, length, get_or, refl, sym, ap, subst}
-use Rattle.std.proofs.Common.{◌∙◌, arith, append_assoc, Option, Some, None, Result, Ok, Err, Bool, true, false, IsTrue, ◌↔◌, Contains}
+use Rattle.std.proofs.Common.{◌∙◌, arith, append_assoc, Option, Some, Result, Ok, Bool, true, false, IsTrue, ◌↔◌, Contains}
 use Rattle.std.proofs.lemmas.List.{append-nil, length-map}
 use Rattle.spec_core.specs.Code.{Program, Variable, node_of, action_field_of}
 use Rattle.spec_core.specs.Numbers.{gate_number}
@@ -8,7 +8,6 @@ use Rattle.spec_core.specs.Theories.{Premise}
 use Rattle.spec_core.specs.declared.code.ActField.{ActField}
 use Rattle.spec_core.specs.declared.code.CodeNode.{CodeNode}
 use Rattle.spec_core.specs.declared.items.Gate.{Gate}
-use Rattle.rule_model.specs.declared.rules.Slot.{Slot}
 use Rattle.rule_model.specs.declared.rules.Slot.TheVariants.{Of, Mark}
 use Rattle.rule_model.specs.Behaviours.{Behaviour, action, value_choice, gate_choice}
 use Rattle.code_behaviours.specs.Parts.{behaviour_at, over_parts}

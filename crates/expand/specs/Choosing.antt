@@ -1,5 +1,6 @@
 -- What comes of some of the values that a choice of a value may have.
 use Rattle.std.specs.Prelude.{ℕ, ◌≡◌, ◌+◌, ◌++◌, ◌∷◌, [], List, flat_map, map, sum_by, Result, Ok, Err}
+use Rattle.spec_core.specs.Lists.{Each}
 use Rattle.spec_core.specs.Theories.{Theory}
 use Rattle.spec_core.specs.Code.{Program, Variable}
 use Rattle.rule_model.specs.declared.rules.Slot.{Slot}
@@ -16,7 +17,7 @@ use Rattle.open_composites.specs.Laws.{composites_of}
 use Rattle.reached_terms.specs.Spread.{number_of}
 use Rattle.marked_values.specs.declared.stop.Stop.{Stop}
 use Rattle.expand.specs.declared.outcome.Expanded.{Expanded}
-use Rattle.expand.specs.Outcomes.{plans_in, composites_with, spread_with, Stopped}
+use Rattle.expand.specs.Outcomes.{plans_in, AsksReached, composites_with, spread_with, IsReached, Stopped}
 
 module _ (program : Program) (w : Windows) (n : ℕ) (m : MarkedAssignment) (x : Variable) (b : Behaviour) where
   -- the composites of the body with what a slot chooses for the variable, and their spread
@@ -33,6 +34,7 @@ module _ (program : Program) (w : Windows) (n : ℕ) (m : MarkedAssignment) (x :
     pub composites : (e : Evaluation) → IsExact program e →
         composites_of program.theory w ps ≡ flat_map (composites_at e) slots
     pub spread : (e : Evaluation) → IsExact program e → k ≡ 1 + sum_by (spread_at e) slots
+    pub asked : Each (AsksReached program (IsReached program w n m (value_choice x b)) m (value_choice x b)) ps
 
 -- what the slot chooses may be seen
 pub record IsChoice (theory : Theory) (w : Windows) (sort : ℕ) (slot : Slot) (k : MarkedTerm) : Type 0 where

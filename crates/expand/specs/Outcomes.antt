@@ -1,14 +1,17 @@
 -- What comes of expanding a behaviour with what is known for its variables.
 use Rattle.std.specs.Prelude.{ℕ, zero, suc, ◌≡◌, ◌<◌, List, [], map, Result, Ok, Err}
+use Rattle.spec_core.specs.Lists.{Each}
 use Rattle.spec_core.specs.Terms.{TermTree}
 use Rattle.spec_core.specs.Code.{Program}
 use Rattle.rule_model.specs.Behaviours.{Behaviour}
+use Rattle.rule_model.specs.Substitution.{Assignment}
 use Rattle.windowed_trees.specs.Windows.{Windows}
-use Rattle.windowed_trees.specs.MarkedTerms.{MarkedAssignment}
+use Rattle.windowed_trees.specs.MarkedTerms.{MarkedAssignment, AllPlain}
 use Rattle.composites.specs.Evaluations.{Evaluation, IsExact}
 use Rattle.composites.specs.Composites.{Composite, composites_in, below_calls}
 use Rattle.open_composites.specs.OpenPlans.{OpenPlan, open_plan_of}
 use Rattle.open_composites.specs.Laws.{composites_of}
+use Rattle.reached_terms.specs.Asking.{PlanAsks}
 use Rattle.reached_terms.specs.Reached.{ReachesIn, ReachesBelow}
 use Rattle.reached_terms.specs.Spread.{spread_in, spread_below}
 use Rattle.marked_values.specs.declared.stop.Stop.{Stop}
@@ -18,6 +21,10 @@ use Rattle.expand.specs.declared.outcome.Expanded.{Expanded}
 abbrev pub plans_in : Expanded → List OpenPlan
 plans_in x = map open_plan_of x.composites.items
 
+-- what is asked along the trees of a plan is reached, where no variable has a mark
+abbrev pub AsksReached : Program → (TermTree → Type 0) → MarkedAssignment → Behaviour → OpenPlan → Type 0
+AsksReached program R m b p = (s : Assignment) (t : TermTree) → AllPlain m s → PlanAsks program p.plan s b t → R t
+
 -- In this module no more than n calls are inside one another.
 module _ (program : Program) (w : Windows) (n : ℕ) where
   abbrev pub composites_with : Evaluation → MarkedAssignment → Behaviour → List Composite
@@ -26,13 +33,15 @@ module _ (program : Program) (w : Windows) (n : ℕ) where
   abbrev pub spread_with : Evaluation → MarkedAssignment → Behaviour → ℕ
   spread_with e m b = spread_in program.theory e w (spread_below program.theory e w n) m b
 
-  -- the composites of the behaviour, and its spread, whichever exact answers about data and code they are made with
+  abbrev pub IsReached : MarkedAssignment → Behaviour → TermTree → Type 0
+  IsReached m b t = ReachesIn program w [] (ReachesBelow program w [] n) m b t
+
+  -- The composites of the behaviour, and its spread, whichever exact answers about data and code they are made with. What is asked along
+  -- the trees of the plans is reached.
   pub record Expands (m : MarkedAssignment) (b : Behaviour) (ps : List OpenPlan) (k : ℕ) : Type 0 where
     pub composites : (e : Evaluation) → IsExact program e → composites_of program.theory w ps ≡ composites_with e m b
     pub spread : (e : Evaluation) → IsExact program e → k ≡ spread_with e m b
-
-  abbrev pub IsReached : MarkedAssignment → Behaviour → TermTree → Type 0
-  IsReached m b t = ReachesIn program w [] (ReachesBelow program w [] n) m b t
+    pub asked : Each (AsksReached program (IsReached m b) m b) ps
 
   -- the number is one above what is looked at, and the spread is above it too
   abbrev pub IsTooWide : MarkedAssignment → Behaviour → ℕ → Type 0

@@ -1,15 +1,18 @@
 // Expansions: of the behaviours with numbers of the code, with values for their variables, and of those that origins stand for.
 
-ghost use Rattle.std.specs.Prelude.{◌≡◌, IfOk, IfErr, map};
+ghost use Rattle.std.specs.Prelude.{ℕ, ◌≡◌, IfOk, IfErr, map};
 ghost use Rattle.spec_core.specs.Code.{program_of, relabelling_of};
 ghost use Rattle.spec_core.specs.Ready.{IsReady};
 ghost use Rattle.rule_model.specs.Substitution.{put};
 ghost use Rattle.code_behaviours.specs.Parts.{behaviour_at};
 ghost use Rattle.code_behaviours.specs.Values.{assignment};
+ghost use Rattle.windowed_trees.specs.Windows.{AreWindows};
+ghost use Rattle.sort_windows.specs.Found.{AreBySorts};
 ghost use Rattle.open_composites.specs.OpenPlans.{open_plan_of};
 ghost use Rattle.tree_nodes.specs.Origins.{meaning, relabelled_by, scoped, source_of};
-ghost use Rattle.expand.specs.Expansions.{IsExpansion, IsStop};
+ghost use Rattle.expand.specs.Expansions.{AskReached, IsExpansion, IsStop, IsStopAt};
 ghost use Rattle.expand.specs.Scoping.{scope_over};
+ghost use Rattle.window_tables.specs.Tables.{windows_in};
 
 use crate::relabelled::expand_relabelled;
 use marked_values::scope::{Given, with};
@@ -50,8 +53,68 @@ fn known(
     }
 }
 
-// The expansion of the behaviour with this number of the code, with values for its variables, under a relabelling; an empty one is none.
-#[tactic(auto, using(crate::proofs::Few::few_operations, crate::proofs::Few::few_sorts, crate::proofs::Top::memory_stops))]
+// The composites of the behaviour with this number of the code, with values for its variables, under a relabelling; an empty one is none.
+fn composites_at(
+    alloc: Global,
+    checked: &Checked,
+    windows: &[Window],
+    node: u32,
+    values: &[(u32, Value)],
+    pairs: &[(Gate, Gate)],
+    budget: u64,
+) -> Result<Vec<OpenComposite>, Stop>
+    requires ready { IsReady (program_of checked.now) }
+    requires rows { (k : ℕ) × AreBySorts (program_of checked.now).theory k windows.now }
+    ensures expansion { IfOk result (λ all. IsExpansion (program_of checked.now) (windows_in windows.now)
+        (relabelled_by (map relabelling_of pairs.now) (scoped (program_of checked.now) node values.now)) (map open_plan_of all.items)) }
+    ensures asked { IfOk result (λ all. AskReached (program_of checked.now) (windows_in windows.now)
+        (assignment (program_of checked.now).theory values.now)
+        (relabelled_by (map relabelling_of pairs.now) (behaviour_at (program_of checked.now) node))
+        (relabelled_by (map relabelling_of pairs.now) (scoped (program_of checked.now) node values.now)) (map open_plan_of all.items)) }
+    ensures stop { IfErr result (IsStop (program_of checked.now) (windows_in windows.now)
+        (relabelled_by (map relabelling_of pairs.now) (scoped (program_of checked.now) node values.now)) budget) }
+{
+    let scope = known(alloc, values, Vec::new(alloc))?;
+    let calls = checked.code.len();
+    match expand_relabelled(alloc, checked, windows, &scope, pairs, node, calls, budget) {
+        Err(stop) => Err(stop),
+        Ok(x) => Ok(x.composites),
+    }
+}
+
+/// The composites of the behaviour that an origin stands for, down to the first actions, in order, where the values of the windows are
+/// chosen. A value is found with at most `budget` uses of equations. It recurs as deep as constructs, calls and terms nest.
+pub fn expand_within(
+    alloc: Global,
+    checked: &Checked,
+    windows: &[Window],
+    origin: &Origin,
+    budget: u64,
+) -> Result<Vec<OpenComposite>, Stop>
+    requires ready { IsReady (program_of checked.now) }
+    requires rows { (k : ℕ) × AreBySorts (program_of checked.now).theory k windows.now }
+    ensures expansion { IfOk result (λ all. IsExpansion (program_of checked.now) (windows_in windows.now)
+        (meaning (program_of checked.now) (source_of origin.now)) (map open_plan_of all.items)) }
+    ensures asked { IfOk result (λ all. AskReached (program_of checked.now) (windows_in windows.now)
+        (assignment (program_of checked.now).theory origin.now.values.items)
+        (relabelled_by (map relabelling_of origin.now.relabel.items) (behaviour_at (program_of checked.now) origin.now.node))
+        (meaning (program_of checked.now) (source_of origin.now)) (map open_plan_of all.items)) }
+    ensures stop { IfErr result (IsStop (program_of checked.now) (windows_in windows.now)
+        (meaning (program_of checked.now) (source_of origin.now)) budget) }
+{
+    composites_at(
+        alloc,
+        checked,
+        windows,
+        origin.node,
+        &origin.values,
+        &origin.relabel,
+        budget,
+    )
+}
+
+// The same with the first values of each sort.
+#[tactic(auto, using(crate::proofs::Few::few_operations, crate::proofs::Few::few_sorts, crate::proofs::Memory::memory))]
 fn expand_source(
     alloc: Global,
     checked: &Checked,
@@ -61,28 +124,27 @@ fn expand_source(
     settings: &Settings,
 ) -> Result<Expansion, Stop>
     requires ready { IsReady (program_of checked.now) }
-    ensures expansion { IfOk result (λ x. IsExpansion (program_of checked.now) settings.now.values
-        (relabelled_by (map relabelling_of pairs.now) (scoped (program_of checked.now) node values.now)) x.windows.items
+    ensures windows { IfOk result (λ x.
+        AreWindows (program_of checked.now).theory settings.now.values (windows_in x.windows.items)) }
+    ensures expansion { IfOk result (λ x. IsExpansion (program_of checked.now) (windows_in x.windows.items)
+        (relabelled_by (map relabelling_of pairs.now) (scoped (program_of checked.now) node values.now))
         (map open_plan_of x.composites.items)) }
-    ensures stop { IfErr result (IsStop (program_of checked.now) settings.now.values
+    ensures stop { IfErr result (IsStopAt (program_of checked.now) settings.now.values
         (relabelled_by (map relabelling_of pairs.now) (scoped (program_of checked.now) node values.now)) settings.now.budget) }
 {
     let windows = windows(alloc, &checked.algebra, settings.values)?;
-    let scope = known(alloc, values, Vec::new(alloc))?;
-    let calls = checked.code.len();
-    match expand_relabelled(
+    match composites_at(
         alloc,
         checked,
         &windows,
-        &scope,
-        pairs,
         node,
-        calls,
+        values,
+        pairs,
         settings.budget,
     ) {
         Err(stop) => Err(stop),
-        Ok(x) => Ok(Expansion {
-            composites: x.composites,
+        Ok(composites) => Ok(Expansion {
+            composites,
             windows,
         }),
     }
@@ -99,10 +161,12 @@ pub fn expand_code(
     settings: &Settings,
 ) -> Result<Expansion, Stop>
     requires ready { IsReady (program_of checked.now) }
-    ensures expansion { IfOk result (λ x. IsExpansion (program_of checked.now) settings.now.values
-        (put (assignment (program_of checked.now).theory values.now) (behaviour_at (program_of checked.now) node)) x.windows.items
+    ensures windows { IfOk result (λ x.
+        AreWindows (program_of checked.now).theory settings.now.values (windows_in x.windows.items)) }
+    ensures expansion { IfOk result (λ x. IsExpansion (program_of checked.now) (windows_in x.windows.items)
+        (put (assignment (program_of checked.now).theory values.now) (behaviour_at (program_of checked.now) node))
         (map open_plan_of x.composites.items)) }
-    ensures stop { IfErr result (IsStop (program_of checked.now) settings.now.values
+    ensures stop { IfErr result (IsStopAt (program_of checked.now) settings.now.values
         (put (assignment (program_of checked.now).theory values.now) (behaviour_at (program_of checked.now) node)) settings.now.budget) }
 {
     expand_source(alloc, checked, node, values, &[], settings)
@@ -117,9 +181,11 @@ pub fn expand(
     settings: &Settings,
 ) -> Result<Expansion, Stop>
     requires ready { IsReady (program_of checked.now) }
-    ensures expansion { IfOk result (λ x. IsExpansion (program_of checked.now) settings.now.values
-        (meaning (program_of checked.now) (source_of origin.now)) x.windows.items (map open_plan_of x.composites.items)) }
-    ensures stop { IfErr result (IsStop (program_of checked.now) settings.now.values
+    ensures windows { IfOk result (λ x.
+        AreWindows (program_of checked.now).theory settings.now.values (windows_in x.windows.items)) }
+    ensures expansion { IfOk result (λ x. IsExpansion (program_of checked.now) (windows_in x.windows.items)
+        (meaning (program_of checked.now) (source_of origin.now)) (map open_plan_of x.composites.items)) }
+    ensures stop { IfErr result (IsStopAt (program_of checked.now) settings.now.values
         (meaning (program_of checked.now) (source_of origin.now)) settings.now.budget) }
 {
     expand_source(

@@ -2,3 +2,5 @@ pub mod Reached
 pub mod Spread
 pub mod Laws
 pub mod Examples
+pub mod Parts
+pub mod Asking

@@ -1,10 +1,11 @@
 -- Relabellings one over another, tidied.
-use Rattle.std.proofs.Common.{ℕ, ◌≡◌, ◌==◌, Bool, true, false, if◌then◌else◌, List, [], ◌∷◌, map, refl, sym, ap, ◌∙◌}
-use Rattle.spec_core.specs.Code.{Relabelling}
+use Rattle.std.proofs.Common.{ℕ, ◌≡◌, ◌==◌, ◌<◌, ◌≤◌, Bool, true, false, if◌then◌else◌, List, [], ◌∷◌, map, length, refl, sym, ap, ◌∙◌, arith}
+use Rattle.spec_core.specs.Code.{Relabelling, relabelling_of}
+use Rattle.spec_core.specs.declared.items.Gate.{Gate}
 use Rattle.rule_model.specs.Actions.{renamed, after}
 use Rattle.rule_model.specs.Behaviours.{Behaviour, stop, exit, inner, action, choice, guarded, bound, value_choice, gate_choice, parallel}
 use Rattle.rule_model.specs.Behaviours.{hide, enable, disable, call, relabel}
-use Rattle.rule_model.specs.Substitution.{tidied}
+use Rattle.rule_model.specs.Substitution.{Assignment, put, tidied}
 use Rattle.tree_nodes.specs.Origins.{relabelled_by, IsCall}
 
 -- a gate's place after both relabellings
@@ -66,3 +67,36 @@ pub tidied_leaf : (pairs before : List Relabelling) (b : Behaviour) → tidied p
     b
 tidied_leaf pairs [] b = refl
 tidied_leaf pairs (m ∷ before) b = tidied_twice b pairs (m ∷ before)
+
+-- a relabelling and values are put in either way round
+put_tidied : (s : Assignment) (b : Behaviour) (pairs : List Relabelling) → put s (tidied pairs b) ≡ tidied pairs (put s b)
+put_tidied s (relabel before b) pairs = put_tidied s b (after pairs before)
+put_tidied s (call p gates terms) pairs = refl
+put_tidied s stop pairs = refl
+put_tidied s (exit fields) pairs = refl
+put_tidied s (inner b) pairs = refl
+put_tidied s (action g fields p b) pairs = refl
+put_tidied s (choice b c) pairs = refl
+put_tidied s (guarded p b) pairs = refl
+put_tidied s (bound bindings b) pairs = refl
+put_tidied s (value_choice x b) pairs = refl
+put_tidied s (gate_choice g gates b) pairs = refl
+put_tidied s (parallel gates b c) pairs = refl
+put_tidied s (hide gates b) pairs = refl
+put_tidied s (enable b xs c) pairs = refl
+put_tidied s (disable b c) pairs = refl
+
+pub put_relabelled : (s : Assignment) (pairs : List Relabelling) (b : Behaviour) →
+    put s (relabelled_by pairs b) ≡ relabelled_by pairs (put s b)
+put_relabelled s [] b = refl
+put_relabelled s (m ∷ pairs) b = put_tidied s b (m ∷ pairs)
+
+-- an empty relabelling is none, and one with a pair stays
+pub none_relabelled : (pairs : List (Gate × Gate)) (b : Behaviour) → length pairs < 1 → relabelled_by (map relabelling_of pairs) b ≡ b
+none_relabelled [] b h = refl
+none_relabelled (m ∷ pairs) b h = absurd (omega (arith, h))
+
+pub some_relabelled : (pairs : List (Gate × Gate)) (b : Behaviour) → 1 ≤ length pairs →
+    relabelled_by (map relabelling_of pairs) b ≡ tidied (map relabelling_of pairs) b
+some_relabelled [] b h = absurd (omega (arith, h))
+some_relabelled (m ∷ pairs) b h = refl

@@ -1,5 +1,5 @@
 -- The terms that are asked of a part are asked of the whole.
-use Rattle.std.proofs.Common.{ℕ, ◌≡◌, inr, List, [], ◌∷◌, sym, subst, Option, Some, None, Result, IfErr}
+use Rattle.std.proofs.Common.{ℕ, ◌≡◌, inr, List, sym, subst, Option, Some, None, Result, IfErr}
 use Rattle.spec_core.specs.Terms.{TermTree}
 use Rattle.spec_core.specs.Theories.{Theory}
 use Rattle.spec_core.specs.Code.{Program}
@@ -12,7 +12,8 @@ use Rattle.marked_values.specs.declared.stop.Stop.{Stop}
 use Rattle.marked_values.specs.Stops.{Stops, Never}
 use Rattle.marked_values.proofs.Stopping.{stops_on, err_on}
 use Rattle.ways.specs.declared.turn.Entered.{Entered}
-use Rattle.ways.specs.Asking.{PlanAsks, WithinAsks}
+use Rattle.reached_terms.specs.Asking.{PlanAsks}
+use Rattle.ways.specs.Asking.{WithinAsks}
 use Rattle.ways.specs.Frames.{standing}
 use Rattle.ways.specs.Turns.{EntersOr}
 use Rattle.ways.proofs.Keeping.{on_part}

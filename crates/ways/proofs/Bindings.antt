@@ -1,5 +1,5 @@
 -- Bindings and arguments with values.
-use Rattle.std.proofs.Common.{ℕ, ◌≡◌, List, [], ◌∷◌, ◌++◌, refl, sym, ap, subst, ◌∙◌}
+use Rattle.std.proofs.Common.{ℕ, ◌≡◌, List, [], ◌∷◌, ◌++◌, sym, ap, subst, ◌∙◌}
 use Rattle.spec_core.specs.Executable.{IsExecutable}
 use Rattle.spec_core.specs.Terms.{TermTree, variable, instance}
 use Rattle.spec_core.specs.Theories.{Theory}
@@ -8,7 +8,7 @@ use Rattle.spec_core.specs.Code.{Variable, Binding}
 use Rattle.rule_model.specs.Fields.{BindingsHave, ArgumentsHave}
 use Rattle.rule_model.specs.Substitution.{Assignment, with_term}
 use Rattle.rule_laws.proofs.OneStep.{one_value}
-use Rattle.code_behaviours.specs.Values.{term_spelled, with_values, assignment}
+use Rattle.code_behaviours.specs.Values.{term_spelled, assignment}
 use Rattle.marked_values.specs.Found.{Spelled}
 use Rattle.ways.proofs.Knowing.{with_joined}
 

@@ -1,5 +1,5 @@
 -- Bodies of processes that are called.
-use Rattle.std.proofs.Common.{ℕ, ◌≡◌, List, [], ◌∷◌, refl, sym, subst, ◌∙◌, Some}
+use Rattle.std.proofs.Common.{ℕ, ◌≡◌, List, [], refl, sym, subst, Some}
 use Rattle.std.specs.List.{slice_get}
 use Rattle.spec_core.specs.Code.{Program, Variable, process}
 use Rattle.spec_core.specs.Ready.{IsReady}
@@ -7,7 +7,7 @@ use Rattle.spec_core.specs.Terms.{TermTree, variable}
 use Rattle.spec_core.specs.Theories.{Theory}
 use Rattle.rule_laws.proofs.OneStep.{one_definition}
 use Rattle.rule_model.specs.Actions.{pairs_of}
-use Rattle.rule_model.specs.Behaviours.{Behaviour, call, relabel}
+use Rattle.rule_model.specs.Behaviours.{call, relabel}
 use Rattle.rule_model.specs.Code.{IsDefinition}
 use Rattle.rule_model.specs.Fields.{ArgumentsHave}
 use Rattle.rule_model.specs.Substitution.{Assignment}

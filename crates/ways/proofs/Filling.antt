@@ -3,14 +3,14 @@ use Rattle.std.proofs.Common.{ℕ, suc, ◌≡◌, ◌==◌, ◌+◌, List, [], 
 use Rattle.std.proofs.Common.{Bool, true, false, ◌⊎◌, inl, inr, length-append}
 use Rattle.std.specs.List.{flat_map}
 use Rattle.std.proofs.lemmas.List.{append-nil}
-use Rattle.spec_core.specs.Lists.{Each, OneOf, IsOneOf}
+use Rattle.spec_core.specs.Lists.{Each, IsOneOf}
 use Rattle.spec_core.specs.Theories.{Theory}
 use Rattle.rule_model.specs.declared.rules.Slot.{Slot}
 use Rattle.rule_model.specs.declared.rules.Slot.TheVariants.{Of, Mark, Blank}
 use Rattle.rule_model.specs.Derivations.{Derivation, pre, int, exiting, chl, chr, val, gate, guard, letting, parl, parr, both, hiding, pass}
 use Rattle.rule_model.specs.Derivations.{enstep, enend, disstep, disend, distake, calling, rel}
 use Rattle.windowed_trees.specs.Windows.{Windows}
-use Rattle.composites.specs.OpenFields.{OpenField, all_choices, choices_at_once}
+use Rattle.composites.specs.OpenFields.{all_choices, choices_at_once}
 use Rattle.open_composites.specs.declared.scheme.Row.{Row}
 use Rattle.open_composites.specs.declared.scheme.Row.TheVariants.{Chl, Chr, Val, Gate, Guard, Let, Parl, Parr, Pass, Enstep, Disstep}
 use Rattle.open_composites.specs.declared.scheme.Row.TheVariants.{Disend, Distake, Call, Rel}

@@ -5,7 +5,7 @@ use Rattle.spec_core.specs.Code as code
 use Rattle.spec_core.specs.Code.{Program, Node, Variable}
 use Rattle.rule_model.specs.declared.rules.Slot.{Slot}
 use Rattle.rule_model.specs.declared.rules.Slot.TheVariants.{Of, Mark, Blank}
-use Rattle.rule_model.specs.Behaviours.{Behaviour, stop, exit, inner, action, choice, guarded, bound, value_choice, gate_choice, parallel, hide}
+use Rattle.rule_model.specs.Behaviours.{Behaviour, choice, guarded, bound, value_choice, gate_choice, parallel, hide}
 use Rattle.rule_model.specs.Behaviours.{enable, disable, call, relabel}
 use Rattle.rule_model.specs.Substitution.{Assignment, with_term}
 use Rattle.code_behaviours.specs.Parts.{over_parts, behaviour_at}
@@ -19,8 +19,8 @@ use Rattle.ways.specs.declared.turn.Frame.TheVariants.{Same}
 use Rattle.ways.specs.declared.turn.Site.{Site}
 use Rattle.ways.specs.declared.turn.Site.TheVariants.{At}
 use Rattle.ways.specs.Frames.{surrounding_of, round_part, standing}
-use Rattle.ways.specs.Parts.{OnPart}
-use Rattle.ways.specs.Turns.{Enters, NoPart}
+use Rattle.reached_terms.specs.Parts.{OnPart}
+use Rattle.ways.specs.Turns.{Enters}
 use Rattle.ways.proofs.Bindings.{one_more}
 
 module _ (program : Program) where

@@ -1,16 +1,16 @@
 -- What is known of values that are told or chosen.
-use Rattle.std.proofs.Common.{ℕ, zero, suc, ◌≡◌, ◌+◌, List, [], ◌∷◌, ◌++◌, length, map, refl, sym, ap, subst, ◌∙◌, append_assoc, arith}
-use Rattle.std.proofs.Common.{Option, Some, None, length-append}
+use Rattle.std.proofs.Common.{ℕ, ◌≡◌, ◌+◌, List, [], ◌∷◌, ◌++◌, length, map, refl, sym, ap, subst, ◌∙◌, append_assoc, arith}
+use Rattle.std.proofs.Common.{Some, length-append}
 use Rattle.std.specs.List.{slice_get}
 use Rattle.spec_core.specs.Executable.{IsExecutable}
 use Rattle.spec_core.specs.Terms.{TermTree, variable, instance, preorder}
 use Rattle.spec_core.specs.Theories.{Theory}
 use Rattle.spec_core.specs.Values.{HasValue}
-use Rattle.spec_core.specs.Code.{Variable, Binding, ExitValue, exit_given, exit_any, ActionField, give, accept}
+use Rattle.spec_core.specs.Code.{Variable, ExitValue, exit_given, exit_any, ActionField, give, accept}
 use Rattle.rule_laws.proofs.OneStep.{one_value}
 use Rattle.rule_model.specs.declared.rules.Slot.{Slot}
 use Rattle.rule_model.specs.declared.rules.Slot.TheVariants.{Of, Mark, Blank}
-use Rattle.rule_model.specs.Fields.{Spells, GivesValue, FieldsHave, ExitHas, BindingsHave, ArgumentsHave, IsHandedOn}
+use Rattle.rule_model.specs.Fields.{GivesValue, FieldsHave, ExitHas, IsHandedOn}
 use Rattle.rule_model.specs.Substitution.{Assignment, with_term}
 use Rattle.code_behaviours.specs.Values.{term_spelled, with_values, assignment, values_for}
 use Rattle.code_behaviours.proofs.Reading.{values_are_read}

@@ -10,3 +10,4 @@ pub mod Making
 pub mod Turning
 pub mod Asked
 pub mod Walks
+pub mod Standing

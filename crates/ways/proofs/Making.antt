@@ -1,30 +1,26 @@
 -- What operators make of what is done and left of their parts.
-use Rattle.std.proofs.Common.{ℕ, ◌≡◌, Option, Some, List, [], ◌∷◌, ◌++◌, map, refl, sym, ap, subst, ◌∙◌}
-use Rattle.spec_core.specs.Theories.{Theory, Premise}
-use Rattle.spec_core.specs.Terms.{TermTree}
+use Rattle.std.proofs.Common.{ℕ, ◌≡◌, Option, Some, List, [], ◌++◌, map, sym, ap, subst, ◌∙◌}
+use Rattle.spec_core.specs.Theories.{Premise}
 use Rattle.spec_core.specs.Code as code
 use Rattle.spec_core.specs.Code.{Program, Node, Variable, Relabelling, Synchronised, ExitValue, ActionField}
 use Rattle.rule_model.specs.declared.action.Action.{Action}
-use Rattle.rule_model.specs.declared.action.Action.TheVariants.{Inner, Exit}
+use Rattle.rule_model.specs.declared.action.Action.TheVariants.{Exit}
 use Rattle.rule_model.specs.declared.rules.Slot.{Slot}
 use Rattle.rule_model.specs.Actions.{doing, renamed_action, kind_of, IsEnd}
-use Rattle.rule_model.specs.Behaviours.{Behaviour, stop, exit, inner, action, parallel, hide, enable, disable}
+use Rattle.rule_model.specs.Behaviours.{Behaviour, exit, inner, action, parallel, hide, enable, disable}
 use Rattle.rule_model.specs.Derivations.{Derivation, pre, int, exiting}
-use Rattle.rule_model.specs.Derives.{DerivesWith}
-use Rattle.rule_model.specs.Fields.{FieldsHave, ExitHas, IsHandedOn}
 use Rattle.rule_model.specs.Substitution.{Assignment, without, put, tidied}
-use Rattle.substitution_laws.specs.Closing.{IsClosing}
 use Rattle.code_behaviours.specs.Parts.{over_parts, behaviour_at}
 use Rattle.code_behaviours.specs.Values.{with_values, assignment, values_for}
 use Rattle.tree_nodes.specs.declared.rest.Known.{Known}
-use Rattle.tree_nodes.specs.Rests.{known_in, values_in, Does, does_inner, does_exit, does_at, does_of, done_in, Remainder, none_left, left_at}
+use Rattle.tree_nodes.specs.Rests.{known_in, values_in, does_inner, does_exit, does_at, does_of, done_in, none_left, left_at}
 use Rattle.tree_nodes.specs.Rests.{left_hidden, left_enabling, left_relabelled, left_beside, left_disabling, remainder_of, left_in}
 use Rattle.ways.specs.declared.turn.Turn.{Turn}
 use Rattle.ways.specs.Knowing.{tell, known_for, AreFieldsAt, HaveNoFields, AreExitAt, HaveNoExit}
-use Rattle.ways.specs.Frames.{Surrounding, unchanged, renaming, hiding_more, turning_inside, before_right, after_left, still_enabling, handing}
-use Rattle.ways.specs.Frames.{still_disabled, Makes}
-use Rattle.ways.specs.Turns.{Agrees, LeafTurns, NoLeafTurn, Leaves, NeverLeaves}
-use Rattle.ways.proofs.Knowing.{values_told, values_joined, values_handed, all_values, handed_is_read}
+use Rattle.ways.specs.Frames.{unchanged, renaming, hiding_more, turning_inside, before_right, after_left, still_enabling, handing}
+use Rattle.ways.specs.Frames.{still_disabled}
+use Rattle.ways.specs.Turns.{LeafTurns, NoLeafTurn, Leaves, NeverLeaves}
+use Rattle.ways.proofs.Knowing.{values_told, values_handed, all_values, handed_is_read}
 
 module _ (program : Program) where
   -- what stays as it is, with the values told

@@ -1,22 +1,19 @@
 -- What a rule over its part makes of what the part does.
-use Rattle.std.proofs.Common.{ℕ, zero, suc, ◌≡◌, ◌+◌, List, [], ◌∷◌, ◌++◌, length, map, refl, sym, ap, subst, ◌∙◌, append_assoc, arith}
-use Rattle.std.proofs.Common.{Option, Some, None, length-append}
-use Rattle.std.specs.List.{slice_get}
+use Rattle.std.proofs.Common.{ℕ, ◌≡◌, List, [], ◌∷◌, refl, sym, subst, ◌∙◌}
 use Rattle.spec_core.specs.Executable.{IsExecutable}
 use Rattle.spec_core.specs.Terms.{TermTree, variable}
-use Rattle.spec_core.specs.Code.{Program, Variable, Relabelling}
+use Rattle.spec_core.specs.Code.{Program, Variable}
 use Rattle.rule_laws.proofs.OneStep.{one_binding, one_argument, one_definition, one_gate}
 use Rattle.rule_model.specs.declared.action.Action.{Action}
-use Rattle.rule_model.specs.declared.rules.Slot.{Slot}
 use Rattle.rule_model.specs.declared.rules.Slot.TheVariants.{Of, Mark, Blank}
 use Rattle.rule_model.specs.Actions.{pairs_of}
-use Rattle.rule_model.specs.Behaviours.{Behaviour, stop, exit, inner, action, choice, guarded, bound, value_choice, gate_choice, parallel, hide}
+use Rattle.rule_model.specs.Behaviours.{Behaviour, choice, guarded, bound, value_choice, gate_choice, parallel, hide}
 use Rattle.rule_model.specs.Behaviours.{enable, disable, call, relabel}
-use Rattle.rule_model.specs.Derivations.{Derivation, pre, int, exiting, both, hiding, enend}
+use Rattle.rule_model.specs.Derivations.{Derivation}
 use Rattle.rule_model.specs.Derives.{DerivesWith}
-use Rattle.rule_model.specs.Fields.{ArgumentsHave, BindingsHave}
+use Rattle.rule_model.specs.Fields.{ArgumentsHave}
 use Rattle.rule_model.specs.Substitution.{Assignment, with_term}
-use Rattle.code_behaviours.specs.Values.{term_spelled, assignment}
+use Rattle.code_behaviours.specs.Values.{term_spelled}
 use Rattle.code_behaviours.proofs.Reading.{values_are_read}
 use Rattle.open_composites.specs.declared.scheme.Row.{Row}
 use Rattle.open_composites.specs.declared.scheme.Row.TheVariants.{Chl, Chr, Val, Gate, Guard, Let, Parl, Parr, Pass, Enstep, Disstep}
@@ -24,7 +21,7 @@ use Rattle.open_composites.specs.declared.scheme.Row.TheVariants.{Disend, Distak
 use Rattle.open_composites.specs.Plans.{put_row}
 use Rattle.ways.specs.Blanks.{HasValue}
 use Rattle.ways.specs.Frames.{round_part, Makes}
-use Rattle.ways.specs.Parts.{OnPart}
+use Rattle.reached_terms.specs.Parts.{OnPart}
 
 module _ (program : Program) (executable : IsExecutable program.theory) where
   -- the part does something by the rest of the tree, and the whole what the rule makes of it

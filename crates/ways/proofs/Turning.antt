@@ -1,35 +1,32 @@
 -- What is done and left of the whole, from what is done and left of its parts.
-use Rattle.std.proofs.Common.{ℕ, zero, suc, ◌≡◌, ◌+◌, List, [], ◌∷◌, ◌++◌, length, map, refl, sym, ap, subst, ◌∙◌, append_assoc, arith}
+use Rattle.std.proofs.Common.{ℕ, zero, suc, ◌≡◌, ◌+◌, List, [], ◌∷◌, ◌++◌, length, refl, sym, ap, subst, ◌∙◌, append_assoc, arith}
 use Rattle.std.proofs.Common.{Option, Some, None, Bool, length-append}
 use Rattle.std.proofs.lemmas.List.{append-nil}
 use Rattle.spec_core.specs.Executable.{IsExecutable}
-use Rattle.spec_core.specs.Lists.{IsOneOf}
 use Rattle.spec_core.specs.Code.{Program, Synchronised}
 use Rattle.rule_model.specs.declared.action.Action.{Action}
 use Rattle.rule_model.specs.declared.rules.Slot.{Slot}
 use Rattle.rule_model.specs.declared.rules.Slot.TheVariants.{Blank}
 use Rattle.rule_model.specs.declared.action.Action.TheVariants.{Exit}
 use Rattle.rule_model.specs.Actions.{doing}
-use Rattle.rule_model.specs.Behaviours.{Behaviour, stop, exit, inner, action, choice, guarded, bound, value_choice, gate_choice, parallel, hide}
-use Rattle.rule_model.specs.Behaviours.{enable, disable, call, relabel}
+use Rattle.rule_model.specs.Behaviours.{Behaviour, parallel, hide}
+use Rattle.rule_model.specs.Behaviours.{enable}
 use Rattle.rule_model.specs.Constructs.{OnHide, OnEnable, OnParallel}
 use Rattle.rule_model.specs.Derivations.{Derivation, pre, int, exiting, both, hiding, enend}
-use Rattle.rule_model.specs.Derives.{Derives, DerivesWith}
+use Rattle.rule_model.specs.Derives.{DerivesWith}
 use Rattle.rule_model.specs.Substitution.{Assignment, put}
 use Rattle.substitution_laws.proofs.Closed.{closed_behaviours_act}
 use Rattle.code_behaviours.specs.Values.{assignment}
 use Rattle.code_behaviours.proofs.Reading.{values_close}
-use Rattle.windowed_trees.specs.Windows.{Windows}
 use Rattle.composites.specs.OpenFields.{OpenField}
 use Rattle.open_composites.specs.declared.scheme.Row.{Row}
-use Rattle.open_composites.specs.Plans.{Plan, prefix, internal, termination, below, hidden, handed_on, together, put_row, trees_of}
-use Rattle.tree_nodes.specs.Rests.{Way, Does, Remainder, slots_of, does_of, done_in, remainder_of, left_in, left_beside, Fills, IsWayOf}
+use Rattle.open_composites.specs.Plans.{Plan, prefix, internal, termination, below, hidden, handed_on, together, put_row}
+use Rattle.tree_nodes.specs.Rests.{slots_of, does_of, done_in, remainder_of, left_in, left_beside, Fills, IsWayOf}
 use Rattle.ways.specs.declared.turn.Entered.{Entered}
 use Rattle.ways.specs.declared.turn.Turn.{Turn}
-use Rattle.ways.specs.Blanks.{blank_tree, chosen_by, width, IsTreeOf, IsClosed, DoesNothingBy}
-use Rattle.ways.specs.Frames.{Surrounding, surrounding_of, round_part, Makes, standing, turning_inside, handing}
-use Rattle.ways.specs.Parts.{OnPart}
-use Rattle.ways.specs.Turns.{Agrees, LeafTurnsOr, TurnsAt, NoTurn, TurnsOr, Enters, EntersOr, EntersHidden, EntersEnding, Within, NoneWithin, WithinOr, Leaves, LeavesOr}
+use Rattle.ways.specs.Blanks.{blank_tree, chosen_by, width, IsTreeOf, DoesNothingBy}
+use Rattle.ways.specs.Frames.{Surrounding, surrounding_of, Makes, standing}
+use Rattle.ways.specs.Turns.{Agrees, LeafTurnsOr, TurnsAt, NoTurn, TurnsOr, Enters, EntersOr, EntersHidden, EntersEnding, NoneWithin, WithinOr, LeavesOr}
 use Rattle.ways.proofs.Parting.{parted, part_there, has_value}
 use Rattle.ways.proofs.Filling.{tree_filled, tree_among, slots_first, tree_width}
 

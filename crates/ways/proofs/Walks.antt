@@ -1,15 +1,14 @@
 -- What the walk along a plan gives.
 use Rattle.std.proofs.Common.{ℕ, ◌≡◌, ◌+◌, List, sym, subst, length, Option, Some, None, Bool, Result, IfOk}
 use Rattle.spec_core.specs.Executable.{IsExecutable}
-use Rattle.spec_core.specs.Code.{Program, Synchronised}
-use Rattle.rule_model.specs.Behaviours.{Behaviour, parallel}
-use Rattle.rule_model.specs.Constructs.{OnParallel}
+use Rattle.spec_core.specs.Code.{Program}
+use Rattle.rule_model.specs.Behaviours.{Behaviour}
 use Rattle.rule_model.specs.Derivations.{pre, int, exiting}
 use Rattle.rule_model.specs.Substitution.{Assignment}
 use Rattle.code_behaviours.specs.Values.{assignment}
 use Rattle.composites.specs.OpenFields.{OpenField}
 use Rattle.open_composites.specs.declared.scheme.Row.{Row}
-use Rattle.open_composites.specs.Plans.{Plan, prefix, internal, termination, below, hidden, handed_on, together}
+use Rattle.open_composites.specs.Plans.{Plan, prefix, internal, termination, below, hidden, handed_on}
 use Rattle.marked_values.proofs.Splitting.{ok_on}
 use Rattle.ways.specs.declared.turn.Entered.{Entered}
 use Rattle.ways.specs.declared.turn.Turn.{Turn}

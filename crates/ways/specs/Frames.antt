@@ -2,11 +2,11 @@
 use Rattle.std.specs.Prelude.{ℕ, ◌≡◌, List, map}
 use Rattle.spec_core.specs.Code.{Program, Variable, Relabelling, Synchronised, variable_of, relabelling_of, synchronised_of}
 use Rattle.spec_core.specs.Numbers.{gate_number}
+use Rattle.spec_core.specs.Terms.{term_of}
 use Rattle.rule_model.specs.declared.action.Action.{Action}
 use Rattle.rule_model.specs.declared.action.Action.TheVariants.{Inner, Exit}
 use Rattle.rule_model.specs.Actions.{renamed_action}
-use Rattle.rule_model.specs.Behaviours as behaviours
-use Rattle.rule_model.specs.Behaviours.{Behaviour, parallel, hide, enable, disable, relabel}
+use Rattle.rule_model.specs.Behaviours.{Behaviour, parallel, hide, enable, disable, call, relabel}
 use Rattle.rule_model.specs.Fields.{IsHandedOn}
 use Rattle.rule_model.specs.Substitution.{Assignment, without, put, tidied}
 use Rattle.code_behaviours.specs.Parts.{behaviour_at}
@@ -15,7 +15,7 @@ use Rattle.open_composites.specs.declared.scheme.Row.TheVariants.{Parl, Parr, Pa
 use Rattle.ways.specs.declared.turn.Frame.{Frame}
 use Rattle.ways.specs.declared.turn.Frame.TheVariants.{Same, Renamed, Hidden, Inside, BesideRight, BesideLeft, Enabling, Handing, Disabling}
 use Rattle.ways.specs.declared.turn.Site.{Site}
-use Rattle.ways.specs.declared.turn.Site.TheVariants.{At, Renamed as RenamedAt}
+use Rattle.ways.specs.declared.turn.Site.TheVariants.{At, Renamed as RenamedAt, Called}
 
 -- what stands round a part that acts
 pub data Surrounding : Type 0 where
@@ -64,7 +64,8 @@ Makes program s (handing xs right) e f a c =
     (c ≡ put t right)
 Makes program s (still_disabled right) e f a c = (a ≡ e) × (c ≡ disable f (put s right))
 
--- the behaviour at a number of the code, or this relabelled
+-- the behaviour at a number of the code, or this relabelled, or a call
 abbrev pub standing : Program → Site → Behaviour
 standing program (At n) = behaviour_at program n
 standing program (RenamedAt pairs n) = relabel (map relabelling_of pairs.items) (behaviour_at program n)
+standing program (Called p gates terms) = call p (map gate_number gates.items) (map term_of terms.items)

@@ -1,6 +1,5 @@
 pub mod Blanks
 pub mod Knowing
-pub mod Parts
 pub mod Frames
 pub mod Turns
 pub mod Asking

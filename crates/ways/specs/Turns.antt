@@ -16,7 +16,7 @@ use Rattle.tree_nodes.specs.Rests.{slots_of, does_of, done_in, remainder_of, lef
 use Rattle.ways.specs.declared.turn.Turn.{Turn}
 use Rattle.ways.specs.declared.turn.Entered.{Entered}
 use Rattle.ways.specs.Blanks.{IsTreeOf, IsClosed}
-use Rattle.ways.specs.Parts.{OnPart}
+use Rattle.reached_terms.specs.Parts.{OnPart}
 use Rattle.ways.specs.Frames.{Surrounding, surrounding_of, round_part, Makes, standing, turning_inside, handing}
 
 -- the action, and what is left, where these values are chosen

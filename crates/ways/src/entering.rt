@@ -16,7 +16,7 @@ ghost use Rattle.open_composites.specs.declared.scheme.Row.TheVariants.{Enstep};
 ghost use Rattle.open_composites.specs.declared.scheme.Row.TheVariants.{Disstep, Disend, Distake, Call, Rel};
 ghost use Rattle.ways.specs.declared.turn.Frame.TheVariants.{Same};
 ghost use Rattle.ways.specs.declared.turn.Site.TheVariants.{At};
-ghost use Rattle.ways.specs.Asking.{RuleAsks};
+ghost use Rattle.reached_terms.specs.Asking.{RuleAsks};
 ghost use Rattle.ways.specs.Frames.{surrounding_of, standing};
 ghost use Rattle.ways.specs.Turns.{EntersOr, EntersNode, EntersHidden, EntersEnding};
 
@@ -532,6 +532,30 @@ fn enter_renamed(
     }
 }
 
+// The part of a call that a rule is over: the body of its process.
+fn enter_called(
+    alloc: Global,
+    checked: &Checked,
+    called: u32,
+    gates: &[Gate],
+    terms: &[Term],
+    values: &[(u32, Value)],
+    row: &Row,
+    budget: u64,
+) -> Result<Option<Entered>, Stop>
+    requires ready { IsReady (program_of checked.now) }
+    ensures enters { IfOk result (EntersOr (program_of checked.now) row.now values.now
+        (call called (map gate_number gates.now) (map term_of terms.now))) }
+    ensures fault { IfErr result (Stops (program_of checked.now).theory budget
+        (RuleAsks row.now (assignment (program_of checked.now).theory values.now)
+        (call called (map gate_number gates.now) (map term_of terms.now))) Never) }
+{
+    match row {
+        Row::Call => called_body(alloc, checked, called, gates, terms, values, budget),
+        _ => Ok(None),
+    }
+}
+
 /// The part of a behaviour that a rule is over, with the values for its variables, and what stands round it; None where the rule doesn't
 /// fit.
 pub fn enter(
@@ -551,6 +575,9 @@ pub fn enter(
         Site::Renamed(pairs, part) => {
             Ok(enter_renamed(alloc, checked, pairs, *part, values, row)?)
         }
+        Site::Called(called, gates, terms) => enter_called(
+            alloc, checked, *called, gates, terms, values, row, budget,
+        ),
         Site::At(number) => match construct_at(checked, *number) {
             None => Ok(None),
             Some(construct) => enter_construct(alloc, checked, construct, values, row, budget),
@@ -569,7 +596,7 @@ pub fn enter_hidden(
     ensures enters { IfOk result (EntersHidden (program_of checked.now) values.now (standing (program_of checked.now) site.now)) }
 {
     match site {
-        Site::Renamed(_, _) => Ok(None),
+        Site::Renamed(_, _) | Site::Called(_, _, _) => Ok(None),
         Site::At(number) => match construct_at(checked, *number) {
             None => Ok(None),
             Some(construct) => hidden_body(alloc, checked, construct, values),
@@ -588,7 +615,7 @@ pub fn enter_ending(
     ensures enters { IfOk result (EntersEnding (program_of checked.now) values.now (standing (program_of checked.now) site.now)) }
 {
     match site {
-        Site::Renamed(_, _) => Ok(None),
+        Site::Renamed(_, _) | Site::Called(_, _, _) => Ok(None),
         Site::At(number) => match construct_at(checked, *number) {
             None => Ok(None),
             Some(construct) => ending_side(alloc, checked, construct, values),

@@ -8,7 +8,7 @@ ghost use Rattle.code_behaviours.specs.Values.{assignment};
 ghost use Rattle.marked_values.specs.Stops.{Stops, Never};
 ghost use Rattle.tree_nodes.specs.declared.rest.Known.TheVariants.{Told, Chosen};
 ghost use Rattle.tree_nodes.specs.Rests.{remainder_of, left_at};
-ghost use Rattle.ways.specs.Asking.{field_asks, exit_asks};
+ghost use Rattle.reached_terms.specs.Asking.{field_asks, exit_asks};
 ghost use Rattle.ways.specs.Knowing.{tell, AreFieldsAt, HaveNoFields, AreExitAt, HaveNoExit};
 
 use crate::telling::told;

@@ -8,7 +8,7 @@ ghost use Rattle.rule_model.specs.Derivations.{pre, exiting};
 ghost use Rattle.code_behaviours.specs.Parts.{over_parts, behaviour_at};
 ghost use Rattle.code_behaviours.specs.Values.{assignment};
 ghost use Rattle.marked_values.specs.Stops.{Stops, Never};
-ghost use Rattle.ways.specs.Asking.{ActionAsks, TerminationAsks};
+ghost use Rattle.reached_terms.specs.Asking.{ActionAsks, TerminationAsks};
 ghost use Rattle.ways.specs.Frames.{standing};
 ghost use Rattle.ways.specs.Turns.{LeafTurnsOr, InnerTurnsOr};
 
@@ -122,7 +122,7 @@ pub fn acts(
         (ActionAsks (assignment (program_of checked.now).theory values.now) (standing (program_of checked.now) site.now)) Never) }
 {
     match site {
-        Site::Renamed(_, _) => Ok(None),
+        Site::Renamed(_, _) | Site::Called(_, _, _) => Ok(None),
         Site::At(number) => match construct_at(checked, *number) {
             None => Ok(None),
             Some(construct) => action_acts(alloc, checked, construct, values, from, budget),
@@ -142,7 +142,7 @@ pub fn acts_inside(
         (standing (program_of checked.now) site.now)) }
 {
     match site {
-        Site::Renamed(_, _) => Ok(None),
+        Site::Renamed(_, _) | Site::Called(_, _, _) => Ok(None),
         Site::At(number) => match construct_at(checked, *number) {
             None => Ok(None),
             Some(construct) => inner_acts(alloc, checked, construct, values),
@@ -166,7 +166,7 @@ pub fn terminates(
         (TerminationAsks (assignment (program_of checked.now).theory values.now) (standing (program_of checked.now) site.now)) Never) }
 {
     match site {
-        Site::Renamed(_, _) => Ok(None),
+        Site::Renamed(_, _) | Site::Called(_, _, _) => Ok(None),
         Site::At(number) => match construct_at(checked, *number) {
             None => Ok(None),
             Some(construct) => exit_terminates(alloc, checked, construct, values, from, budget),

@@ -7,6 +7,7 @@ mod fields;
 pub mod laws;
 mod leaves;
 mod leaving;
+mod sites;
 mod telling;
 mod turn;
 pub mod walking;

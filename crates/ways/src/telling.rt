@@ -13,7 +13,7 @@ ghost use Rattle.rule_model.specs.Substitution.{Assignment};
 ghost use Rattle.code_behaviours.specs.Values.{assignment};
 ghost use Rattle.marked_values.specs.Found.{Spelled};
 ghost use Rattle.marked_values.specs.Stops.{Stops, Never};
-ghost use Rattle.ways.specs.Asking.{binding_asks, term_asks};
+ghost use Rattle.reached_terms.specs.Asking.{binding_asks, term_asks};
 
 use code_behaviours::values::scope;
 use marked_values::stop::Stop;

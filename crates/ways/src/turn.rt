@@ -2,6 +2,7 @@
 
 use spec_core::code::GateSet;
 use spec_core::items::{Gate, Sort};
+use spec_core::term::Term;
 use spec_core::value::Value;
 use tree_nodes::rest::{Deed, Rest};
 
@@ -19,6 +20,8 @@ pub enum Site {
     At(u32),
     /// The behaviour at this number under a relabelling, as a call and a choice of a gate have it.
     Renamed(Vec<(Gate, Gate)>, u32),
+    /// A call of the process with this number, with these gates and arguments, as a call under a relabelling has them.
+    Called(u32, Vec<Gate>, Vec<Term>),
 }
 
 /// What stands round a part that acts. Numbers are of the code.

@@ -1,7 +1,7 @@
 // The ways in which a node can act.
 
-ghost use Rattle.std.specs.Prelude.{◌≡◌, IfOk, IfErr, IfSome, IfNone};
-ghost use Rattle.spec_core.specs.Code.{program_of, synchronised_of};
+ghost use Rattle.std.specs.Prelude.{◌≡◌, IfOk, IfErr, IfSome, IfNone, map};
+ghost use Rattle.spec_core.specs.Code.{program_of, relabelling_of, synchronised_of};
 ghost use Rattle.spec_core.specs.Ready.{IsReady};
 ghost use Rattle.rule_model.specs.Behaviours.{parallel};
 ghost use Rattle.rule_model.specs.Constructs.{OnParallel};
@@ -10,9 +10,10 @@ ghost use Rattle.code_behaviours.specs.Parts.{behaviour_at};
 ghost use Rattle.code_behaviours.specs.Values.{assignment};
 ghost use Rattle.marked_values.specs.Stops.{Stops, Never};
 ghost use Rattle.open_composites.specs.Plans.{below, together, plan_of};
-ghost use Rattle.tree_nodes.specs.Origins.{scoped};
+ghost use Rattle.tree_nodes.specs.Origins.{meaning, relabelled_by, source_of};
 ghost use Rattle.tree_nodes.specs.Rests.{way_of, IsWayOf, does_of, remainder_of, left_beside};
-ghost use Rattle.ways.specs.Asking.{PlanAsks, WithinAsks};
+ghost use Rattle.reached_terms.specs.Asking.{PlanAsks};
+ghost use Rattle.ways.specs.Asking.{WithinAsks};
 ghost use Rattle.ways.specs.Blanks.{blank_tree, DoesNothingBy};
 ghost use Rattle.ways.specs.Frames.{standing};
 ghost use Rattle.ways.specs.Turns.{TurnsOr, WithinOr};
@@ -21,6 +22,7 @@ use crate::blanks::{after_row, after_scheme, blank_rules};
 use crate::entering::{enter, enter_ending, enter_hidden};
 use crate::leaves::{acts, acts_inside, terminates};
 use crate::leaving::leave;
+use crate::sites::site_of;
 use crate::turn::{Entered, Site, Turn};
 use code_behaviours::code::construct_at;
 use marked_values::stop::Stop;
@@ -30,6 +32,7 @@ use spec_core::memory::Memory;
 use spec_core::value::Value;
 use std::alloc::Global;
 use tree_nodes::expansion::Alternative;
+use tree_nodes::origin::Origin;
 use tree_nodes::rest::Rest;
 
 // The gates and the numbers of the sides of a parallel composition.
@@ -40,7 +43,7 @@ fn sides<'a>(checked: &'a Checked, site: &Site) -> Option<(&'a GateSet, u32, u32
     ensures none { IfNone result (OnParallel (standing (program_of checked.now) site.now) (λ gates left right. Unit {0}) → ⊥) }
 {
     match site {
-        Site::Renamed(_, _) => None,
+        Site::Renamed(_, _) | Site::Called(_, _, _) => None,
         Site::At(number) => match construct_at(checked, *number) {
             None => None,
             Some(construct) => match construct {
@@ -204,28 +207,29 @@ fn walk_both(
     }
 }
 
-/// The way in which a node acts by the trees of a composite: the tree of rules, with a blank in the place of each value that is left open,
-/// the action, and what is left then. None where the node does nothing by any of the trees, as where one has a mark. Each value that is
-/// told is found with at most `budget` uses of equations; premises aren't asked. A stop names a term of an expression along the trees. It
-/// recurs as deep as the tree, and the terms, are.
+/// The way in which what an origin stands for acts by the trees of a composite: the tree of rules, with a blank in the place of each value
+/// that is left open, the action, and what is left then. None where it does nothing by any of the trees, as where one has a mark. Each value
+/// that is told is found with at most `budget` uses of equations; premises aren't asked. A stop names a term of an expression along the
+/// trees. It recurs as deep as the tree, and the terms, are.
 pub fn way_along(
     alloc: Global,
     checked: &Checked,
-    node: u32,
-    values: &[(u32, Value)],
+    origin: &Origin,
     scheme: &Scheme,
     budget: u64,
 ) -> Result<Option<Alternative>, Stop>
     requires ready { IsReady (program_of checked.now) }
     ensures way { IfOk result (λ o. IfSome o (λ a.
-        IsWayOf (program_of checked.now) (scoped (program_of checked.now) node values.now) (way_of a))) }
+        IsWayOf (program_of checked.now) (meaning (program_of checked.now) (source_of origin.now)) (way_of a))) }
     ensures rules { IfOk result (λ o. IfSome o (λ a. derivation_of a.rules ≡ blank_tree (plan_of scheme.now))) }
     ensures none { IfOk result (λ o. IfNone o
-        (DoesNothingBy (program_of checked.now) (scoped (program_of checked.now) node values.now) (plan_of scheme.now))) }
+        (DoesNothingBy (program_of checked.now) (meaning (program_of checked.now) (source_of origin.now)) (plan_of scheme.now))) }
     ensures stop { IfErr result (Stops (program_of checked.now).theory budget (PlanAsks (program_of checked.now) (plan_of scheme.now)
-        (assignment (program_of checked.now).theory values.now) (behaviour_at (program_of checked.now) node)) Never) }
+        (assignment (program_of checked.now).theory origin.now.values.items)
+        (relabelled_by (map relabelling_of origin.now.relabel.items) (behaviour_at (program_of checked.now) origin.now.node))) Never) }
 {
-    match walk(alloc, checked, &Site::At(node), values, scheme, 0, budget)? {
+    let site = site_of(alloc, checked, origin)?;
+    match walk(alloc, checked, &site, &origin.values, scheme, 0, budget)? {
         None => Ok(None),
         Some(turn) => {
             let rules = blank_rules(alloc, scheme)?;

@@ -27,7 +27,7 @@ use Rattle.rule_model.specs.Meets.{IsOfSort, FieldMeets, FieldsMeet, Meets}
 use Rattle.rule_model.specs.Substitution.{Assignment, with_term, without, put, tidied}
 use Rattle.windowed_trees.specs.Windows.{Windows, sort_of_value}
 use Rattle.windowed_trees.specs.MarkedTerms.{MarkedTerm, plain, MarkedAssignment, unmarked, with_marked, joined, applied}
-use Rattle.windowed_trees.specs.MarkedTerms.{marked_instance, marked_instances, MayHaveValue, MayBeEqual, PremiseMayHold, GuardMayHold}
+use Rattle.windowed_trees.specs.MarkedTerms.{AllPlain, marked_instance, marked_instances, MayHaveValue, MayBeEqual, PremiseMayHold, GuardMayHold}
 use Rattle.windowed_trees.specs.MarkedFields.{MarkedField, told, chosen, given, free, told_by, chosen_by, Agree, AllAgree, HaveSortsOf}
 use Rattle.windowed_trees.specs.MarkedFields.{Chooses, FieldsMayHave, ExitMayHave, BindingsMayHave, ArgumentsMayHave}
 use Rattle.windowed_trees.specs.MayDerive.{renamed_kind, MayDeriveWith}
@@ -36,13 +36,9 @@ use Rattle.windowed_trees.specs.Laws.{WindowedTreesAct}
 use Rattle.windowed_trees.proofs.Sorts.{sort_of_spelled, value_is_spelled}
 use Rattle.windowed_trees.proofs.Marks.{neither}
 
--- no variable is marked: each has its term
-abbrev pub AllPlain : MarkedAssignment → Assignment → Type 0
-AllPlain m s = (x : ℕ) → m x ≡ plain (s x)
-
 module _ (theory : Theory) (m : MarkedAssignment) (s : Assignment) (all : AllPlain m s) where
   mutual
-    plain_instance : (t : TermTree) → marked_instance theory m t ≡ plain (instance s t)
+    pub plain_instance : (t : TermTree) → marked_instance theory m t ≡ plain (instance s t)
     plain_instance (variable x) = all x
     plain_instance (apply f ts) = ap (applied theory f) (plain_instances ts)
 
@@ -52,7 +48,7 @@ module _ (theory : Theory) (m : MarkedAssignment) (s : Assignment) (all : AllPla
         ap (λ (k : MarkedTerm). joined k (marked_instances theory m ts)) (plain_instance t)
         ∙ ap (joined (plain (instance s t))) (plain_instances ts)
 
-  with_one_plain : (x : Variable) (k : MarkedTerm) (n : TermTree) → k ≡ plain n → AllPlain (with_marked x k m) (with_term x n s)
+  pub with_one_plain : (x : Variable) (k : MarkedTerm) (n : TermTree) → k ≡ plain n → AllPlain (with_marked x k m) (with_term x n s)
   with_one_plain x k n e y = by_test (y == x.number)
     where
       by_test : (b : Bool) → (if b then k else m y) ≡ plain (if b then n else s y)
@@ -221,7 +217,7 @@ module _ (theory : Theory) (fits : FitsData theory) (w : Windows) (m : MarkedAss
       )
   exit_has _ _ _ u h = absurd h
 
-  bindings_have : (bindings : List Binding) (l r : MarkedAssignment) (t : Assignment) → AllPlain l t →
+  pub bindings_have : (bindings : List Binding) (l r : MarkedAssignment) (t : Assignment) → AllPlain l t →
       BindingsMayHave theory m l bindings r → (u : Assignment) × BindingsHave theory s t bindings u × AllPlain r u
   bindings_have [] l r t i h = (t, refl, subst (λ (z : MarkedAssignment). AllPlain z t) (sym h) i)
   bindings_have (b ∷ bindings) l r t i h =
@@ -230,7 +226,7 @@ module _ (theory : Theory) (fits : FitsData theory) (w : Windows) (m : MarkedAss
       (with_one_plain theory l t i b.variable h.0 n.0 n.2) h.2 in
       (rest.0, (n.0, n.1, rest.1), rest.2)
 
-  arguments_have : (xs : List Variable) (terms : List TermTree) (l r : MarkedAssignment) (t : Assignment) → AllPlain l t →
+  pub arguments_have : (xs : List Variable) (terms : List TermTree) (l r : MarkedAssignment) (t : Assignment) → AllPlain l t →
       ArgumentsMayHave theory m l xs terms r → (u : Assignment) × ArgumentsHave theory s t xs terms u × AllPlain r u
   arguments_have [] [] l r t i h = (t, refl, subst (λ (z : MarkedAssignment). AllPlain z t) (sym h) i)
   arguments_have (x ∷ xs) (e ∷ terms) l r t i h =

@@ -5,6 +5,7 @@ use Rattle.spec_core.specs.Theories.{Premise, premise, Theory}
 use Rattle.spec_core.specs.Equality.{Equal}
 use Rattle.spec_core.specs.Values.{HasValue}
 use Rattle.spec_core.specs.Code.{Variable}
+use Rattle.rule_model.specs.Substitution.{Assignment}
 use Rattle.rule_model.specs.Meets.{result_sort}
 
 -- a term, or the mark of a sort
@@ -19,6 +20,10 @@ MarkedAssignment = ℕ → MarkedTerm
 -- each variable stands for itself
 abbrev pub unmarked : MarkedAssignment
 unmarked x = plain (variable x)
+
+-- no variable is marked: each has its term
+abbrev pub AllPlain : MarkedAssignment → Assignment → Type 0
+AllPlain m s = (x : ℕ) → m x ≡ plain (s x)
 
 -- the term or the mark k for the variable x, and for each other one what it had
 abbrev pub with_marked : Variable → MarkedTerm → MarkedAssignment → MarkedAssignment

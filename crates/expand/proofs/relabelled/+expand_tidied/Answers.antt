@@ -1,13 +1,11 @@
-use Rattle.std.proofs.Common.{rules, ◌≡◌, map, refl, ap, sym, ◌∙◌, Some}
+use Rattle.std.proofs.Common.{map, refl, ap, ◌∙◌, Some}
 use Rattle.spec_core.specs.Code.{program_of, relabelling_of, node_of}
-use Rattle.spec_core.specs.Numbers.{gate_number}
-use Rattle.spec_core.specs.Terms.{term_of}
 use Rattle.rule_model.specs.Actions.{after}
 use Rattle.rule_model.specs.Behaviours.{stop}
 use Rattle.code_behaviours.specs.Parts.{behaviour_at, over_parts}
 use Rattle.marked_values.specs.Scopes.{marks_of}
 use Rattle.window_tables.specs.Tables.{windows_in}
-use Rattle.expand.proofs.Tidying.{stays, joins_relabelling, renames_gates}
+use Rattle.expand.proofs.Tidying.{stays, joins_relabelling}
 use Rattle.expand.proofs.relabelled.+expand_tidied.Goals as goal
 
 pub returns-in-None : goal.returns-in-None

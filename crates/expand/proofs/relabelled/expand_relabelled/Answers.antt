@@ -5,7 +5,7 @@ use Rattle.code_behaviours.specs.Parts.{behaviour_at}
 use Rattle.marked_values.specs.Scopes.{marks_of}
 use Rattle.tree_nodes.specs.Origins.{relabelled_by}
 use Rattle.window_tables.specs.Tables.{windows_in}
-use Rattle.expand.proofs.Tidying.{none_relabelled, some_relabelled}
+use Rattle.tree_nodes.proofs.Tidying.{none_relabelled, some_relabelled}
 use Rattle.expand.proofs.Walking.{of_equal}
 use Rattle.expand.proofs.relabelled.expand_relabelled.Goals as goal
 

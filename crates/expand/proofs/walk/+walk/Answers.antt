@@ -1,4 +1,4 @@
-use Rattle.std.proofs.Common.{ℕ, ◌≡◌, ◌+◌, [], ◌∷◌, ◌++◌, map, take, sym, ap, subst, ◌∙◌, arith, true, Ok}
+use Rattle.std.proofs.Common.{◌≡◌, ◌+◌, [], ◌∷◌, ◌++◌, map, take, sym, ap, subst, ◌∙◌, arith, true, Ok}
 use Rattle.std.proofs.lemmas.List.{append-nil}
 use Rattle.spec_core.proofs.Lists.{all_taken}
 use Rattle.spec_core.specs.Code.{program_of, variable_of, binding_of, relabelling_of, exit_value_of, Variable}
@@ -101,7 +101,7 @@ bound_at-returns-in-Ok-Some t c = record {
       let bindings = map binding_of c.args.bindings.now in
       let b = behaviour_at p c.args.body in
       let l = marks_of p.theory c.in-Ok-Some.inner.items in
-      bound_comes p w c.args.calls c.args.budget m l bindings b c.expand_at-part.result c.under_rule.result
+      bound_comes p w c.args.calls c.args.budget c.requires.ready.executable m l bindings b c.expand_at-part.result c.under_rule.result
       (subst (λ z. BindingsMayHave p.theory m z bindings l) (ap (marks_of p.theory) c.in-Ok.ensures.equal)
       (of_some (λ s. BindingsMayHave p.theory m (marks_of p.theory c.in-Ok.copied.items) bindings (marks_of p.theory s.items))
       c.in-Ok-Some.field-0 c.in-Ok-Some.inner c.in-Ok-Some.field-0-is c.in-Ok-Some.ensures.some))
@@ -351,7 +351,7 @@ call_at-returns t c = record {
       c.in-Ok-Some.field-0 c.in-Ok-Some.inner c.in-Ok-Some.field-0-is c.in-Ok-Some.ensures.some) in
       call_comes p w c.args.budget c.args.calls m l c.args.number actual formal xs terms b
       (is_definition p c.requires.ready c.args.number formal xs c.in-Some.body.0 c.in-Some.ensures.some) has
-      c.enter-part.result c.relabel-relabelled.result c.under_rule.result
+      c.requires.ready.executable c.enter-part.result c.relabel-relabelled.result c.under_rule.result
       (subst (λ s. BelowOutcome p w c.args.calls c.args.budget (marks_of p.theory s) b c.enter-part.result) c.deref.ensures.value
       c.enter-part.ensures.comes)
       (subst (λ z. Turns (map (under_relabelling z)) (λ j. 1 + j) c.enter-part.result c.relabel-relabelled.result)

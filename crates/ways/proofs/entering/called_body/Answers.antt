@@ -1,5 +1,5 @@
 use Rattle.std.proofs.Common.{map, refl, ap}
-use Rattle.spec_core.specs.Code.{Relabelling, program_of, variable_of}
+use Rattle.spec_core.specs.Code.{program_of, variable_of}
 use Rattle.spec_core.specs.Numbers.{gate_number}
 use Rattle.spec_core.specs.Terms.{term_of}
 use Rattle.rule_model.specs.Behaviours.{relabel}

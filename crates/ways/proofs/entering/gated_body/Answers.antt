@@ -1,4 +1,4 @@
-use Rattle.std.proofs.Common.{rules, ◌≡◌, ◌∙◌, map, refl, ap, Some}
+use Rattle.std.proofs.Common.{rules, ◌≡◌, ◌∙◌, map, refl, ap}
 use Rattle.std.specs.List.{slice_get}
 use Rattle.spec_core.specs.Code.{node_of, program_of}
 use Rattle.spec_core.specs.Numbers.{gate_number}

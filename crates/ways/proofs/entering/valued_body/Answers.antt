@@ -1,4 +1,4 @@
-use Rattle.std.proofs.Common.{rules, refl, ap}
+use Rattle.std.proofs.Common.{ap}
 use Rattle.spec_core.specs.Code.{node_of, program_of}
 use Rattle.ways.proofs.Keeping.{value_enters}
 use Rattle.ways.proofs.entering.valued_body.Goals as goal

@@ -1,4 +1,4 @@
-use Rattle.std.proofs.Common.{map, refl}
+use Rattle.std.proofs.Common.{map}
 use Rattle.spec_core.specs.Code.{exit_value_of, program_of}
 use Rattle.spec_core.specs.Terms.{term_of, instance}
 use Rattle.code_behaviours.specs.Values.{assignment}

@@ -1,11 +1,11 @@
-use Rattle.std.proofs.Common.{map, refl}
+use Rattle.std.proofs.Common.{map}
 use Rattle.spec_core.specs.Code.{action_field_of, program_of}
 use Rattle.spec_core.specs.Terms.{term_of, instance}
 use Rattle.code_behaviours.specs.Values.{assignment}
 use Rattle.marked_values.specs.Found.{Spelled}
 use Rattle.marked_values.proofs.Finding.{of_none, of_some}
 use Rattle.marked_values.proofs.Splitting.{others, mapped}
-use Rattle.ways.specs.Knowing.{AreFieldsAt, HaveNoFields}
+use Rattle.ways.specs.Knowing.{AreFieldsAt}
 use Rattle.ways.proofs.Knowing.{told_first, untold_first, untold_later, chosen_first, unchosen_later}
 use Rattle.ways.proofs.fields.+known_fields.Goals as goal
 

@@ -1,4 +1,4 @@
-use Rattle.std.proofs.Common.{map, refl, subst, sym}
+use Rattle.std.proofs.Common.{map, refl}
 use Rattle.spec_core.specs.Code.{binding_of, program_of}
 use Rattle.spec_core.specs.Terms.{instance}
 use Rattle.rule_model.specs.Fields.{BindingsHave}

@@ -1,9 +1,10 @@
-use Rattle.std.proofs.Common.{rules, ◌≡◌, ◌∙◌, map, refl, ap, subst}
+use Rattle.std.proofs.Common.{rules, ◌≡◌, ◌∙◌, map, ap, subst}
 use Rattle.spec_core.specs.Code.{program_of, synchronised_of}
 use Rattle.code_behaviours.specs.Parts.{behaviour_at}
 use Rattle.code_behaviours.specs.Values.{assignment}
 use Rattle.open_composites.specs.Plans.{below, hidden, handed_on, field_of, plan_of}
-use Rattle.ways.specs.Asking.{PlanAsks, WithinAsks}
+use Rattle.reached_terms.specs.Asking.{PlanAsks}
+use Rattle.ways.specs.Asking.{WithinAsks}
 use Rattle.ways.specs.Frames.{standing}
 use Rattle.ways.specs.Turns.{TurnsOr}
 use Rattle.ways.proofs.Asked.{stops_more, under_asks}
