@@ -1,12 +1,10 @@
--- Where the behaviours of origins stand, and what is done there.
-use Rattle.std.proofs.Common.{ℕ, ◌≡◌, List, map, sym, ap, subst, ◌∙◌}
+-- What is done where the code of an origin stands.
+use Rattle.std.proofs.Common.{ℕ, ◌≡◌, List, subst}
 use Rattle.spec_core.specs.Code.{Program, Relabelling}
 use Rattle.spec_core.specs.Executable.{IsExecutable}
-use Rattle.spec_core.specs.Terms.{TermTree}
-use Rattle.rule_model.specs.Actions.{renamed, after}
-use Rattle.rule_model.specs.Behaviours.{Behaviour, call, relabel}
+use Rattle.rule_model.specs.Behaviours.{Behaviour}
 use Rattle.rule_model.specs.Derivations.{Derivation}
-use Rattle.rule_model.specs.Substitution.{put, tidied}
+use Rattle.rule_model.specs.Substitution.{put}
 use Rattle.code_behaviours.specs.Values.{assignment}
 use Rattle.open_composites.specs.Plans.{Plan}
 use Rattle.tree_nodes.specs.Origins.{relabelled_by}
@@ -16,21 +14,6 @@ use Rattle.ways.specs.declared.turn.Turn.{Turn}
 use Rattle.ways.specs.Blanks.{blank_tree, DoesNothingBy}
 use Rattle.ways.specs.Turns.{TurnsAt, NoTurn}
 use Rattle.ways.proofs.Turning.{way_is, none_is}
-
--- a construct that stays under a relabelling
-pub stays : (pairs : List Relabelling) (b c : Behaviour) → b ≡ c → tidied pairs c ≡ relabel pairs c → relabel pairs b ≡ tidied pairs b
-stays pairs b c is same = ap (relabel pairs) is ∙ sym same ∙ ap (tidied pairs) (sym is)
-
--- a relabelled behaviour: one relabelling in the place of two
-pub joins_relabelling : (pairs all before : List Relabelling) (b body : Behaviour) → b ≡ relabel before body → all ≡ after pairs before →
-    tidied all body ≡ tidied pairs b
-joins_relabelling pairs all before b body is same = ap (λ l. tidied l body) same ∙ ap (tidied pairs) (sym is)
-
--- a call: its gates are relabelled
-pub renames_gates : (pairs : List Relabelling) (b : Behaviour) (p : ℕ) (gates actual : List ℕ) (terms given : List TermTree) →
-    b ≡ call p gates terms → actual ≡ map (renamed pairs) gates → given ≡ terms → call p actual given ≡ tidied pairs b
-renames_gates pairs b p gates actual terms given is same equal =
-    ap (λ l. call p l given) same ∙ ap (call p (map (renamed pairs) gates)) equal ∙ ap (tidied pairs) (sym is)
 
 module _ (program : Program) (executable : IsExecutable program.theory) (values : List (ℕ × List ℕ)) (pairs : List Relabelling)
     (b q : Behaviour) (stands : q ≡ relabelled_by pairs b) (p : Plan) where

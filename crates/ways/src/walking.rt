@@ -207,10 +207,10 @@ fn walk_both(
     }
 }
 
-/// The way in which what an origin stands for acts by the trees of a composite: the tree of rules, with a blank in the place of each value
-/// that is left open, the action, and what is left then. None where it does nothing by any of the trees, as where one has a mark. Each value
-/// that is told is found with at most `budget` uses of equations; premises aren't asked. A stop names a term of an expression along the
-/// trees. It recurs as deep as the tree, and the terms, are.
+/// The way in which what an origin stands for acts by the trees of a composite: the tree of rules, with a blank in the place of each
+/// value that is left open, the action, and what is left then. None where it does nothing by any of the trees, as where one has a mark.
+/// Each value that is told is found with at most `budget` uses of equations; premises aren't asked. A stop names a term of an expression
+/// along the trees. It recurs as deep as the tree, and the terms, are.
 pub fn way_along(
     alloc: Global,
     checked: &Checked,
