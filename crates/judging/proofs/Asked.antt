@@ -87,7 +87,7 @@ module _ (program : Program) (w : Windows) (others : List (List ℕ)) (t : TermT
   reached (both d f) (parallel gates x y) m e (inl h) =
       let q = reached d x m (each_left (MayBeChosen program.theory w others) (chosen_values d) (chosen_values f) e) h in (q.0, inl q.1)
   reached (both d f) (parallel gates x y) m e (inr h) =
-      let q = reached f y m (each_right (MayBeChosen program.theory w others) (chosen_values d) (chosen_values f) e) h in (q.0, inr q.1)
+      let q = reached f y m (each_right (MayBeChosen program.theory w others) (chosen_values d) (chosen_values f) e) h.3 in (q.0, inr q.1)
   reached (hiding d) (hide gates b) m e h = reached d b m e h
   reached (pass d) (hide gates b) m e h = reached d b m e h
   reached (enstep d) (enable x xs y) m e h = reached d x m e h

@@ -11,7 +11,7 @@ use Rattle.rule_model.specs.Fields.{Spells}
 use Rattle.code_behaviours.specs.Values.{term_spelled}
 use Rattle.code_behaviours.proofs.Reading.{values_are_read}
 use Rattle.windowed_trees.specs.Windows.{Windows}
-use Rattle.windowed_trees.specs.MarkedTerms.{MarkedTerm, plain, MarkedAssignment, with_marked, marked_instance, MayHaveValue}
+use Rattle.windowed_trees.specs.MarkedTerms.{MarkedTerm, plain, MarkedAssignment, with_marked, marked_instance}
 use Rattle.windowed_trees.specs.MarkedFields.{MarkedField, told, chosen, told_by, Chooses, FieldsMayHave, ExitMayHave}
 use Rattle.composites.specs.OpenFields.{fixed}
 use Rattle.rule_laws.proofs.OneStep.{one_spelled}
@@ -23,7 +23,7 @@ use Rattle.marked_values.specs.Scopes.{marked_of, marks_of}
 use Rattle.shown_actions.specs.declared.shown.Shown.{Shown}
 use Rattle.shown_actions.specs.Models.{show_of}
 use Rattle.shown_actions.specs.Shows.{Show}
-use Rattle.judging.specs.Found.{IsChosen, ChoosesNothing, told_field, chosen_field}
+use Rattle.judging.specs.Found.{IsChosen, told_field, chosen_field}
 use Rattle.judging.specs.Judged.{Made}
 
 -- what a rule makes, where the part shows something
@@ -58,23 +58,6 @@ module _ (theory : Theory) (w : Windows) (m : MarkedAssignment) where
       subst (λ z. FieldsMayHave theory w m l z slots gs r) (sym is)
       (subst (λ z. FieldsMayHave theory w m l (give t ∷ rest) slots z r) (sym e)
       ((marked_of theory 0 g, v.value 0, sym (told_so theory (marked_instance theory m t) g v)), h))
-
-  pub no_field_told : (all : List ActionField) (t : TermTree) (rest : List ActionField) (slots : List Slot) (l : MarkedAssignment) →
-      all ≡ give t ∷ rest →
-      ((fs : List MarkedField) (r : MarkedAssignment) → FieldsMayHave theory w m l rest slots fs r → ⊥) →
-      (fs : List MarkedField) (r : MarkedAssignment) → FieldsMayHave theory w m l all slots fs r → ⊥
-  no_field_told all t rest slots l is none [] r h = subst (λ z. FieldsMayHave theory w m l z slots [] r) is h
-  no_field_told all t rest slots l is none (f ∷ fs) r h =
-      let i = subst (λ z. FieldsMayHave theory w m l z slots (f ∷ fs) r) is h in
-      none fs r i.1
-
-  pub no_value_told : (all : List ActionField) (t : TermTree) (rest : List ActionField) (slots : List Slot) (l : MarkedAssignment) →
-      all ≡ give t ∷ rest → ((n : MarkedTerm) → MayHaveValue theory (marked_instance theory m t) n → ⊥) →
-      (fs : List MarkedField) (r : MarkedAssignment) → FieldsMayHave theory w m l all slots fs r → ⊥
-  no_value_told all t rest slots l is none [] r h = subst (λ z. FieldsMayHave theory w m l z slots [] r) is h
-  no_value_told all t rest slots l is none (f ∷ fs) r h =
-      let i = subst (λ z. FieldsMayHave theory w m l z slots (f ∷ fs) r) is h in
-      none i.0.0 i.0.1
 
   pub field_chosen : (all : List ActionField) (x : Variable) (rest : List ActionField) (these slots : List Slot) (slot : Slot)
       (gs fs : List MarkedField) (g : Given) (inner scope : List (ℕ × Given)) (r : MarkedAssignment) → all ≡ accept x ∷ rest →
@@ -112,16 +95,6 @@ module _ (theory : Theory) (w : Windows) (m : MarkedAssignment) where
       none fs r (subst (λ z. FieldsMayHave theory w m (marks_of theory z) rest slots fs r) (sym more)
       (subst (λ z. FieldsMayHave theory w m (with_marked x z (marks_of theory inner)) rest slots fs r) same i.3))
 
-  pub no_slot_chosen : (all : List ActionField) (x : Variable) (rest : List ActionField) (these slots : List Slot) (slot : Slot)
-      (l : MarkedAssignment) → all ≡ accept x ∷ rest → these ≡ slot ∷ slots → ChoosesNothing theory w slot x.sort →
-      (fs : List MarkedField) (r : MarkedAssignment) → FieldsMayHave theory w m l all these fs r → ⊥
-  no_slot_chosen all x rest these slots slot l is are none [] r h =
-      subst (λ z. FieldsMayHave theory w m l (accept x ∷ rest) z [] r) are (subst (λ z. FieldsMayHave theory w m l z these [] r) is h)
-  no_slot_chosen all x rest these slots slot l is are none (f ∷ fs) r h =
-      let i = subst (λ z. FieldsMayHave theory w m l (accept x ∷ rest) z (f ∷ fs) r) are
-      (subst (λ z. FieldsMayHave theory w m l z these (f ∷ fs) r) is h) in
-      none.none i.0 i.1
-
   -- the same of exits
 
   pub exit_told : (all : List ExitValue) (t : TermTree) (rest : List ExitValue) (slots : List Slot) (gs fs : List MarkedField) (g : Given) →
@@ -132,22 +105,6 @@ module _ (theory : Theory) (w : Windows) (m : MarkedAssignment) where
       (subst (λ z. ExitMayHave theory w m (exit_given t ∷ rest) slots z) (sym e)
       ((marked_of theory 0 g, v.value 0, sym (told_so theory (marked_instance theory m t) g v)), h))
 
-  pub no_exit_told : (all : List ExitValue) (t : TermTree) (rest : List ExitValue) (slots : List Slot) → all ≡ exit_given t ∷ rest →
-      ((fs : List MarkedField) → ExitMayHave theory w m rest slots fs → ⊥) → (fs : List MarkedField) → ExitMayHave theory w m all slots fs →
-      ⊥
-  no_exit_told all t rest slots is none [] h = subst (λ z. ExitMayHave theory w m z slots []) is h
-  no_exit_told all t rest slots is none (f ∷ fs) h =
-      let i = subst (λ z. ExitMayHave theory w m z slots (f ∷ fs)) is h in
-      none fs i.1
-
-  pub no_exit_value : (all : List ExitValue) (t : TermTree) (rest : List ExitValue) (slots : List Slot) → all ≡ exit_given t ∷ rest →
-      ((n : MarkedTerm) → MayHaveValue theory (marked_instance theory m t) n → ⊥) → (fs : List MarkedField) →
-      ExitMayHave theory w m all slots fs → ⊥
-  no_exit_value all t rest slots is none [] h = subst (λ z. ExitMayHave theory w m z slots []) is h
-  no_exit_value all t rest slots is none (f ∷ fs) h =
-      let i = subst (λ z. ExitMayHave theory w m z slots (f ∷ fs)) is h in
-      none i.0.0 i.0.1
-
   pub exit_chosen : (all : List ExitValue) (sort : ℕ) (rest : List ExitValue) (these slots : List Slot) (slot : Slot)
       (gs fs : List MarkedField) (g : Given) → all ≡ exit_any sort ∷ rest → these ≡ slot ∷ slots → IsChosen theory w slot sort g →
       ExitMayHave theory w m rest slots fs → gs ≡ chosen_field g ∷ fs → ExitMayHave theory w m all these gs
@@ -156,23 +113,3 @@ module _ (theory : Theory) (w : Windows) (m : MarkedAssignment) where
       (subst (λ z. ExitMayHave theory w m (exit_any sort ∷ rest) z gs) (sym are)
       (subst (λ z. ExitMayHave theory w m (exit_any sort ∷ rest) (slot ∷ slots) z) (sym e)
       ((marked_of theory 0 g, v.chooses 0, sym (v.field 0)), h)))
-
-  pub no_exit_chosen : (all : List ExitValue) (sort : ℕ) (rest : List ExitValue) (these slots : List Slot) (slot : Slot) →
-      all ≡ exit_any sort ∷ rest → these ≡ slot ∷ slots → ((fs : List MarkedField) → ExitMayHave theory w m rest slots fs → ⊥) →
-      (fs : List MarkedField) → ExitMayHave theory w m all these fs → ⊥
-  no_exit_chosen all sort rest these slots slot is are none [] h =
-      subst (λ z. ExitMayHave theory w m (exit_any sort ∷ rest) z []) are (subst (λ z. ExitMayHave theory w m z these []) is h)
-  no_exit_chosen all sort rest these slots slot is are none (f ∷ fs) h =
-      let i = subst (λ z. ExitMayHave theory w m (exit_any sort ∷ rest) z (f ∷ fs)) are
-      (subst (λ z. ExitMayHave theory w m z these (f ∷ fs)) is h) in
-      none fs i.1
-
-  pub no_exit_slot : (all : List ExitValue) (sort : ℕ) (rest : List ExitValue) (these slots : List Slot) (slot : Slot) →
-      all ≡ exit_any sort ∷ rest → these ≡ slot ∷ slots → ChoosesNothing theory w slot sort → (fs : List MarkedField) →
-      ExitMayHave theory w m all these fs → ⊥
-  no_exit_slot all sort rest these slots slot is are none [] h =
-      subst (λ z. ExitMayHave theory w m (exit_any sort ∷ rest) z []) are (subst (λ z. ExitMayHave theory w m z these []) is h)
-  no_exit_slot all sort rest these slots slot is are none (f ∷ fs) h =
-      let i = subst (λ z. ExitMayHave theory w m (exit_any sort ∷ rest) z (f ∷ fs)) are
-      (subst (λ z. ExitMayHave theory w m z these (f ∷ fs)) is h) in
-      none.none i.0.0 i.0.1

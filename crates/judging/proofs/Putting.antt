@@ -252,7 +252,10 @@ module _ (program : Program) (w : Windows) where
   asked_put (parl d) (parallel gates y z) r s t leads x = asked_put d y r s t leads x
   asked_put (parr d) (parallel gates y z) r s t leads x = asked_put d z r s t leads x
   asked_put (both d e) (parallel gates y z) r s t leads x =
-      either_way (asked_put d y r s t leads x) (asked_put e z r s t leads x)
+      either_way (asked_put d y r s t leads x) (
+        λ h. (h.0, h.1, (derived_put d y r s t leads h.0 h.1).0 h.2, (asked_put e z r s t leads x).0 h.3),
+        λ h. (h.0, h.1, (derived_put d y r s t leads h.0 h.1).1 h.2, (asked_put e z r s t leads x).1 h.3),
+      )
   asked_put (hiding d) (hide gates b) r s t leads x = asked_put d b r s t leads x
   asked_put (pass d) (hide gates b) r s t leads x = asked_put d b r s t leads x
   asked_put (enstep d) (enable y xs z) r s t leads x = asked_put d y r s t leads x

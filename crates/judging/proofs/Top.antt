@@ -1,9 +1,7 @@
 -- What comes of code with values for its variables, under a relabelling.
-use Rattle.std.proofs.Common.{ℕ, ◌≡◌, ◌<◌, ◌≤◌, List, [], ◌∷◌, map, length, refl, sym, ap, subst, ◌∙◌, arith, Option, Result}
-use Rattle.spec_core.specs.Code.{Program, Relabelling, relabelling_of}
-use Rattle.spec_core.specs.Terms.{TermTree}
-use Rattle.spec_core.specs.declared.items.Gate.{Gate}
-use Rattle.rule_model.specs.Actions.{renamed, after}
+use Rattle.std.proofs.Common.{ℕ, ◌≡◌, List, [], ◌∷◌, refl, ap, subst, ◌∙◌, Option, Result}
+use Rattle.spec_core.specs.Code.{Program, Relabelling}
+use Rattle.rule_model.specs.Actions.{after}
 use Rattle.rule_model.specs.Behaviours.{Behaviour, stop, exit, inner, action, choice, guarded, bound, value_choice, gate_choice, parallel}
 use Rattle.rule_model.specs.Behaviours.{hide, enable, disable, call, relabel}
 use Rattle.rule_model.specs.Derivations.{Derivation}
@@ -11,7 +9,7 @@ use Rattle.rule_model.specs.Substitution.{Assignment, put, tidied}
 use Rattle.code_behaviours.specs.Values.{assignment}
 use Rattle.code_behaviours.proofs.Reading.{values_close}
 use Rattle.windowed_trees.specs.Windows.{Windows}
-use Rattle.windowed_trees.specs.MarkedTerms.{MarkedAssignment, plain, unmarked}
+use Rattle.windowed_trees.specs.MarkedTerms.{plain, unmarked}
 use Rattle.marked_values.specs.declared.scope.Given.{Given}
 use Rattle.marked_values.specs.declared.stop.Stop.{Stop}
 use Rattle.marked_values.specs.Scopes.{marks_of, scope_over}
@@ -21,39 +19,6 @@ use Rattle.tree_nodes.specs.Origins.{relabelled_by}
 use Rattle.judging.specs.Judged.{Judged}
 use Rattle.judging.proofs.Putting.{derived_of_origin, asked_of_origin}
 use Rattle.judging.proofs.Rows.{carried}
-
-module _ (program : Program) (w : Windows) (budget : ℕ) (m : MarkedAssignment) (d : Derivation) (r : Result (Option Shown) Stop) where
-  -- a construct that stays under the relabelling
-  pub stays : (pairs : List Relabelling) (b c : Behaviour) → b ≡ c → tidied pairs c ≡ relabel pairs c →
-      Judged program w budget m (relabel pairs b) d r → Judged program w budget m (tidied pairs b) d r
-  stays pairs b c is same h =
-      subst (λ z. Judged program w budget m z d r) (ap (relabel pairs) is ∙ sym same ∙ ap (tidied pairs) (sym is)) h
-
-  -- a relabelled behaviour: one relabelling in the place of two
-  pub joins_relabelling : (pairs all before : List Relabelling) (b body : Behaviour) → b ≡ relabel before body → all ≡ after pairs before →
-      Judged program w budget m (tidied all body) d r → Judged program w budget m (tidied pairs b) d r
-  joins_relabelling pairs all before b body is same h =
-      subst (λ z. Judged program w budget m (tidied pairs z) d r) (sym is)
-      (subst (λ z. Judged program w budget m (tidied z body) d r) same h)
-
-  -- a call: its gates are relabelled
-  pub renames_gates : (pairs : List Relabelling) (b : Behaviour) (p : ℕ) (gates actual : List ℕ) (terms given : List TermTree) →
-      b ≡ call p gates terms → actual ≡ map (renamed pairs) gates → given ≡ terms →
-      Judged program w budget m (call p actual given) d r → Judged program w budget m (tidied pairs b) d r
-  renames_gates pairs b p gates actual terms given is same equal h =
-      subst (λ z. Judged program w budget m (tidied pairs z) d r) (sym is)
-      (subst (λ z. Judged program w budget m (call p z terms) d r) same
-      (subst (λ z. Judged program w budget m (call p actual z) d r) equal h))
-
--- an empty relabelling is none, and one with a pair stays
-pub none_relabelled : (pairs : List (Gate × Gate)) (b : Behaviour) → length pairs < 1 → relabelled_by (map relabelling_of pairs) b ≡ b
-none_relabelled [] b h = refl
-none_relabelled (m ∷ pairs) b h = absurd (omega (arith, h))
-
-pub some_relabelled : (pairs : List (Gate × Gate)) (b : Behaviour) → 1 ≤ length pairs →
-    relabelled_by (map relabelling_of pairs) b ≡ tidied (map relabelling_of pairs) b
-some_relabelled [] b h = absurd (omega (arith, h))
-some_relabelled (m ∷ pairs) b h = refl
 
 -- a relabelling and values are put in either way round
 put_tidied : (s : Assignment) (b : Behaviour) (pairs : List Relabelling) → put s (tidied pairs b) ≡ tidied pairs (put s b)

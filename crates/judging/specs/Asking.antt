@@ -8,18 +8,19 @@ use Rattle.rule_model.specs.Constructs.{OnExit, OnAction, OnChoice, OnGuarded, O
 use Rattle.rule_model.specs.Constructs.{OnHide, OnEnable, OnDisable, OnCall, OnRelabel}
 use Rattle.rule_model.specs.Derivations.{Derivation, pre, int, exiting, chl, chr, val, gate, guard, letting, parl, parr, both, hiding, pass}
 use Rattle.rule_model.specs.Derivations.{enstep, enend, disstep, disend, distake, calling, rel}
-use Rattle.rule_model.specs.Actions.{pairs_of}
+use Rattle.rule_model.specs.Actions.{Kind, pairs_of}
 use Rattle.rule_model.specs.Code.{IsDefinition}
 use Rattle.rule_model.specs.Fields.{OnGate}
 use Rattle.windowed_trees.specs.Windows.{Windows}
 use Rattle.windowed_trees.specs.MarkedTerms.{MarkedTerm, MarkedAssignment, unmarked, with_marked, PremiseMayHold}
 use Rattle.windowed_trees.specs.MarkedFields.{MarkedField, chosen_by, IsWithin, Chooses, FieldsMayHave, BindingsMayHave, ArgumentsMayHave}
+use Rattle.windowed_trees.specs.MayDerive.{MayDeriveWith}
 use Rattle.reached_terms.specs.Reached.{PremiseAsks, GuardAsks, FieldAsks, ExitAsks, BindingAsks, ArgumentAsks}
 
 module _ (program : Program) (w : Windows) where
   -- The tree d asks the term t of the behaviour, with m x, a term or a mark, in the place of each free variable x: it is an expression of
   -- a construct that a rule of the tree is of, or a side of a premise there, and each premise before it holds or holds a mark. A predicate
-  -- is asked with the values that the tree chooses.
+  -- is asked with the values that the tree chooses; of two sides that act together the right one is asked where the left one may act.
   abbrev pub TreeAsks : MarkedAssignment → Behaviour → Derivation → TermTree → Type 0
   TreeAsks m b (pre slots) t =
       OnAction b (λ g fields p rest.
@@ -44,7 +45,10 @@ module _ (program : Program) (w : Windows) where
       ((r : MarkedAssignment) × BindingsMayHave program.theory m m bindings r × TreeAsks r body d t))
   TreeAsks m b (parl d) t = OnParallel b (λ gates left right. TreeAsks m left d t)
   TreeAsks m b (parr d) t = OnParallel b (λ gates left right. TreeAsks m right d t)
-  TreeAsks m b (both d e) t = OnParallel b (λ gates left right. TreeAsks m left d t ⊎ TreeAsks m right e t)
+  TreeAsks m b (both d e) t =
+      OnParallel b (λ gates left right.
+      TreeAsks m left d t ⊎
+      ((k : Kind) × (fs : List MarkedField) × MayDeriveWith program w m left d k fs × TreeAsks m right e t))
   TreeAsks m b (hiding d) t = OnHide b (λ gates body. TreeAsks m body d t)
   TreeAsks m b (pass d) t = OnHide b (λ gates body. TreeAsks m body d t)
   TreeAsks m b (enstep d) t = OnEnable b (λ left xs right. TreeAsks m left d t)
