@@ -1,4 +1,7 @@
 pub mod Known
 pub mod Missing
-pub mod Asked
+pub mod Sameness
+pub mod Storing
+pub mod Staying
+pub mod Deciding
 pub mod Verdicts

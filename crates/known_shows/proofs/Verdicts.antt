@@ -8,7 +8,7 @@ use Rattle.asked_lists.specs.Searches.{for_offer}
 use Rattle.known_shows.specs.Asked.{asked_by}
 use Rattle.known_shows.specs.Laws.{ArePiecesOf, KnownVerdictsAreSo, PiecesOutliveSteps}
 use Rattle.known_shows.proofs.Known.{known_shows_are_so}
-use Rattle.known_shows.proofs.Asked.{shows_decide_queries}
+use Rattle.known_shows.proofs.Deciding.{shows_decide_queries}
 
 -- two tests of one fact say the same
 same_test : (P : Type 0) (b c : Bool) → (b ≡ true) ↔ P → (c ≡ true) ↔ P → b ≡ c

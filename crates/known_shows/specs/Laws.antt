@@ -1,20 +1,25 @@
 -- What follows from the definitions.
-use Rattle.std.specs.Prelude.{ℕ, ◌≡◌, ◌↔◌, ◌≤◌, List, [], Option, Some, None, Bool, true}
+use Rattle.std.specs.Prelude.{ℕ, ◌≡◌, ◌↔◌, ◌≤◌, List, [], ◌<◌, Option, Some, None, Bool, true, option_map}
 use Rattle.spec_core.specs.Lists.{IsOneOf}
 use Rattle.spec_core.specs.Theories.{Theory}
 use Rattle.spec_core.specs.Code.{Program}
 use Rattle.rule_model.specs.Behaviours.{Behaviour}
-use Rattle.rule_model.specs.Derivations.{Derivation}
+use Rattle.rule_model.specs.Derivations.{Derivation, derivation_of}
 use Rattle.windowed_trees.specs.Windows.{Windows}
 use Rattle.composites.specs.Evaluations.{Evaluation, IsExact}
 use Rattle.asked_trees.specs.Asked.{TreeQuery, IsAsked, TestsAsked}
 use Rattle.shown_actions.specs.Shows.{Show, Shows}
 use Rattle.node_lists.specs.Waiting.{Candidate}
 use Rattle.tree_nodes.specs.Origins.{meaning}
-use Rattle.tree_nodes.specs.Shapes.{Above, Held, Shape, Stands, Lives, stands_for}
+use Rattle.tree_nodes.specs.Shapes.{Above, Held, Shape, Stands, Lives, stands_for, posted}
+use Rattle.tree_nodes.specs.Rests.{Work}
 use Rattle.tree_nodes.specs.declared.origin.Gen.{Gen}
 use Rattle.board_tree.specs.Views.{IsStep}
 use Rattle.asked_lists.specs.Searches.{for_offer}
+use Rattle.shown_actions.specs.Models.{show_of}
+use Rattle.known_shows.specs.declared.pieces.Piece.{Piece}
+use Rattle.known_shows.specs.Same.{same_rules}
+use Rattle.known_shows.specs.Stored.{with_piece, without}
 use Rattle.known_shows.specs.Known.{Pieces, known_show, NodePart, missing_parts}
 use Rattle.known_shows.specs.Asked.{asked_by, known_verdict}
 
@@ -84,3 +89,29 @@ PiecesOutliveSteps =
     NoneFrom pieces next →
     ArePiecesOf program w pieces old →
     ArePiecesOf program w pieces new × NoneFrom pieces later
+
+-- the test of trees of rules says whether they are one
+abbrev pub SameRulesAreOne : Type 0
+SameRulesAreOne = (d e : Derivation) → (same_rules d e ≡ true) ↔ (d ≡ e)
+
+-- a piece says what the origin shows of each node of its generation
+abbrev pub IsPieceOf : Program → Windows → Piece → Shape → Type 0
+IsPieceOf program w p t =
+    (up : List Above) (n : Held) → Stands t up n → n.generation ≡ p.generation.0 →
+    Shows program w (meaning program n.source) (derivation_of p.rules) (option_map show_of p.shown)
+
+-- What is known of the nodes of a tree stays so with one more piece that is so, without what is known of some generations, and where a node
+-- is expanded; and nothing comes to be known of generations from a number on.
+pub record PiecesStay (program : Program) (w : Windows) (pieces others : Pieces) (t : Shape) : Type 0 where
+  pub put : (p : Piece) → ((g : ℕ) (d : Derivation) → others g d ≡ with_piece pieces p g d) → ArePiecesOf program w pieces t →
+      IsPieceOf program w p t → ArePiecesOf program w others t
+  pub put_below : (p : Piece) (next : ℕ) → ((g : ℕ) (d : Derivation) → others g d ≡ with_piece pieces p g d) →
+      p.generation.0 < next → NoneFrom pieces next → NoneFrom others next
+  pub dropped : (gone : List Gen) → ((g : ℕ) (d : Derivation) → others g d ≡ without gone pieces g d) →
+      ArePiecesOf program w pieces t → ArePiecesOf program w others t
+  pub dropped_below : (gone : List Gen) (next : ℕ) → ((g : ℕ) (d : Derivation) → others g d ≡ without gone pieces g d) →
+      NoneFrom pieces next → NoneFrom others next
+  pub posted : (g : ℕ) (work : Work) → ArePiecesOf program w pieces t → ArePiecesOf program w pieces (posted g work t)
+
+abbrev pub PiecesStaySo : Type 0
+PiecesStaySo = (program : Program) (w : Windows) (pieces others : Pieces) (t : Shape) → PiecesStay program w pieces others t

@@ -1,7 +1,7 @@
 // What follows from the definitions: each law is the contract of a function that does nothing.
 
 ghost use Rattle.known_shows.specs.Laws.{KnownShowsAreSo, MissingPartsAreMissing, ShowsDecideQueries, KnownVerdictsAreSo};
-ghost use Rattle.known_shows.specs.Laws.{PiecesOutliveSteps};
+ghost use Rattle.known_shows.specs.Laws.{PiecesOutliveSteps, SameRulesAreOne, PiecesStaySo};
 
 /// What is known of a tree of nodes is what the behaviour shows that it stands for.
 pub fn known_shows_are_so()
@@ -27,4 +27,14 @@ pub fn known_verdicts_are_so()
 /// What is known of the nodes of a tree is so after each step.
 pub fn pieces_outlive_steps()
     ensures { PiecesOutliveSteps }
+{}
+
+/// The test of trees of rules says whether they are one.
+pub fn same_rules_are_one()
+    ensures { SameRulesAreOne }
+{}
+
+/// What is known of the nodes of a tree stays so with one more piece, with fewer pieces, and where a node is expanded.
+pub fn pieces_stay_so()
+    ensures { PiecesStaySo }
 {}

@@ -1,4 +1,4 @@
-use Rattle.known_shows.proofs.Asked.{shows_decide_queries}
+use Rattle.known_shows.proofs.Deciding.{shows_decide_queries}
 use Rattle.known_shows.proofs.laws.shows_decide_queries.Goals as goal
 
 pub returns : goal.returns
