@@ -12,7 +12,7 @@ ghost use Rattle.expand.specs.Expansions.{IsExpansion, IsStop};
 ghost use Rattle.window_tables.specs.Tables.{windows_in};
 ghost use Rattle.node_expansion.specs.Ways.{HasWays};
 
-use crate::ways::ways_of_all;
+use crate::alternatives::ways_of_all;
 use expand::expansion::expand_within;
 use marked_values::stop::Stop;
 use spec_core::code::Checked;

@@ -11,7 +11,7 @@ use Rattle.tree_nodes.specs.Origins.{meaning, relabelled_by, source_of}
 use Rattle.tree_nodes.specs.Rests.{way_of}
 use Rattle.node_expansion.specs.Ways.{HasWays, PlansAsk}
 use Rattle.node_expansion.proofs.Adding.{one_at, more_ways, still_has}
-use Rattle.node_expansion.proofs.ways.ways_of_all.Goals as goal
+use Rattle.node_expansion.proofs.alternatives.ways_of_all.Goals as goal
 
 pub returns-in-Err-clause-stop : goal.returns-in-Err-clause-stop
 returns-in-Err-clause-stop c =

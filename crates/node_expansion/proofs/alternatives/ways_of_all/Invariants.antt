@@ -5,7 +5,7 @@ use Rattle.open_composites.specs.OpenPlans.{open_plan_of}
 use Rattle.tree_nodes.specs.Origins.{meaning, source_of}
 use Rattle.tree_nodes.specs.Rests.{way_of, IsWayOf}
 use Rattle.node_expansion.specs.Ways.{HasWays}
-use Rattle.node_expansion.proofs.ways.ways_of_all.Given as goal
+use Rattle.node_expansion.proofs.alternatives.ways_of_all.Given as goal
 
 abbrev pub invariant-loop-composite : goal.invariant-loop-composite
 invariant-loop-composite l = record {

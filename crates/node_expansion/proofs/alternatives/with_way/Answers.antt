@@ -9,7 +9,7 @@ use Rattle.tree_nodes.specs.Origins.{meaning, source_of}
 use Rattle.tree_nodes.specs.Rests.{way_of, IsWayOf}
 use Rattle.ways.specs.Blanks.{blank_tree}
 use Rattle.node_expansion.proofs.Adding.{one_way}
-use Rattle.node_expansion.proofs.ways.with_way.Goals as goal
+use Rattle.node_expansion.proofs.alternatives.with_way.Goals as goal
 
 pub returns-in_ok-push-in-Some-clause-added : goal.returns-in_ok-push-in-Some-clause-added
 returns-in_ok-push-in-Some-clause-added c =
