@@ -75,6 +75,17 @@ pub fn windows(alloc: Global, numbers: u32, complete: bool) -> Result<Vec<Window
     Ok(all)
 }
 
+/// So many numbers of each sort; of the second one there are no more.
+pub fn wide_windows(alloc: Global, numbers: u32) -> Result<Vec<Window>, Memory> {
+    let mut first = windows(alloc, numbers, false)?;
+    let second = windows(alloc, numbers, true)?;
+    let _truths = first.pop();
+    for window in second {
+        first.push(window)?;
+    }
+    Ok(first)
+}
+
 /// The offer at the first gate with these fields.
 pub fn offer(fields: Vec<Field>) -> Offer {
     Offer {

@@ -1,11 +1,14 @@
 // How many trees are looked through, where 256 numbers are in the window.
 
 use crate::composites::{Sample, composite, numbers};
-use crate::data::{algebra, number, offer, windows};
+use crate::data::{NUMBERS, TRUTHS, algebra, number, offer, wide_windows, windows};
 use asked_lists::searches::{TreeSearch, next_among, next_asked, search_count, slots_asked};
-use open_composites::composite::OpenComposite;
+use open_composites::column::Column;
+use open_composites::composite::{ActionKind, OpenComposite};
+use open_composites::scheme::Scheme;
 use rule_model::offer::{Field, Offer};
 use spec_core::equation::DataSpec;
+use spec_core::items::Gate;
 use spec_core::memory::Memory;
 use spec_core::window::Window;
 use std::alloc::Global;
@@ -100,5 +103,25 @@ fn too_many_trees_are_not_looked_through(rt: HostRuntime) -> Result<(), Fail> {
     let taken = numbers(alloc, 8)?;
     let first = next_asked(alloc, &data, &table, &taken, TreeSearch::Any, 0);
     assert_eq!(rt; first.is_err(), true);
+    Ok(())
+}
+
+#[test]
+fn the_mark_of_the_first_field_stands_behind_all_values(rt: HostRuntime) -> Result<(), Fail> {
+    let alloc = rt.alloc();
+    let data = algebra(alloc)?;
+    let table = wide_windows(alloc, 256)?;
+    let columns = vec![in alloc; Column::Blank(NUMBERS, false), Column::Blank(TRUTHS, false)]?;
+    let scheme = Scheme::Pre(Vec::from_slice(alloc, &[true, true])?);
+    let kind = ActionKind::At(Gate(0));
+    let two = OpenComposite {
+        kind,
+        columns,
+        scheme,
+    };
+    match next_asked(alloc, &data, &table, &two, TreeSearch::AnyBeyond, 0)? {
+        None => assert!(rt; false),
+        Some(asked) => assert_eq!(rt; asked.number, 65_536),
+    }
     Ok(())
 }
