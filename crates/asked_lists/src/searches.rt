@@ -48,9 +48,9 @@ pub struct AskedTree {
     pub tree: Rules,
 }
 
-// Whether an action of this kind meets no offer: it is internal, or the termination.
-fn is_unseen(kind: ActionKind) -> bool
-    ensures { result ≡ waiting.is_unseen (kind_in kind) }
+/// Whether an action of this kind meets no offer: it is internal, or the termination. It takes no memory.
+pub fn is_unseen(kind: ActionKind) -> bool
+    ensures decides { result ≡ waiting.is_unseen (kind_in kind) }
 {
     match kind {
         ActionKind::Inner => true,
