@@ -56,17 +56,16 @@ put_none pieces p g d e other = ap (λ z. unless_none z (pieces_of (p ∷ []) g 
 
 -- each node after one is expanded was one before, with its generation and its origin
 
-same_node : (g : ℕ) (work : Work) (m : Held) (b : Bool) →
-    ((if b then record { generation = m.generation; source = m.source; place = m.place; work = Some work } else m).generation ≡ m.generation) ×
-    ((if b then record { generation = m.generation; source = m.source; place = m.place; work = Some work } else m).source ≡ m.source)
-same_node g work m true = (refl, refl)
-same_node g work m false = (refl, refl)
+same_node : (g : ℕ) (work : Work) (m : Held) (b : Bool) → (n : Held) →
+    (if b then record { generation = m.generation; source = m.source; place = m.place; work = Some work } else m) ≡ n →
+    (n.generation ≡ m.generation) × (n.source ≡ m.source)
+same_node g work m true n e = (ap (λ (k : Held). k.generation) (sym e), ap (λ (k : Held). k.source) (sym e))
+same_node g work m false n e = (ap (λ (k : Held). k.generation) (sym e), ap (λ (k : Held). k.source) (sym e))
 
 node_before : (g : ℕ) (work : Work) (t : Shape) (up : List Above) (n : Held) → Stands (posted g work t) up n →
     (m : Held) × Stands t up m × (n.generation ≡ m.generation) × (n.source ≡ m.source)
 node_before g work (leaf m) [] n s =
-    let r = same_node g work m (m.generation == g) in
-    (m, refl, ap (λ (k : Held). k.generation) (sym s) ∙ r.0, ap (λ (k : Held). k.source) (sym s) ∙ r.1)
+    let r = same_node g work m (m.generation == g) n s in (m, refl, r.0, r.1)
 node_before g work (over o x) (under p ∷ up) n s = let r = node_before g work x up n s.1 in (r.0, (s.0, r.1), r.2, r.3)
 node_before g work (between o x y) (first_of p ∷ up) n s = let r = node_before g work x up n s.1 in (r.0, (s.0, r.1), r.2, r.3)
 node_before g work (between o x y) (second_of p ∷ up) n s = let r = node_before g work y up n s.1 in (r.0, (s.0, r.1), r.2, r.3)

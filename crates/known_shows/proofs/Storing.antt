@@ -79,8 +79,8 @@ pieces_kept gone ps qs e g d = ap (λ z. pieces_of z g d) e ∙ filtered ps
     step : (p : Piece) (xs : List Piece) →
         pieces_of (filter (λ x. not (is_gone gone x.generation.0)) xs) g d ≡ without gone (pieces_of xs) g d → (b : Bool) →
         is_gone gone p.generation.0 ≡ b →
-        pieces_of (cond (not b) (p ∷ filter (λ x. not (is_gone gone x.generation.0)) xs) (filter (λ x. not (is_gone gone x.generation.0)) xs))
-        g d ≡
+        pieces_of
+        (cond (not b) (p ∷ filter (λ x. not (is_gone gone x.generation.0)) xs) (filter (λ x. not (is_gone gone x.generation.0)) xs)) g d ≡
         without gone (pieces_of (p ∷ xs)) g d
     step p xs i true h = gone_here p xs (filter (λ x. not (is_gone gone x.generation.0)) xs) h i (is_about g d p) refl
     step p xs i false h = stays_here p xs (filter (λ x. not (is_gone gone x.generation.0)) xs) h i (is_about g d p) refl

@@ -6,8 +6,6 @@ ghost use Rattle.rule_model.specs.Derivations.{derivation_of};
 ghost use Rattle.window_tables.specs.Tables.{windows_in};
 ghost use Rattle.shown_actions.specs.Models.{show_of};
 ghost use Rattle.tree_nodes.specs.Shapes.{shape_of};
-ghost use Rattle.node_lists.specs.Waiting as waiting;
-ghost use Rattle.open_composites.specs.OpenPlans.{kind_in};
 ghost use Rattle.asked_lists.specs.Searches.{query_of};
 ghost use Rattle.known_shows.specs.Known.{known_show};
 ghost use Rattle.known_shows.specs.Asked.{suits, asked_by};
@@ -15,8 +13,7 @@ ghost use Rattle.known_shows.specs.Stored.{stored};
 
 use crate::pieces::Pieces;
 use crate::shown::shown_over;
-use asked_lists::searches::{TreeSearch, is_wanted};
-use open_composites::composite::ActionKind;
+use asked_lists::searches::{TreeSearch, is_unseen, is_wanted};
 use rule_model::rules::Rules;
 use shown_actions::meeting::{may_meet, may_meet_any};
 use shown_actions::shown::Shown;
@@ -25,17 +22,6 @@ use spec_core::memory::Memory;
 use spec_core::window::Window;
 use std::alloc::Global;
 use tree_nodes::branch::Branch;
-
-// Whether an action of this kind meets no offer: it is internal, or the termination.
-fn is_unseen(kind: ActionKind) -> bool
-    ensures { result ≡ waiting.is_unseen (kind_in kind) }
-{
-    match kind {
-        ActionKind::Inner => true,
-        ActionKind::Exit => true,
-        ActionKind::At(_) => false,
-    }
-}
 
 // Whether what is shown is what a query asks for, the marks of the tree aside.
 fn suits(algebra: &DataSpec, windows: &[Window], search: &TreeSearch<'_>, shown: &Shown) -> bool

@@ -1,15 +1,16 @@
 // What a tree of nodes shows by a tree of rules, as far as it is known.
 
-ghost use Rattle.std.specs.Prelude.{◌≡◌, ◌↔◌, IfOk, IsTrue, Some, None, option_map};
+ghost use Rattle.std.specs.Prelude.{◌≡◌, ◌↔◌, ◌++◌, [], IfOk, IsTrue, Some, None, map, option_map};
 ghost use Rattle.spec_core.specs.Code.{synchronised_of};
 ghost use Rattle.spec_core.specs.Theories.{theory_of};
 ghost use Rattle.rule_model.specs.Derivations.{derivation_of};
+ghost use Rattle.courses.specs.Known.{unless_known};
 ghost use Rattle.courses.specs.Lazy.{first};
 ghost use Rattle.window_tables.specs.Tables.{windows_in};
 ghost use Rattle.shown_actions.specs.Models.{show_of};
 ghost use Rattle.tree_nodes.specs.Shapes.{shape_of};
 ghost use Rattle.known_shows.specs.Models.{part_rule_of};
-ghost use Rattle.known_shows.specs.Known.{known_over, known_together, known_show, missing_parts};
+ghost use Rattle.known_shows.specs.Known.{known_over, known_together, known_show, node_part, missing_parts};
 ghost use Rattle.known_shows.specs.Stored.{known_of, stored, node_part_of};
 
 use crate::pieces::{NodeRules, Pieces};
@@ -80,7 +81,8 @@ fn together(
     right: &Option<Option<Shown>>,
 ) -> Result<Option<Option<Shown>>, Memory>
     ensures { IfOk result (λ o. known_of o ≡
-        known_together (theory_of algebra.now) (windows_in windows.now) (synchronised_of gates.now) (known_of left.now) (known_of right.now)) }
+        known_together (theory_of algebra.now) (windows_in windows.now) (synchronised_of gates.now) (known_of left.now)
+        (known_of right.now)) }
 {
     match left {
         Some(None) => Ok(Some(None)),
@@ -172,6 +174,55 @@ pub fn first_missing<'a>(
                 Some(missing) => Some(missing),
                 None => first_missing(pieces, right, other),
             },
+        },
+    }
+}
+
+// Appends a part, where nothing is known of it.
+fn put_unknown<'a>(
+    pieces: &Pieces,
+    generation: Gen,
+    rules: &'a Rules,
+    all: &mut Vec<NodeRules<'a>>,
+) -> Result<(), Memory>
+    ensures { IfOk result (λ _. map node_part_of all.new.items ≡
+        map node_part_of all.old.items ++
+        unless_known (stored pieces.now generation.0 (derivation_of rules.now)) (node_part generation.0 (derivation_of rules.now)) []) }
+{
+    match pieces.find(generation, rules) {
+        None => {
+            all.push(NodeRules { generation, rules })?;
+            Ok(())
+        }
+        Some(_) => Ok(()),
+    }
+}
+
+/// Appends the parts of a tree of rules at nodes of which nothing is known, from the left. It recurs as deep as operators nest.
+pub fn put_missing<'a>(
+    pieces: &Pieces,
+    branch: &'a Branch,
+    rules: &'a Rules,
+    all: &mut Vec<NodeRules<'a>>,
+) -> Result<(), Memory>
+    ensures missing { IfOk result (λ _. map node_part_of all.new.items ≡
+        map node_part_of all.old.items ++ missing_parts (stored pieces.now) (shape_of branch.now) (derivation_of rules.now)) }
+{
+    match branch {
+        Branch::Leaf(node) => put_unknown(pieces, node.generation, rules, all),
+        Branch::Ended => Ok(()),
+        Branch::Over(operator, part) => match part_under(operator, rules) {
+            None => Ok(()),
+            Some(below) => put_missing(pieces, part, below.rules, all),
+        },
+        Branch::Between(operator, left, right) => match sides_under(operator, rules) {
+            Sides::Neither => Ok(()),
+            Sides::Left(side) => put_missing(pieces, left, side.rules, all),
+            Sides::Right(side) => put_missing(pieces, right, side.rules, all),
+            Sides::Both(_, one, other) => {
+                put_missing(pieces, left, one, all)?;
+                put_missing(pieces, right, other, all)
+            }
         },
     }
 }

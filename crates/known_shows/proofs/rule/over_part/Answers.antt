@@ -16,7 +16,8 @@ pub returns-in-BeforeEnd : goal.returns-in-BeforeEnd
 returns-in-BeforeEnd c = search (rules, c.going_on.ensures.enabling (theory_of c.args.algebra.now) (windows_in c.args.windows.now))
 
 pub returns-in-Undisabled : goal.returns-in-Undisabled
-returns-in-Undisabled c = search (rules, c.going_on-in-Undisabled.ensures.disabling (theory_of c.args.algebra.now) (windows_in c.args.windows.now))
+returns-in-Undisabled c =
+    search (rules, c.going_on-in-Undisabled.ensures.disabling (theory_of c.args.algebra.now) (windows_in c.args.windows.now))
 
 pub returns-in-Ended : goal.returns-in-Ended
 returns-in-Ended c = search (rules, c.terminated.ensures.ended (theory_of c.args.algebra.now) (windows_in c.args.windows.now))
