@@ -31,6 +31,11 @@ IsReserved program t next d (Some r) =
     Moved program [] t d (shape_of r.branch) next r.next × IsDifference r.gone.items t (shape_of r.branch) ×
     IsDifference r.came.items (shape_of r.branch) t
 
+-- this tree stands ready
+abbrev pub IsNext : Option Ready → Shape → Type 0
+IsNext None t = ⊥
+IsNext (Some r) t = t ≡ shape_of r.branch
+
 -- By these rules the first tree becomes the second. Where each node that takes part is expanded by what its origin can do, the second
 -- stands for what the behaviour becomes, and its nodes are expanded in the same way. The nodes that the step leaves untouched stay, with
 -- their generations, origins, places, the constructs above them and their work, and each other node is new and waits. The lists are those

@@ -1,6 +1,6 @@
 // The tree of a board.
 
-ghost use Rattle.std.specs.Prelude.{◌≡◌, [], IfOk, IfSome, IfNone, None};
+ghost use Rattle.std.specs.Prelude.{◌≡◌, [], IfOk, IfSome, IfNone, IsSome, None};
 ghost use Rattle.spec_core.specs.Code.{Program, program_of};
 ghost use Rattle.spec_core.specs.Ready.{IsReady};
 ghost use Rattle.rule_model.specs.Behaviours.{behaviour_of};
@@ -8,8 +8,9 @@ ghost use Rattle.rule_model.specs.Code.{IsStart};
 ghost use Rattle.rule_model.specs.Derivations.{derivation_of};
 ghost use Rattle.tree_nodes.specs.Generations.{AreApart, AreBelow, ArePlaced};
 ghost use Rattle.tree_nodes.specs.Rests.{expansion_of};
-ghost use Rattle.tree_nodes.specs.Shapes.{stands_for, held_of, posted, Lives, IsNodeOf, IsRight, IsWorkFor, AllWait};
-ghost use Rattle.board_tree.specs.Views.{shape, IsReserved, IsStep};
+ghost use Rattle.tree_nodes.specs.Shapes.{Shape, shape_of, stands_for, held_of, posted, Lives, IsNodeOf, IsRight, IsWorkFor};
+ghost use Rattle.tree_nodes.specs.Shapes.{AllWait};
+ghost use Rattle.board_tree.specs.Views.{shape, IsReserved, IsNext, IsStep};
 
 use crate::ready::{Ready, ready_for};
 use rule_model::beh::Beh;
@@ -84,6 +85,13 @@ impl Tree {
         self.root.stands(alloc, checked)
     }
 
+    /// The tree's operators and nodes. It takes no memory.
+    pub fn root(&self) -> &Branch
+        ensures { shape_of result.now ≡ shape self.now }
+    {
+        &self.root
+    }
+
     /// An equal tree, which doesn't stand ready for a step.
     pub fn copy(&self, alloc: Global) -> Result<Tree, Memory>
         ensures shape { IfOk result (λ t. shape t ≡ shape self.now) }
@@ -152,11 +160,25 @@ impl Tree {
         Ok(())
     }
 
+    /// The behaviour of the tree that stands ready.
+    pub fn stands_next(&self, alloc: Global, checked: &Checked) -> Result<Beh, Memory>
+        requires ready { IsReady (program_of checked.now) }
+        requires reserved { IsSome self.now.ready }
+        ensures stands { IfOk result (λ b. (next : Shape) → IsNext self.now.ready next →
+            behaviour_of b ≡ stands_for (program_of checked.now) next) }
+    {
+        match &self.ready {
+            Some(ready) => ready.branch.stands(alloc, checked),
+            None => unreachable!(),
+        }
+    }
+
     /// The step by these rules: the tree then stands for what its behaviour becomes. It takes no memory.
     pub fn step(&mut self, checked: &Checked, rules: &Rules)
         requires reserved { IsReserved (program_of checked.now) (shape self.old) self.old.next (derivation_of rules.now) self.old.ready }
         ensures step { IsStep (program_of checked.now) (shape self.old) self.old.next (derivation_of rules.now) (shape self.new)
             self.new.next self.new.gone self.new.came }
+        ensures next { IsNext self.old.ready (shape self.new) }
     {
         match self.ready.take() {
             Some(ready) => {

@@ -13,10 +13,10 @@ use Rattle.session_states.specs.Clients.{open_among, is_open_among, made_by, clo
 use Rattle.session_states.specs.Pending.{WaitsAnd, waits_among, is_idle_among, names_all, names_only, is_ascending}
 use Rattle.session_states.specs.declared.state.SessionState.{SessionState}
 use Rattle.session_states.specs.Views.{pending_of, state_of}
-use Rattle.session_states.specs.Possible.{MayOffer, MayLeave, MayStall}
+use Rattle.session_states.specs.Possible.{HasPending, MayOffer, MayLeave, MayStall}
 use Rattle.session_states.proofs.OpenClients.{is_open, open_is, offers_open, has_made, others_made, closing_keeps_made, closing_leaves, new_open, new_made}
 use Rattle.session_states.proofs.Tests.{by_cases, both_true, and_true, true_false}
-use Rattle.session_states.proofs.Waiting.{Any, waits_there, there_waits, waits_any, any_waits, pending_and, and_pending, idle, is_idle, all_named, named_all, only_named, named_only, ascending, increasing_ascends}
+use Rattle.session_states.proofs.Waiting.{Any, waits_there, there_waits, waits_any, any_waits, waits_some, pending_and, and_pending, idle, is_idle, all_named, named_all, only_named, named_only, ascending, increasing_ascends}
 
 module _ (s : SessionState) where
   abbrev clients : List Client
@@ -33,6 +33,11 @@ module _ (s : SessionState) where
 
   pub leave_idles : (client : ℕ) → MayLeave (state_of s) client → is_idle_among waiting client ≡ true
   leave_idles client h = is_idle waiting client h.idle
+
+  pub has_pending : (client : ℕ) → is_idle_among waiting client ≡ false → HasPending (state_of s) client
+  has_pending client h =
+      let k = waits_some waiting client h in
+      (k.0, pending_and Any (state_of s) (client, k.0) k.1)
 
   pub is_pending : (client number : ℕ) → waits_among waiting client number ≡ true → IsPending (state_of s) (client, number)
   is_pending client number h = pending_and Any (state_of s) (client, number) (waits_there Any waiting client number (waits_any waiting client number h))

@@ -1,3 +1,4 @@
+pub mod Derivations
 pub mod Entries
 pub mod Members
 pub mod OpenClients

@@ -78,6 +78,15 @@ is_idle (q ∷ ps) client h =
     (by_cases (nat_eq q.client client) (λ e. absurd (h q (first_in q ps) (eqb-true q.client client e))) (λ e. false_not (nat_eq q.client client) e))
     (is_idle ps client (λ p k e. h p (later_in q p ps k) e))
 
+-- a client that isn't idle
+pub waits_some : (ps : List PendingOffer) (client : ℕ) → is_idle_among ps client ≡ false → (number : ℕ) × IsAmong Any ps client number
+waits_some [] client h = absurd (cc)
+waits_some (q ∷ ps) client h = by_cases (nat_eq q.client client)
+    (λ e. (q.number, record { waits = q; among = first_in q ps; client_is = eqb-true q.client client e; number_is = refl; holds = tt }))
+    (λ e.
+    let k = waits_some ps client (sym (ap (λ z. not z && is_idle_among ps client) e) ∙ h) in
+    (k.0, record { waits = k.1.waits; among = later_in q k.1.waits ps k.1.among; client_is = k.1.client_is; number_is = k.1.number_is; holds = tt }))
+
 -- lists of names
 
 pub named : (names : List OfferName) (client number : ℕ) → is_named names client number ≡ true → Contains names (client, number)

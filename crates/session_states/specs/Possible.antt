@@ -2,8 +2,12 @@
 use Rattle.std.specs.Prelude.{ℕ, ◌+◌, ◌<◌, ◌≡◌, List, [], Contains}
 use Rattle.rule_model.specs.declared.offer.Offer.{Offer}
 use Rattle.rule_model.specs.Events.{OfferName}
-use Rattle.rule_model.specs.Legal.{IsIdle, NamesAll}
+use Rattle.rule_model.specs.Legal.{IsIdle, IsPending, NamesAll}
 use Rattle.rule_model.specs.States.{State}
+
+-- the client has an offer pending
+abbrev pub HasPending : State → ℕ → Type 0
+HasPending s client = (number : ℕ) × IsPending s (client, number)
 
 -- a client may make its offer of this number, at one of so many gates
 pub record MayOffer (gates : ℕ) (s : State) (client number : ℕ) (offer : Offer) : Type 0 where

@@ -6,3 +6,5 @@ mod meeting;
 mod naming;
 mod pending;
 pub mod state;
+
+pub use pending::Pending;

@@ -125,3 +125,28 @@ pub fn without(
     }
     Ok(left)
 }
+
+// All of them.
+fn copies(alloc: Global, all: &[Pending]) -> Result<Vec<Pending>, Memory>
+    ensures { IfOk result (λ copied. map pending_of copied.items ≡ map pending_of all.now) }
+{
+    let mut copied = Vec::new(alloc);
+    for waiting in all {
+        copied.push(waiting.copy(alloc)?)?;
+    }
+    Ok(copied)
+}
+
+/// Those that aren't taken.
+pub fn without_taken(
+    alloc: Global,
+    all: &[Pending],
+    by: Option<(u32, u64)>,
+) -> Result<Vec<Pending>, Memory>
+    ensures { IfOk result (λ left. map pending_of left.items ≡ states.without_taken by (map pending_of all.now)) }
+{
+    match by {
+        None => copies(alloc, all),
+        Some((client, number)) => without(alloc, all, client, number),
+    }
+}

@@ -4,12 +4,12 @@ ghost use Rattle.std.specs.Prelude.{◌+◌, ◌&&◌, ◌≡◌, ◌↔◌, ◌
 ghost use Rattle.spec_core.specs.Code.{program_of};
 ghost use Rattle.spec_core.specs.Theories.{theory_of};
 ghost use Rattle.rule_model.specs.Behaviours.{behaviour_of};
-ghost use Rattle.rule_model.specs.Legal.{IsAgreed, IsPending, IsPendingAnd, NamesAll};
+ghost use Rattle.rule_model.specs.Legal.{IsAgreed, IsIdle, IsPending, IsPendingAnd, NamesAll};
 ghost use Rattle.rule_model.specs.Meets.{IsUnseen, Meets};
 ghost use Rattle.rule_model.specs.States as states;
 ghost use Rattle.session_states.specs.Clients.{is_open_among, numbers_from};
 ghost use Rattle.session_states.specs.Pending.{WaitsAnd, is_idle_among, names_all, names_only, waits_among};
-ghost use Rattle.session_states.specs.Possible.{MayOffer, MayLeave, MayStall};
+ghost use Rattle.session_states.specs.Possible.{HasPending, MayOffer, MayLeave, MayStall};
 ghost use Rattle.session_states.specs.Views.{pending_of, state_of};
 
 use crate::clients::Client;
@@ -67,19 +67,49 @@ impl SessionState {
         self.actions
     }
 
-    fn is_open(&self, client: u32) -> bool
+    /// The last action, if there was one. It takes no memory.
+    pub fn last(&self) -> &Option<Action>
+        ensures { result.now ≡ (state_of self.now).last }
+    {
+        &self.last
+    }
+
+    /// The pending offers, in the order in which they were made. It takes no memory.
+    pub fn pending(&self) -> &[Pending]
+        ensures { map pending_of result.now ≡ (state_of self.now).pending }
+    {
+        &self.pending
+    }
+
+    fn finds_open(&self, client: u32) -> bool
         ensures { result ≡ is_open_among self.now.clients.items client }
     {
         clients::is_open(&self.clients, client)
     }
 
-    fn is_idle(&self, client: u32) -> bool
+    /// Whether the client is open. It takes no memory.
+    pub fn is_open(&self, client: u32) -> bool
+        ensures { IsTrue result ↔ Contains (state_of self.now).open_clients client }
+    {
+        self.finds_open(client)
+    }
+
+    fn finds_none(&self, client: u32) -> bool
         ensures { result ≡ is_idle_among (map pending_of self.now.pending.items) client }
     {
         pending::is_idle(&self.pending, client)
     }
 
-    fn made(&self, client: u32) -> u64
+    /// Whether the client has no offer pending. It takes no memory.
+    pub fn is_idle(&self, client: u32) -> bool
+        ensures idle { IsTrue result ↔ IsIdle (state_of self.now) client }
+        ensures waits { result ≡ false → HasPending (state_of self.now) client }
+    {
+        self.finds_none(client)
+    }
+
+    /// How many offers the client has made, none where there is no such client. It takes no memory.
+    pub fn made(&self, client: u32) -> u64
         ensures { result ≡ (state_of self.now).made client }
     {
         clients::made(&self.clients, client)
@@ -89,7 +119,7 @@ impl SessionState {
     fn is_free(&self, client: u32) -> bool
         ensures { IsTrue result ↔ MayLeave (state_of self.now) client }
     {
-        self.is_open(client) && self.is_idle(client)
+        self.finds_open(client) && self.finds_none(client)
     }
 
     // Whether this is the number of the client's next offer.
@@ -113,8 +143,8 @@ impl SessionState {
         self.is_free(client) && self.fits(gates, client, number, offer.gate)
     }
 
-    // A client that may makes its offer.
-    fn put_offer(
+    /// A client that may makes its offer of this number.
+    pub fn put_offer(
         &mut self,
         alloc: Global,
         client: u32,
@@ -140,8 +170,8 @@ impl SessionState {
         Ok(())
     }
 
-    // A client that may leaves.
-    fn put_leave(&mut self, alloc: Global, client: u32) -> Result<(), Memory>
+    /// A client that may leaves.
+    pub fn put_leave(&mut self, alloc: Global, client: u32) -> Result<(), Memory>
         ensures left { OnOk result (state_of self.new ≡ states.after_leave (state_of self.old) client) }
         ensures same { OnErr result (state_of self.new ≡ state_of self.old) }
     {
@@ -288,6 +318,28 @@ impl SessionState {
                 self.last = Some(action);
                 Ok(())
             }
+        }
+    }
+
+    /// The state after an action, which takes the offer named, and by which this behaviour is reached.
+    pub fn acted(
+        &self,
+        alloc: Global,
+        action: Action,
+        by: Option<(u32, u64)>,
+        rest: Beh,
+    ) -> Result<SessionState, Memory>
+        ensures { IfOk result (λ s. state_of s ≡ states.after_action (state_of self.now) action by (behaviour_of rest)) }
+    {
+        match self.actions.checked_add(1) {
+            None => Err(Memory),
+            Some(actions) => Ok(SessionState {
+                behaviour: rest,
+                clients: Vec::from_slice(alloc, &self.clients)?,
+                pending: pending::without_taken(alloc, &self.pending, by)?,
+                actions,
+                last: Some(action),
+            }),
         }
     }
 }
