@@ -1,0 +1,47 @@
+-- What holds of the record of a session.
+use Rattle.std.specs.Prelude.{ℕ, ◌≡◌, List, Option, Some, None}
+use Rattle.spec_core.specs.Code.{Program}
+use Rattle.spec_core.specs.Ready.{IsReady}
+use Rattle.board_tree.specs.declared.ready.Ready.{Ready}
+use Rattle.board_tree.specs.Views.{IsNext}
+use Rattle.rule_model.specs.declared.action.Action.{Action}
+use Rattle.rule_model.specs.Behaviours.{Behaviour}
+use Rattle.rule_model.specs.Code.{IsStart}
+use Rattle.rule_model.specs.Derivations.{Derivation}
+use Rattle.rule_model.specs.Derives.{Derives}
+use Rattle.rule_model.specs.Events.{Event, OfferName, event_of, acted}
+use Rattle.rule_model.specs.Legal.{IsDerivation}
+use Rattle.rule_model.specs.States.{State, start_state, after_action}
+use Rattle.session_record.specs.declared.ready_act.ReadyAct.{ReadyAct}
+use Rattle.session_states.specs.Clients.{numbers_from}
+use Rattle.session_states.specs.Views.{state_of}
+use Rattle.tree_nodes.specs.Shapes.{Shape, stands_for}
+
+-- the log is a derivation that begins with the specification's behaviour and so many clients, and leads to the state
+pub record IsSession (program : Program) (clients : ℕ) (log : List Event) (s : State) : Type 0 where
+  pub behaviour : Behaviour
+  pub start : IsStart program behaviour
+  pub derivation : IsDerivation program log (start_state behaviour (numbers_from 1 clients)) s
+
+-- the log leads to the state, whose behaviour the tree stands for
+pub record IsRecord (program : Program) (clients : ℕ) (log : List Event) (s : State) (t : Shape) : Type 0 where
+  pub ready : IsReady program
+  pub session : IsSession program clients log s
+  pub reached : s.behaviour ≡ stands_for program t
+
+-- the behaviour does the action by these rules
+abbrev pub Does : Program → Behaviour → Derivation → Action → Type 0
+Does program b d a = (rest : Behaviour) × Derives program b d a rest
+
+-- the state is the one that the action leads to, with the behaviour of the tree that stands ready, and the entry tells of the action
+pub record IsReadyAct (program : Program) (s : State) (a : Action) (d : Derivation) (by : Option OfferName) (t : Option Ready) (r : ReadyAct)
+    : Type 0 where
+  pub rest : Behaviour
+  pub stands : (next : Shape) → IsNext t next → rest ≡ stands_for program next
+  pub state : state_of r.state ≡ after_action s a by rest
+  pub entry : event_of r.entry ≡ acted a d by
+
+-- such an act stands ready
+abbrev pub IsReadied : Program → State → Action → Derivation → Option OfferName → Option Ready → Option ReadyAct → Type 0
+IsReadied program s a d by t None = ⊥
+IsReadied program s a d by t (Some r) = IsReadyAct program s a d by t r

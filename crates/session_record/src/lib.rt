@@ -1,0 +1,8 @@
+// The record of a session: its log, the state that the log leads to, and the tree of its behaviour, which change together.
+#![tactic(auto)]
+
+mod faults;
+mod ready_act;
+pub mod record;
+
+pub use faults::{LeaveFault, PendFault};
