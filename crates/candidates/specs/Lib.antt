@@ -1,3 +1,4 @@
 pub mod Listed
+pub mod Walks
 pub mod Jobs
 pub mod Laws

@@ -2,11 +2,13 @@
 -- (This profile.)
 use Rattle.std.specs.Prelude.{ℕ, List, map, flat_map, Option, Bool, is_some, option_map, option_and_then}
 use Rattle.spec_core.specs.Theories.{Theory}
+use Rattle.rule_model.specs.declared.offer.Offer.{Offer}
 use Rattle.rule_model.specs.Derivations.{Derivation}
 use Rattle.windowed_trees.specs.Windows.{Windows}
 use Rattle.courses.specs.Courses.{Question}
 use Rattle.courses.specs.Known.{Knowledge}
 use Rattle.courses.specs.Lazy.{first}
+use Rattle.courses.specs.Rules.{Query}
 use Rattle.courses.specs.Gaps.{OrGap, element, in_its_place, first_known, all_known, missing_to_first, all_missing, known_to_hold}
 use Rattle.composites.specs.Composites.{Composite}
 use Rattle.open_composites.specs.OpenPlans.{OpenPlan}
@@ -40,9 +42,13 @@ module _ (theory : Theory) (w : Windows) where
   abbrev pub knowledge : Pieces → Shape → Knowledge Composite Candidate
   knowledge pieces t = record { items = items_in t; verdict = known_verdict theory w pieces t }
 
+  -- the trees of plans with gaps for which a query may ask, in order, each gap in its place
+  abbrev pub trees_in : Query Offer → List PlanOrGap → List (OrGap Derivation)
+  trees_in q ps = flat_map (in_its_place (λ p. map element (asked_from theory w q p 0))) ps
+
   -- the trees of the candidates, in order, with the same gaps; and whether the query asks for one, as far as it is known
   abbrev pub known_trees : Shape → TreeQuery → List (OrGap Derivation)
-  known_trees t q = flat_map (in_its_place (λ p. map element (asked_from theory w (for_offer q) p 0))) (known_plans theory t)
+  known_trees t q = trees_in (for_offer q) (known_plans theory t)
 
   abbrev pub tree_verdict : Pieces → Shape → TreeQuery → Derivation → Option Bool
   tree_verdict pieces t q d = known_verdict theory w pieces t (candidate q d)

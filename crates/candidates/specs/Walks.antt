@@ -1,0 +1,40 @@
+-- What a walk along the trees of parts has ahead. (This profile.)
+use Rattle.std.specs.Prelude.{◌++◌, List, [], map, Option, Some, None}
+use Rattle.spec_core.specs.Theories.{Theory, theory_of}
+use Rattle.rule_model.specs.declared.offer.Offer.{Offer}
+use Rattle.rule_model.specs.Derivations.{Derivation, derivation_of}
+use Rattle.windowed_trees.specs.Windows.{Windows}
+use Rattle.window_tables.specs.Tables.{windows_in}
+use Rattle.courses.specs.Gaps.{OrGap, element, gap}
+use Rattle.courses.specs.Rules.{Query}
+use Rattle.open_composites.specs.OpenPlans.{open_plan_of}
+use Rattle.numbered_trees.specs.Numbers.{trees_at_once}
+use Rattle.asked_lists.specs.Searches.{is_wanted, wanted_from, query_of}
+use Rattle.tree_composites.specs.Known.{part_of}
+use Rattle.candidates.specs.Listed.{trees_in}
+use Rattle.candidates.specs.declared.walk.TreesLeft.{TreesLeft}
+use Rattle.candidates.specs.declared.walk.Met.{Met}
+use Rattle.candidates.specs.declared.walk.Met.TheVariants.{Gap, Tree}
+use Rattle.candidates.specs.declared.walk.Walk.{Walk}
+
+-- a tree, or the generation of a node that isn't expanded
+abbrev pub met_of : Met → OrGap Derivation
+met_of (Gap generation) = gap generation.0
+met_of (Tree rules) = element (derivation_of rules)
+
+module _ (theory : Theory) (w : Windows) (q : Query Offer) where
+  -- the trees that are left of a composite
+  abbrev pub trees_left : Option TreesLeft → List Derivation
+  trees_left None = []
+  trees_left (Some c) =
+      wanted_from (is_wanted q)
+      (trees_at_once theory w (open_plan_of c.composite.now).fields (open_plan_of c.composite.now).plan c.choices.items) c.number
+
+-- what is in the parts behind the composite where the walk stands
+abbrev pub behind : Walk → List (OrGap Derivation)
+behind s = trees_in (theory_of s.algebra.now) (windows_in s.windows.now) (query_of s.search) (map part_of s.parts.now)
+
+-- what is left of the composite where the walk stands, and then what is behind it
+abbrev pub ahead : Walk → List (OrGap Derivation)
+ahead s =
+    map element (trees_left (theory_of s.algebra.now) (windows_in s.windows.now) (query_of s.search) s.current) ++ behind s
