@@ -1,10 +1,11 @@
 -- What is to be done at nodes, so that searches are decided. (This profile.)
-use Rattle.std.specs.Prelude.{ℕ, List, [], ◌∷◌, map, flat_map}
+use Rattle.std.specs.Prelude.{ℕ, ◌==◌, ◌&&◌, ◌||◌, List, [], ◌∷◌, map, flat_map, Bool, false}
 use Rattle.courses.specs.Courses.{Question, expand, judge}
 use Rattle.rule_model.specs.Derivations.{Derivation}
 use Rattle.node_lists.specs.Waiting.{Candidate}
 use Rattle.tree_nodes.specs.Shapes.{Shape}
 use Rattle.known_shows.specs.Known.{Pieces, NodePart, missing_parts}
+use Rattle.known_shows.specs.Same.{same_rules}
 
 -- a node is to be expanded; or a part of a tree of rules is to be judged at its node
 pub data NodeJob : Type 0 where
@@ -24,3 +25,14 @@ module _ (pieces : Pieces) (t : Shape) where
 abbrev pub of_tree : Question Candidate → Question Derivation
 of_tree (expand g) = expand g
 of_tree (judge a) = judge a.tree
+
+-- two jobs are one
+abbrev pub same_job : NodeJob → NodeJob → Bool
+same_job (to_expand g) (to_expand h) = g == h
+same_job (to_judge p) (to_judge q) = (p.generation == q.generation) && same_rules p.rules q.rules
+same_job _ _ = false
+
+-- the job is one of these, at which somebody works
+abbrev pub is_out : List NodeJob → NodeJob → Bool
+is_out [] job = false
+is_out (other ∷ out) job = same_job other job || is_out out job

@@ -19,8 +19,8 @@ use Rattle.asked_lists.specs.Searches.{for_offer, asked_from}
 use Rattle.tree_nodes.specs.Rests.{Work}
 use Rattle.tree_nodes.specs.Shapes.{Held, Shape, node_at}
 use Rattle.tree_composites.specs.Known.{PlanOrGap, known_plans}
-use Rattle.known_shows.specs.Known.{Pieces}
-use Rattle.known_shows.specs.Asked.{known_verdict}
+use Rattle.known_shows.specs.Known.{Pieces, known_show}
+use Rattle.known_shows.specs.Asked.{asked_by, known_verdict}
 
 module _ (theory : Theory) (w : Windows) where
   -- the candidates of a plan for a query, in order
@@ -46,9 +46,12 @@ module _ (theory : Theory) (w : Windows) where
   abbrev pub trees_in : Query Offer → List PlanOrGap → List (OrGap Derivation)
   trees_in q ps = flat_map (in_its_place (λ p. map element (asked_from theory w q p 0))) ps
 
-  -- the trees of the candidates, in order, with the same gaps; and whether the query asks for one, as far as it is known
+  -- the trees of the candidates, in order, with the same gaps; and whether a query asks for one, as far as it is known
   abbrev pub known_trees : Shape → TreeQuery → List (OrGap Derivation)
   known_trees t q = trees_in (for_offer q) (known_plans theory t)
+
+  abbrev pub verdict_for : Pieces → Shape → Query Offer → Derivation → Option Bool
+  verdict_for pieces t q d = option_map (asked_by theory w q d) (known_show theory w pieces t d)
 
   abbrev pub tree_verdict : Pieces → Shape → TreeQuery → Derivation → Option Bool
   tree_verdict pieces t q d = known_verdict theory w pieces t (candidate q d)
