@@ -1,8 +1,10 @@
 // The record of a session: its log, the state that the log leads to, and the tree of its behaviour, which change together.
 #![tactic(auto)]
 
+mod answered;
 mod faults;
 mod ready_act;
 pub mod record;
 
+pub use answered::Answered;
 pub use faults::{LeaveFault, PendFault};

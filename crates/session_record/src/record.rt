@@ -1,6 +1,6 @@
 // The record of a session.
 
-ghost use Rattle.std.specs.Prelude.{◌+◌, ◌++◌, ◌∷◌, ◌≡◌, ◌<◌, ◌≤◌, [], Contains, IfErr, IfOk, OnErr, OnOk, length, map, vec_len};
+ghost use Rattle.std.specs.Prelude.{◌+◌, ◌++◌, ◌∷◌, ◌≡◌, ◌<◌, ◌≤◌, [], Contains, IfErr, IfOk, OnErr, OnOk, length, map, option_map, vec_len};
 ghost use Rattle.std.specs.Vec.{vec_capacity};
 ghost use Rattle.spec_core.specs.Code.{program_of};
 ghost use Rattle.spec_core.specs.Ready.{IsReady};
@@ -11,6 +11,8 @@ ghost use Rattle.rule_model.specs.Derivations.{derivation_of};
 ghost use Rattle.rule_model.specs.Events.{acted, event_of, left, pended, replied, stalled};
 ghost use Rattle.rule_model.specs.Legal.{IsAgreed, IsIdle, IsPending, IsReplyAt};
 ghost use Rattle.rule_model.specs.States.{after_action, after_leave, after_offer, after_reply, after_stall};
+ghost use Rattle.rule_model.specs.Logs.{events_of};
+ghost use Rattle.session_record.specs.Answered.{answered_of, reply_to};
 ghost use Rattle.session_record.specs.Faults.{ExplainsLeave, ExplainsPend};
 ghost use Rattle.session_record.specs.Records.{Does, IsSession};
 ghost use Rattle.session_record.specs.Views.{events, program, state, IsActReserved, SameLog, SameSetting, SameTree};
@@ -19,6 +21,7 @@ ghost use Rattle.session_states.specs.Views.{state_of};
 ghost use Rattle.tree_nodes.specs.Rests.{expansion_of};
 ghost use Rattle.tree_nodes.specs.Shapes.{stands_for, posted, Lives, IsRight, IsWorkFor, AllWait};
 
+use crate::answered::{Answered, reply_to};
 use crate::faults::{LeaveFault, PendFault};
 use crate::ready_act::{ReadyAct, ready_act};
 use board_tree::tree::Tree;
@@ -92,6 +95,17 @@ fn append(entries: &mut Vec<Entry>, entry: Entry)
     }
 }
 
+// A log of these entries.
+fn log_of(alloc: Global, entries: &[Entry]) -> Result<Log, Memory>
+    ensures { IfOk result (λ log. events_of log ≡ map event_of entries.now) }
+{
+    let mut log = Log::new(alloc);
+    for entry in entries {
+        log.push(entry.copy(alloc)?)?;
+    }
+    Ok(log)
+}
+
 impl Record {
     /// A session in which nothing happened yet, with so many clients, whose numbers begin with 1.
     pub fn new(alloc: Global, checked: Checked, clients: u32) -> Result<Record, Memory>
@@ -159,6 +173,20 @@ impl Record {
         ensures { result.now ≡ self.now.tree }
     {
         &self.tree
+    }
+
+    /// How the offer of this client and number was answered; None where it isn't answered yet. It takes no memory.
+    pub fn reply_of(&self, client: u32, number: u64) -> Option<Answered<'_>>
+        ensures { option_map answered_of result ≡ reply_to 0 (events self.now) (client, number) }
+    {
+        reply_to(&self.entries, (client, number))
+    }
+
+    /// The log as a value of its own.
+    pub fn copy_log(&self, alloc: Global) -> Result<Log, Memory>
+        ensures { IfOk result (λ log. events_of log ≡ events self.now) }
+    {
+        log_of(alloc, &self.entries)
     }
 
     // A client that may makes its next offer.

@@ -7,4 +7,5 @@ mod naming;
 mod pending;
 pub mod state;
 
+pub use naming::is_named;
 pub use pending::Pending;

@@ -6,8 +6,8 @@ ghost use Rattle.session_states.specs.Views.{pending_of};
 
 use crate::pending::{Pending, waits};
 
-// Whether the list names the offer of this client and number.
-fn is_named(names: &[(u32, u64)], client: u32, number: u64) -> bool
+/// Whether the list names the offer of this client and number. It takes no memory.
+pub fn is_named(names: &[(u32, u64)], client: u32, number: u64) -> bool
     ensures { result ≡ pending.is_named names.now client number }
 {
     match names {
