@@ -1,5 +1,4 @@
 pub mod Memory
-pub mod Gates
 pub mod Filling
 pub mod Rows
 pub mod Putting

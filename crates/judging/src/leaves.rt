@@ -12,7 +12,7 @@ ghost use Rattle.window_tables.specs.Tables.{windows_in};
 ghost use Rattle.judging.specs.Judged.{Judged};
 
 use crate::choosing::{Filled, filled_exit, filled_fields, guard_may_hold};
-use crate::opening::{action_at, exit_at, inner_at};
+use code_views::views::{action_at, exit_at, inner_at};
 use marked_values::scope::{Given, copy_scope};
 use marked_values::stop::Stop;
 use open_composites::composite::ActionKind;

@@ -5,7 +5,6 @@ mod choosing;
 pub mod laws;
 mod leaves;
 mod making;
-mod opening;
 pub mod origins;
 mod relabelled;
 mod walking;

@@ -16,7 +16,7 @@ ghost use Rattle.judging.specs.Judged.{Judged};
 use crate::choosing::{chosen, lies_within};
 use crate::leaves::{acts, acts_inside, terminates};
 use crate::making;
-use crate::opening::{
+use code_views::views::{
     bound_at, call_at, choice_at, definition_at, disable_at, enable_at, gate_at, gate_choice_at,
     guarded_at, hide_at, parallel_at, relabel_at, renaming, value_choice_at,
 };

@@ -1,4 +1,4 @@
-// The parts of constructs.
+// The parts of the constructs at numbers of the code.
 
 ghost use Rattle.std.specs.Prelude.{ℕ, suc, List, [], ◌∷◌, ◌≡◌, IfOk, IfSome, IfNone, Some, map};
 ghost use Rattle.std.specs.List.{slice_get};

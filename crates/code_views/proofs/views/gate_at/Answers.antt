@@ -1,5 +1,5 @@
-use Rattle.judging.proofs.Gates.{gate_there, gate_past}
-use Rattle.judging.proofs.opening.gate_at.Goals as goal
+use Rattle.code_views.proofs.Gates.{gate_there, gate_past}
+use Rattle.code_views.proofs.views.gate_at.Goals as goal
 
 pub returns-then-index-gates-clause-some : goal.returns-then-index-gates-clause-some
 returns-then-index-gates-clause-some c = gate_there c.args.gates.now c.args.place c.if-place-eq0.false c.if-index-gates.true
