@@ -135,7 +135,8 @@ pub struct Filled {
 
 // One more field in front of these.
 fn put_front(field: ShownField, filled: Filled) -> Result<Filled, Memory>
-    ensures fields { IfOk result (λ x. map marked_field_of x.fields.items ≡ marked_field_of field ∷ map marked_field_of filled.fields.items) }
+    ensures fields { IfOk result (λ x.
+        map marked_field_of x.fields.items ≡ marked_field_of field ∷ map marked_field_of filled.fields.items) }
     ensures scope { IfOk result (λ x. x.scope.items ≡ filled.scope.items) }
 {
     let Filled { fields, scope } = filled;

@@ -61,7 +61,8 @@ fn left_chosen(
 ) -> Result<Option<Shown>, Stop>
     requires ready { IsReady (program_of checked.now) }
     ensures judged { Judged (program_of checked.now) (windows_in windows.now) budget
-        (marks_of (program_of checked.now).theory scope.now) (behaviour_at (program_of checked.now) node) (chl (derivation_of part.now)) result }
+        (marks_of (program_of checked.now).theory scope.now) (behaviour_at (program_of checked.now) node)
+        (chl (derivation_of part.now)) result }
 {
     match choice_at(checked, node) {
         None => Ok(None),
@@ -82,7 +83,8 @@ fn right_chosen(
 ) -> Result<Option<Shown>, Stop>
     requires ready { IsReady (program_of checked.now) }
     ensures judged { Judged (program_of checked.now) (windows_in windows.now) budget
-        (marks_of (program_of checked.now).theory scope.now) (behaviour_at (program_of checked.now) node) (chr (derivation_of part.now)) result }
+        (marks_of (program_of checked.now).theory scope.now) (behaviour_at (program_of checked.now) node)
+        (chr (derivation_of part.now)) result }
 {
     match choice_at(checked, node) {
         None => Ok(None),
@@ -104,7 +106,8 @@ fn value_chosen(
 ) -> Result<Option<Shown>, Stop>
     requires ready { IsReady (program_of checked.now) }
     ensures judged { Judged (program_of checked.now) (windows_in windows.now) budget
-        (marks_of (program_of checked.now).theory scope.now) (behaviour_at (program_of checked.now) node) (val slot.now (derivation_of part.now)) result }
+        (marks_of (program_of checked.now).theory scope.now) (behaviour_at (program_of checked.now) node)
+        (val slot.now (derivation_of part.now)) result }
 {
     match value_choice_at(checked, node) {
         None => Ok(None),
@@ -135,7 +138,8 @@ fn gate_chosen(
 ) -> Result<Option<Shown>, Stop>
     requires ready { IsReady (program_of checked.now) }
     ensures judged { Judged (program_of checked.now) (windows_in windows.now) budget
-        (marks_of (program_of checked.now).theory scope.now) (behaviour_at (program_of checked.now) node) (gate place (derivation_of part.now)) result }
+        (marks_of (program_of checked.now).theory scope.now) (behaviour_at (program_of checked.now) node)
+        (gate place (derivation_of part.now)) result }
 {
     match gate_choice_at(checked, node) {
         None => Ok(None),
@@ -162,7 +166,8 @@ fn guarded(
 ) -> Result<Option<Shown>, Stop>
     requires ready { IsReady (program_of checked.now) }
     ensures judged { Judged (program_of checked.now) (windows_in windows.now) budget
-        (marks_of (program_of checked.now).theory scope.now) (behaviour_at (program_of checked.now) node) (guard (derivation_of part.now)) result }
+        (marks_of (program_of checked.now).theory scope.now) (behaviour_at (program_of checked.now) node)
+        (guard (derivation_of part.now)) result }
 {
     match guarded_at(checked, node) {
         None => Ok(None),
@@ -189,7 +194,8 @@ fn bound(
 ) -> Result<Option<Shown>, Stop>
     requires ready { IsReady (program_of checked.now) }
     ensures judged { Judged (program_of checked.now) (windows_in windows.now) budget
-        (marks_of (program_of checked.now).theory scope.now) (behaviour_at (program_of checked.now) node) (letting (derivation_of part.now)) result }
+        (marks_of (program_of checked.now).theory scope.now) (behaviour_at (program_of checked.now) node)
+        (letting (derivation_of part.now)) result }
 {
     match bound_at(checked, node) {
         None => Ok(None),
@@ -216,7 +222,8 @@ fn left_alone(
 ) -> Result<Option<Shown>, Stop>
     requires ready { IsReady (program_of checked.now) }
     ensures judged { Judged (program_of checked.now) (windows_in windows.now) budget
-        (marks_of (program_of checked.now).theory scope.now) (behaviour_at (program_of checked.now) node) (parl (derivation_of part.now)) result }
+        (marks_of (program_of checked.now).theory scope.now) (behaviour_at (program_of checked.now) node)
+        (parl (derivation_of part.now)) result }
 {
     match parallel_at(checked, node) {
         None => Ok(None),
@@ -240,7 +247,8 @@ fn right_alone(
 ) -> Result<Option<Shown>, Stop>
     requires ready { IsReady (program_of checked.now) }
     ensures judged { Judged (program_of checked.now) (windows_in windows.now) budget
-        (marks_of (program_of checked.now).theory scope.now) (behaviour_at (program_of checked.now) node) (parr (derivation_of part.now)) result }
+        (marks_of (program_of checked.now).theory scope.now) (behaviour_at (program_of checked.now) node)
+        (parr (derivation_of part.now)) result }
 {
     match parallel_at(checked, node) {
         None => Ok(None),
@@ -265,7 +273,8 @@ fn together(
 ) -> Result<Option<Shown>, Stop>
     requires ready { IsReady (program_of checked.now) }
     ensures judged { Judged (program_of checked.now) (windows_in windows.now) budget
-        (marks_of (program_of checked.now).theory scope.now) (behaviour_at (program_of checked.now) node) (both (derivation_of first.now) (derivation_of second.now)) result }
+        (marks_of (program_of checked.now).theory scope.now) (behaviour_at (program_of checked.now) node)
+        (both (derivation_of first.now) (derivation_of second.now)) result }
 {
     match parallel_at(checked, node) {
         None => Ok(None),
@@ -294,7 +303,8 @@ fn hidden(
 ) -> Result<Option<Shown>, Stop>
     requires ready { IsReady (program_of checked.now) }
     ensures judged { Judged (program_of checked.now) (windows_in windows.now) budget
-        (marks_of (program_of checked.now).theory scope.now) (behaviour_at (program_of checked.now) node) (hiding (derivation_of part.now)) result }
+        (marks_of (program_of checked.now).theory scope.now) (behaviour_at (program_of checked.now) node)
+        (hiding (derivation_of part.now)) result }
 {
     match hide_at(checked, node) {
         None => Ok(None),
@@ -318,7 +328,8 @@ fn passed(
 ) -> Result<Option<Shown>, Stop>
     requires ready { IsReady (program_of checked.now) }
     ensures judged { Judged (program_of checked.now) (windows_in windows.now) budget
-        (marks_of (program_of checked.now).theory scope.now) (behaviour_at (program_of checked.now) node) (pass (derivation_of part.now)) result }
+        (marks_of (program_of checked.now).theory scope.now) (behaviour_at (program_of checked.now) node)
+        (pass (derivation_of part.now)) result }
 {
     match hide_at(checked, node) {
         None => Ok(None),
@@ -342,7 +353,8 @@ fn before_end(
 ) -> Result<Option<Shown>, Stop>
     requires ready { IsReady (program_of checked.now) }
     ensures judged { Judged (program_of checked.now) (windows_in windows.now) budget
-        (marks_of (program_of checked.now).theory scope.now) (behaviour_at (program_of checked.now) node) (enstep (derivation_of part.now)) result }
+        (marks_of (program_of checked.now).theory scope.now) (behaviour_at (program_of checked.now) node)
+        (enstep (derivation_of part.now)) result }
 {
     match enable_at(checked, node) {
         None => Ok(None),
@@ -366,7 +378,8 @@ fn handed_on(
 ) -> Result<Option<Shown>, Stop>
     requires ready { IsReady (program_of checked.now) }
     ensures judged { Judged (program_of checked.now) (windows_in windows.now) budget
-        (marks_of (program_of checked.now).theory scope.now) (behaviour_at (program_of checked.now) node) (enend (derivation_of part.now)) result }
+        (marks_of (program_of checked.now).theory scope.now) (behaviour_at (program_of checked.now) node)
+        (enend (derivation_of part.now)) result }
 {
     match enable_at(checked, node) {
         None => Ok(None),
@@ -390,7 +403,8 @@ fn undisabled(
 ) -> Result<Option<Shown>, Stop>
     requires ready { IsReady (program_of checked.now) }
     ensures judged { Judged (program_of checked.now) (windows_in windows.now) budget
-        (marks_of (program_of checked.now).theory scope.now) (behaviour_at (program_of checked.now) node) (disstep (derivation_of part.now)) result }
+        (marks_of (program_of checked.now).theory scope.now) (behaviour_at (program_of checked.now) node)
+        (disstep (derivation_of part.now)) result }
 {
     match disable_at(checked, node) {
         None => Ok(None),
@@ -414,7 +428,8 @@ fn ended(
 ) -> Result<Option<Shown>, Stop>
     requires ready { IsReady (program_of checked.now) }
     ensures judged { Judged (program_of checked.now) (windows_in windows.now) budget
-        (marks_of (program_of checked.now).theory scope.now) (behaviour_at (program_of checked.now) node) (disend (derivation_of part.now)) result }
+        (marks_of (program_of checked.now).theory scope.now) (behaviour_at (program_of checked.now) node)
+        (disend (derivation_of part.now)) result }
 {
     match disable_at(checked, node) {
         None => Ok(None),
@@ -438,7 +453,8 @@ fn disabling(
 ) -> Result<Option<Shown>, Stop>
     requires ready { IsReady (program_of checked.now) }
     ensures judged { Judged (program_of checked.now) (windows_in windows.now) budget
-        (marks_of (program_of checked.now).theory scope.now) (behaviour_at (program_of checked.now) node) (distake (derivation_of part.now)) result }
+        (marks_of (program_of checked.now).theory scope.now) (behaviour_at (program_of checked.now) node)
+        (distake (derivation_of part.now)) result }
 {
     match disable_at(checked, node) {
         None => Ok(None),
@@ -461,7 +477,8 @@ pub fn called(
 ) -> Result<Option<Shown>, Stop>
     requires ready { IsReady (program_of checked.now) }
     ensures judged { Judged (program_of checked.now) (windows_in windows.now) budget
-        (marks_of (program_of checked.now).theory scope.now) (call process (map gate_number gates.now) (map term_of terms.now)) (calling (derivation_of part.now)) result }
+        (marks_of (program_of checked.now).theory scope.now) (call process (map gate_number gates.now) (map term_of terms.now))
+        (calling (derivation_of part.now)) result }
 {
     match definition_at(checked, process) {
         None => Ok(None),
@@ -493,7 +510,8 @@ fn call_acts(
 ) -> Result<Option<Shown>, Stop>
     requires ready { IsReady (program_of checked.now) }
     ensures judged { Judged (program_of checked.now) (windows_in windows.now) budget
-        (marks_of (program_of checked.now).theory scope.now) (behaviour_at (program_of checked.now) node) (calling (derivation_of part.now)) result }
+        (marks_of (program_of checked.now).theory scope.now) (behaviour_at (program_of checked.now) node)
+        (calling (derivation_of part.now)) result }
 {
     match call_at(checked, node) {
         None => Ok(None),
@@ -516,7 +534,8 @@ fn renamed(
 ) -> Result<Option<Shown>, Stop>
     requires ready { IsReady (program_of checked.now) }
     ensures judged { Judged (program_of checked.now) (windows_in windows.now) budget
-        (marks_of (program_of checked.now).theory scope.now) (behaviour_at (program_of checked.now) node) (rel (derivation_of part.now)) result }
+        (marks_of (program_of checked.now).theory scope.now) (behaviour_at (program_of checked.now) node)
+        (rel (derivation_of part.now)) result }
 {
     match relabel_at(checked, node) {
         None => Ok(None),
@@ -541,7 +560,8 @@ pub fn walk_renamed(
 ) -> Result<Option<Shown>, Stop>
     requires ready { IsReady (program_of checked.now) }
     ensures judged { Judged (program_of checked.now) (windows_in windows.now) budget
-        (marks_of (program_of checked.now).theory scope.now) (relabel (map relabelling_of pairs.now) (behaviour_at (program_of checked.now) node)) (derivation_of rules.now) result }
+        (marks_of (program_of checked.now).theory scope.now)
+        (relabel (map relabelling_of pairs.now) (behaviour_at (program_of checked.now) node)) (derivation_of rules.now) result }
 {
     match rules {
         Rules::Rel(part) => {
@@ -571,7 +591,8 @@ pub fn walk_renamed(
     }
 }
 
-/// What the behaviour with this number of the code shows by a tree of rules, with what is known for its variables. It recurs as deep as the tree, and the terms, are.
+/// What the behaviour with this number of the code shows by a tree of rules, with what is known for its variables. It recurs as deep as
+/// the tree, and the terms, are.
 #[cycle(walk)]
 pub fn walk(
     alloc: Global,
