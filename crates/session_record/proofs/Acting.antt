@@ -1,16 +1,15 @@
 -- What an action that stands ready makes of the record of a session.
-use Rattle.std.proofs.Common.{ℕ, ◌≡◌, ◌∙◌, refl, sym, ap, subst, List, [], ◌∷◌, ◌++◌, map, Option, Some, None}
+use Rattle.std.proofs.Common.{ℕ, ◌≡◌, ◌∙◌, sym, ap, subst, List, [], ◌∷◌, ◌++◌, map, Option}
 use Rattle.std.proofs.lemmas.List.{map-append}
 use Rattle.spec_core.specs.Code.{Program}
 use Rattle.board_tree.specs.declared.ready.Ready.{Ready}
 use Rattle.board_tree.specs.Steps.{Follows}
-use Rattle.board_tree.specs.Views.{IsNext, IsStep, IsReserved}
+use Rattle.board_tree.specs.Views.{IsNext, IsStep}
 use Rattle.rule_model.specs.declared.action.Action.{Action}
 use Rattle.rule_model.specs.declared.log.Entry.{Entry}
-use Rattle.rule_model.specs.Behaviours.{Behaviour}
 use Rattle.rule_model.specs.Derivations.{Derivation}
 use Rattle.rule_model.specs.Derives.{Derives}
-use Rattle.rule_model.specs.Events.{Event, OfferName, event_of, acted}
+use Rattle.rule_model.specs.Events.{OfferName, event_of, acted}
 use Rattle.rule_model.specs.Legal.{IsPossible, IsAgreed}
 use Rattle.rule_model.specs.States.{State, after_action}
 use Rattle.session_record.proofs.Growing.{goes_on}

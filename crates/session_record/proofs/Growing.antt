@@ -1,17 +1,15 @@
 -- What one more entry makes of the record of a session.
-use Rattle.std.proofs.Common.{ℕ, ◌≡◌, ◌∙◌, refl, sym, ap, subst, List, [], ◌∷◌, ◌++◌, map, Option}
+use Rattle.std.proofs.Common.{ℕ, ◌≡◌, ◌∙◌, sym, ap, subst, List, [], ◌∷◌, ◌++◌, map}
 use Rattle.std.proofs.lemmas.List.{map-append}
 use Rattle.spec_core.specs.Code.{Program}
 use Rattle.spec_core.specs.Ready.{IsReady}
-use Rattle.rule_model.specs.declared.action.Action.{Action}
 use Rattle.rule_model.specs.declared.log.Entry.{Entry}
 use Rattle.rule_model.specs.Behaviours.{Behaviour}
 use Rattle.rule_model.specs.Code.{IsStart}
-use Rattle.rule_model.specs.Derivations.{Derivation}
-use Rattle.rule_model.specs.Events.{Event, OfferName, event_of, acted}
-use Rattle.rule_model.specs.Legal.{IsPossible, IsDerivation, IsAgreed}
-use Rattle.rule_model.specs.States.{State, start_state, after_action}
-use Rattle.session_record.specs.Records.{IsRecord, IsSession, Does}
+use Rattle.rule_model.specs.Events.{event_of}
+use Rattle.rule_model.specs.Legal.{IsPossible, IsDerivation}
+use Rattle.rule_model.specs.States.{State, start_state}
+use Rattle.session_record.specs.Records.{IsRecord}
 use Rattle.session_states.proofs.Derivations.{further}
 use Rattle.session_states.specs.Clients.{numbers_from}
 use Rattle.tree_nodes.specs.Shapes.{Shape, stands_for}

@@ -14,6 +14,7 @@ use spec_core::memory::Memory;
 use std::alloc::Global;
 
 /// How an offer was answered.
+#[derive(Drop)]
 pub enum Answered<'a> {
     /// It was taken after so many actions, with these values.
     Taken { at: u64, values: &'a Values },

@@ -1,4 +1,4 @@
-use Rattle.std.proofs.Common.{rules, ◌≡◌, true, false}
+use Rattle.std.proofs.Common.{rules, ◌≡◌}
 use Rattle.session_record.proofs.Asking.{not_open, is_idle, may_leave}
 use Rattle.session_record.proofs.record.Record.leave.Goals as goal
 

@@ -1,4 +1,4 @@
-use Rattle.std.proofs.Common.{rules, arith, ◌≡◌, ◌<◌, true, false, length}
+use Rattle.std.proofs.Common.{rules, arith, ◌≡◌, ◌<◌, length}
 use Rattle.session_record.proofs.Asking.{is_open, is_idle}
 use Rattle.session_record.proofs.record.Record.pend.Goals as goal
 

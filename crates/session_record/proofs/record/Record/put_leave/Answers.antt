@@ -1,4 +1,4 @@
-use Rattle.std.proofs.Common.{rules, ◌≡◌, ◌∙◌, sym, ap, subst}
+use Rattle.std.proofs.Common.{rules, ◌≡◌, ◌∙◌, ap, subst}
 use Rattle.spec_core.specs.Code.{program_of}
 use Rattle.board_tree.specs.Views.{shape}
 use Rattle.rule_model.specs.declared.log.Entry.TheVariants.{Leave}
