@@ -5,7 +5,6 @@ pub mod Rows
 pub mod Choosing
 pub mod Calling
 pub mod Showing
-pub mod Scoping
 pub mod Walking
 pub mod Tidying
 pub mod Few

@@ -28,14 +28,13 @@ use Rattle.reached_terms.proofs.Reaching.{reached_of_origins}
 use Rattle.reached_terms.proofs.Spreading.{spread_of_origins}
 use Rattle.marked_values.specs.declared.scope.Given.{Given}
 use Rattle.marked_values.specs.declared.stop.Stop.{Stop}
-use Rattle.marked_values.specs.Scopes.{marks_of}
+use Rattle.marked_values.specs.Scopes.{marks_of, scope_over}
 use Rattle.expand.specs.declared.outcome.Expanded.{Expanded}
 use Rattle.marked_values.proofs.Stopping.{stops_on}
 use Rattle.expand.specs.Outcomes.{AsksReached, Expands, IsReached, IsTooWide, Stopped, Outcome}
-use Rattle.expand.specs.Scoping.{scope_over}
 use Rattle.window_tables.specs.Tables.{windows_in, values_of, complete_of}
 use Rattle.expand.specs.Expansions.{AskReached, IsExpansion, IsTooWideFor, IsStop, IsStopAt}
-use Rattle.expand.proofs.Scoping.{scope_known}
+use Rattle.marked_values.proofs.Scoping.{scope_known}
 
 each_more : {A : Type 0} (P Q : A → Type 0) (xs : List A) → ((x : A) → P x → Q x) → Each P xs → Each Q xs
 each_more P Q [] h k = tt

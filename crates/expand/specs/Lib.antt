@@ -2,5 +2,4 @@ pub mod Outcomes
 pub mod Joins
 pub mod Taking
 pub mod Choosing
-pub mod Scoping
 pub mod Expansions

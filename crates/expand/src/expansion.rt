@@ -11,11 +11,10 @@ ghost use Rattle.sort_windows.specs.Found.{AreBySorts};
 ghost use Rattle.open_composites.specs.OpenPlans.{open_plan_of};
 ghost use Rattle.tree_nodes.specs.Origins.{meaning, relabelled_by, scoped, source_of};
 ghost use Rattle.expand.specs.Expansions.{AskReached, IsExpansion, IsStop, IsStopAt};
-ghost use Rattle.expand.specs.Scoping.{scope_over};
 ghost use Rattle.window_tables.specs.Tables.{windows_in};
 
 use crate::relabelled::expand_relabelled;
-use marked_values::scope::{Given, with};
+use marked_values::scope::known;
 use marked_values::stop::Stop;
 use open_composites::composite::OpenComposite;
 use sort_windows::windows;
@@ -33,24 +32,6 @@ use tree_nodes::origin::Origin;
 pub struct Expansion {
     pub composites: Vec<OpenComposite>,
     pub windows: Vec<Window>,
-}
-
-// Values for variables, of which the later ones come first, before what is known already.
-fn known(
-    alloc: Global,
-    values: &[(u32, Value)],
-    scope: Vec<(u32, Given)>,
-) -> Result<Vec<(u32, Given)>, Memory>
-    ensures { IfOk result (λ all. all.items ≡ scope_over values.now scope.items) }
-{
-    match values {
-        [] => Ok(scope),
-        [first, rest @ ..] => {
-            let (x, value) = first;
-            let more = with(scope, *x, Given::Value(value.copy(alloc)?))?;
-            known(alloc, rest, more)
-        }
-    }
 }
 
 // The composites of the behaviour with this number of the code, with values for its variables, under a relabelling; an empty one is none.

@@ -1,7 +1,7 @@
 use Rattle.std.proofs.Common.{rules, ◌≡◌, map, length, sym, ap, ◌∙◌}
 use Rattle.std.proofs.lemmas.List.{length-map}
 use Rattle.spec_core.specs.Code.{program_of, relabelling_of, node_of}
-use Rattle.expand.specs.Scoping.{scope_over}
+use Rattle.marked_values.specs.Scopes.{scope_over}
 use Rattle.window_tables.specs.Tables.{windows_in}
 use Rattle.expand.proofs.Top.{source_asked, source_expanded, source_stops}
 use Rattle.expand.proofs.expansion.composites_at.Goals as goal
@@ -16,7 +16,7 @@ returns-in-Err c =
           source_stops (program_of c.args.checked.now) c.args.budget (windows_in c.args.windows.now) c.args.values.now
           (map relabelling_of c.args.pairs.now) c.args.node c.len-calls.result c.deref.result.now
           (long ∙ sym (length-map c.args.checked.now.code.items node_of))
-          (c.deref.ensures.value ∙ c.in_ok-scope.ensures ∙ ap (scope_over c.args.values.now) c.new.ensures.items)
+          (c.deref.ensures.value ∙ c.in_ok-scope.ensures.known ∙ ap (scope_over c.args.values.now) c.new.ensures.items)
           c.in-Err.stop c.in-Err.ensures.comes;
     }
 
@@ -26,7 +26,7 @@ returns-clause-expansion c =
     source_expanded (program_of c.args.checked.now) c.args.budget (windows_in c.args.windows.now) c.args.values.now
     (map relabelling_of c.args.pairs.now) c.args.node c.len-calls.result c.deref.result.now
     (long ∙ sym (length-map c.args.checked.now.code.items node_of))
-    (c.deref.ensures.value ∙ c.in_ok-scope.ensures ∙ ap (scope_over c.args.values.now) c.new.ensures.items)
+    (c.deref.ensures.value ∙ c.in_ok-scope.ensures.known ∙ ap (scope_over c.args.values.now) c.new.ensures.items)
     c.in-Ok.x c.in-Ok.x.few c.in-Ok.ensures.comes
 
 pub returns-clause-asked : goal.returns-clause-asked
@@ -35,5 +35,5 @@ returns-clause-asked c =
     source_asked (program_of c.args.checked.now) c.args.budget (windows_in c.args.windows.now) c.args.values.now
     (map relabelling_of c.args.pairs.now) c.args.node c.len-calls.result c.deref.result.now
     (long ∙ sym (length-map c.args.checked.now.code.items node_of))
-    (c.deref.ensures.value ∙ c.in_ok-scope.ensures ∙ ap (scope_over c.args.values.now) c.new.ensures.items)
+    (c.deref.ensures.value ∙ c.in_ok-scope.ensures.known ∙ ap (scope_over c.args.values.now) c.new.ensures.items)
     c.in-Ok.x c.in-Ok.ensures.comes
