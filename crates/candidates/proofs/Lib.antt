@@ -3,3 +3,6 @@ pub mod Trees
 pub mod Entries
 pub mod Deciding
 pub mod Needing
+pub mod Stepping
+pub mod Asking
+pub mod Numbering

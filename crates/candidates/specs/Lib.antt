@@ -2,4 +2,6 @@ pub mod Listed
 pub mod Walks
 pub mod Jobs
 pub mod Models
+pub mod Offers
+pub mod KnownTrees
 pub mod Laws

@@ -1,6 +1,10 @@
 // The agreements that a session may commit, from what is known of its tree.
 #![tactic(auto)]
 
+pub mod entry;
 pub mod job;
+pub mod known_tree;
 pub mod laws;
+mod lists;
+mod searching;
 mod walk;

@@ -4,7 +4,7 @@
 mod clients;
 mod meeting;
 mod naming;
-mod pending;
+pub mod pending;
 pub mod state;
 
 pub use naming::is_named;

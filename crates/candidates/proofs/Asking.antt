@@ -1,0 +1,70 @@
+-- Searches in a known tree, one met thing after another.
+use Rattle.std.proofs.Common.{◌≡◌, ◌++◌, ◌∙◌, ◌||◌, List, [], ◌∷◌, map, refl, sym, ap, subst, Option, Some, None, option_map, Bool, true, false}
+use Rattle.std.proofs.lemmas.List.{map-append}
+use Rattle.spec_core.specs.Theories.{theory_of}
+use Rattle.rule_model.specs.declared.offer.Offer.{Offer}
+use Rattle.rule_model.specs.declared.rules.Rules.{Rules}
+use Rattle.rule_model.specs.Derivations.{Derivation, derivation_of}
+use Rattle.window_tables.specs.Tables.{windows_in}
+use Rattle.courses.specs.Gaps.{OrGap}
+use Rattle.courses.specs.Lazy.{first}
+use Rattle.courses.specs.Rules.{Query}
+use Rattle.settling.specs.Searches.{first_of}
+use Rattle.settling.specs.declared.listing.First.{First}
+use Rattle.settling.specs.declared.listing.First.TheVariants.{Is}
+use Rattle.tree_nodes.specs.Shapes.{shape_of}
+use Rattle.known_shows.specs.Stored.{stored}
+use Rattle.candidates.specs.Listed.{verdict_for}
+use Rattle.candidates.specs.Jobs.{NodeJob, jobs_of}
+use Rattle.candidates.specs.KnownTrees.{is_out_in, first_of_those, all_of_those, left_to_first, left_to_all, is_held_among}
+use Rattle.candidates.specs.declared.known_tree.KnownTree.{KnownTree}
+use Rattle.candidates.proofs.Stepping.{first_then, all_then, and_more, one_more, first_from, all_from, more_to_first, end_to_first, job_to_first}
+use Rattle.candidates.proofs.Stepping.{more_to_all, job_to_all, held_from}
+
+module _ (s : KnownTree) (q : Query Offer) (l : List (OrGap Derivation)) (x : OrGap Derivation) (rest : List (OrGap Derivation))
+    (next : l ≡ x ∷ rest) where
+  abbrev verdict : Derivation → Option Bool
+  verdict = verdict_for (theory_of s.algebra.now) (windows_in s.windows.now) (stored s.pieces.now) (shape_of s.tree.now) q
+
+  pub first_after : first_of_those s q l ≡ first_then (first_of_those s q (x ∷ [])) (first_of_those s q rest)
+  first_after = ap (first_of_those s q) next ∙ first_from verdict x rest
+
+  pub all_after : all_of_those s q l ≡ all_then (first_of_those s q (x ∷ [])) (all_of_those s q rest)
+  all_after = ap (all_of_those s q) next ∙ all_from verdict x rest
+
+  pub held_after : is_held_among s q l ≡ is_held_among s q (x ∷ []) || is_held_among s q rest
+  held_after = ap (is_held_among s q) next ∙ held_from verdict (jobs_of (stored s.pieces.now) (shape_of s.tree.now)) (is_out_in s) x rest
+
+  pub first_more : left_to_all s q (x ∷ []) ≡ [] → is_held_among s q (x ∷ []) ≡ false → left_to_first s q l ≡ left_to_first s q rest
+  first_more e h =
+      ap (left_to_first s q) next
+      ∙ more_to_first verdict (jobs_of (stored s.pieces.now) (shape_of s.tree.now)) (is_out_in s) x rest e h
+
+  pub first_end : is_held_among s q (x ∷ []) ≡ true → left_to_first s q l ≡ []
+  first_end h =
+      ap (left_to_first s q) next ∙ end_to_first verdict (jobs_of (stored s.pieces.now) (shape_of s.tree.now)) (is_out_in s) x rest h
+
+  pub first_job : (j : NodeJob) → first (left_to_all s q (x ∷ [])) ≡ Some j → first (left_to_first s q l) ≡ Some j
+  first_job j e =
+      ap (λ z. first (left_to_first s q z)) next
+      ∙ job_to_first verdict (jobs_of (stored s.pieces.now) (shape_of s.tree.now)) (is_out_in s) x rest j e
+
+  pub all_more : left_to_all s q (x ∷ []) ≡ [] → left_to_all s q l ≡ left_to_all s q rest
+  all_more e =
+      ap (left_to_all s q) next ∙ more_to_all verdict (jobs_of (stored s.pieces.now) (shape_of s.tree.now)) (is_out_in s) x rest e
+
+  pub all_job : (j : NodeJob) → first (left_to_all s q (x ∷ [])) ≡ Some j → first (left_to_all s q l) ≡ Some j
+  all_job j e =
+      ap (λ z. first (left_to_all s q z)) next
+      ∙ job_to_all verdict (jobs_of (stored s.pieces.now) (shape_of s.tree.now)) (is_out_in s) x rest j e
+
+  -- one more tree was found
+  pub all_found : (whole : Option (List Derivation)) (xs ys : List Rules) (tree : Rules) (f : First Rules) →
+      whole ≡ and_more (map derivation_of xs) (all_of_those s q l) → first_of derivation_of f ≡ first_of_those s q (x ∷ []) →
+      f ≡ Is tree → ys ≡ xs ++ tree ∷ [] → whole ≡ and_more (map derivation_of ys) (all_of_those s q rest)
+  all_found whole xs ys tree f so e is pushed =
+      so
+      ∙ ap (and_more (map derivation_of xs))
+      (all_after ∙ ap (λ o. all_then o (all_of_those s q rest)) (sym e ∙ ap (first_of derivation_of) is))
+      ∙ one_more (map derivation_of xs) (derivation_of tree) (all_of_those s q rest)
+      ∙ ap (λ zs. and_more zs (all_of_those s q rest)) (sym (ap (map derivation_of) pushed ∙ map-append derivation_of xs (tree ∷ [])))

@@ -1,0 +1,57 @@
+-- What is decided and asked of numbers of offers, of the trees of parts, is decided and asked of the offers and of the tree.
+use Rattle.std.proofs.Common.{ℕ, ◌≡◌, ◌∙◌, List, sym, ap, Option, option_map, Bool}
+use Rattle.spec_core.specs.Theories.{theory_of}
+use Rattle.rule_model.specs.Derivations.{Derivation}
+use Rattle.rule_model.specs.States.{PendingOffer}
+use Rattle.window_tables.specs.Tables.{windows_in}
+use Rattle.courses.specs.Gaps.{OrGap}
+use Rattle.courses.specs.Rules.{Query, Waiting, Next}
+use Rattle.settling.specs.Jobs.{first_not_out}
+use Rattle.settling.specs.Needed.{next_needed}
+use Rattle.settling.specs.Numbered.{entry_with, waiting_with}
+use Rattle.settling.specs.Rules.{next_decided}
+use Rattle.settling.proofs.Numbers.{numbers_stand_for_them}
+use Rattle.tree_composites.specs.Known.{PlanOrGap}
+use Rattle.candidates.specs.Listed.{trees_in}
+use Rattle.candidates.specs.Jobs.{NodeJob}
+use Rattle.candidates.specs.KnownTrees.{offer_in, numbered, is_out_in, first_in, all_in, jobs_to_first, jobs_to_all, is_held_in, HasItsParts}
+use Rattle.candidates.specs.KnownTrees.{trees_for, first_of_those, all_of_those, jobs_to_first_of, jobs_to_all_of, is_held_among}
+use Rattle.candidates.specs.declared.known_tree.KnownTree.{KnownTree}
+
+module _ (s : KnownTree) where
+  -- searches among the trees of plans
+  abbrev trees : List PlanOrGap → Query ℕ → List (OrGap Derivation)
+  trees ps q = trees_in (theory_of s.algebra.now) (windows_in s.windows.now) (numbered s q) ps
+
+  abbrev find : List PlanOrGap → Query ℕ → Option (Option Derivation)
+  find ps q = first_of_those s (numbered s q) (trees ps q)
+
+  abbrev every : List PlanOrGap → Query ℕ → Option (List Derivation)
+  every ps q = all_of_those s (numbered s q) (trees ps q)
+
+  abbrev missing : List PlanOrGap → Query ℕ → List NodeJob
+  missing ps q = jobs_to_first_of s (numbered s q) (trees ps q)
+
+  abbrev every_missing : List PlanOrGap → Query ℕ → List NodeJob
+  every_missing ps q = jobs_to_all_of s (numbered s q) (trees ps q)
+
+  abbrev is_there : List PlanOrGap → Query ℕ → Bool
+  is_there ps q = is_held_among s (numbered s q) (trees ps q)
+
+  pub entry_known : (w : Waiting ℕ) (o : Option (Next ℕ Derivation)) → HasItsParts s →
+      o ≡ next_decided (λ q. first_of_those s (numbered s q) (trees_for s (numbered s q)))
+      (λ q. all_of_those s (numbered s q) (trees_for s (numbered s q))) w →
+      option_map (entry_with (offer_in s)) o ≡ next_decided (first_in s) (all_in s) (waiting_with (offer_in s) w)
+  entry_known w o parts e =
+      ap (option_map (entry_with (offer_in s))) (e ∙ ap (λ ps. next_decided (find ps) (every ps) w) parts)
+      ∙ sym ((numbers_stand_for_them PendingOffer Derivation NodeJob).decided (offer_in s) (first_in s) (all_in s) w)
+
+  pub job_known : (w : Waiting ℕ) (o : Option NodeJob) → HasItsParts s →
+      o ≡ first_not_out (is_out_in s) (next_needed (λ q. jobs_to_first_of s (numbered s q) (trees_for s (numbered s q)))
+      (λ q. jobs_to_all_of s (numbered s q) (trees_for s (numbered s q))) (λ q. is_held_among s (numbered s q) (trees_for s (numbered s q))) w) →
+      o ≡ first_not_out (is_out_in s)
+      (next_needed (jobs_to_first s) (jobs_to_all s) (is_held_in s) (waiting_with (offer_in s) w))
+  job_known w o parts e =
+      e ∙ ap (λ ps. first_not_out (is_out_in s) (next_needed (missing ps) (every_missing ps) (is_there ps) w)) parts
+      ∙ sym (ap (first_not_out (is_out_in s))
+      ((numbers_stand_for_them PendingOffer Derivation NodeJob).needed (offer_in s) (jobs_to_first s) (jobs_to_all s) (is_held_in s) w))

@@ -1,0 +1,13 @@
+use Rattle.std.proofs.Common.{◌≡◌, length}
+use Rattle.asked_lists.specs.Searches.{query_of}
+use Rattle.candidates.specs.Walks.{ahead}
+use Rattle.candidates.specs.KnownTrees.{first_of_those, trees_for}
+use Rattle.candidates.proofs.known_tree.KnownTree.first_asked.Given as goal
+
+abbrev pub invariant-loop-walk : goal.invariant-loop-walk
+invariant-loop-walk l =
+    let q = query_of l.search in
+    first_of_those l.self q (trees_for l.self q) ≡ first_of_those l.self q (ahead l.walk)
+
+abbrev pub decreases-loop-walk : goal.decreases-loop-walk
+decreases-loop-walk l = length (ahead l.walk)

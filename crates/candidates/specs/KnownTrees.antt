@@ -1,0 +1,92 @@
+-- What a known tree of the program stands for, and what searches in it come to. (This profile.)
+use Rattle.std.specs.Prelude.{ℕ, ◌≡◌, List, map, Option, Bool, is_some}
+use Rattle.spec_core.specs.Theories.{theory_of}
+use Rattle.rule_model.specs.declared.offer.Offer.{Offer}
+use Rattle.rule_model.specs.Derivations.{Derivation}
+use Rattle.rule_model.specs.States.{PendingOffer}
+use Rattle.window_tables.specs.Tables.{windows_in}
+use Rattle.courses.specs.Gaps.{OrGap, first_known, all_known, missing_to_first, all_missing, known_to_hold}
+use Rattle.courses.specs.Lazy.{first}
+use Rattle.courses.specs.Rules.{Query}
+use Rattle.settling.specs.Jobs.{not_out}
+use Rattle.settling.specs.Numbered.{query_with}
+use Rattle.session_states.specs.Views.{pending_of}
+use Rattle.asked_trees.specs.Asked.{TreeQuery}
+use Rattle.asked_lists.specs.Searches.{for_offer}
+use Rattle.tree_nodes.specs.Shapes.{shape_of}
+use Rattle.tree_composites.specs.Known.{part_of, known_plans}
+use Rattle.known_shows.specs.Stored.{stored}
+use Rattle.candidates.specs.Listed.{trees_in, verdict_for, first_tree, all_trees, asked_for_first, asked_for_all, is_known_to_hold}
+use Rattle.candidates.specs.Jobs.{NodeJob, all_jobs, is_out}
+use Rattle.candidates.specs.Models.{job_of}
+use Rattle.candidates.specs.Offers.{offer_at}
+use Rattle.candidates.specs.declared.known_tree.KnownTree.{KnownTree}
+
+module _ (s : KnownTree) where
+  -- the offer with a number
+  abbrev pub offer_in : ℕ → PendingOffer
+  offer_in n = offer_at (map pending_of s.offers.now) n
+
+  -- somebody works at the job
+  abbrev pub is_out_in : NodeJob → Bool
+  is_out_in job = is_out (map job_of s.out.now) job
+
+  -- the query for an offer with a number
+  abbrev pub numbered : Query ℕ → Query Offer
+  numbered q = for_offer (query_with offer_in q)
+
+  -- searches, by queries for offers
+  module _ (q : TreeQuery) where
+    abbrev pub first_in : Option (Option Derivation)
+    first_in = first_tree (theory_of s.algebra.now) (windows_in s.windows.now) (stored s.pieces.now) (shape_of s.tree.now) q
+
+    abbrev pub all_in : Option (List Derivation)
+    all_in = all_trees (theory_of s.algebra.now) (windows_in s.windows.now) (stored s.pieces.now) (shape_of s.tree.now) q
+
+    abbrev pub jobs_to_first : List NodeJob
+    jobs_to_first = all_jobs (stored s.pieces.now) (shape_of s.tree.now)
+        (asked_for_first (theory_of s.algebra.now) (windows_in s.windows.now) (stored s.pieces.now) (shape_of s.tree.now) q)
+
+    abbrev pub jobs_to_all : List NodeJob
+    jobs_to_all = all_jobs (stored s.pieces.now) (shape_of s.tree.now)
+        (asked_for_all (theory_of s.algebra.now) (windows_in s.windows.now) (stored s.pieces.now) (shape_of s.tree.now) q)
+
+    abbrev pub is_held_in : Bool
+    is_held_in = is_known_to_hold (theory_of s.algebra.now) (windows_in s.windows.now) (stored s.pieces.now) (shape_of s.tree.now) q
+
+  -- the same among these trees with gaps, whoever makes the offers
+  module _ (q : Query Offer) (those : List (OrGap Derivation)) where
+    abbrev pub first_of_those : Option (Option Derivation)
+    first_of_those =
+        first_known (verdict_for (theory_of s.algebra.now) (windows_in s.windows.now) (stored s.pieces.now) (shape_of s.tree.now) q) those
+
+    abbrev pub all_of_those : Option (List Derivation)
+    all_of_those =
+        all_known (verdict_for (theory_of s.algebra.now) (windows_in s.windows.now) (stored s.pieces.now) (shape_of s.tree.now) q) those
+
+    abbrev pub jobs_to_first_of : List NodeJob
+    jobs_to_first_of = all_jobs (stored s.pieces.now) (shape_of s.tree.now) (missing_to_first
+        (verdict_for (theory_of s.algebra.now) (windows_in s.windows.now) (stored s.pieces.now) (shape_of s.tree.now) q) those)
+
+    abbrev pub jobs_to_all_of : List NodeJob
+    jobs_to_all_of = all_jobs (stored s.pieces.now) (shape_of s.tree.now) (all_missing
+        (verdict_for (theory_of s.algebra.now) (windows_in s.windows.now) (stored s.pieces.now) (shape_of s.tree.now) q) those)
+
+    -- the jobs that nobody works at
+    abbrev pub left_to_first : List NodeJob
+    left_to_first = not_out is_out_in jobs_to_first_of
+
+    abbrev pub left_to_all : List NodeJob
+    left_to_all = not_out is_out_in jobs_to_all_of
+
+    abbrev pub is_held_among : Bool
+    is_held_among = is_some (first (known_to_hold
+        (verdict_for (theory_of s.algebra.now) (windows_in s.windows.now) (stored s.pieces.now) (shape_of s.tree.now) q) those))
+
+  -- the trees of the parts for which a query may ask, each gap in its place
+  abbrev pub trees_for : Query Offer → List (OrGap Derivation)
+  trees_for q = trees_in (theory_of s.algebra.now) (windows_in s.windows.now) q (map part_of s.parts.items)
+
+-- the parts are those of the tree, as `KnownTree::new` lists them
+abbrev pub HasItsParts : KnownTree → Type 0
+HasItsParts s = map part_of s.parts.items ≡ known_plans (theory_of s.algebra.now) (shape_of s.tree.now)

@@ -1,0 +1,84 @@
+// What is known of a tree of nodes.
+
+ghost use Rattle.std.specs.Prelude.{◌≡◌, IfOk, map};
+ghost use Rattle.spec_core.specs.Theories.{theory_of};
+ghost use Rattle.session_states.specs.Views.{pending_of};
+ghost use Rattle.tree_nodes.specs.Shapes.{shape_of};
+ghost use Rattle.tree_composites.specs.Known.{part_of, known_plans};
+ghost use Rattle.candidates.specs.Offers.{no_offer};
+
+use crate::job::NodeJob;
+use known_shows::pieces::Pieces;
+use rule_model::offer::{Fields, Offer};
+use session_states::pending::Pending;
+use spec_core::equation::DataSpec;
+use spec_core::items::Gate;
+use spec_core::memory::Memory;
+use spec_core::window::Window;
+use std::alloc::Global;
+use tree_composites::known::known_composites;
+use tree_composites::part::Part;
+use tree_nodes::branch::Branch;
+
+/// A tree of nodes with what is known of them, the pending offers, and the jobs that are out.
+#[derive(Drop)]
+pub struct KnownTree<'a> {
+    pub algebra: &'a DataSpec,
+    pub windows: &'a [Window],
+    pub tree: &'a Branch,
+    pub pieces: &'a Pieces,
+    pub offers: &'a [Pending],
+    pub out: &'a [NodeJob],
+    pub(crate) parts: Vec<Part>,
+    // What stands for an offer that there isn't.
+    pub(crate) nowhere: Pending,
+    pub ghost none: { pending_of nowhere ≡ no_offer },
+}
+
+// An offer that no client made. It takes no memory.
+fn made_by_nobody(alloc: Global) -> Pending
+    ensures { pending_of result ≡ no_offer }
+{
+    Pending {
+        client: 0,
+        number: 0,
+        offer: Offer {
+            gate: Gate(0),
+            fields: Fields::new(Vec::new(alloc)),
+        },
+        ask: false,
+    }
+}
+
+impl<'a> KnownTree<'a> {
+    /// A tree with what is known of it. It looks at each node once.
+    pub fn new(
+        alloc: Global,
+        algebra: &'a DataSpec,
+        windows: &'a [Window],
+        tree: &'a Branch,
+        pieces: &'a Pieces,
+        offers: &'a [Pending],
+        out: &'a [NodeJob],
+    ) -> Result<KnownTree<'a>, Memory>
+        ensures algebra { IfOk result (λ s. s.algebra.now ≡ algebra.now) }
+        ensures windows { IfOk result (λ s. s.windows.now ≡ windows.now) }
+        ensures tree { IfOk result (λ s. s.tree.now ≡ tree.now) }
+        ensures pieces { IfOk result (λ s. s.pieces.now ≡ pieces.now) }
+        ensures offers { IfOk result (λ s. s.offers.now ≡ offers.now) }
+        ensures parts { IfOk result (λ s. map part_of s.parts.items ≡ known_plans (theory_of algebra.now) (shape_of tree.now)) }
+        ensures out { IfOk result (λ s. s.out.now ≡ out.now) }
+    {
+        let parts = known_composites(alloc, algebra, tree)?;
+        Ok(KnownTree {
+            algebra,
+            windows,
+            tree,
+            pieces,
+            offers,
+            out,
+            parts,
+            nowhere: made_by_nobody(alloc),
+        })
+    }
+}

@@ -1,0 +1,233 @@
+// Searches among the trees of a known tree.
+
+ghost use Rattle.std.specs.Prelude.{◌≡◌, ◌∷◌, [], IfOk, map, option_map, false};
+ghost use Rattle.std.specs.List.{slice_get};
+ghost use Rattle.rule_model.specs.Derivations.{derivation_of};
+ghost use Rattle.session_states.specs.Views.{pending_of};
+ghost use Rattle.courses.specs.Courses.{judge};
+ghost use Rattle.settling.specs.Jobs.{not_out, Tells};
+ghost use Rattle.settling.specs.Searches as settling;
+ghost use Rattle.settling.specs.Searches.{first_of, all_of};
+ghost use Rattle.asked_lists.specs.Searches.{query_of};
+ghost use Rattle.tree_nodes.specs.Shapes.{shape_of};
+ghost use Rattle.known_shows.specs.Stored.{stored};
+ghost use Rattle.candidates.specs.Jobs.{jobs_of};
+ghost use Rattle.candidates.specs.Models.{job_of};
+ghost use Rattle.candidates.specs.Walks.{met_of, ahead};
+ghost use Rattle.candidates.specs.KnownTrees.{offer_in, numbered, is_out_in, first_of_those, all_of_those, left_to_first, left_to_all, is_held_among};
+ghost use Rattle.candidates.specs.KnownTrees.{trees_for};
+
+use crate::job::{NodeJob, first_unjudged, is_expanded};
+use crate::known_tree::KnownTree;
+use crate::walk::{Met, Walk};
+use asked_lists::searches::TreeSearch;
+use known_shows::asked::verdict;
+use rule_model::offer::Offer;
+use rule_model::rules::Rules;
+use session_states::pending::Pending;
+use settling::asking::Missing;
+use settling::listing::{All, First, Search};
+use spec_core::memory::Memory;
+use std::alloc::Global;
+
+// The pending offer with a number, if there is one.
+fn pending_at(offers: &[Pending], number: u32) -> Option<&Pending>
+    ensures { option_map (λ p. pending_of p.now) result ≡ slice_get (map pending_of offers.now) number }
+{
+    offers.get(number as usize)
+}
+
+// What a query comes to at what a walk meets.
+fn first_at(
+    alloc: Global,
+    known: &KnownTree<'_>,
+    search: &TreeSearch<'_>,
+    met: Met,
+) -> Result<First<Rules>, Memory>
+    ensures { IfOk result (λ f. first_of derivation_of f ≡ first_of_those known.now (query_of search.now) (met_of met ∷ [])) }
+{
+    match met {
+        Met::Gap(_) => Ok(First::Open),
+        Met::Tree(rules) => match verdict(
+            alloc,
+            known.algebra,
+            known.windows,
+            known.pieces,
+            known.tree,
+            search,
+            &rules,
+        )? {
+            None => Ok(First::Open),
+            Some(true) => Ok(First::Is(rules)),
+            Some(false) => Ok(First::Absent),
+        },
+    }
+}
+
+// What is to be done so that it is known what is shown by a tree.
+fn missing_at_tree(
+    alloc: Global,
+    known: &KnownTree<'_>,
+    rules: &Rules,
+) -> Result<Missing<NodeJob>, Memory>
+    ensures { IfOk result (Tells job_of (not_out (is_out_in known.now)
+        (jobs_of (stored known.now.pieces.now) (shape_of known.now.tree.now) (judge (derivation_of rules.now)))) false) }
+{
+    match first_unjudged(known.pieces, known.out, known.tree, rules) {
+        None => Ok(Missing::Unheld),
+        Some(part) => {
+            let rules = part.rules.copy(alloc)?;
+            Ok(Missing::Job(NodeJob::Judge(part.generation, rules)))
+        }
+    }
+}
+
+// What is to be done for a query at what a walk meets, and whether it is known to hold there.
+fn missing_at(
+    alloc: Global,
+    known: &KnownTree<'_>,
+    search: &TreeSearch<'_>,
+    met: Met,
+) -> Result<Missing<NodeJob>, Memory>
+    ensures { IfOk result (Tells job_of (left_to_all known.now (query_of search.now) (met_of met ∷ []))
+        (is_held_among known.now (query_of search.now) (met_of met ∷ []))) }
+{
+    match met {
+        Met::Gap(generation) => {
+            if is_expanded(known.out, generation) {
+                Ok(Missing::Unheld)
+            } else {
+                Ok(Missing::Job(NodeJob::Expand(generation)))
+            }
+        }
+        Met::Tree(rules) => match verdict(
+            alloc,
+            known.algebra,
+            known.windows,
+            known.pieces,
+            known.tree,
+            search,
+            &rules,
+        )? {
+            None => missing_at_tree(alloc, known, &rules),
+            Some(true) => Ok(Missing::Held),
+            Some(false) => Ok(Missing::Unheld),
+        },
+    }
+}
+
+impl<'a> KnownTree<'a> {
+    // The offer with a number.
+    fn offer(&self, number: u32) -> &Offer
+        ensures { result.now ≡ (offer_in self.now number).offer }
+    {
+        match pending_at(self.offers, number) {
+            None => &self.nowhere.offer,
+            Some(pending) => &pending.offer,
+        }
+    }
+
+    // The search for trees for which a query asks.
+    pub(crate) fn tree_search(&self, search: Search) -> TreeSearch<'_>
+        ensures { query_of result ≡ numbered self.now (settling.query_of search) }
+    {
+        match search {
+            Search::Meeting(number) => TreeSearch::Meeting(self.offer(number)),
+            Search::Any => TreeSearch::Any,
+            Search::Unseen => TreeSearch::Unseen,
+            Search::Beyond(number) => TreeSearch::Beyond(self.offer(number)),
+            Search::AnyBeyond => TreeSearch::AnyBeyond,
+            Search::BeyondOrUnseen(number) => TreeSearch::BeyondOrUnseen(self.offer(number)),
+        }
+    }
+
+    // A walk along the trees for which a query may ask.
+    fn walk<'b>(&'b self, search: TreeSearch<'b>) -> Walk<'b>
+        ensures { ahead result ≡ trees_for self.now (query_of search.entry) }
+    {
+        Walk::new(self.algebra, self.windows, search, &self.parts)
+    }
+    // The first tree for which a query asks.
+    #[tactic(auto, using(crate::proofs::Asking::first_after))]
+    pub(crate) fn first_asked(&self, alloc: Global, search: TreeSearch<'_>) -> Result<First<Rules>, Memory>
+        ensures { IfOk result (λ f. first_of derivation_of f ≡
+            first_of_those self.now (query_of search.entry) (trees_for self.now (query_of search.entry))) }
+    {
+        let mut walk = self.walk(search);
+        while let Some(met) = walk.next(alloc)? {
+            match first_at(alloc, self, &search, met)? {
+                First::Open => return Ok(First::Open),
+                First::Absent => {}
+                First::Is(tree) => return Ok(First::Is(tree)),
+            }
+        }
+        Ok(First::Absent)
+    }
+
+    // All trees for which a query asks.
+    #[tactic(auto, using(crate::proofs::Asking::all_after))]
+    pub(crate) fn all_asked(&self, alloc: Global, search: TreeSearch<'_>) -> Result<All<Rules>, Memory>
+        ensures { IfOk result (λ a. all_of derivation_of a ≡
+            all_of_those self.now (query_of search.entry) (trees_for self.now (query_of search.entry))) }
+    {
+        let mut walk = self.walk(search);
+        let mut those = Vec::new(alloc);
+        while let Some(met) = walk.next(alloc)? {
+            match first_at(alloc, self, &search, met)? {
+                First::Open => return Ok(All::Undecided),
+                First::Absent => {}
+                First::Is(tree) => those.push(tree)?,
+            }
+        }
+        Ok(All::These(those))
+    }
+
+    // What the search for the first tree still asks.
+    #[tactic(auto, using(crate::proofs::Asking::first_more, crate::proofs::Asking::first_end, crate::proofs::Asking::first_job, crate::proofs::Asking::held_after))]
+    pub(crate) fn missing_to_first(
+        &self,
+        alloc: Global,
+        search: TreeSearch<'_>,
+    ) -> Result<Missing<NodeJob>, Memory>
+        ensures { IfOk result (Tells job_of
+            (left_to_first self.now (query_of search.entry) (trees_for self.now (query_of search.entry)))
+            (is_held_among self.now (query_of search.entry) (trees_for self.now (query_of search.entry)))) }
+    {
+        let mut walk = self.walk(search);
+        while let Some(met) = walk.next(alloc)? {
+            match missing_at(alloc, self, &search, met)? {
+                Missing::Job(job) => return Ok(Missing::Job(job)),
+                Missing::Held => return Ok(Missing::Held),
+                Missing::Unheld => {}
+            }
+        }
+        Ok(Missing::Unheld)
+    }
+
+    // What the search for all trees still asks.
+    #[tactic(auto, using(crate::proofs::Asking::all_more, crate::proofs::Asking::all_job, crate::proofs::Asking::held_after))]
+    pub(crate) fn missing_to_all(
+        &self,
+        alloc: Global,
+        search: TreeSearch<'_>,
+    ) -> Result<Missing<NodeJob>, Memory>
+        ensures { IfOk result (Tells job_of
+            (left_to_all self.now (query_of search.entry) (trees_for self.now (query_of search.entry)))
+            (is_held_among self.now (query_of search.entry) (trees_for self.now (query_of search.entry)))) }
+    {
+        let mut walk = self.walk(search);
+        let mut held = false;
+        while let Some(met) = walk.next(alloc)? {
+            match missing_at(alloc, self, &search, met)? {
+                Missing::Job(job) => return Ok(Missing::Job(job)),
+                Missing::Held => held = true,
+                Missing::Unheld => {}
+            }
+        }
+        if held {
+            Ok(Missing::Held)
+        } else {
+            Ok(Missing::Unheld)
+        }
+    }
+}
