@@ -1,5 +1,5 @@
 -- Searches in a known tree, one met thing after another.
-use Rattle.std.proofs.Common.{◌≡◌, ◌++◌, ◌∙◌, ◌||◌, List, [], ◌∷◌, map, refl, sym, ap, subst, Option, Some, None, option_map, Bool, true, false}
+use Rattle.std.proofs.Common.{◌≡◌, ◌++◌, ◌∙◌, ◌||◌, List, [], ◌∷◌, map, sym, ap, Option, Some, Bool, true, false}
 use Rattle.std.proofs.lemmas.List.{map-append}
 use Rattle.spec_core.specs.Theories.{theory_of}
 use Rattle.rule_model.specs.declared.offer.Offer.{Offer}

@@ -1,5 +1,5 @@
 -- Searches in a list with gaps, one element after another.
-use Rattle.std.proofs.Common.{◌≡◌, ◌++◌, ◌∙◌, ◌||◌, List, [], ◌∷◌, flat_map, filter, not, refl, sym, ap, subst, Option, Some, None, option_map}
+use Rattle.std.proofs.Common.{◌≡◌, ◌++◌, ◌∙◌, ◌||◌, List, [], ◌∷◌, flat_map, not, refl, sym, ap, Option, Some, None, option_map}
 use Rattle.std.proofs.Common.{Bool, true, false, cond, if◌then◌else◌, append_assoc}
 use Rattle.std.proofs.lemmas.List.{append-nil}
 use Rattle.std.proofs.lemmas.List.Elements.{filter-append}

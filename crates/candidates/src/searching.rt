@@ -149,7 +149,11 @@ impl<'a> KnownTree<'a> {
     }
     // The first tree for which a query asks.
     #[tactic(auto, using(crate::proofs::Asking::first_after))]
-    pub(crate) fn first_asked(&self, alloc: Global, search: TreeSearch<'_>) -> Result<First<Rules>, Memory>
+    pub(crate) fn first_asked(
+        &self,
+        alloc: Global,
+        search: TreeSearch<'_>,
+    ) -> Result<First<Rules>, Memory>
         ensures { IfOk result (λ f. first_of derivation_of f ≡
             first_of_those self.now (query_of search.entry) (trees_for self.now (query_of search.entry))) }
     {
@@ -166,7 +170,11 @@ impl<'a> KnownTree<'a> {
 
     // All trees for which a query asks.
     #[tactic(auto, using(crate::proofs::Asking::all_after))]
-    pub(crate) fn all_asked(&self, alloc: Global, search: TreeSearch<'_>) -> Result<All<Rules>, Memory>
+    pub(crate) fn all_asked(
+        &self,
+        alloc: Global,
+        search: TreeSearch<'_>,
+    ) -> Result<All<Rules>, Memory>
         ensures { IfOk result (λ a. all_of derivation_of a ≡
             all_of_those self.now (query_of search.entry) (trees_for self.now (query_of search.entry))) }
     {
