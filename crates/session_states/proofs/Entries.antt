@@ -6,15 +6,16 @@ use Rattle.rule_model.specs.declared.action.Action.{Action}
 use Rattle.rule_model.specs.declared.offer.Offer.{Offer}
 use Rattle.rule_model.specs.Behaviours.{Behaviour, behaviour_of}
 use Rattle.rule_model.specs.Events.{OfferName}
-use Rattle.rule_model.specs.Legal.{IsIdle, IsPending, IsPendingAnd, NamesAll}
+use Rattle.rule_model.specs.Legal.{AllWait, IsIdle, IsPending, IsPendingAnd, NamesAll}
 use Rattle.rule_model.specs.States.{PendingOffer, State, start_state, without, without_taken, after_offer, after_action, after_reply, after_stall, after_leave}
 use Rattle.session_states.specs.declared.clients.Client.{Client}
 use Rattle.session_states.specs.Clients.{open_among, is_open_among, made_by, closed, having_made, new_client, numbers_from}
-use Rattle.session_states.specs.Pending.{WaitsAnd, waits_among, is_idle_among, names_all, names_only, is_ascending}
+use Rattle.session_states.specs.Pending.{WaitsAnd, all_wait_among, waits_among, is_idle_among, names_all, names_only, is_ascending}
 use Rattle.session_states.specs.declared.state.SessionState.{SessionState}
 use Rattle.session_states.specs.Views.{pending_of, state_of}
 use Rattle.session_states.specs.Possible.{HasPending, MayOffer, MayLeave, MayStall}
 use Rattle.session_states.proofs.OpenClients.{is_open, open_is, offers_open, has_made, others_made, closing_keeps_made, closing_leaves, new_open, new_made}
+use Rattle.session_states.proofs.AllWaiting.{all_wait, wait_all}
 use Rattle.session_states.proofs.Tests.{by_cases, both_true, and_true, true_false}
 use Rattle.session_states.proofs.Waiting.{Any, waits_there, there_waits, waits_any, any_waits, waits_some, pending_and, and_pending, idle, is_idle, all_named, named_all, only_named, named_only, ascending, increasing_ascends}
 
@@ -38,6 +39,14 @@ module _ (s : SessionState) where
   has_pending client h =
       let k = waits_some waiting client h in
       (k.0, pending_and Any (state_of s) (client, k.0) k.1)
+
+  pub each_waits : all_wait_among clients waiting ≡ true → AllWait (state_of s)
+  each_waits h client k =
+      let w = all_wait clients waiting h client k in
+      (w.0, pending_and Any (state_of s) (client, w.0) w.1)
+
+  pub waits_each : AllWait (state_of s) → all_wait_among clients waiting ≡ true
+  waits_each h = wait_all clients waiting (λ client k. let w = h client k in (w.0, and_pending Any (state_of s) (client, w.0) w.1))
 
   pub is_pending : (client number : ℕ) → waits_among waiting client number ≡ true → IsPending (state_of s) (client, number)
   is_pending client number h = pending_and Any (state_of s) (client, number) (waits_there Any waiting client number (waits_any waiting client number h))

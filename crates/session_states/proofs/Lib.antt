@@ -1,3 +1,4 @@
+pub mod AllWaiting
 pub mod Derivations
 pub mod Entries
 pub mod Members

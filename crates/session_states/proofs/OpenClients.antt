@@ -8,10 +8,10 @@ use Rattle.session_states.proofs.Members.{none_in, first_in, later_in, in_cases}
 use Rattle.session_states.proofs.Tests.{by_cases, true_false, both_true, and_true, either_true, left_true, right_true, on_either}
 
 -- the open clients of a list that begins with an open one, and of one that doesn't
-with_open : (c : Client) (cs : List Client) → c.is_open ≡ true → open_among (c ∷ cs) ≡ c.number ∷ open_among cs
+pub with_open : (c : Client) (cs : List Client) → c.is_open ≡ true → open_among (c ∷ cs) ≡ c.number ∷ open_among cs
 with_open c cs e = ap (λ b. if b then c.number ∷ open_among cs else open_among cs) e
 
-without_open : (c : Client) (cs : List Client) → c.is_open ≡ false → open_among (c ∷ cs) ≡ open_among cs
+pub without_open : (c : Client) (cs : List Client) → c.is_open ≡ false → open_among (c ∷ cs) ≡ open_among cs
 without_open c cs e = ap (λ b. if b then c.number ∷ open_among cs else open_among cs) e
 
 pub is_open : (cs : List Client) (n : ℕ) → is_open_among cs n ≡ true → Contains (open_among cs) n

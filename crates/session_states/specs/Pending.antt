@@ -3,6 +3,7 @@ use Rattle.std.specs.Prelude.{ℕ, ◌≡◌, List, [], ◌∷◌, Bool, true, f
 use Rattle.rule_model.specs.declared.offer.Offer.{Offer}
 use Rattle.rule_model.specs.Events.{OfferName}
 use Rattle.rule_model.specs.States.{PendingOffer}
+use Rattle.session_states.specs.declared.clients.Client.{Client}
 
 -- whether the offer of this client and number is pending
 abbrev pub waits_among : List PendingOffer → ℕ → ℕ → Bool
@@ -13,6 +14,11 @@ waits_among (p ∷ ps) client number = (nat_eq p.client client && nat_eq p.numbe
 abbrev pub is_idle_among : List PendingOffer → ℕ → Bool
 is_idle_among [] client = true
 is_idle_among (p ∷ ps) client = not (nat_eq p.client client) && is_idle_among ps client
+
+-- whether each open one of these clients has an offer pending
+abbrev pub all_wait_among : List Client → List PendingOffer → Bool
+all_wait_among [] ps = true
+all_wait_among (c ∷ cs) ps = (not c.is_open || not (is_idle_among ps c.number)) && all_wait_among cs ps
 
 -- the offer of this client and number is pending, and the fact holds of what it offers
 abbrev pub WaitsAnd : (Offer → Type 0) → List PendingOffer → ℕ → ℕ → Type 0

@@ -1,6 +1,6 @@
 // Clients, and how many offers each has made.
 
-ghost use Rattle.std.specs.Prelude.{◌+◌, ◌≡◌, ◌≤◌, IfOk, map};
+ghost use Rattle.std.specs.Prelude.{◌+◌, ◌≡◌, ◌≤◌, IfOk, length, map};
 ghost use Rattle.session_states.specs.Clients as clients;
 
 use spec_core::memory::Memory;
@@ -44,6 +44,23 @@ pub fn is_open(all: &[Client], number: u32) -> bool
     match all {
         [] => false,
         [first, rest @ ..] => first.is_open && first.number == number || is_open(rest, number),
+    }
+}
+
+/// How many are open.
+pub fn count_open(all: &[Client]) -> usize
+    ensures count { result ≡ length (clients.open_among all.now) }
+    ensures few { result ≤ length all.now }
+{
+    match all {
+        [] => 0,
+        [first, rest @ ..] => {
+            if first.is_open {
+                count_open(rest) + 1
+            } else {
+                count_open(rest)
+            }
+        }
     }
 }
 

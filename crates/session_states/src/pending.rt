@@ -4,9 +4,10 @@ ghost use Rattle.std.specs.Prelude.{◌≡◌, ◌↔◌, ◌++◌, ◌∷◌, [
 ghost use Rattle.spec_core.specs.Theories.{theory_of};
 ghost use Rattle.rule_model.specs.Meets.{Meets};
 ghost use Rattle.rule_model.specs.States as states;
-ghost use Rattle.session_states.specs.Pending.{waits_among, is_idle_among, WaitsAnd};
+ghost use Rattle.session_states.specs.Pending.{all_wait_among, waits_among, is_idle_among, WaitsAnd};
 ghost use Rattle.session_states.specs.Views.{pending_of};
 
+use crate::clients::Client;
 use crate::meeting::meets;
 use rule_model::action::Action;
 use rule_model::offer::Offer;
@@ -46,6 +47,17 @@ pub fn is_idle(all: &[Pending], client: u32) -> bool
     match all {
         [] => true,
         [first, rest @ ..] => first.client != client && is_idle(rest, client),
+    }
+}
+
+/// Whether each open one of these clients has an offer pending.
+pub fn all_wait(clients: &[Client], all: &[Pending]) -> bool
+    ensures { result ≡ all_wait_among clients.now (map pending_of all.now) }
+{
+    match clients {
+        [] => true,
+        [first, rest @ ..] => (!first.is_open || !is_idle(all, first.number))
+            && all_wait(rest, all),
     }
 }
 

@@ -1,14 +1,14 @@
 // The state of a session.
 
-ghost use Rattle.std.specs.Prelude.{◌+◌, ◌&&◌, ◌≡◌, ◌↔◌, ◌<◌, ◌≤◌, Contains, IfOk, IsTrue, OnErr, OnOk, false, map};
+ghost use Rattle.std.specs.Prelude.{◌+◌, ◌&&◌, ◌≡◌, ◌↔◌, ◌<◌, ◌≤◌, Contains, IfOk, IsTrue, OnErr, OnOk, false, length, map};
 ghost use Rattle.spec_core.specs.Code.{program_of};
 ghost use Rattle.spec_core.specs.Theories.{theory_of};
 ghost use Rattle.rule_model.specs.Behaviours.{behaviour_of};
-ghost use Rattle.rule_model.specs.Legal.{IsAgreed, IsIdle, IsPending, IsPendingAnd, NamesAll};
+ghost use Rattle.rule_model.specs.Legal.{AllWait, IsAgreed, IsIdle, IsPending, IsPendingAnd, NamesAll};
 ghost use Rattle.rule_model.specs.Meets.{IsUnseen, Meets};
 ghost use Rattle.rule_model.specs.States as states;
 ghost use Rattle.session_states.specs.Clients.{is_open_among, numbers_from};
-ghost use Rattle.session_states.specs.Pending.{WaitsAnd, is_idle_among, names_all, names_only, waits_among};
+ghost use Rattle.session_states.specs.Pending.{WaitsAnd, all_wait_among, is_idle_among, names_all, names_only, waits_among};
 ghost use Rattle.session_states.specs.Possible.{HasPending, MayOffer, MayLeave, MayStall};
 ghost use Rattle.session_states.specs.Views.{pending_of, state_of};
 
@@ -94,6 +94,13 @@ impl SessionState {
         self.finds_open(client)
     }
 
+    /// How many clients are open. It takes no memory.
+    pub fn open_clients(&self) -> usize
+        ensures { result ≡ length (state_of self.now).open_clients }
+    {
+        clients::count_open(&self.clients)
+    }
+
     fn finds_none(&self, client: u32) -> bool
         ensures { result ≡ is_idle_among (map pending_of self.now.pending.items) client }
     {
@@ -113,6 +120,19 @@ impl SessionState {
         ensures { result ≡ (state_of self.now).made client }
     {
         clients::made(&self.clients, client)
+    }
+
+    fn finds_all(&self) -> bool
+        ensures { result ≡ all_wait_among self.now.clients.items (map pending_of self.now.pending.items) }
+    {
+        pending::all_wait(&self.clients, &self.pending)
+    }
+
+    /// Whether each open client has an offer pending. It takes no memory.
+    pub fn all_wait(&self) -> bool
+        ensures { IsTrue result ↔ AllWait (state_of self.now) }
+    {
+        self.finds_all()
     }
 
     // Whether the client is open and has no offer pending.
