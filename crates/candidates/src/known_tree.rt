@@ -1,10 +1,7 @@
 // What is known of a tree of nodes.
 
-ghost use Rattle.std.specs.Prelude.{◌≡◌, IfOk, map};
-ghost use Rattle.spec_core.specs.Theories.{theory_of};
+ghost use Rattle.std.specs.Prelude.{◌≡◌, IfOk};
 ghost use Rattle.session_states.specs.Views.{pending_of};
-ghost use Rattle.tree_nodes.specs.Shapes.{shape_of};
-ghost use Rattle.tree_composites.specs.Known.{part_of, known_plans};
 ghost use Rattle.candidates.specs.Offers.{no_offer};
 
 use crate::job::NodeJob;
@@ -51,7 +48,9 @@ fn made_by_nobody(alloc: Global) -> Pending
 }
 
 impl<'a> KnownTree<'a> {
-    /// A tree with what is known of it. It looks at each node once.
+    ghost use Rattle.candidates.specs.KnownTrees.{HasItsParts};
+
+    /// A tree with what is known of it. It lists the composites of its nodes.
     pub fn new(
         alloc: Global,
         algebra: &'a DataSpec,
@@ -66,7 +65,7 @@ impl<'a> KnownTree<'a> {
         ensures tree { IfOk result (λ s. s.tree.now ≡ tree.now) }
         ensures pieces { IfOk result (λ s. s.pieces.now ≡ pieces.now) }
         ensures offers { IfOk result (λ s. s.offers.now ≡ offers.now) }
-        ensures parts { IfOk result (λ s. map part_of s.parts.items ≡ known_plans (theory_of algebra.now) (shape_of tree.now)) }
+        ensures parts { IfOk result HasItsParts }
         ensures out { IfOk result (λ s. s.out.now ≡ out.now) }
     {
         let parts = known_composites(alloc, algebra, tree)?;

@@ -14,8 +14,8 @@ ghost use Rattle.known_shows.specs.Stored.{stored};
 ghost use Rattle.candidates.specs.Jobs.{jobs_of};
 ghost use Rattle.candidates.specs.Models.{job_of};
 ghost use Rattle.candidates.specs.Walks.{met_of, ahead};
-ghost use Rattle.candidates.specs.KnownTrees.{offer_in, numbered, is_out_in, first_of_those, all_of_those, left_to_first, left_to_all, is_held_among};
-ghost use Rattle.candidates.specs.KnownTrees.{trees_for};
+ghost use Rattle.candidates.specs.KnownTrees.{offer_in, numbered, is_out_in, first_of_those, all_of_those, left_to_first, left_to_all};
+ghost use Rattle.candidates.specs.KnownTrees.{is_held_among, trees_for};
 
 use crate::job::{NodeJob, first_unjudged, is_expanded};
 use crate::known_tree::KnownTree;
