@@ -65,7 +65,7 @@ each_unmarked : (choices : List (List Slot)) → any_mark choices ≡ false → 
 each_unmarked [] e = (refl, tt)
 each_unmarked (c ∷ choices) e =
     each_pieces (λ slot. is_mark slot ≡ false) (λ own. any_mark own ≡ false)
-        (λ slot. map (λ others. (slot ∷ []) ∷ others) (one_each choices)) c
+    (λ slot. map (λ others. (slot ∷ []) ∷ others) (one_each choices)) c
     (λ slot q. each_image (λ own. any_mark own ≡ false) (λ own. any_mark own ≡ false) (λ others. (slot ∷ []) ∷ others) (one_each choices)
     (λ others r. none_of (has_marks (slot ∷ [])) (any_mark others) (none_of (is_mark slot) false q refl) r)
     (each_unmarked choices (right_none (has_marks c) (any_mark choices) e)))
@@ -138,7 +138,7 @@ module _ (theory : Theory) (w : Windows) where
   trees_unmarked (together p q) given slots e h =
       each_pieces unmarked unmarked (λ left. map (both left) (trees_of theory w q slots)) (trees_of theory w p slots)
       (λ left a. each_image unmarked unmarked (both left) (trees_of theory w q slots)
-          (λ right b. none_of (has_mark left) (has_mark right) a b)
+      (λ right b. none_of (has_mark left) (has_mark right) a b)
       (trees_unmarked q given slots (right_none (may_be_marked theory w p given) (may_be_marked theory w q given) e) h))
       (trees_unmarked p given slots (left_none (may_be_marked theory w p given) (may_be_marked theory w q given) e) h)
 

@@ -1,7 +1,7 @@
 // What is found for each query, where two numbers are in the window and there are more.
 
-use crate::composites::{Sample, composite, found};
 use crate::data::{NUMBERS, TRUTHS, algebra, number, offer, truth, windows};
+use crate::samples::{Sample, composite, found};
 use asked_lists::searches::TreeSearch;
 use rule_model::offer::{Field, Offer};
 use spec_core::memory::Memory;

@@ -2,12 +2,12 @@
 #![tactic(auto)]
 
 #[cfg(test)]
-mod composites;
-#[cfg(test)]
 mod data;
 #[cfg(test)]
 mod finds;
 #[cfg(test)]
 mod lines;
+#[cfg(test)]
+mod samples;
 #[cfg(test)]
 mod sizes;

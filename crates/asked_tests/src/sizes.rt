@@ -1,7 +1,7 @@
 // How many trees are looked through, where 256 numbers are in the window.
 
-use crate::composites::{Sample, composite, numbers};
 use crate::data::{NUMBERS, TRUTHS, algebra, number, offer, wide_windows, windows};
+use crate::samples::{Sample, composite, numbers};
 use asked_lists::searches::{TreeSearch, next_among, next_asked, search_count, slots_asked};
 use open_composites::column::Column;
 use open_composites::composite::{ActionKind, OpenComposite};
