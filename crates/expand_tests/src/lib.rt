@@ -1,6 +1,8 @@
-// Tests of expansions, whose composites were worked out by hand from the rules of the operators.
+// Tests of expansions, whose composites and ways were worked out by hand from the rules of the operators.
 #![tactic(auto)]
 
+#[cfg(test)]
+mod acting;
 #[cfg(test)]
 mod limits;
 #[cfg(test)]
@@ -13,3 +15,5 @@ mod origins;
 mod program;
 #[cfg(test)]
 mod values;
+#[cfg(test)]
+mod way_lines;

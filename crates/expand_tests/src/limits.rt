@@ -1,8 +1,9 @@
 // Behaviours that are nearly too wide, and terms whose values can't be had.
 
-use crate::program::{expanded, program, settings};
+use crate::program::{expanded, settings};
 use expand::expansion::expand_code;
 use marked_values::stop::Stop;
+use sample_programs::over_small_data;
 use spec_core::memory::Memory;
 use std::alloc::Global;
 use std::test::Fail;
@@ -19,7 +20,7 @@ fn alternatives(alloc: Global, more: u32) -> Result<String, Memory> {
 
 // How many composites the behaviour has, where 256 values of a sort are chosen; or the number with which it is too wide.
 fn counted(alloc: Global, behaviour: &str) -> Result<Option<Result<usize, u64>>, Memory> {
-    match program(alloc, "noexit", behaviour)? {
+    match over_small_data(alloc, "noexit", behaviour)? {
         None => Ok(None),
         Some(checked) => match expand_code(
             alloc,

@@ -25,15 +25,15 @@ fn sort_name(checked: &Checked, sort: Sort) -> &str {
     }
 }
 
-fn gate_name(checked: &Checked, gate: Gate) -> &str {
+pub fn gate_name(checked: &Checked, gate: Gate) -> &str {
     match checked.gates.get(gate.0 as usize) {
         None => "inner",
         Some(name) => name.as_str(),
     }
 }
 
-// A value: its operations in preorder.
-fn put_value(text: &mut String, checked: &Checked, value: &Value) -> Result<(), Memory> {
+/// A value: its operations in preorder.
+pub fn put_value(text: &mut String, checked: &Checked, value: &Value) -> Result<(), Memory> {
     for op in value.as_slice() {
         text.push_str(" ")?;
         text.push_str(operation_name(checked, *op))?;

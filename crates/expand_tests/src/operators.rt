@@ -4,7 +4,7 @@ use crate::program::{expanded, settings};
 use std::test::Fail;
 
 // Functionality, behaviour, and the composites that the rules give.
-const CASES: [(&str, &str, &str); 24] = [
+const CASES: [(&str, &str, &str); 27] = [
     ("noexit", "stop", ""),
     ("noexit", "i; stop", "i: int; "),
     ("exit", "exit", "exit: exit; "),
@@ -76,6 +76,21 @@ const CASES: [(&str, &str, &str); 24] = [
         "noexit",
         "P [b] (s(0)) where process P [a] (x : N) : noexit := a !x; stop endproc",
         "b ! s 0: call (rel (pre .)); ",
+    ),
+    (
+        "noexit",
+        "(a ?x : N; stop |[a]| a ?y : N [y = 0]; stop) |[a]| a ?z : N [z = s(0)]; stop",
+        "a ? N: both (both (pre ?) (pre ?)) (pre ?); ",
+    ),
+    (
+        "noexit",
+        "exit(any N, t) ||| exit(0, any B) >> accept n : N, b : B in a !n !b; stop",
+        "i: enend ! 0 ! t (both (exit ? .) (exit . ?)); ",
+    ),
+    (
+        "noexit",
+        "P [a, b] where process P [p, g] : noexit := p ?x : N; g !x; P [p, g] endproc",
+        "a ? N: call (rel (pre ?)); ",
     ),
 ];
 

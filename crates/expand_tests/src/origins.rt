@@ -3,7 +3,8 @@
 ghost use Rattle.spec_core.specs.Code.{program_of};
 ghost use Rattle.spec_core.specs.Ready.{IsReady};
 
-use crate::program::{expanded_from, program};
+use crate::program::expanded_from;
+use sample_programs::over_small_data;
 use spec_core::code::{ActField, Checked, CodeNode};
 use spec_core::items::{Gate, Op};
 use spec_core::memory::Memory;
@@ -13,7 +14,7 @@ use std::test::Fail;
 
 // What is told of the behaviour as a whole, with b in the place of a and c in that of b.
 fn under_relabelling(alloc: Global, behaviour: &str) -> Result<String, Memory> {
-    match program(alloc, "noexit", behaviour)? {
+    match over_small_data(alloc, "noexit", behaviour)? {
         None => Ok(String::from_str(alloc, "refused")?),
         Some(checked) => {
             let pairs = vec![in alloc; (Gate(0), Gate(1)), (Gate(1), Gate(2))]?;
@@ -51,7 +52,7 @@ fn left_part(checked: &Checked) -> u32 {
 
 // A copy with a in the place of g, under a relabelling with b in the place of a: one relabelling.
 fn relabelled_copy(alloc: Global) -> Result<String, Memory> {
-    match program(alloc, "noexit", "par g in [a, b] ||| g; stop")? {
+    match over_small_data(alloc, "noexit", "par g in [a, b] ||| g; stop")? {
         None => Ok(String::from_str(alloc, "refused")?),
         Some(checked) => {
             let pairs = vec![in alloc; (Gate(0), Gate(1))]?;
@@ -87,7 +88,7 @@ fn rest_of(checked: &Checked) -> Option<(u32, u32)> {
 
 // The rest of an action, with a value for its variable, and then another, which hides the first.
 fn with_value(alloc: Global) -> Result<String, Memory> {
-    match program(alloc, "noexit", "a ?x : N; b !s(x); stop")? {
+    match over_small_data(alloc, "noexit", "a ?x : N; b !s(x); stop")? {
         None => Ok(String::from_str(alloc, "refused")?),
         Some(checked) => match rest_of(&checked) {
             None => Ok(String::from_str(alloc, "another construct")?),

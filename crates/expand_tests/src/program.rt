@@ -1,15 +1,12 @@
 // Specifications over small data, and what comes of expanding them.
 
-ghost use Rattle.std.specs.Prelude.{IfOk, IfSome};
 ghost use Rattle.spec_core.specs.Code.{program_of};
 ghost use Rattle.spec_core.specs.Ready.{IsReady};
 
 use crate::lines::{lines, put_term};
-use accepted_laws::laws::accepted_is_ready;
 use expand::expansion::{Expansion, expand, expand_code};
-use lotos_ast::refusal::FrontFault;
-use lotos_front::accept;
 use marked_values::stop::Stop;
+use sample_programs::over_small_data;
 use spec_core::code::Checked;
 use spec_core::items::Gate;
 use spec_core::memory::Memory;
@@ -18,31 +15,6 @@ use spec_core::term::Term;
 use spec_core::value::Value;
 use std::alloc::Global;
 use tree_nodes::origin::Origin;
-
-// Two truth values; natural numbers, with the number before one; and trees, with the tree that has one twice.
-const OPERATIONS: &str =
-    "opns t : -> B f : -> B 0 : -> N s : N -> N p : N -> N z : -> T c : T, T -> T w : T -> T";
-
-const EQUATIONS: &str =
-    "eqns forall x : N, y : T ofsort N p(0) = 0; p(s(x)) = x; ofsort T w(y) = c(y, y);";
-
-/// The specification with this functionality and this behaviour, over three gates.
-pub fn program(alloc: Global, ends: &str, behaviour: &str) -> Result<Option<Checked>, Memory>
-    ensures ready { IfOk result (λ o. IfSome o (λ checked. IsReady (program_of checked))) }
-{
-    accepted_is_ready();
-    let operations = OPERATIONS;
-    let equations = EQUATIONS;
-    let data = format!(in alloc; "type Data is sorts B, N, T {operations} {equations} endtype")?;
-    let text = format!(in alloc;
-        "specification S [a, b, c] : {ends} {data} behaviour {behaviour} endspec"
-    )?;
-    match accept(alloc, text.as_bytes()) {
-        Ok(checked) => Ok(Some(checked)),
-        Err(FrontFault::Refused(_)) => Ok(None),
-        Err(FrontFault::Memory) => Err(Memory),
-    }
-}
 
 /// So many values of a sort are shown, and so many uses of equations are made.
 pub fn settings(values: u32, budget: u64) -> Settings {
@@ -85,7 +57,7 @@ pub fn expanded(
     behaviour: &str,
     settings: Settings,
 ) -> Result<String, Memory> {
-    match program(alloc, ends, behaviour)? {
+    match over_small_data(alloc, ends, behaviour)? {
         None => Ok(String::from_str(alloc, "refused")?),
         Some(checked) => {
             let outcome = expand_code(alloc, &checked, checked.start, &[], &settings);

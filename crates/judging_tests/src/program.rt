@@ -1,16 +1,13 @@
 // Specifications over small data, and what they show by trees of rules.
 
-ghost use Rattle.std.specs.Prelude.{IfOk, IfSome};
 ghost use Rattle.spec_core.specs.Code.{program_of};
 ghost use Rattle.spec_core.specs.Ready.{IsReady};
 
 use crate::lines::{line, put_term};
 use crate::trees::tree;
-use accepted_laws::laws::accepted_is_ready;
 use judging::origins::shown_by;
-use lotos_ast::refusal::FrontFault;
-use lotos_front::accept;
 use marked_values::stop::Stop;
+use sample_programs::over_small_data;
 use shown_actions::shown::Shown;
 use sort_windows::windows;
 use spec_core::code::Checked;
@@ -21,33 +18,8 @@ use spec_core::window::Window;
 use std::alloc::Global;
 use tree_nodes::origin::Origin;
 
-// Two truth values; natural numbers, with the number before one; and trees, with the tree that has one twice.
-const OPERATIONS: &str =
-    "opns t : -> B f : -> B 0 : -> N s : N -> N p : N -> N z : -> T c : T, T -> T w : T -> T";
-
-const EQUATIONS: &str =
-    "eqns forall x : N, y : T ofsort N p(0) = 0; p(s(x)) = x; ofsort T w(y) = c(y, y);";
-
 // More sorts or operations than a word counts.
 const MANY: usize = 4294967296;
-
-// The specification with this functionality and this behaviour, over three gates.
-fn program(alloc: Global, ends: &str, behaviour: &str) -> Result<Option<Checked>, Memory>
-    ensures ready { IfOk result (λ o. IfSome o (λ checked. IsReady (program_of checked))) }
-{
-    accepted_is_ready();
-    let operations = OPERATIONS;
-    let equations = EQUATIONS;
-    let data = format!(in alloc; "type Data is sorts B, N, T {operations} {equations} endtype")?;
-    let text = format!(in alloc;
-        "specification S [a, b, c] : {ends} {data} behaviour {behaviour} endspec"
-    )?;
-    match accept(alloc, text.as_bytes()) {
-        Ok(checked) => Ok(Some(checked)),
-        Err(FrontFault::Refused(_)) => Ok(None),
-        Err(FrontFault::Memory) => Err(Memory),
-    }
-}
 
 // What is shown, or the stop with its term.
 fn told(
@@ -116,7 +88,7 @@ pub fn shown(
     rules: &str,
     budget: u64,
 ) -> Result<String, Memory> {
-    match program(alloc, ends, behaviour)? {
+    match over_small_data(alloc, ends, behaviour)? {
         None => Ok(String::from_str(alloc, "refused")?),
         Some(checked) => shown_of(alloc, &checked, relabel, rules, budget),
     }
