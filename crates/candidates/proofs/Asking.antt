@@ -68,3 +68,6 @@ module _ (s : KnownTree) (q : Query Offer) (l : List (OrGap Derivation)) (x : Or
       (all_after ∙ ap (λ o. all_then o (all_of_those s q rest)) (sym e ∙ ap (first_of derivation_of) is))
       ∙ one_more (map derivation_of xs) (derivation_of tree) (all_of_those s q rest)
       ∙ ap (λ zs. and_more zs (all_of_those s q rest)) (sym (ap (map derivation_of) pushed ∙ map-append derivation_of xs (tree ∷ [])))
+
+-- what a search for the first tree still asks, one met thing after another
+pub ruleset first_asked = (first_more, first_end, first_job, held_after)

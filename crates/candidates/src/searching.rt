@@ -191,7 +191,7 @@ impl<'a> KnownTree<'a> {
     }
 
     // What the search for the first tree still asks.
-    #[tactic(auto, using(crate::proofs::Asking::first_more, crate::proofs::Asking::first_end, crate::proofs::Asking::first_job, crate::proofs::Asking::held_after))]
+    #[tactic(auto, using(crate::proofs::Asking::first_asked))]
     pub(crate) fn missing_to_first(
         &self,
         alloc: Global,

@@ -34,8 +34,8 @@ abbrev pub Does : Program → Behaviour → Derivation → Action → Type 0
 Does program b d a = (rest : Behaviour) × Derives program b d a rest
 
 -- the state is the one that the action leads to, with the behaviour of the tree that stands ready, and the entry tells of the action
-pub record IsReadyAct (program : Program) (s : State) (a : Action) (d : Derivation) (by : Option OfferName) (t : Option Ready) (r : ReadyAct)
-    : Type 0 where
+pub record IsReadyAct (program : Program) (s : State) (a : Action) (d : Derivation) (by : Option OfferName) (t : Option Ready)
+    (r : ReadyAct) : Type 0 where
   pub rest : Behaviour
   pub stands : (next : Shape) → IsNext t next → rest ≡ stands_for program next
   pub state : state_of r.state ≡ after_action s a by rest

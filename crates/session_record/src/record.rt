@@ -1,6 +1,7 @@
 // The record of a session.
 
-ghost use Rattle.std.specs.Prelude.{◌+◌, ◌++◌, ◌∷◌, ◌≡◌, ◌<◌, ◌≤◌, [], Contains, IfErr, IfOk, OnErr, OnOk, length, map, option_map, vec_len};
+ghost use Rattle.std.specs.Prelude.{◌+◌, ◌++◌, ◌∷◌, ◌≡◌, ◌<◌, ◌≤◌, []};
+ghost use Rattle.std.specs.Prelude.{Contains, IfErr, IfOk, OnErr, OnOk, length, map, option_map, vec_len};
 ghost use Rattle.std.specs.Vec.{vec_capacity};
 ghost use Rattle.spec_core.specs.Code.{program_of};
 ghost use Rattle.spec_core.specs.Ready.{IsReady};
