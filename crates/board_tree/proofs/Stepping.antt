@@ -7,38 +7,33 @@ use Rattle.tree_nodes.specs.declared.origin.Gen.{Gen}
 use Rattle.tree_nodes.specs.Differences.{IsDifference}
 use Rattle.tree_nodes.specs.Generations.{ArePlaced, IsSound}
 use Rattle.tree_nodes.specs.Shapes.{Held, Shape, IsWorkOf, IsRight}
-use Rattle.board_tree.specs.Steps.{Follows, Moves, Moved}
+use Rattle.board_tree.specs.Steps.{Follows, Moves}
 use Rattle.board_tree.specs.Views.{IsStep}
 
-pub moved_by : (program : Program) (place : List ℕ) (old new : Shape) (d : Derivation) (a : Action) (low high : ℕ) →
-    Moves program place old d a new low high →
-    Moved program place old d new low high
-moved_by program place old new d a low high m = record { action = a; moves = m }
-
-module _ (program : Program) (old new : Shape) (d : Derivation) (next later : ℕ) where
-  pub moved_sound : IsSound old next → Moved program [] old d new next later → IsSound new later
+module _ (program : Program) (old new : Shape) (d : Derivation) (a : Action) (next later : ℕ) where
+  pub moved_sound : IsSound old next → Moves program [] old d a new next later → IsSound new later
   moved_sound s m =
-      let v = m.moves.goes.advances s in
+      let v = m.goes.advances s in
       record {
         apart = v.apart;
         below = λ up n h.
             ⊎_elim (λ l. let b = s.below up n l.0 in let k = v.more in omega (arith, b, k)) (λ r. r.below) (v.keeps up n h);
       }
 
-  pub moved_placed : IsSound old next → ArePlaced [] old → Moved program [] old d new next later → ArePlaced [] new
-  moved_placed s p m up n h = ⊎_elim (λ l. p up n l.0) (λ r. r.placed) ((m.moves.goes.advances s).keeps up n h)
+  pub moved_placed : IsSound old next → ArePlaced [] old → Moves program [] old d a new next later → ArePlaced [] new
+  moved_placed s p m up n h = ⊎_elim (λ l. p up n l.0) (λ r. r.placed) ((m.goes.advances s).keeps up n h)
 
   waits_right : (n : Held) → n.work ≡ None → IsWorkOf program n.source n.work
   waits_right n e = subst (IsWorkOf program n.source) (sym e) tt
 
-  pub moved_step : (gone came : List Gen) → IsSound old next → Moved program [] old d new next later →
+  pub moved_step : (gone came : List Gen) → IsSound old next → Moves program [] old d a new next later →
       IsDifference gone old new →
       IsDifference came new old →
       IsStep program old next d new later gone came
   moved_step gone came s m ended began =
-      let v = m.moves.goes.advances s in
+      let v = m.goes.advances s in
       record {
-        stands = λ right follows e c h. sym (m.moves.becomes.becomes right follows e c h).1;
+        stands = λ right follows e c h. sym (m.becomes.becomes right follows e c h).1;
         more = v.more;
         keeps = v.keeps;
         leaves = v.leaves;

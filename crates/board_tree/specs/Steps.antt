@@ -53,11 +53,6 @@ pub record Moves (program : Program) (place : List ℕ) (old : Shape) (d : Deriv
   pub becomes : Becomes program old d a new
   pub goes : Goes (IsUntouched d) place low high old new
 
--- the same by some action
-pub record Moved (program : Program) (place : List ℕ) (old : Shape) (d : Derivation) (new : Shape) (low high : ℕ) : Type 0 where
-  pub action : Action
-  pub moves : Moves program place old d action new low high
-
 -- the same of one of the ways in which a behaviour can act
 pub record Acts (program : Program) (b : Behaviour) (ways : List Way) (d : Derivation) (a : Action) (new : Shape) : Type 0 where
   pub acts : Each (IsWayOf program b) ways → AnyFilled ways d → (e : Action) (c : Behaviour) →

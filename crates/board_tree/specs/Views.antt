@@ -11,7 +11,7 @@ use Rattle.board_tree.specs.declared.ready.Ready.{Ready}
 use Rattle.tree_nodes.specs.Differences.{IsDifference}
 use Rattle.board_tree.specs.Keeping.{IsUntouched, Keeps, Leaves}
 use Rattle.tree_nodes.specs.Shapes.{Shape, shape_of, stands_for, IsRight}
-use Rattle.board_tree.specs.Steps.{Moved, Follows}
+use Rattle.board_tree.specs.Steps.{Moves, Follows}
 
 -- the tree, the next generation, what the last step ended and began, and the tree that stands ready for the next step
 pub record TreeView : Type 0 where
@@ -24,17 +24,22 @@ pub record TreeView : Type 0 where
 abbrev pub shape : TreeView → Shape
 shape v = shape_of v.root
 
--- what stands ready is what the tree becomes by these rules, with the generations that end and begin
+-- what stands ready is what the tree becomes by these rules, with its action and the generations that end and begin
 abbrev pub IsReserved : Program → Shape → ℕ → Derivation → Option Ready → Type 0
 IsReserved program t next d None = ⊥
 IsReserved program t next d (Some r) =
-    Moved program [] t d (shape_of r.branch) next r.next × IsDifference r.gone.items t (shape_of r.branch) ×
+    Moves program [] t d r.action (shape_of r.branch) next r.next × IsDifference r.gone.items t (shape_of r.branch) ×
     IsDifference r.came.items (shape_of r.branch) t
 
 -- this tree stands ready
 abbrev pub IsNext : Option Ready → Shape → Type 0
 IsNext None t = ⊥
 IsNext (Some r) t = t ≡ shape_of r.branch
+
+-- this action stands ready
+abbrev pub IsNextAction : Option Ready → Action → Type 0
+IsNextAction None a = ⊥
+IsNextAction (Some r) a = a ≡ r.action
 
 -- By these rules the first tree becomes the second. Where each node that takes part is expanded by what its origin can do, the second
 -- stands for what the behaviour becomes, and its nodes are expanded in the same way. The nodes that the step leaves untouched stay, with

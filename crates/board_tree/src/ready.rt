@@ -1,51 +1,65 @@
 // A tree that stands ready.
 
-ghost use Rattle.std.specs.Prelude.{[], IfOk};
+ghost use Rattle.std.specs.Prelude.{◌≡◌, [], IfOk};
 ghost use Rattle.spec_core.specs.Code.{program_of};
 ghost use Rattle.spec_core.specs.Ready.{IsReady};
 ghost use Rattle.rule_model.specs.Derivations.{derivation_of};
 ghost use Rattle.tree_nodes.specs.Differences.{IsDifference};
 ghost use Rattle.tree_nodes.specs.Shapes.{shape_of};
-ghost use Rattle.board_tree.specs.Steps.{Moved};
+ghost use Rattle.board_tree.specs.Steps.{Moves};
 
 use crate::advance::advance;
+use crate::leaf::Advanced;
+use rule_model::action::Action;
 use rule_model::rules::Rules;
 use spec_core::code::Checked;
 use spec_core::memory::Memory;
 use std::alloc::Global;
 use tree_nodes::branch::Branch;
 use tree_nodes::find::difference;
-use tree_nodes::fresh::Fresh;
 use tree_nodes::origin::Gen;
 
-/// The next tree, the next generation then, and the generations that end and begin.
+/// The next tree, the action that leads to it, the next generation then, and the generations that end and begin.
 #[derive(Drop)]
 pub struct Ready {
+    pub branch: Branch,
+    pub action: Action,
+    pub next: u128,
+    pub gone: Vec<Gen>,
+    pub came: Vec<Gen>,
+}
+
+/// What a tree is after a step: its operators and nodes, the next generation, and the generations that ended and began.
+#[derive(Drop)]
+pub struct After {
     pub branch: Branch,
     pub next: u128,
     pub gone: Vec<Gen>,
     pub came: Vec<Gen>,
 }
 
-// The tree after the step by these rules, and the next generation then.
-#[tactic(auto, using(crate::proofs::Stepping::moved_by))]
-fn moved(
-    alloc: Global,
-    checked: &Checked,
-    branch: &Branch,
-    rules: &Rules,
-    next: u128,
-    place: &[u32],
-) -> Result<Fresh, Memory>
-    requires ready { IsReady (program_of checked.now) }
-    ensures { IfOk result (λ f.
-        Moved (program_of checked.now) place.now (shape_of branch.now) (derivation_of rules.now) (shape_of f.branch.value) next f.next) }
-{
-    let done = advance(alloc, checked, branch, rules, next, place)?;
-    Ok(Fresh {
-        branch: done.branch,
-        next: done.next,
-    })
+impl Ready {
+    /// What the tree is after the step. It takes no memory.
+    pub fn into_after(self) -> After
+        ensures branch { result.branch ≡ self.branch }
+        ensures next { result.next ≡ self.next }
+        ensures gone { result.gone ≡ self.gone }
+        ensures came { result.came ≡ self.came }
+    {
+        let Ready {
+            branch,
+            action: _,
+            next,
+            gone,
+            came,
+        } = self;
+        After {
+            branch,
+            next,
+            gone,
+            came,
+        }
+    }
 }
 
 /// What stands ready for the step by these rules.
@@ -58,20 +72,22 @@ pub fn ready_for(
 ) -> Result<Ready, Memory>
     requires ready { IsReady (program_of checked.now) }
     ensures moved { IfOk result (λ r.
-        Moved (program_of checked.now) [] (shape_of branch.now) (derivation_of rules.now) (shape_of r.branch) next r.next) }
+        Moves (program_of checked.now) [] (shape_of branch.now) (derivation_of rules.now) r.action (shape_of r.branch) next r.next) }
     ensures gone { IfOk result (λ r. IsDifference r.gone.items (shape_of branch.now) (shape_of r.branch)) }
     ensures came { IfOk result (λ r. IsDifference r.came.items (shape_of r.branch) (shape_of branch.now)) }
 {
     let place = Vec::new(alloc);
-    let Fresh {
+    let Advanced {
+        action,
         branch: after,
         next,
-    } = moved(alloc, checked, branch, rules, next, &place)?;
+    } = advance(alloc, checked, branch, rules, next, &place)?;
     let after = Box::into_inner(after);
     let gone = difference(alloc, branch, &after)?;
     let came = difference(alloc, &after, branch)?;
     Ok(Ready {
         branch: after,
+        action,
         next,
         gone,
         came,

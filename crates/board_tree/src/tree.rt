@@ -10,9 +10,10 @@ ghost use Rattle.tree_nodes.specs.Generations.{AreApart, AreBelow, ArePlaced};
 ghost use Rattle.tree_nodes.specs.Rests.{expansion_of};
 ghost use Rattle.tree_nodes.specs.Shapes.{Shape, shape_of, stands_for, held_of, posted, Lives, IsNodeOf, IsRight, IsWorkFor};
 ghost use Rattle.tree_nodes.specs.Shapes.{AllWait};
-ghost use Rattle.board_tree.specs.Views.{shape, IsReserved, IsNext, IsStep};
+ghost use Rattle.board_tree.specs.Views.{shape, IsReserved, IsNext, IsNextAction, IsStep};
 
-use crate::ready::{Ready, ready_for};
+use crate::ready::{After, Ready, ready_for};
+use rule_model::action::Action;
 use rule_model::beh::Beh;
 use rule_model::rules::Rules;
 use spec_core::code::Checked;
@@ -111,6 +112,15 @@ impl Tree {
         })
     }
 
+    /// No two nodes have one generation, each generation is below the next one, and each node's place is where it stands.
+    pub fn generations_are_sound(&self)
+        ensures apart { AreApart (shape self.now) }
+        ensures below { AreBelow (shape self.now) self.now.next }
+        ensures placed { ArePlaced [] (shape self.now) }
+    {
+        let _ = &self.root;
+    }
+
     /// The node of a live generation; None for any other. It takes no memory.
     #[tactic(auto, using(tree_nodes::proofs::Finding::found_is_node, tree_nodes::proofs::Finding::none_lives))]
     pub fn at(&self, generation: Gen) -> Option<&Node>
@@ -173,6 +183,18 @@ impl Tree {
         }
     }
 
+    /// The action that stands ready: where each node that takes part is expanded by what its origin can do, it is the one that the behaviour
+    /// does by the rules. It takes no memory.
+    pub fn action_next(&self) -> &Action
+        requires reserved { IsSome self.now.ready }
+        ensures action { IsNextAction self.now.ready result.now }
+    {
+        match &self.ready {
+            Some(ready) => &ready.action,
+            None => unreachable!(),
+        }
+    }
+
     /// The step by these rules: the tree then stands for what its behaviour becomes. It takes no memory.
     pub fn step(&mut self, checked: &Checked, rules: &Rules)
         requires reserved { IsReserved (program_of checked.now) (shape self.old) self.old.next (derivation_of rules.now) self.old.ready }
@@ -182,12 +204,12 @@ impl Tree {
     {
         match self.ready.take() {
             Some(ready) => {
-                let Ready {
+                let After {
                     branch,
                     next,
                     gone,
                     came,
-                } = ready;
+                } = ready.into_after();
                 self.root = branch;
                 self.next = next;
                 self.gone = gone;

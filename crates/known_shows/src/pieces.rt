@@ -41,8 +41,8 @@ fn is_about(piece: &Piece, generation: Gen, rules: &Rules) -> bool
     piece.generation.0 == generation.0 && same_rules(&piece.rules, rules)
 }
 
-// Whether a generation is one of these.
-fn is_gone(gone: &[Gen], generation: Gen) -> bool
+/// Whether a generation is one of these. It takes no memory.
+pub fn is_gone(gone: &[Gen], generation: Gen) -> bool
     ensures { result ≡ of.is_gone gone.now generation.0 }
 {
     for one in gone {

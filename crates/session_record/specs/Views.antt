@@ -1,17 +1,20 @@
 -- What contracts see of the record of a session.
-use Rattle.std.specs.Prelude.{ℕ, ◌≡◌, ◌<◌, List, map, Option}
+use Rattle.std.specs.Prelude.{ℕ, ◌≡◌, ◌<◌, List, [], ◌∷◌, ◌++◌, map, Option}
 use Rattle.spec_core.specs.declared.code.Checked.{Checked}
 use Rattle.spec_core.specs.Code.{Program, program_of}
 use Rattle.board_tree.specs.Views.{TreeView, shape, IsReserved}
 use Rattle.rule_model.specs.declared.action.Action.{Action}
 use Rattle.rule_model.specs.declared.log.Entry.{Entry}
 use Rattle.rule_model.specs.Derivations.{Derivation}
-use Rattle.rule_model.specs.Events.{Event, OfferName, event_of}
-use Rattle.rule_model.specs.States.{State}
+use Rattle.rule_model.specs.Derives.{Derives}
+use Rattle.rule_model.specs.Events.{Event, OfferName, acted, event_of}
+use Rattle.rule_model.specs.Legal.{IsAgreed}
+use Rattle.rule_model.specs.States.{State, after_action}
 use Rattle.session_record.specs.declared.ready_act.ReadyAct.{ReadyAct}
 use Rattle.session_record.specs.Records.{IsReadied}
 use Rattle.session_states.specs.declared.state.SessionState.{SessionState}
 use Rattle.session_states.specs.Views.{state_of}
+use Rattle.tree_nodes.specs.Shapes.{stands_for}
 
 -- the specification; how many clients there are; the log; the state that it leads to; the tree of its behaviour; the act that stands
 -- ready; for how many more entries the log has room
@@ -47,8 +50,17 @@ abbrev pub SameTree : RecordView → RecordView → Type 0
 SameTree old new =
     (shape new.tree ≡ shape old.tree) × (new.tree.next ≡ old.tree.next) × (new.tree.gone ≡ old.tree.gone) × (new.tree.came ≡ old.tree.came)
 
--- all that this action by these rules needs stands ready, where it takes the offer of this name
-pub record IsActReserved (v : RecordView) (a : Action) (d : Derivation) (by : Option OfferName) : Type 0 where
+-- all that the action by these rules needs stands ready, where it takes the offer of this name
+pub record IsActReserved (v : RecordView) (d : Derivation) (by : Option OfferName) : Type 0 where
   pub tree : IsReserved (program v) (shape v.tree) v.tree.next d v.tree.ready
-  pub act : IsReadied (program v) (state v) a d by v.tree.ready v.ready
+  pub act : IsReadied (program v) (state v) d by v.tree.ready v.ready
   pub room : 0 < v.room
+
+-- The behaviour has done an action by these rules, to which the client of this offer agreed, or nobody had to. The log has it as its last
+-- entry, and the state is the one after it, with the behaviour that the tree stands for.
+pub record HasActed (old new : RecordView) (d : Derivation) (by : Option OfferName) : Type 0 where
+  pub action : Action
+  pub derives : Derives (program old) (state old).behaviour d action (stands_for (program old) (shape new.tree))
+  pub agreed : IsAgreed (program old) (state old) action by
+  pub log : events new ≡ events old ++ acted action d by ∷ []
+  pub state : state new ≡ after_action (state old) action by (stands_for (program old) (shape new.tree))

@@ -9,14 +9,14 @@ ghost use Rattle.board_tree.specs.Steps.{Follows};
 ghost use Rattle.board_tree.specs.Views.{shape, IsStep};
 ghost use Rattle.rule_model.specs.Answers.{answer_of};
 ghost use Rattle.rule_model.specs.Derivations.{derivation_of};
-ghost use Rattle.rule_model.specs.Events.{acted, event_of, left, pended, replied, stalled};
-ghost use Rattle.rule_model.specs.Legal.{IsAgreed, IsIdle, IsPending, IsReplyAt};
-ghost use Rattle.rule_model.specs.States.{after_action, after_leave, after_offer, after_reply, after_stall};
+ghost use Rattle.rule_model.specs.Events.{event_of, left, pended, replied, stalled};
+ghost use Rattle.rule_model.specs.Legal.{IsIdle, IsPending, IsReplyAt};
+ghost use Rattle.rule_model.specs.States.{after_leave, after_offer, after_reply, after_stall};
 ghost use Rattle.rule_model.specs.Logs.{events_of};
 ghost use Rattle.session_record.specs.Answered.{answered_of, reply_to};
 ghost use Rattle.session_record.specs.Faults.{ExplainsLeave, ExplainsPend};
-ghost use Rattle.session_record.specs.Records.{Does, IsSession};
-ghost use Rattle.session_record.specs.Views.{events, program, state, IsActReserved, SameLog, SameSetting, SameTree};
+ghost use Rattle.session_record.specs.Records.{IsSession, MayAct};
+ghost use Rattle.session_record.specs.Views.{events, program, state, HasActed, IsActReserved, SameLog, SameSetting, SameTree};
 ghost use Rattle.session_states.specs.Possible.{MayLeave, MayOffer, MayStall};
 ghost use Rattle.session_states.specs.Views.{state_of};
 ghost use Rattle.tree_nodes.specs.Rests.{expansion_of};
@@ -26,7 +26,6 @@ use crate::answered::{Answered, reply_to};
 use crate::faults::{LeaveFault, PendFault};
 use crate::ready_act::{ReadyAct, ready_act};
 use board_tree::tree::Tree;
-use rule_model::action::Action;
 use rule_model::log::{Entry, Log};
 use rule_model::offer::Offer;
 use rule_model::reply::Reply;
@@ -339,16 +338,15 @@ impl Record {
         self.tree.post(generation, work);
     }
 
-    /// Makes ready all that this action by these rules needs, where it takes the offer named. All else stays as it is, also where there is
+    /// Makes ready all that the action by these rules needs, where it takes the offer named. All else stays as it is, also where there is
     /// no memory.
     pub fn reserve_act(
         &mut self,
         alloc: Global,
         rules: &Rules,
-        action: &Action,
         by: Option<(u32, u64)>,
     ) -> Result<(), Memory>
-        ensures reserved { OnOk result (IsActReserved self.new action.now (derivation_of rules.now) by) }
+        ensures reserved { OnOk result (IsActReserved self.new (derivation_of rules.now) by) }
         ensures tree { SameTree self.old self.new }
         ensures same { SameLog self.old self.new }
         ensures setting { SameSetting self.old self.new }
@@ -356,21 +354,19 @@ impl Record {
         self.entries.reserve(1)?;
         self.tree.reserve_step(alloc, &self.checked, rules)?;
         let rest = self.tree.stands_next(alloc, &self.checked)?;
+        let action = self.tree.action_next();
         let ready = ready_act(alloc, &self.session, rules, action, by, rest)?;
         self.ready = Some(ready);
         Ok(())
     }
 
-    /// The action by these rules, which was made ready, and by which nothing changed since. It takes no memory.
-    pub fn act(&mut self, rules: &Rules, action: &Action, by: Option<(u32, u64)>)
-        requires reserved { IsActReserved self.old action.now (derivation_of rules.now) by }
-        requires does { Does (program self.old) (state self.old).behaviour (derivation_of rules.now) action.now }
-        requires agreed { IsAgreed (program self.old) (state self.old) action.now by }
+    /// The action by these rules, which was made ready, and since then nothing has changed. It takes no memory.
+    pub fn act(&mut self, rules: &Rules, by: Option<(u32, u64)>)
+        requires reserved { IsActReserved self.old (derivation_of rules.now) by }
+        requires may { MayAct (program self.old) (state self.old) (derivation_of rules.now) by }
         requires right { IsRight (program self.old) (shape self.old.tree) }
         requires follows { Follows (shape self.old.tree) (derivation_of rules.now) }
-        ensures log { events self.new ≡ events self.old ++ acted action.now (derivation_of rules.now) by ∷ [] }
-        ensures state { state self.new ≡
-            after_action (state self.old) action.now by (stands_for (program self.old) (shape self.new.tree)) }
+        ensures acted { HasActed self.old self.new (derivation_of rules.now) by }
         ensures step { IsStep (program self.old) (shape self.old.tree) self.old.tree.next (derivation_of rules.now)
             (shape self.new.tree) self.new.tree.next self.new.tree.gone self.new.tree.came }
         ensures setting { SameSetting self.old self.new }
