@@ -1,14 +1,16 @@
 -- What is decided from what is known of a tree.
-use Rattle.std.proofs.Common.{ℕ, ◌≡◌, ◌∙◌, List, [], map, refl, sym, ap, subst, Option, Some, None, option_map, Bool}
+use Rattle.std.proofs.Common.{ℕ, ◌≡◌, ◌∙◌, List, [], map, filter, refl, sym, ap, subst, Option, Some, None, option_map, Bool}
 use Rattle.std.specs.Prelude.{option_and_then}
 use Rattle.spec_core.specs.Code.{Program}
 use Rattle.rule_model.specs.Derivations.{Derivation}
 use Rattle.rule_model.specs.States.{PendingOffer}
 use Rattle.windowed_trees.specs.Windows.{Windows}
 use Rattle.courses.specs.Known.{Knowledge, decided}
-use Rattle.courses.specs.Lazy.{Lazy, first_holding, all_holding}
+use Rattle.courses.specs.Lazy.{Lazy, whole, first_holding, all_holding}
 use Rattle.courses.specs.Gaps.{first_known, all_known}
-use Rattle.courses.specs.Rules.{Waiting, Next, course}
+use Rattle.courses.specs.Rules.{Waiting, Next, next_of, course}
+use Rattle.courses.proofs.Asking.{decided_is_so}
+use Rattle.courses.proofs.Following.{course_is_next}
 use Rattle.courses.proofs.Gaps.{gaps_are_so}
 use Rattle.settling.specs.Rules.{next_decided}
 use Rattle.settling.proofs.Deciding.{decided_by_rules}
@@ -16,19 +18,21 @@ use Rattle.composites.specs.Composites.{Composite}
 use Rattle.composites.specs.Evaluations.{Evaluation}
 use Rattle.open_composites.specs.Laws.{composites_of}
 use Rattle.asked_trees.specs.Asked.{TreeQuery, TestsAsked}
-use Rattle.asked_trees.specs.Laws.{IsSoundWaiting, EntryHolds}
+use Rattle.asked_trees.specs.Laws.{EntryHolds, lists_of}
+use Rattle.asked_trees.proofs.Entries.{next_entries_hold}
 use Rattle.asked_trees.proofs.Testing.{asked_can_be_tested}
 use Rattle.node_lists.specs.Waiting as lists
 use Rattle.node_lists.specs.Waiting.{Candidate, with_trees, waiting_trees}
-use Rattle.node_lists.specs.Laws.{IsKnownOf}
-use Rattle.node_lists.proofs.Decided.{decided_entries_hold}
+use Rattle.node_lists.specs.Laws.{IsKnownOf, answers_by}
+use Rattle.node_lists.proofs.Decided.{lists_are_those}
+use Rattle.node_lists.proofs.Entries.{next_same}
 use Rattle.tree_nodes.specs.Rests.{Work}
 use Rattle.tree_nodes.specs.Shapes.{Held, Shape, node_at, stands_for}
 use Rattle.tree_nodes.proofs.Finding.{found_is_node}
 use Rattle.known_shows.specs.Known.{Pieces}
 use Rattle.known_shows.proofs.Verdicts.{known_verdicts_are_so}
 use Rattle.candidates.specs.Listed.{knowledge, known_trees, first_tree, all_trees}
-use Rattle.candidates.specs.Laws.{IsKnownTree, DecidedEntriesAreSo}
+use Rattle.candidates.specs.Laws.{IsKnownTree, DecidedEntriesAreNext, DecidedEntriesAreSo}
 use Rattle.candidates.proofs.Listing.{node_found, are_those}
 use Rattle.candidates.proofs.Trees.{tree_of, candidates_are, firsts as firsts_are, alls as alls_are}
 use Rattle.candidates.proofs.Entries.{next_is}
@@ -100,19 +104,46 @@ module _ (program : Program) (e : Evaluation) (size : ℕ) (w : Windows) (t : Sh
       ∙ next_is (λ q. decided known (first_holding (lazy q))) (λ q. decided known (all_holding (lazy q)))
       (first_tree program.theory w pieces t) (all_trees program.theory w pieces t) state firsts alls
 
-  pub are_so : (state : Waiting PendingOffer) → IsSoundWaiting state → (entry : Next PendingOffer Derivation) →
+  pub are_next : (is_asked : TreeQuery → Derivation → Bool) → TestsAsked program w (stands_for program t) is_asked →
+      (state : Waiting PendingOffer) (entry : Next PendingOffer Derivation) →
       next_decided (first_tree program.theory w pieces t) (all_trees program.theory w pieces t) state ≡ Some entry →
-      EntryHolds program w (stands_for program t) state entry
-  are_so state sound entry h = by_outcome (outcome state) refl (trees_decided state ∙ h)
+      entry ≡ next_of (lists_of program e w (stands_for program t) is_asked) state
+  are_next is_asked tests state entry h = by_outcome (outcome state) refl (trees_decided state ∙ h)
     where
+      of : IsKnownOf program e size w t is_asked known
+      of = known_of is_asked tests
+
+      whole_lists : TreeQuery → List Candidate
+      whole_lists q = filter (answers_by is_asked of.items).verdict (whole (answers_by is_asked of.items) (lazy q))
+
+      their_trees : ◌≡◌ {A = TreeQuery → List Derivation} (λ q. map tree_of (whole_lists q))
+          (lists_of program e w (stands_for program t) is_asked)
+      their_trees i q = lists_are_those program e size w t is_asked of.answered of.items of.are_items q i
+
+      candidates_next : (a : Next PendingOffer Candidate) → outcome state ≡ Some a → a ≡ next_of whole_lists state
+      candidates_next a f =
+          sym (decided_is_so Composite Candidate (Next PendingOffer Candidate) known (course lazy state) a (answers_by is_asked of.items)
+          of.extends f)
+          ∙ course_is_next Composite PendingOffer Candidate lazy state (answers_by is_asked of.items)
+
       by_outcome : (o : Option (Next PendingOffer Candidate)) → outcome state ≡ o → option_map with_trees o ≡ Some entry →
-          EntryHolds program w (stands_for program t) state entry
+          entry ≡ next_of (lists_of program e w (stands_for program t) is_asked) state
       by_outcome None f g = let no : ⊥ = cc in absurd no
       by_outcome (Some a) f g =
-          let same : with_trees a ≡ entry = cc in
-          let test = asked_can_be_tested program e w k.exact (stands_for program t) in
-          subst (EntryHolds program w (stands_for program t) state) same
-          (decided_entries_hold program e size w t test.0 known (known_of test.0 test.1) state sound a f).1
+          let same : entry ≡ with_trees a = cc in
+          same
+          ∙ ap with_trees (candidates_next a f)
+          ∙ next_same whole_lists state
+          ∙ ap (λ z. next_of z state) their_trees
+
+pub decided_entries_are_next : DecidedEntriesAreNext
+decided_entries_are_next program e size w t pieces k state entry h is_asked tests =
+    are_next program e size w t pieces k is_asked tests state entry h
 
 pub decided_entries_are_so : DecidedEntriesAreSo
-decided_entries_are_so program e size w t pieces k state sound entry h = are_so program e size w t pieces k state sound entry h
+decided_entries_are_so program e size w t pieces k state sound entry h =
+    let test = asked_can_be_tested program e w k.exact (stands_for program t) in
+    subst (EntryHolds program w (stands_for program t) state)
+    (sym (decided_entries_are_next program e size w t pieces k state entry h test.0 test.1))
+    (next_entries_hold program e size w (stands_for program t) test.0
+    (record { ready = k.ready; exact = k.exact; windows = k.windows; tests = test.1 }) state sound)

@@ -16,10 +16,10 @@ use Rattle.asked_lists.specs.Searches.{for_offer}
 use Rattle.tree_nodes.specs.Shapes.{shape_of}
 use Rattle.tree_composites.specs.Known.{part_of, known_plans}
 use Rattle.known_shows.specs.Stored.{stored}
+use Rattle.waiting_offers.specs.Offers.{offer_at}
 use Rattle.candidates.specs.Listed.{trees_in, verdict_for, first_tree, all_trees, asked_for_first, asked_for_all, is_known_to_hold}
 use Rattle.candidates.specs.Jobs.{NodeJob, all_jobs, is_out}
 use Rattle.candidates.specs.Models.{job_of}
-use Rattle.candidates.specs.Offers.{offer_at}
 use Rattle.candidates.specs.declared.known_tree.KnownTree.{KnownTree}
 
 module _ (s : KnownTree) where

@@ -1,5 +1,5 @@
 -- What follows from the definitions.
-use Rattle.std.specs.Prelude.{ℕ, ◌≡◌, List, Some, map}
+use Rattle.std.specs.Prelude.{ℕ, ◌≡◌, List, Some, map, Bool}
 use Rattle.spec_core.specs.Theories.{Theory}
 use Rattle.spec_core.specs.Code.{Program}
 use Rattle.spec_core.specs.Ready.{IsReady}
@@ -8,13 +8,13 @@ use Rattle.rule_model.specs.States.{PendingOffer}
 use Rattle.windowed_trees.specs.Windows.{Windows, AreWindows}
 use Rattle.courses.specs.Known.{found}
 use Rattle.courses.specs.Gaps.{with_gaps}
-use Rattle.courses.specs.Rules.{Waiting, Next, course}
+use Rattle.courses.specs.Rules.{Waiting, Next, next_of, course}
 use Rattle.settling.specs.Rules.{next_decided}
 use Rattle.settling.specs.Needed.{next_needed}
 use Rattle.composites.specs.Evaluations.{Evaluation, IsExact}
 use Rattle.open_composites.specs.Laws.{composites_of}
-use Rattle.asked_trees.specs.Asked.{TreeQuery}
-use Rattle.asked_trees.specs.Laws.{IsSoundWaiting, EntryHolds}
+use Rattle.asked_trees.specs.Asked.{TreeQuery, TestsAsked}
+use Rattle.asked_trees.specs.Laws.{IsSoundWaiting, EntryHolds, lists_of}
 use Rattle.node_lists.specs.Waiting as lists
 use Rattle.node_lists.specs.Waiting.{waiting_trees}
 use Rattle.tree_nodes.specs.Generations.{AreApart}
@@ -45,7 +45,19 @@ pub record IsKnownTree (program : Program) (e : Evaluation) (size : ℕ) (w : Wi
       composites_of program.theory w x.plans ≡ lists.composites_of program e w n.source
   pub shown : ArePiecesOf program w pieces t
 
--- then the entry that the rules decide from searches in it says what is so of the steps of the behaviour that it stands for
+-- then the entry that the rules decide from searches in it is the one that comes next over the whole lists of the behaviour that it stands
+-- for, by whatever test says which trees are asked for
+abbrev pub DecidedEntriesAreNext : Type 0
+DecidedEntriesAreNext =
+    (program : Program) (e : Evaluation) (size : ℕ) (w : Windows) (t : Shape) (pieces : Pieces) →
+    IsKnownTree program e size w t pieces →
+    (state : Waiting PendingOffer) (entry : Next PendingOffer Derivation) →
+    next_decided (first_tree program.theory w pieces t) (all_trees program.theory w pieces t) state ≡ Some entry →
+    (is_asked : TreeQuery → Derivation → Bool) →
+    TestsAsked program w (stands_for program t) is_asked →
+    entry ≡ next_of (lists_of program e w (stands_for program t) is_asked) state
+
+-- and it says what is so of the steps of this behaviour
 abbrev pub DecidedEntriesAreSo : Type 0
 DecidedEntriesAreSo =
     (program : Program) (e : Evaluation) (size : ℕ) (w : Windows) (t : Shape) (pieces : Pieces) →

@@ -2,6 +2,5 @@ pub mod Listed
 pub mod Walks
 pub mod Jobs
 pub mod Models
-pub mod Offers
 pub mod KnownTrees
 pub mod Laws

@@ -2,7 +2,7 @@
 
 ghost use Rattle.std.specs.Prelude.{◌≡◌, IfOk};
 ghost use Rattle.session_states.specs.Views.{pending_of};
-ghost use Rattle.candidates.specs.Offers.{no_offer};
+ghost use Rattle.waiting_offers.specs.Offers.{no_offer};
 
 use crate::job::NodeJob;
 use known_shows::pieces::Pieces;

@@ -1,0 +1,4 @@
+pub mod Offers
+pub mod Waiting
+pub mod Numbering
+pub mod Laws
