@@ -1,0 +1,4 @@
+// Trees that searches find, followed at the nodes of their tree.
+#![tactic(auto)]
+
+pub mod laws;
