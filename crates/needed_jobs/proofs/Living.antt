@@ -1,0 +1,222 @@
+-- The jobs that searches ask are of nodes of the tree, and aren't done.
+use Rattle.std.proofs.Common.{ℕ, ◌≡◌, ◌++◌, List, [], ◌∷◌, map, flat_map, refl, Option, Some, None, Bool, true, false}
+use Rattle.std.proofs.Common.{if◌then◌else◌}
+use Rattle.spec_core.specs.Lists.{Each}
+use Rattle.spec_core.specs.Theories.{Theory}
+use Rattle.spec_core.specs.Code.{Synchronised}
+use Rattle.rule_model.specs.Derivations.{Derivation}
+use Rattle.rule_model.specs.States.{PendingOffer}
+use Rattle.windowed_trees.specs.Windows.{Windows}
+use Rattle.courses.specs.Courses.{Question, expand, judge}
+use Rattle.courses.specs.Known.{known_or, unless_known}
+use Rattle.courses.specs.Gaps.{OrGap, element, gap, in_its_place, missing_to_first, all_missing}
+use Rattle.courses.specs.Rules.{Query, meeting, any, unseen, beyond, any_beyond, beyond_or_unseen, Waiting, when}
+use Rattle.settling.specs.Needed.{first_needed, unseen_needed, asked_needed, marked_needed, unmet_needed, next_needed}
+use Rattle.composites.specs.Kinds.{is_joint}
+use Rattle.open_composites.specs.declared.scheme.Row.TheVariants.{Chl, Chr, Parl, Parr, Distake}
+use Rattle.open_composites.specs.OpenPlans.{OpenPlan, under_row, plans_alone, plans_joint, plan_by_disabling}
+use Rattle.asked_trees.specs.Asked.{TreeQuery}
+use Rattle.asked_lists.specs.Searches.{for_offer, asked_from}
+use Rattle.tree_nodes.specs.Rests.{Work}
+use Rattle.tree_nodes.specs.Shapes.{Held, Shape, leaf, ended, over, between, Unary, Binary, choosing, beside, disabling, under, first_of}
+use Rattle.tree_nodes.specs.Shapes.{second_of, Lives}
+use Rattle.tree_composites.specs.Known.{PlanOrGap, turned, each_turned, over_one, plans_at, partners, over_two, known_plans}
+use Rattle.known_shows.specs.Known.{Pieces, missing_parts}
+use Rattle.known_shows.proofs.Missing.{missing_parts_are_missing}
+use Rattle.candidates.specs.Listed.{tree_verdict, known_trees, asked_for_first, asked_for_all, is_known_to_hold}
+use Rattle.candidates.specs.Jobs.{NodeJob, to_judge, jobs_of, all_jobs}
+use Rattle.needed_jobs.specs.Needed.{jobs_needed, generation_of, Waits, IsUndone}
+use Rattle.needed_jobs.specs.Laws.{NeededJobsLive, NeededJobsAreUndone}
+use Rattle.needed_jobs.proofs.Lists.{each_join, each_flat, each_map, at_element}
+
+-- P holds of the number of each gap
+abbrev AreGaps : {A : Type 0} → (ℕ → Type 0) → List (OrGap A) → Type 0
+AreGaps P [] = Unit {0}
+AreGaps P (element a ∷ l) = AreGaps P l
+AreGaps P (gap g ∷ l) = P g × AreGaps P l
+
+gaps_more : {A : Type 0} (P Q : ℕ → Type 0) → ((g : ℕ) → P g → Q g) → (l : List (OrGap A)) → AreGaps P l → AreGaps Q l
+gaps_more P Q f [] h = tt
+gaps_more P Q f (element a ∷ l) h = gaps_more P Q f l h
+gaps_more P Q f (gap g ∷ l) h = (f g h.0, gaps_more P Q f l h.1)
+
+module _ (P : ℕ → Type 0) where
+  no_gaps : {A : Type 0} (xs : List A) → AreGaps P (map element xs)
+  no_gaps [] = tt
+  no_gaps (x ∷ xs) = no_gaps xs
+
+  gaps_join : {A : Type 0} (l m : List (OrGap A)) → AreGaps P l → AreGaps P m → AreGaps P (l ++ m)
+  gaps_join [] m h k = k
+  gaps_join (element a ∷ l) m h k = gaps_join l m h k
+  gaps_join (gap g ∷ l) m h k = (h.0, gaps_join l m h.1 k)
+
+  gaps_placed : {A B : Type 0} (f : A → List (OrGap B)) → ((a : A) → AreGaps P (f a)) → (l : List (OrGap A)) → AreGaps P l →
+      AreGaps P (flat_map (in_its_place f) l)
+  gaps_placed f h [] k = tt
+  gaps_placed f h (element a ∷ l) k = gaps_join (f a) (flat_map (in_its_place f) l) (h a) (gaps_placed f h l k)
+  gaps_placed f h (gap g ∷ l) k = (k.0, gaps_placed f h l k.1)
+
+  gaps_turned : (f : OpenPlan → OpenPlan) (ps : List PlanOrGap) → AreGaps P ps → AreGaps P (map (turned f) ps)
+  gaps_turned f [] h = tt
+  gaps_turned f (element p ∷ ps) h = gaps_turned f ps h
+  gaps_turned f (gap g ∷ ps) h = (h.0, gaps_turned f ps h.1)
+
+  gaps_each : (f : OpenPlan → List OpenPlan) (ps : List PlanOrGap) → AreGaps P ps → AreGaps P (each_turned f ps)
+  gaps_each f ps h = gaps_placed (λ p. map element (f p)) (λ p. no_gaps (f p)) ps h
+
+  module _ (theory : Theory) where
+    gaps_partners : (gates : Synchronised) (qs : List PlanOrGap) → AreGaps P qs → (p : OpenPlan) → AreGaps P (partners theory gates qs p)
+    gaps_partners gates qs h p = by_test (is_joint gates p.kind)
+      where
+        by_test : (b : Bool) → AreGaps P (if b then each_turned (plans_joint theory gates p) qs else [])
+        by_test true = gaps_each (plans_joint theory gates p) qs h
+        by_test false = tt
+
+    gaps_two : (o : Binary) (ps qs : List PlanOrGap) → AreGaps P ps → AreGaps P qs → AreGaps P (over_two theory o ps qs)
+    gaps_two choosing ps qs h k =
+        gaps_join (map (turned (under_row Chl)) ps) (map (turned (under_row Chr)) qs) (gaps_turned (under_row Chl) ps h)
+        (gaps_turned (under_row Chr) qs k)
+    gaps_two (beside gates) ps qs h k =
+        let right = each_turned (plans_alone gates Parr) qs in
+        let both = flat_map (in_its_place (partners theory gates qs)) ps in
+        gaps_join (each_turned (plans_alone gates Parl) ps) (right ++ both) (gaps_each (plans_alone gates Parl) ps h)
+        (gaps_join right both (gaps_each (plans_alone gates Parr) qs k)
+        (gaps_placed (partners theory gates qs) (gaps_partners gates qs k) ps h))
+    gaps_two disabling ps qs h k =
+        gaps_join (map (turned plan_by_disabling) ps) (map (turned (under_row Distake)) qs) (gaps_turned plan_by_disabling ps h)
+        (gaps_turned (under_row Distake) qs k)
+
+waits_under : (o : Unary) (x : Shape) (g : ℕ) → Waits x g → Waits (over o x) g
+waits_under o x g h =
+    record { node = h.node; is = record { up = under o ∷ h.is.up; stands = (refl, h.is.stands); same = h.is.same }; waits = h.waits }
+
+waits_left : (o : Binary) (x y : Shape) (g : ℕ) → Waits x g → Waits (between o x y) g
+waits_left o x y g h =
+    record { node = h.node; is = record { up = first_of o ∷ h.is.up; stands = (refl, h.is.stands); same = h.is.same }; waits = h.waits }
+
+waits_right : (o : Binary) (x y : Shape) (g : ℕ) → Waits y g → Waits (between o x y) g
+waits_right o x y g h =
+    record { node = h.node; is = record { up = second_of o ∷ h.is.up; stands = (refl, h.is.stands); same = h.is.same }; waits = h.waits }
+
+at_leaf : (n : Held) (o : Option Work) → n.work ≡ o → AreGaps (Waits (leaf n)) (plans_at n.generation o)
+at_leaf n None e = (record { node = n; is = record { up = []; stands = refl; same = refl }; waits = e }, tt)
+at_leaf n (Some work) e = no_gaps (Waits (leaf n)) work.plans
+
+-- a node of each gap's generation waits
+gaps_wait : (theory : Theory) (t : Shape) → AreGaps (Waits t) (known_plans theory t)
+gaps_wait theory (leaf n) = at_leaf n n.work refl
+gaps_wait theory ended = tt
+gaps_wait theory (over o x) =
+    gaps_turned (Waits (over o x)) (over_one o) (known_plans theory x)
+    (gaps_more (Waits x) (Waits (over o x)) (waits_under o x) (known_plans theory x) (gaps_wait theory x))
+gaps_wait theory (between o x y) =
+    gaps_two (Waits (between o x y)) theory o (known_plans theory x) (known_plans theory y)
+    (gaps_more (Waits x) (Waits (between o x y)) (waits_left o x y) (known_plans theory x) (gaps_wait theory x))
+    (gaps_more (Waits y) (Waits (between o x y)) (waits_right o x y) (known_plans theory y) (gaps_wait theory y))
+
+-- P holds of the number of a node that is to be expanded
+abbrev OfNode : {A : Type 0} → (ℕ → Type 0) → Question A → Type 0
+OfNode P (expand g) = P g
+OfNode P (judge a) = Unit {0}
+
+module _ {A : Type 0} (P : ℕ → Type 0) (verdict : A → Option Bool) where
+  asked_to_first : (l : List (OrGap A)) → AreGaps P l → Each (OfNode P) (missing_to_first verdict l)
+  asked_to_first [] h = tt
+  asked_to_first (gap g ∷ l) h = (h.0, asked_to_first l h.1)
+  asked_to_first (element a ∷ l) h = by_verdict (verdict a) (asked_to_first l h)
+    where
+      by_verdict : (o : Option Bool) → Each (OfNode P) (missing_to_first verdict l) →
+          Each (OfNode P) (unless_known o (judge a) (if known_or o false then [] else missing_to_first verdict l))
+      by_verdict None k = (tt, k)
+      by_verdict (Some true) k = tt
+      by_verdict (Some false) k = k
+
+  asked_to_all : (l : List (OrGap A)) → AreGaps P l → Each (OfNode P) (all_missing verdict l)
+  asked_to_all [] h = tt
+  asked_to_all (gap g ∷ l) h = (h.0, asked_to_all l h.1)
+  asked_to_all (element a ∷ l) h = by_verdict (verdict a) (asked_to_all l h)
+    where
+      by_verdict : (o : Option Bool) → Each (OfNode P) (all_missing verdict l) →
+          Each (OfNode P) (unless_known o (judge a) (all_missing verdict l))
+      by_verdict None k = (tt, k)
+      by_verdict (Some b) k = k
+
+-- What holds of all that searches ask holds of all that they ask by the rules.
+module _ {P J : Type 0} (Q : J → Type 0) (missing every_missing : Query P → List J) (is_there : Query P → Bool) (w : Waiting P)
+    (firsts : (q : Query P) → Each Q (missing q)) (alls : (q : Query P) → Each Q (every_missing q)) where
+  chosen : (b : Bool) (xs ys : List J) → Each Q xs → Each Q ys → Each Q (when b xs ys)
+  chosen true xs ys h k = h
+  chosen false xs ys h k = k
+
+  -- a search, and what comes behind it
+  search : (b : Bool) (js xs ys : List J) → Each Q js → Each Q xs → Each Q ys → Each Q (js ++ when b xs ys)
+  search b js xs ys g h k = each_join Q js (when b xs ys) g (chosen b xs ys h k)
+
+  in_turn : (query : P → Query P) (ps : List P) (rest : List J) → Each Q rest →
+      Each Q (first_needed missing every_missing is_there w query ps rest)
+  in_turn query [] rest h = h
+  in_turn query (p ∷ ps) rest h =
+      search (is_there (query p)) (missing (query p)) [] (first_needed missing every_missing is_there w query ps rest) (firsts (query p)) tt
+      (in_turn query ps rest h)
+
+  unseens : Each Q (unseen_needed missing every_missing is_there w)
+  unseens =
+      search (is_there unseen) (every_missing unseen) [] (first_needed missing every_missing is_there w beyond_or_unseen w.by_client [])
+      (alls unseen) tt (in_turn beyond_or_unseen w.by_client [] tt)
+
+  asks : (ps : List P) → Each Q (asked_needed missing every_missing is_there w ps)
+  asks [] = chosen w.all_wait (unseen_needed missing every_missing is_there w) [] unseens tt
+  asks (p ∷ ps) = firsts (beyond p)
+
+  marked : Each Q (marked_needed missing every_missing is_there w)
+  marked =
+      search (is_there any_beyond) (missing any_beyond) (asked_needed missing every_missing is_there w w.asks) [] (firsts any_beyond)
+      (asks w.asks) tt
+
+  unmet : Each Q (unmet_needed missing every_missing is_there w)
+  unmet =
+      search (is_there any) (missing any) (asked_needed missing every_missing is_there w w.asks)
+      (marked_needed missing every_missing is_there w) (firsts any) (asks w.asks) marked
+
+  each_needed : Each Q (next_needed missing every_missing is_there w)
+  each_needed = in_turn meeting w.pending (unmet_needed missing every_missing is_there w) unmet
+
+-- the node of the job is one of the tree's, and the job isn't done
+record IsOfNode (pieces : Pieces) (t : Shape) (job : NodeJob) : Type 0 where
+  pub lives : Lives t (generation_of job)
+  pub undone : IsUndone pieces t job
+
+module _ (theory : Theory) (w : Windows) (t : Shape) (pieces : Pieces) where
+  abbrev IsIts : NodeJob → Type 0
+  IsIts = IsOfNode pieces t
+
+  jobs_are : (x : Question Derivation) → OfNode (Waits t) x → Each IsIts (jobs_of pieces t x)
+  jobs_are (expand g) h = (record { lives = record { node = h.node; is = h.is }; undone = h }, tt)
+  jobs_are (judge d) h =
+      let m = missing_parts_are_missing theory w pieces t d in
+      each_map IsIts to_judge (missing_parts pieces t d) (λ p i. record { lives = m.lives p i; undone = m.unknown p i })
+
+  all_are : (xs : List (Question Derivation)) → Each (OfNode (Waits t)) xs → Each IsIts (all_jobs pieces t xs)
+  all_are xs h = each_flat IsIts (OfNode (Waits t)) (jobs_of pieces t) jobs_are xs h
+
+  trees_wait : (q : TreeQuery) → AreGaps (Waits t) (known_trees theory w t q)
+  trees_wait q =
+      gaps_placed (Waits t) (λ p. map element (asked_from theory w (for_offer q) p 0))
+      (λ p. no_gaps (Waits t) (asked_from theory w (for_offer q) p 0)) (known_plans theory t) (gaps_wait theory t)
+
+  are_of_nodes : (state : Waiting PendingOffer) → Each IsIts (jobs_needed theory w t pieces state)
+  are_of_nodes state =
+      each_needed IsIts (λ q. all_jobs pieces t (asked_for_first theory w pieces t q))
+      (λ q. all_jobs pieces t (asked_for_all theory w pieces t q)) (is_known_to_hold theory w pieces t) state
+      (λ q. all_are (asked_for_first theory w pieces t q)
+      (asked_to_first (Waits t) (tree_verdict theory w pieces t q) (known_trees theory w t q) (trees_wait q)))
+      (λ q. all_are (asked_for_all theory w pieces t q)
+      (asked_to_all (Waits t) (tree_verdict theory w pieces t q) (known_trees theory w t q) (trees_wait q)))
+
+pub needed_jobs_live : NeededJobsLive
+needed_jobs_live theory w t pieces state job i =
+    (at_element (IsOfNode pieces t) job (jobs_needed theory w t pieces state) (are_of_nodes theory w t pieces state) i).lives
+
+pub needed_jobs_are_undone : NeededJobsAreUndone
+needed_jobs_are_undone theory w t pieces state job i =
+    (at_element (IsOfNode pieces t) job (jobs_needed theory w t pieces state) (are_of_nodes theory w t pieces state) i).undone

@@ -1,0 +1,86 @@
+-- What searches for any tree say of the steps.
+use Rattle.std.proofs.Common.{ℕ, ◌≡◌, inl, inr, List, [], ◌∷◌, refl, Some, None, Bool}
+use Rattle.spec_core.specs.Lists.{IsOneOf}
+use Rattle.spec_core.specs.Code.{Program}
+use Rattle.spec_core.specs.Sorts.{FitsData}
+use Rattle.rule_model.specs.Actions.{Kind}
+use Rattle.rule_model.specs.Behaviours.{Behaviour}
+use Rattle.rule_model.specs.Derivations.{Derivation}
+use Rattle.rule_model.specs.Derives.{NoStep, SomeStep}
+use Rattle.windowed_trees.specs.Windows.{Windows}
+use Rattle.windowed_trees.specs.Laws.{NoTree}
+use Rattle.windowed_trees.proofs.Acting.{windowed_trees_act}
+use Rattle.windowed_trees.proofs.Nothing.{no_tree_no_step}
+use Rattle.courses.specs.Lazy.{first}
+use Rattle.courses.specs.Rules.{any, any_beyond}
+use Rattle.composites.specs.Evaluations.{Evaluation}
+use Rattle.composites.proofs.Lists.{empty_has_none}
+use Rattle.asked_trees.specs.Asked.{TreeQuery, IsAsked, TestsAsked}
+use Rattle.asked_trees.specs.Laws.{IsAnswered, lists_of}
+use Rattle.asked_trees.proofs.Listed.{asked_trees_are_listed}
+use Rattle.asked_trees.proofs.Testing.{asked_can_be_tested}
+use Rattle.tree_nodes.specs.Shapes.{Shape, stands_for}
+use Rattle.known_shows.specs.Known.{Pieces}
+use Rattle.candidates.specs.Listed.{first_tree}
+use Rattle.candidates.specs.Laws.{IsKnownTree}
+use Rattle.needed_jobs.specs.Laws.{FirstTreesAreSo}
+use Rattle.needed_jobs.proofs.Those.{first_trees_are_those}
+
+one_first : {A : Type 0} (x : A) (xs : List A) → Some x ≡ first xs → IsOneOf x xs
+one_first x [] e = let no : ⊥ = cc in absurd no
+one_first x (y ∷ xs) e = let same : x ≡ y = cc in inl same
+
+none_first : {A : Type 0} (xs : List A) → None ≡ first xs → xs ≡ []
+none_first [] e = refl
+none_first (x ∷ xs) e = let no : ⊥ = cc in absurd no
+
+module _ (program : Program) (e : Evaluation) (size : ℕ) (w : Windows) (t : Shape) (pieces : Pieces)
+    (k : IsKnownTree program e size w t pieces) (is_asked : TreeQuery → Derivation → Bool)
+    (tests : TestsAsked program w (stands_for program t) is_asked) where
+  abbrev b : Behaviour
+  b = stands_for program t
+
+  abbrev trees : TreeQuery → List Derivation
+  trees = lists_of program e w b is_asked
+
+  answered : IsAnswered program e size w b is_asked
+  answered = record { ready = k.ready; exact = k.exact; windows = k.windows; tests = tests }
+
+  data_fit : FitsData program.theory
+  data_fit = k.ready.executable.fits
+
+  -- a query asks for the first tree that a search finds, and for none, where it finds that there is none
+
+  pub is_asked_for : (q : TreeQuery) (d : Derivation) → first_tree program.theory w pieces t q ≡ Some (Some d) → IsAsked program w b q d
+  is_asked_for q d h =
+      (asked_trees_are_listed program e size w b is_asked answered q d).0
+      (one_first d (trees q) (first_trees_are_those program e size w t pieces k q is_asked tests (Some d) h))
+
+  pub none_asked : (q : TreeQuery) → first_tree program.theory w pieces t q ≡ Some None → (d : Derivation) → IsAsked program w b q d → ⊥
+  none_asked q h d i =
+      empty_has_none d (trees q) (none_first (trees q) (first_trees_are_those program e size w t pieces k q is_asked tests None h))
+      ((asked_trees_are_listed program e size w b is_asked answered q d).1 i)
+
+  pub steps : (d : Derivation) → first_tree program.theory w pieces t any ≡ Some (Some d) → SomeStep program b
+  steps d h =
+      let i = is_asked_for any d h in
+      let acts = windowed_trees_act program w data_fit b None d i.0 i.1 in
+      record { tree = d; action = acts.0; rest = acts.1; derives = acts.2 }
+
+  pub no_step : first_tree program.theory w pieces t any ≡ Some None → first_tree program.theory w pieces t any_beyond ≡ Some None →
+      NoStep program b
+  no_step h m = no_tree_no_step program size w data_fit k.windows b none_seen
+    where
+      none_seen : (kind : Kind) → NoTree program w b None kind
+      none_seen kind d (inl i) = none_asked any h d (kind, i)
+      none_seen kind d (inr i) = none_asked any_beyond m d (kind, i)
+
+pub first_trees_are_so : FirstTreesAreSo
+first_trees_are_so program e size w t pieces k =
+    let test = asked_can_be_tested program e w k.exact (stands_for program t) in
+    record {
+      steps = λ d h. steps program e size w t pieces k test.0 test.1 d h;
+      is_beyond = λ d h. is_asked_for program e size w t pieces k test.0 test.1 any_beyond d h;
+      no_windowed = λ h d kind i. none_asked program e size w t pieces k test.0 test.1 any h d (kind, i);
+      no_step = λ h m. no_step program e size w t pieces k test.0 test.1 h m;
+    }

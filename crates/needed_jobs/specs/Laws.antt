@@ -1,0 +1,82 @@
+-- What follows from the definitions.
+use Rattle.std.specs.Prelude.{ℕ, ◌≡◌, List, [], Option, Some, None, Bool, true}
+use Rattle.spec_core.specs.Lists.{IsOneOf}
+use Rattle.spec_core.specs.Theories.{Theory}
+use Rattle.spec_core.specs.Code.{Program}
+use Rattle.rule_model.specs.Actions.{Kind}
+use Rattle.rule_model.specs.Derivations.{Derivation}
+use Rattle.rule_model.specs.Derives.{NoStep, SomeStep}
+use Rattle.rule_model.specs.States.{PendingOffer}
+use Rattle.windowed_trees.specs.Windows.{Windows}
+use Rattle.windowed_trees.specs.Trees.{IsWindowed, IsBeyond}
+use Rattle.courses.specs.Lazy.{first}
+use Rattle.courses.specs.Rules.{any, any_beyond, Waiting, nothing, next_of}
+use Rattle.composites.specs.Evaluations.{Evaluation}
+use Rattle.asked_trees.specs.Asked.{TreeQuery, TestsAsked}
+use Rattle.asked_trees.specs.Laws.{lists_of}
+use Rattle.tree_nodes.specs.Shapes.{Shape, Lives, stands_for}
+use Rattle.known_shows.specs.Known.{Pieces}
+use Rattle.candidates.specs.Listed.{first_tree}
+use Rattle.candidates.specs.Jobs.{NodeJob}
+use Rattle.candidates.specs.Laws.{IsKnownTree}
+use Rattle.needed_jobs.specs.Needed.{jobs_needed, entry_decided, generation_of, IsUndone}
+
+-- where searches ask no job, the rules decide an entry
+abbrev pub NothingNeededIsDecided : Type 0
+NothingNeededIsDecided =
+    (theory : Theory) (w : Windows) (t : Shape) (pieces : Pieces) (state : Waiting PendingOffer) →
+    jobs_needed theory w t pieces state ≡ [] →
+    entry_decided theory w t pieces state ≡ None →
+    ⊥
+
+-- the node of each job that searches ask is one of the tree's
+abbrev pub NeededJobsLive : Type 0
+NeededJobsLive =
+    (theory : Theory) (w : Windows) (t : Shape) (pieces : Pieces) (state : Waiting PendingOffer) (job : NodeJob) →
+    IsOneOf job (jobs_needed theory w t pieces state) →
+    Lives t (generation_of job)
+
+-- and the job isn't done
+abbrev pub NeededJobsAreUndone : Type 0
+NeededJobsAreUndone =
+    (theory : Theory) (w : Windows) (t : Shape) (pieces : Pieces) (state : Waiting PendingOffer) (job : NodeJob) →
+    IsOneOf job (jobs_needed theory w t pieces state) →
+    IsUndone pieces t job
+
+-- where each open client waits, and nothing comes next, no offer is pending
+abbrev pub NothingNextNothingPending : Type 0
+NothingNextNothingPending =
+    (lists : TreeQuery → List Derivation) (state : Waiting PendingOffer) →
+    next_of lists state ≡ nothing →
+    state.all_wait ≡ true →
+    state.pending ≡ []
+
+-- Where what is known of a tree is so, what a search in it finds, the first tree or none, is the first of the whole list of the behaviour
+-- that the tree stands for, by whatever test says which trees are asked for.
+abbrev pub FirstTreesAreThose : Type 0
+FirstTreesAreThose =
+    (program : Program) (e : Evaluation) (size : ℕ) (w : Windows) (t : Shape) (pieces : Pieces) →
+    IsKnownTree program e size w t pieces →
+    (q : TreeQuery) (is_asked : TreeQuery → Derivation → Bool) →
+    TestsAsked program w (stands_for program t) is_asked →
+    (r : Option Derivation) →
+    first_tree program.theory w pieces t q ≡ Some r →
+    r ≡ first (lists_of program e w (stands_for program t) is_asked q)
+
+-- What searches for any tree say of the steps of the behaviour that the tree stands for: where they find a windowed tree, there is a step;
+-- a beyond tree that they find is one; where they find that no tree is windowed, none is; and where they find that none is beyond either,
+-- there is no step.
+pub record FirstTreesSay (program : Program) (w : Windows) (t : Shape) (pieces : Pieces) : Type 0 where
+  pub steps : (d : Derivation) → first_tree program.theory w pieces t any ≡ Some (Some d) → SomeStep program (stands_for program t)
+  pub is_beyond : (d : Derivation) → first_tree program.theory w pieces t any_beyond ≡ Some (Some d) →
+      (k : Kind) × IsBeyond program w (stands_for program t) None d k
+  pub no_windowed : first_tree program.theory w pieces t any ≡ Some None → (d : Derivation) (k : Kind) →
+      IsWindowed program w (stands_for program t) None d k → ⊥
+  pub no_step : first_tree program.theory w pieces t any ≡ Some None → first_tree program.theory w pieces t any_beyond ≡ Some None →
+      NoStep program (stands_for program t)
+
+abbrev pub FirstTreesAreSo : Type 0
+FirstTreesAreSo =
+    (program : Program) (e : Evaluation) (size : ℕ) (w : Windows) (t : Shape) (pieces : Pieces) →
+    IsKnownTree program e size w t pieces →
+    FirstTreesSay program w t pieces
