@@ -1,0 +1,6 @@
+pub mod Predicates
+pub mod Places
+pub mod OwnPlans
+pub mod Counts
+pub mod Laws
+pub mod Examples
