@@ -1,0 +1,39 @@
+use Rattle.std.proofs.Common.{rules, map, drop, refl, ap, [], ◌∷◌, ◌+◌, ◌∙◌}
+use Rattle.std.proofs.lemmas.List.{map-append}
+use Rattle.spec_core.specs.Code.{program_of}
+use Rattle.spec_core.specs.Theories.{theory_of}
+use Rattle.spec_core.proofs.Lists.{each-at}
+use Rattle.script_text.specs.Scripts.{WishFits}
+use Rattle.script_text.specs.Wishes.{wished_of}
+use Rattle.script_offers.specs.Given.{given_by, IsValuedWithin}
+use Rattle.client_wishes.specs.Views.{wish_of}
+use Rattle.script_offers.specs.Valued.{IsValuedWish}
+use Rattle.script_offers.proofs.Comings.{handed_on}
+use Rattle.script_offers.proofs.Gathered.{gathered_more, gathered_fault, here_is}
+use Rattle.script_offers.proofs.offers.valued.Goals as goal
+
+pub valued_wish-requires-clause-fits : goal.valued_wish-requires-clause-fits
+valued_wish-requires-clause-fits c =
+    each-at (WishFits (program_of c.args.checked.now)) wished_of c.args.wishes.now c.args.wishes.now c.loop-wish.wish-index
+    c.wish-item.result refl c.loop-wish-test.true c.wish-item.is c.requires.fit
+
+pub returns-in_err-valued_wish-clause-fault : goal.returns-in_err-valued_wish-clause-fault
+returns-in_err-valued_wish-clause-fault c =
+    handed_on c.from_residual.result _ c.in_err-valued_wish.field-0.0 (search rules)
+    (gathered_fault (theory_of c.args.checked.now.algebra) c.args.budget (IsValuedWish (theory_of c.args.checked.now.algebra))
+    (λ w. given_by w.fields) (map wished_of c.args.wishes.now) (map wish_of c.loop-wish.all.items) (wished_of c.wish-item.result)
+    (map wished_of (drop c.loop-wish.wish-index c.args.wishes.now)) (map wished_of (drop (c.loop-wish.wish-index + 1) c.args.wishes.now))
+    c.in_err-valued_wish.field-0.0 c.loop-wish.invariant
+    (here_is wished_of c.args.wishes.now c.loop-wish.wish-index c.wish-item.result c.loop-wish-test.true c.wish-item.is)
+    c.in_err-valued_wish.ensures.fault)
+
+pub loop-wish-preserved : goal.loop-wish-preserved
+loop-wish-preserved c =
+    gathered_more (IsValuedWish (theory_of c.args.checked.now.algebra)) (λ w. given_by w.fields)
+    (IsValuedWithin (theory_of c.args.checked.now.algebra) c.args.budget) (map wished_of c.args.wishes.now)
+    (map wish_of c.loop-wish.all.items) (map wish_of c.push.new.self.items) (wished_of c.wish-item.result)
+    (wish_of c.in_ok-valued_wish.field-0) (map wished_of (drop c.loop-wish.wish-index c.args.wishes.now))
+    (map wished_of (drop (c.loop-wish.wish-index + 1) c.args.wishes.now)) c.loop-wish.invariant
+    (here_is wished_of c.args.wishes.now c.loop-wish.wish-index c.wish-item.result c.loop-wish-test.true c.wish-item.is)
+    c.in_ok-valued_wish.ensures.valued c.in_ok-valued_wish.ensures.within
+    (ap (map wish_of) c.in_ok-push.ensures.items ∙ map-append wish_of c.loop-wish.all.items (c.in_ok-valued_wish.field-0 ∷ []))
