@@ -1,0 +1,4 @@
+pub mod Answered
+pub mod Clients
+pub mod Derivations
+pub mod Justified

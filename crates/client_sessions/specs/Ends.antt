@@ -1,0 +1,40 @@
+-- How a session ends, over all trees of the behaviour that is reached. (This profile.)
+use Rattle.std.specs.Prelude.{◌≡◌, Option, Some, None}
+use Rattle.spec_core.specs.declared.settings.Settings.{Settings}
+use Rattle.spec_core.specs.Code.{Program}
+use Rattle.rule_model.specs.Actions.{Kind}
+use Rattle.rule_model.specs.Derivations.{Derivation}
+use Rattle.rule_model.specs.Derives.{NoStep, SomeStep}
+use Rattle.rule_model.specs.Events.{Ending, exits, deadlocked, waiting, ends_beyond, ends_spent, ends_too_large, ends_at_limit}
+use Rattle.rule_model.specs.States.{State}
+use Rattle.windowed_trees.specs.Trees.{IsWindowed, IsBeyond}
+use Rattle.windowed_trees.specs.Windows.{Windows, AreWindows}
+use Rattle.session_rules.specs.Next.{HasEnded}
+use Rattle.session_rules.specs.declared.stop_reason.StopReason.{StopReason}
+use Rattle.session_rules.specs.Stopping.{ending_by}
+
+module _ (program : Program) (settings : Settings) (s : State) where
+  -- no tree is windowed, and one has marks
+  pub record IsBeyondEnd : Type 0 where
+    pub windows : Windows
+    pub sized : AreWindows program.theory settings.values windows
+    pub none : (d : Derivation) (k : Kind) → IsWindowed program windows s.behaviour None d k → ⊥
+    pub tree : Derivation
+    pub kind : Kind
+    pub marked : IsBeyond program windows s.behaviour None tree kind
+
+  -- By the trees: a deadlock, where no rule gives a step; waiting, where one does; beyond, where only values beyond the windows may.
+  abbrev pub IsEndOfTrees : Ending → Type 0
+  IsEndOfTrees deadlocked = NoStep program s.behaviour
+  IsEndOfTrees waiting = SomeStep program s.behaviour
+  IsEndOfTrees ends_beyond = IsBeyondEnd
+  IsEndOfTrees exits = ⊥
+  IsEndOfTrees (ends_spent term) = ⊥
+  IsEndOfTrees (ends_too_large term) = ⊥
+  IsEndOfTrees (ends_at_limit kind) = ⊥
+
+  -- how a session ends: by the reason that has stopped it; by the termination; or by the trees
+  pub data IsEndingOf (stop : Option StopReason) (ending : Ending) : Type 0 where
+    ends_by_reason : (reason : StopReason) → stop ≡ Some reason → ending ≡ ending_by reason → IsEndingOf stop ending
+    ends_by_exit : stop ≡ None → HasEnded s.last → ending ≡ exits → IsEndingOf stop ending
+    ends_by_trees : stop ≡ None → (HasEnded s.last → ⊥) → IsEndOfTrees ending → IsEndingOf stop ending

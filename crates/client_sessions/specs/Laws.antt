@@ -1,0 +1,87 @@
+-- What follows from the definitions.
+use Rattle.std.specs.Prelude.{◌≡◌, ◌⊎◌, List, [], Option}
+use Rattle.spec_core.specs.declared.settings.Settings.{Settings}
+use Rattle.spec_core.specs.Code.{Program}
+use Rattle.spec_core.specs.Ready.{IsReady}
+use Rattle.rule_model.specs.Answering.{AnswersEach}
+use Rattle.rule_model.specs.Behaviours.{Behaviour}
+use Rattle.rule_model.specs.Code.{IsStart}
+use Rattle.rule_model.specs.Events.{Event, Ending}
+use Rattle.rule_model.specs.Legal.{IsDerivation}
+use Rattle.rule_model.specs.Settling.{Wish}
+use Rattle.rule_model.specs.States.{State, start_state}
+use Rattle.session_states.specs.Clients.{numbers_from}
+use Rattle.session_rules.specs.declared.stop_reason.StopReason.{StopReason}
+use Rattle.session_rules.specs.Next.{IsNextEvent}
+use Rattle.client_sessions.specs.Justified.{IsEndedReply, HoldsByRules, IsJustifiedLog, IsLegalSession}
+use Rattle.client_sessions.specs.Runs.{IsRun, IsClientRun, clients_for}
+
+-- each run is a derivation by the inference rules
+abbrev pub RunsAreDerivations : Type 0
+RunsAreDerivations =
+    (program : Program) (settings : Settings) (start : State) (stop : Option StopReason) (wishes : List Wish) (log : List Event)
+    (s : State) →
+    IsRun program settings start stop wishes log s →
+    IsDerivation program log start s
+
+-- A run from a state in which nothing is pending, and client 1 has made no offer, to one in which nothing is pending: its offers are just
+-- those that the client wishes, in order, each with exactly one answer.
+abbrev pub RunsAnswerEach : Type 0
+RunsAnswerEach =
+    (program : Program) (settings : Settings) (start : State) (stop : Option StopReason) (wishes : List Wish) (log : List Event)
+    (s : State) →
+    start.pending ≡ [] →
+    start.made 1 ≡ 0 →
+    IsRun program settings start stop wishes log s →
+    s.pending ≡ [] →
+    AnswersEach wishes log
+
+-- The session of a client is a derivation from the specification's behaviour on, with the client open if it wishes something.
+abbrev pub ClientRunsAreDerivations : Type 0
+ClientRunsAreDerivations =
+    (program : Program) (settings : Settings) (wishes : List Wish) (log : List Event) (ending : Ending) →
+    IsClientRun program settings wishes log ending →
+    (behaviour : Behaviour) × (last : State) × IsStart program behaviour ×
+    IsDerivation program log (start_state behaviour (numbers_from 1 (clients_for wishes))) last
+
+-- In the session of a client of a specification that is ready the offers are just those that the client wishes, in order, each with
+-- exactly one answer.
+abbrev pub ClientRunsAnswerEach : Type 0
+ClientRunsAnswerEach =
+    (program : Program) (settings : Settings) (wishes : List Wish) (log : List Event) (ending : Ending) →
+    IsReady program →
+    IsClientRun program settings wishes log ending →
+    AnswersEach wishes log
+
+-- What comes next in a state, where the specification is ready: that the session has ended, or the event of an entry that says what is so
+-- of the steps.
+abbrev pub NextEventsHold : Type 0
+NextEventsHold =
+    (program : Program) (settings : Settings) (s : State) (event : Event) →
+    IsReady program →
+    IsNextEvent program settings s event →
+    IsEndedReply s event ⊎ HoldsByRules program settings s event
+
+-- in each run of a specification that is ready each entry is possible and justified
+abbrev pub RunsAreJustified : Type 0
+RunsAreJustified =
+    (program : Program) (settings : Settings) (start : State) (stop : Option StopReason) (wishes : List Wish) (log : List Event)
+    (s : State) →
+    IsReady program →
+    IsRun program settings start stop wishes log s →
+    IsJustifiedLog program settings stop log start s
+
+-- where each entry of a log is possible and justified, the log is a derivation
+abbrev pub JustifiedLogsAreDerivations : Type 0
+JustifiedLogsAreDerivations =
+    (program : Program) (settings : Settings) (stop : Option StopReason) (log : List Event) (s t : State) →
+    IsJustifiedLog program settings stop log s t →
+    IsDerivation program log s t
+
+-- the session of a client of a specification that is ready is legal
+abbrev pub ClientRunsAreLegal : Type 0
+ClientRunsAreLegal =
+    (program : Program) (settings : Settings) (wishes : List Wish) (log : List Event) (ending : Ending) →
+    IsReady program →
+    IsClientRun program settings wishes log ending →
+    IsLegalSession program settings wishes log ending

@@ -1,0 +1,4 @@
+pub mod Ends
+pub mod Justified
+pub mod Laws
+pub mod Runs
