@@ -1,0 +1,119 @@
+-- What the rules decide on a board is due.
+use Rattle.std.proofs.Common.{◌≡◌, inl, inr, List, [], ◌∷◌, refl, sym, subst, Option, None, Some}
+use Rattle.spec_core.specs.Lists.{Each, IsOneOf}
+use Rattle.spec_core.specs.Ready.{IsReady}
+use Rattle.rule_model.specs.declared.action.Action.{Action}
+use Rattle.rule_model.specs.Answering.{name_of}
+use Rattle.rule_model.specs.Behaviours.{Behaviour}
+use Rattle.rule_model.specs.Derivations.{Derivation}
+use Rattle.rule_model.specs.Derives.{Derives}
+use Rattle.rule_model.specs.Events.{OfferName}
+use Rattle.rule_model.specs.Legal.{IsAgreed}
+use Rattle.rule_model.specs.States.{PendingOffer}
+use Rattle.ready_lists.proofs.Answers.{exact_answers_exist}
+use Rattle.expand.proofs.Top.{table_windows}
+use Rattle.windowed_trees.specs.Windows.{AreWindows}
+use Rattle.composites.specs.Evaluations.{Evaluation, IsExact}
+use Rattle.courses.specs.Rules.{Next, takes, deadlocks, is_beyond, is_not_now, goes_on, stalls, nothing, meeting, unseen, next_of}
+use Rattle.asked_trees.specs.Asked.{TestsAsked, TreeQuery}
+use Rattle.asked_trees.specs.Laws.{EntryHolds, lists_of}
+use Rattle.tree_nodes.specs.Generations.{AreApart}
+use Rattle.tree_nodes.specs.Shapes.{stands_for}
+use Rattle.candidates.specs.Laws.{IsKnownTree}
+use Rattle.candidates.proofs.Deciding.{decided_entries_are_next, decided_entries_are_so}
+use Rattle.followed_trees.specs.Complete.{IsSearched}
+use Rattle.followed_trees.proofs.Following.{searched_trees_follow}
+use Rattle.followed_trees.proofs.Finding.{found_trees_are_searched}
+use Rattle.needed_jobs.specs.Laws.{FirstTreesSay}
+use Rattle.needed_jobs.proofs.Steps.{first_trees_are_so}
+use Rattle.session_rules.specs.Next.{IsNextOf}
+use Rattle.waiting_offers.specs.Waiting.{waiting_in}
+use Rattle.waiting_offers.proofs.Members.{held}
+use Rattle.waiting_offers.proofs.Sound.{waiting_is_sound}
+use Rattle.board_core.specs.Boards.{IsBoard}
+use Rattle.board_core.specs.Settled.{IsDue, MayBeDone, MayFollow}
+use Rattle.board_core.specs.Views.{BoardView, program, state, tree, windows, pieces, decided_at, first_at, all_at}
+use Rattle.board_core.proofs.Found.{IsFound, decided_is_found}
+
+-- what holds of each element that is one of the list holds of each
+each_of : {A : Type 0} (P : A → Type 0) (xs : List A) → ((x : A) → IsOneOf x xs → P x) → Each P xs
+each_of P [] h = tt
+each_of P (x ∷ xs) h = (h x (inl refl), each_of P xs (λ y k. h y (inr k)))
+
+module _ (v : BoardView) (is : IsBoard v) (ready : IsReady (program v)) (apart : AreApart (tree v))
+    (reached : (state v).behaviour ≡ stands_for (program v) (tree v)) where
+  pub sized : AreWindows (program v).theory v.settings.values (windows v)
+  sized = table_windows (program v).theory v.settings.values v.windows is.rows_are is.all_sorts
+
+  pub known_tree : (e : Evaluation) → IsExact (program v) e →
+      IsKnownTree (program v) e v.settings.values (windows v) (tree v) (pieces v)
+  known_tree e exact = record {
+    ready = ready;
+    exact = exact;
+    windows = sized;
+    apart = apart;
+    expanded = λ up n s x h. is.expansions up n s x h e exact;
+    shown = is.shown;
+  }
+
+  pub first_trees_say : FirstTreesSay (program v) (windows v) (tree v) (pieces v)
+  first_trees_say =
+      let exact = exact_answers_exist (program v) ready in
+      first_trees_are_so (program v) exact.0 v.settings.values (windows v) (tree v) (pieces v) (known_tree exact.0 exact.1)
+
+  module _ (entry : Next PendingOffer Derivation) (decided : decided_at v ≡ Some entry) where
+    next : IsNextOf (program v) v.settings (state v) entry
+    next = record {
+      windows = windows v;
+      sized = sized;
+      next = λ e is_asked exact tests.
+          subst (λ b. entry ≡ next_of (lists_of (program v) e (windows v) b is_asked) (waiting_in (state v))) (sym reached)
+          (decided_entries_are_next (program v) e v.settings.values (windows v) (tree v) (pieces v) (known_tree e exact)
+          (waiting_in (state v)) entry decided is_asked (subst (λ b. TestsAsked (program v) (windows v) b is_asked) reached tests));
+    }
+
+    holds : EntryHolds (program v) (windows v) (state v).behaviour (waiting_in (state v)) entry
+    holds =
+        let exact = exact_answers_exist (program v) ready in
+        subst (λ b. EntryHolds (program v) (windows v) b (waiting_in (state v)) entry) (sym reached)
+        (decided_entries_are_so (program v) exact.0 v.settings.values (windows v) (tree v) (pieces v) (known_tree exact.0 exact.1)
+        (waiting_in (state v)) (waiting_is_sound (state v)) entry decided)
+
+  may_follow : (by : Option OfferName) (q : TreeQuery) (d : Derivation) (a : Action) (c : Behaviour) →
+      IsSearched (program v).theory (windows v) (tree v) q d → Derives (program v) (state v).behaviour d a c →
+      IsAgreed (program v) (state v) a by → MayFollow (program v) (state v) (tree v) by d
+  may_follow by q d a c searched derives agreed = record {
+    may = record { action = a; rest = c; derives = derives; agreed = agreed };
+    follows =
+        searched_trees_follow (program v) (windows v) (tree v) is.complete q d a c searched
+        (subst (λ b. Derives (program v) b d a c) reached derives);
+  }
+
+  done : (entry : Next PendingOffer Derivation) → IsFound (first_at v) (all_at v) (waiting_in (state v)) entry →
+      EntryHolds (program v) (windows v) (state v).behaviour (waiting_in (state v)) entry →
+      MayBeDone (program v) (state v) (tree v) entry
+  done (takes p d) found h =
+      may_follow (Some (name_of p)) (meeting p) d h.action h.rest
+      ((found_trees_are_searched (program v).theory (windows v) (pieces v) (tree v) (meeting p) d).first found) h.derives
+      (record { waits = p; among = held (state v).pending p h.pending; client = refl; number = refl; holds = h.meets })
+  done (goes_on trees) found h = (
+    found.0,
+    each_of (MayFollow (program v) (state v) (tree v) None) trees (λ d among.
+        let acts = h.acts d among in
+        may_follow None unseen d acts.0 acts.1
+        ((found_trees_are_searched (program v).theory (windows v) (pieces v) (tree v) unseen d).all trees found.1 among) acts.2 acts.3),
+  )
+  done deadlocks found h = found
+  done (is_beyond p d) found h = tt
+  done (is_not_now p) found h = tt
+  done stalls found h = tt
+  done nothing found h = tt
+
+  pub decided_is_due : (entry : Next PendingOffer Derivation) → decided_at v ≡ Some entry → IsDue v entry
+  decided_is_due entry decided =
+      let so = holds entry decided in record {
+        next = next entry decided;
+        holds = so;
+        done =
+            done entry (decided_is_found (first_at v) (all_at v) (waiting_in (state v)) entry decided) so;
+      }

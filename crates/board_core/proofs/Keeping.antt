@@ -1,0 +1,104 @@
+-- What is known stays so.
+use Rattle.std.proofs.Common.{ℕ, ◌≡◌, ◌<◌, List, sym, ap, subst, length, Option, None, Some}
+use Rattle.spec_core.specs.declared.window.Window.{Window}
+use Rattle.spec_core.specs.declared.settings.Settings.{Settings}
+use Rattle.spec_core.specs.Code.{Program, program_of}
+use Rattle.sort_windows.specs.Found.{AreBySorts}
+use Rattle.rule_model.specs.Derivations.{Derivation}
+use Rattle.tree_nodes.specs.declared.origin.Gen.{Gen}
+use Rattle.tree_nodes.specs.Rests.{Work}
+use Rattle.shown_actions.specs.Shows.{Show}
+use Rattle.tree_nodes.specs.Shapes.{Held, Shape, AllWait, IsNodeOf, IsRight, IsWorkFor, IsWorkOf, posted}
+use Rattle.board_tree.specs.Views.{IsStep}
+use Rattle.window_tables.specs.Tables.{windows_in}
+use Rattle.known_shows.specs.declared.pieces.Piece.{Piece}
+use Rattle.known_shows.specs.Known.{Pieces}
+use Rattle.known_shows.specs.Laws.{IsPieceOf}
+use Rattle.known_shows.specs.Stored.{stored, with_piece, without}
+use Rattle.known_shows.proofs.Staying.{pieces_stay_so}
+use Rattle.known_shows.proofs.Verdicts.{pieces_outlive_steps}
+use Rattle.followed_trees.proofs.Keeping.{completeness_stays, expansions_stay}
+use Rattle.board_core.specs.Boards.{IsBoard, IsKnown, IsWorkAt}
+use Rattle.board_core.specs.Views.{BoardView, program, tree, pieces, SameNodes, SameSetting}
+
+-- the same, said of other names for the same things
+pub stays : (p q : Program) (k l : ℕ) (rows others : List Window) (t u : Shape) (ps qs : Pieces) (n m : ℕ) → q ≡ p → l ≡ k → others ≡ rows →
+    u ≡ t → qs ≡ ps → m ≡ n → IsKnown p k rows t ps n → IsKnown q l others u qs m
+stays p q k l rows others t u ps qs n m a b c d e f h =
+    subst (λ z. IsKnown z l others u qs m) (sym a)
+    (subst (λ z. IsKnown p z others u qs m) (sym b)
+    (subst (λ z. IsKnown p k z u qs m) (sym c)
+    (subst (λ z. IsKnown p k rows z qs m) (sym d)
+    (subst (λ z. IsKnown p k rows t z m) (sym e) (subst (λ z. IsKnown p k rows t ps z) (sym f) h)))))
+
+-- a board whose specification, settings, windows, tree and knowledge are those of another
+pub stays_on : (v u : BoardView) → SameSetting v u → SameNodes v u → IsBoard v → IsBoard u
+stays_on v u setting nodes h =
+    stays (program v) (program u) v.settings.values u.settings.values v.windows u.windows (tree v) (tree u) (pieces v) (pieces u)
+    v.session.tree.next u.session.tree.next (ap program_of setting.0.0) (ap (λ (z : Settings). z.values) setting.1) setting.2 nodes.0
+    (ap stored nodes.2) nodes.1 h
+
+nothing : (o : Option (Option Show)) (s : Option Show) → o ≡ None → o ≡ Some s → ⊥
+nothing o s e f = cc
+
+module _ (program : Program) (size : ℕ) (rows : List Window) where
+  -- every node waits, and nothing is known
+  pub begins : (t : Shape) (pieces : Pieces) (next : ℕ) → AreBySorts program.theory size rows →
+      length rows ≡ length program.theory.sorts → AllWait t → ((g : ℕ) (d : Derivation) → pieces g d ≡ None) →
+      IsKnown program size rows t pieces next
+  begins t pieces next are long wait none = record {
+    rows_are = are;
+    all_sorts = long;
+    right = λ up n s. subst (IsWorkOf program n.source) (sym (wait up n s)) tt;
+    complete = (completeness_stays program).waiting t wait;
+    expansions = (expansions_stay program (windows_in rows)).waiting t wait;
+    shown = λ up n s d o e. absurd (nothing (pieces n.generation d) o (none n.generation d) e);
+    none_from = λ g d h. none g d;
+  }
+
+  -- a step
+  pub steps : (old new : Shape) (next later : ℕ) (d : Derivation) (gone came : List Gen) (pieces others : Pieces) →
+      IsStep program old next d new later gone came →
+      ((g : ℕ) (e : Derivation) → others g e ≡ without gone pieces g e) →
+      IsKnown program size rows old pieces next → IsKnown program size rows new others later
+  steps old new next later d gone came pieces others step left h =
+      let kept = pieces_outlive_steps program (windows_in rows) pieces old next d new later gone came step h.none_from h.shown in
+      let stay = pieces_stay_so program (windows_in rows) pieces others new in record {
+        rows_are = h.rows_are;
+        all_sorts = h.all_sorts;
+        right = step.right h.right;
+        complete = (completeness_stays program).stepped program old next d new later gone came step h.complete;
+        expansions = (expansions_stay program (windows_in rows)).stepped program old next d new later gone came step h.expansions;
+        shown = stay.dropped gone left kept.0;
+        none_from = stay.dropped_below gone later left kept.1;
+      }
+
+  -- a node is expanded
+  pub posts : (t : Shape) (g next : ℕ) (work : Work) (pieces : Pieces) →
+      ((n : Held) → IsNodeOf t g n → IsWorkAt program (windows_in rows) n.source work) →
+      (IsWorkFor program t g work → IsRight program t → IsRight program (posted g work t)) →
+      IsKnown program size rows t pieces next → IsKnown program size rows (posted g work t) pieces next
+  posts t g next work pieces is right h = record {
+    rows_are = h.rows_are;
+    all_sorts = h.all_sorts;
+    right = right (λ n of. (is n of).ways) h.right;
+    complete = (completeness_stays program).expanded g work t (λ n of. (is n of).complete) h.complete;
+    expansions = (expansions_stay program (windows_in rows)).expanded g work t (λ n of. (is n of).expansion.composites) h.expansions;
+    shown = (pieces_stay_so program (windows_in rows) pieces pieces t).posted g work h.shown;
+    none_from = h.none_from;
+  }
+
+  -- one more piece is known
+  pub puts : (t : Shape) (next : ℕ) (p : Piece) (pieces others : Pieces) → IsPieceOf program (windows_in rows) p t → p.generation.0 < next →
+      ((g : ℕ) (d : Derivation) → others g d ≡ with_piece pieces p g d) →
+      IsKnown program size rows t pieces next → IsKnown program size rows t others next
+  puts t next p pieces others is below put h =
+      let stay = pieces_stay_so program (windows_in rows) pieces others t in record {
+        rows_are = h.rows_are;
+        all_sorts = h.all_sorts;
+        right = h.right;
+        complete = h.complete;
+        expansions = h.expansions;
+        shown = stay.put p put h.shown is;
+        none_from = stay.put_below p next put below h.none_from;
+      }

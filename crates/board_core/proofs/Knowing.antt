@@ -1,0 +1,141 @@
+-- What the program finds in what is known of a board's tree.
+use Rattle.std.proofs.Common.{◌≡◌, List, [], ◌∷◌, ◌++◌, map, refl, ap, subst, sym, ◌∙◌, inl, inr, Option, Some, option_map, Bool, true, false, cond, not, filter}
+use Rattle.std.proofs.lemmas.List.{map-append}
+use Rattle.spec_core.specs.declared.equation.DataSpec.{DataSpec}
+use Rattle.spec_core.specs.declared.window.Window.{Window}
+use Rattle.spec_core.specs.Lists.{IsOneOf}
+use Rattle.spec_core.specs.Theories.{theory_of}
+use Rattle.rule_model.specs.declared.rules.Rules.{Rules}
+use Rattle.rule_model.specs.Derivations.{Derivation, derivation_of}
+use Rattle.rule_model.specs.States.{PendingOffer}
+use Rattle.asked_trees.specs.Asked.{TreeQuery}
+use Rattle.courses.specs.Lazy.{first}
+use Rattle.courses.specs.Rules.{Waiting}
+use Rattle.settling.specs.declared.listing.OffersByNumber.{OffersByNumber}
+use Rattle.settling.specs.declared.settle.Settled.{Settled}
+use Rattle.settling.specs.Jobs.{first_not_out, not_out}
+use Rattle.settling.specs.Needed.{next_needed}
+use Rattle.settling.specs.Numbered.{entry_with, waiting_with}
+use Rattle.settling.specs.Rules.{next_decided}
+use Rattle.settling.specs.Searches.{settled_of, waiting_of}
+use Rattle.session_states.specs.Views.{pending_of}
+use Rattle.tree_nodes.specs.Origins.{source_of}
+use Rattle.tree_nodes.specs.Shapes.{Held, IsNodeOf, Lives, Shape, shape_of}
+use Rattle.window_tables.specs.Tables.{windows_in}
+use Rattle.known_shows.specs.declared.pieces.Pieces.{Pieces}
+use Rattle.known_shows.specs.Stored.{stored}
+use Rattle.candidates.specs.declared.known_tree.KnownTree.{KnownTree}
+use Rattle.candidates.specs.declared.job.NodeJob as declared
+use Rattle.candidates.specs.Jobs.{NodeJob, is_out, same_job}
+use Rattle.candidates.specs.KnownTrees.{offer_in, first_in, all_in, is_out_in, jobs_to_first, jobs_to_all, is_held_in}
+use Rattle.candidates.specs.Listed.{first_tree}
+use Rattle.candidates.specs.Models.{job_of}
+use Rattle.needed_jobs.specs.Needed.{entry_decided, generation_of, jobs_needed}
+use Rattle.waiting_offers.specs.Offers.{offer_at}
+use Rattle.waiting_offers.specs.Waiting.{waiting_in}
+use Rattle.board_core.specs.declared.job.Job.{Job}
+use Rattle.board_core.specs.Entries.{entry_of}
+use Rattle.board_core.specs.Views.{BoardView, state, tree, decided_at, first_at, needed_at}
+use Rattle.board_core.specs.Working.{IsHandedOut, first_free, left_out}
+
+-- the jobs that are left out of a list are left out of what they stand for
+pub left_over : (task : NodeJob) (jobs : List declared.NodeJob) →
+    map job_of (filter (λ job. not (same_job (job_of job) task)) jobs) ≡ left_out task (map job_of jobs)
+left_over task [] = refl
+left_over task (job ∷ jobs) =
+    by_test (not (same_job (job_of job) task)) (filter (λ other. not (same_job (job_of other) task)) jobs) (left_out task (map job_of jobs))
+    (left_over task jobs)
+  where
+    by_test : (b : Bool) (kept : List declared.NodeJob) (others : List NodeJob) → map job_of kept ≡ others →
+        map job_of (cond b (job ∷ kept) kept) ≡ cond b (job_of job ∷ others) others
+    by_test true kept others e = ap (λ (l : List NodeJob). job_of job ∷ l) e
+    by_test false kept others e = e
+
+-- the first of some jobs that isn't out is one of them
+pub free_is_needed : (out : NodeJob → Bool) (jobs : List NodeJob) (job : NodeJob) → first_not_out out jobs ≡ Some job → IsOneOf job jobs
+free_is_needed out [] job e = absurd (let never : ⊥ = cc in never)
+free_is_needed out (other ∷ jobs) job e = by_test (not (out other)) e (free_is_needed out jobs job)
+  where
+    by_test : (b : Bool) → first (cond b (other ∷ not_out out jobs) (not_out out jobs)) ≡ Some job →
+        (first_not_out out jobs ≡ Some job → IsOneOf job jobs) → IsOneOf job (other ∷ jobs)
+    by_test true f rest = let same : other ≡ job = cc in inl (sym same)
+    by_test false f rest = inr (rest f)
+
+-- the first of the jobs that are needed is handed out
+pub handed_out : (old new : BoardView) (task again : declared.NodeJob) (job : Job) →
+    job.task ≡ task → job_of again ≡ job_of task → first_free old ≡ Some (job_of task) → new.out ≡ old.out ++ again ∷ [] →
+    Lives (tree old) (generation_of (job_of task)) →
+    ((n : Held) → IsNodeOf (tree old) (generation_of (job_of task)) n → n.source ≡ source_of job.origin) → IsHandedOut old new job
+handed_out old new task again job same copied first out lives origin = record {
+  first = first ∙ ap (λ t. Some (job_of t)) (sym same);
+  out =
+      ap (map job_of) out ∙ map-append job_of old.out (again ∷ [])
+      ∙ ap (λ j. map job_of old.out ++ j ∷ []) (copied ∙ ap job_of (sym same));
+  lives = subst (λ t. Lives (tree old) (generation_of (job_of t))) (sym same) lives;
+  origin = subst (λ t. (n : Held) → IsNodeOf (tree old) (generation_of (job_of t)) n → n.source ≡ source_of job.origin) (sym same) origin;
+}
+
+-- what is known of the tree is what the board knows
+pub record IsOf (v : BoardView) (k : KnownTree) : Type 0 where
+  pub algebra : k.algebra.now ≡ v.session.checked.algebra
+  pub windows : k.windows.now ≡ v.windows
+  pub tree : shape_of k.tree.now ≡ tree v
+  pub pieces : k.pieces.now ≡ v.pieces
+  pub offers : map pending_of k.offers.now ≡ (state v).pending
+
+module _ (v : BoardView) (k : KnownTree) (is : IsOf v k) where
+  abbrev Firsts : Option (Option Derivation) → TreeQuery → DataSpec → List Window → Shape → Pieces → Type 0
+  Firsts found q algebra rows t ps = found ≡ first_tree (theory_of algebra) (windows_in rows) (stored ps) t q
+
+  -- a search in what is known of the tree is one in what the board knows
+  pub first_known : (q : TreeQuery) → first_in k q ≡ first_at v q
+  first_known q =
+      let f = first_in k q in
+      let a : Firsts f q k.algebra.now k.windows.now (shape_of k.tree.now) k.pieces.now = refl in
+      let b = subst (λ z. Firsts f q z k.windows.now (shape_of k.tree.now) k.pieces.now) is.algebra a in
+      let d = subst (λ z. Firsts f q v.session.checked.algebra z (shape_of k.tree.now) k.pieces.now) is.windows b in
+      let e = subst (λ z. Firsts f q v.session.checked.algebra v.windows z k.pieces.now) is.tree d in
+      subst (λ z. Firsts f q v.session.checked.algebra v.windows (tree v) z) is.pieces e
+
+module _ (v : BoardView) (k : KnownTree) (is : IsOf v k) (o : OffersByNumber)
+    (asked : waiting_with (offer_at (state v).pending) (waiting_of o) ≡ waiting_in (state v)) where
+  abbrev Finds : Settled Rules → DataSpec → List Window → Shape → Pieces → List PendingOffer → Waiting PendingOffer → Type 0
+  Finds s algebra rows t ps pending w =
+      option_map (entry_with (offer_at pending)) (settled_of derivation_of s) ≡
+      entry_decided (theory_of algebra) (windows_in rows) t (stored ps) w
+
+  pub found_next : (s : Settled Rules) →
+      option_map (entry_with (offer_in k)) (settled_of derivation_of s) ≡
+      next_decided (first_in k) (all_in k) (waiting_with (offer_in k) (waiting_of o)) →
+      entry_of v s ≡ decided_at v
+  found_next s h =
+      let p : List PendingOffer = map pending_of k.offers.now in
+      let a : Finds s k.algebra.now k.windows.now (shape_of k.tree.now) k.pieces.now p (waiting_with (offer_at p) (waiting_of o)) = h in
+      let b = subst (λ z. Finds s z k.windows.now (shape_of k.tree.now) k.pieces.now p (waiting_with (offer_at p) (waiting_of o))) is.algebra a in
+      let d =
+      subst (λ z. Finds s v.session.checked.algebra z (shape_of k.tree.now) k.pieces.now p (waiting_with (offer_at p) (waiting_of o))) is.windows b
+      in
+      let e = subst (λ z. Finds s v.session.checked.algebra v.windows z k.pieces.now p (waiting_with (offer_at p) (waiting_of o))) is.tree d in
+      let f = subst (λ z. Finds s v.session.checked.algebra v.windows (tree v) z p (waiting_with (offer_at p) (waiting_of o))) is.pieces e in
+      let g = subst (λ z. Finds s v.session.checked.algebra v.windows (tree v) v.pieces z (waiting_with (offer_at z) (waiting_of o))) is.offers f in
+      subst (Finds s v.session.checked.algebra v.windows (tree v) v.pieces (state v).pending) asked g
+
+  abbrev Needs : Option NodeJob → List declared.NodeJob → DataSpec → List Window → Shape → Pieces → Waiting PendingOffer → Type 0
+  Needs job out algebra rows t ps w =
+      job ≡ first_not_out (is_out (map job_of out)) (jobs_needed (theory_of algebra) (windows_in rows) t (stored ps) w)
+
+  pub found_job : k.out.now ≡ v.out → (job : Option NodeJob) →
+      job ≡ first_not_out (is_out_in k)
+      (next_needed (jobs_to_first k) (jobs_to_all k) (is_held_in k) (waiting_with (offer_in k) (waiting_of o))) →
+      job ≡ first_not_out (is_out (map job_of v.out)) (needed_at v)
+  found_job out job h =
+      let p : List PendingOffer = map pending_of k.offers.now in
+      let w : List PendingOffer → Waiting PendingOffer = λ z. waiting_with (offer_at z) (waiting_of o) in
+      let a : Needs job k.out.now k.algebra.now k.windows.now (shape_of k.tree.now) k.pieces.now (w p) = h in
+      let b = subst (λ z. Needs job k.out.now z k.windows.now (shape_of k.tree.now) k.pieces.now (w p)) is.algebra a in
+      let d = subst (λ z. Needs job k.out.now v.session.checked.algebra z (shape_of k.tree.now) k.pieces.now (w p)) is.windows b in
+      let e = subst (λ z. Needs job k.out.now v.session.checked.algebra v.windows z k.pieces.now (w p)) is.tree d in
+      let f = subst (λ z. Needs job k.out.now v.session.checked.algebra v.windows (tree v) z (w p)) is.pieces e in
+      let g = subst (λ z. Needs job k.out.now v.session.checked.algebra v.windows (tree v) v.pieces (w z)) is.offers f in
+      let i = subst (Needs job k.out.now v.session.checked.algebra v.windows (tree v) v.pieces) asked g in
+      subst (λ z. Needs job z v.session.checked.algebra v.windows (tree v) v.pieces (waiting_in (state v))) out i

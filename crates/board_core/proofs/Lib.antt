@@ -1,0 +1,6 @@
+pub mod Due
+pub mod Entries
+pub mod Found
+pub mod Keeping
+pub mod Knowing
+pub mod Quiet

@@ -1,0 +1,106 @@
+-- Where nothing comes next, whatever the behaviour may do.
+use Rattle.std.proofs.Common.{◌≡◌, ◌↔◌, List, [], refl, sym, ap, ◌∙◌, inl, inr, Option, Some, None, is_some, Bool, true, false, not, IsTrue}
+use Rattle.spec_core.specs.declared.settings.Settings.{Settings}
+use Rattle.spec_core.specs.Code.{Program}
+use Rattle.rule_model.specs.Derivations.{Derivation}
+use Rattle.rule_model.specs.Legal.{AllWait}
+use Rattle.rule_model.specs.States.{PendingOffer, State}
+use Rattle.windowed_trees.specs.Windows.{Windows, AreWindows}
+use Rattle.courses.specs.Lazy.{first}
+use Rattle.courses.specs.Rules.{Next, any, any_beyond, nothing, if_there, next_of}
+use Rattle.asked_trees.specs.Asked.{TreeQuery}
+use Rattle.asked_trees.specs.Laws.{lists_of}
+use Rattle.expand.proofs.Top.{table_windows}
+use Rattle.session_rules.specs.declared.stop_reason.StopReason.{StopReason}
+use Rattle.session_rules.specs.Next.{GoesByRules, IsNextOf}
+use Rattle.waiting_offers.specs.Waiting.{by_client, only_asks, waiting_in}
+use Rattle.waiting_offers.proofs.AllWait.{all_wait_is_decided}
+use Rattle.board_core.specs.Boards.{IsBoard}
+use Rattle.board_core.specs.Idle.{IsIdle}
+use Rattle.board_core.specs.Settled.{IsQuiet, quiet_nothing, quiet_stopped, quiet_undecided}
+use Rattle.board_core.specs.Views.{BoardView, program, state, windows, decided_at}
+
+abbrev by_trees : (o p : Option Derivation) → Next PendingOffer Derivation
+by_trees o p = if_there o (λ a. nothing) (if_there p (λ a. nothing) nothing)
+
+always_nothing : (o p : Option Derivation) → nothing ≡ by_trees o p
+always_nothing (Some a) p = refl
+always_nothing None (Some b) = refl
+always_nothing None None = refl
+
+-- where nothing is pending, and not all wait, nothing comes next
+nothing_waits : (lists : TreeQuery → List Derivation) (by : List PendingOffer) →
+    nothing ≡ next_of lists (record { pending = []; asks = []; by_client = by; all_wait = false })
+nothing_waits lists by = always_nothing (first (lists any)) (first (lists any_beyond))
+
+not_all : (b : Bool) → (b ≡ true → ⊥) → b ≡ false
+not_all b never = by_case b refl
+  where
+    by_case : (x : Bool) → b ≡ x → b ≡ false
+    by_case true e = absurd (never e)
+    by_case false e = e
+
+-- whether a session is idle
+pub idle_by : (s : State) (b : Bool) → s.pending ≡ [] → (IsTrue b ↔ AllWait s) →
+    (IsTrue (not b) → IsIdle s) × (IsIdle s → IsTrue (not b))
+idle_by s true none waits = (λ h. let no : ⊥ = cc in absurd no, λ i. absurd (i.some (waits.0 refl)))
+idle_by s false none waits = (λ h. record { none = none; some = λ all. let e = waits.1 all in let no : ⊥ = cc in no }, λ i. refl)
+
+-- what an idle session asks
+idle_waiting : (s : State) → IsIdle s → waiting_in s ≡ record { pending = []; asks = []; by_client = by_client s.pending; all_wait = false }
+idle_waiting s idle =
+    let waits = not_all (waiting_in s).all_wait (λ h. idle.some ((all_wait_is_decided s).0 h)) in
+    ap (λ (ps : List PendingOffer). record {
+      pending = ps;
+      asks = only_asks (by_client ps);
+      by_client = by_client s.pending;
+      all_wait = (waiting_in s).all_wait;
+    }) idle.none
+    ∙ ap (λ (b : Bool). record { pending = []; asks = []; by_client = by_client s.pending; all_wait = b }) waits
+
+pub idle_next : (program : Program) (settings : Settings) (w : Windows) (s : State) → AreWindows program.theory settings.values w → IsIdle s →
+    IsNextOf program settings s nothing
+idle_next program settings w s sized idle = record {
+  windows = w;
+  sized = sized;
+  next = λ e is_asked exact tests.
+      nothing_waits (lists_of program e w s.behaviour is_asked) (by_client s.pending)
+      ∙ ap (next_of (lists_of program e w s.behaviour is_asked)) (sym (idle_waiting s idle));
+}
+
+-- the session has stopped, and no offer is pending
+pub quiet_by_reason : (v : BoardView) → is_some v.stop ≡ true → (state v).pending ≡ [] → IsQuiet v v
+quiet_by_reason v some none = by_stop v.stop refl some
+  where
+    by_stop : (o : Option StopReason) → v.stop ≡ o → is_some o ≡ true → IsQuiet v v
+    by_stop None e f = absurd (let never : ⊥ = cc in never)
+    by_stop (Some reason) e f = record { log = (refl, refl); nodes = (refl, refl, refl); why = quiet_stopped reason e e none }
+
+module _ (v : BoardView) (running : v.stop ≡ None) (rules : GoesByRules (state v)) where
+  -- the session waits for its clients
+  pub quiet_by_clients : IsBoard v → IsIdle (state v) → IsQuiet v v
+  quiet_by_clients is idle = record {
+    log = (refl, refl);
+    nodes = (refl, refl, refl);
+    why =
+        quiet_nothing running running rules
+        (idle_next (program v) v.settings (windows v) (state v)
+        (table_windows (program v).theory v.settings.values v.windows is.rows_are is.all_sorts) idle)
+        (inl idle);
+  }
+
+  -- what is known decides that nothing comes next
+  pub quiet_by_rules : IsNextOf (program v) v.settings (state v) nothing → decided_at v ≡ Some nothing → IsQuiet v v
+  quiet_by_rules next decided = record {
+    log = (refl, refl);
+    nodes = (refl, refl, refl);
+    why = quiet_nothing running running rules next (inr decided);
+  }
+
+  -- what is known doesn't decide what comes next
+  pub quiet_so_far : (IsIdle (state v) → ⊥) → decided_at v ≡ None → IsQuiet v v
+  quiet_so_far busy undecided = record {
+    log = (refl, refl);
+    nodes = (refl, refl, refl);
+    why = quiet_undecided running running rules busy undecided;
+  }

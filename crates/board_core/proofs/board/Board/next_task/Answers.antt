@@ -1,0 +1,19 @@
+use Rattle.std.proofs.Common.{◌≡◌, option_map, subst}
+use Rattle.candidates.specs.Models.{job_of}
+use Rattle.settling.specs.Numbered.{waiting_with}
+use Rattle.settling.specs.Searches.{waiting_of}
+use Rattle.numbered_trees.proofs.Trees.{if_ok_so}
+use Rattle.waiting_offers.specs.Offers.{offer_at}
+use Rattle.waiting_offers.specs.Waiting.{waiting_in}
+use Rattle.board_core.proofs.Knowing.{IsOf, found_job}
+use Rattle.board_core.proofs.board.Board.next_task.Goals as goal
+
+pub returns : goal.returns
+returns c =
+    let v = c.args.self.now in
+    let k = c.in_ok-known.known in
+    let o = c.in_ok-offers.offers in
+    let h = c.in_ok-known.ensures in
+    let is : IsOf v k = record { algebra = h.algebra; windows = h.windows; tree = h.tree; pieces = h.pieces; offers = h.offers } in
+    let asked = subst (λ s. waiting_with (offer_at s.pending) (waiting_of o) ≡ waiting_in s) c.state.ensures c.in_ok-offers.ensures.waiting in
+    record { job = if_ok_so c.next_job.result (λ job e. found_job v k is o asked h.out (option_map job_of job) e) c.next_job.ensures.job }

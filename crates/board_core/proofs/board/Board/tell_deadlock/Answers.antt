@@ -1,0 +1,9 @@
+use Rattle.board_core.proofs.Entries.{on_ok_alone, told_deadlock}
+use Rattle.board_core.proofs.board.Board.tell_deadlock.Goals as goal
+
+pub returns-clause-settled : goal.returns-clause-settled
+returns-clause-settled c =
+    on_ok_alone c.answer_least.result
+    (told_deadlock c.args.self.now c.answer_least.new.self c.requires.stop c.answer_least.ensures.stop c.requires.rules c.requires.due
+    c.actions-at.result c.actions-at.ensures)
+    c.answer_least.ensures.told

@@ -1,0 +1,38 @@
+-- What holds of a board.
+use Rattle.std.specs.Prelude.{ℕ, ◌≡◌, List, length}
+use Rattle.spec_core.specs.declared.window.Window.{Window}
+use Rattle.spec_core.specs.Code.{Program}
+use Rattle.spec_core.specs.Lists.{Each}
+use Rattle.windowed_trees.specs.Windows.{Windows}
+use Rattle.expand.specs.Expansions.{IsExpansion}
+use Rattle.sort_windows.specs.Found.{AreBySorts}
+use Rattle.tree_nodes.specs.Origins.{Source, meaning}
+use Rattle.tree_nodes.specs.Rests.{Work, IsWayOf}
+use Rattle.tree_nodes.specs.Shapes.{Shape, IsRight}
+use Rattle.window_tables.specs.Tables.{windows_in}
+use Rattle.known_shows.specs.Known.{Pieces}
+use Rattle.known_shows.specs.Laws.{ArePiecesOf, NoneFrom}
+use Rattle.followed_trees.specs.Complete.{AreComplete, AreExpansions, IsComplete}
+use Rattle.board_core.specs.Views as views
+use Rattle.board_core.specs.Views.{BoardView}
+
+-- The rows are the windows of the sorts, of so many values. Each expanded node has the plans of its origin's composites and its ways to
+-- act, also for all trees of its plans. What is known of nodes is what their origins show, and nothing is known of generations that haven't
+-- begun.
+pub record IsKnown (program : Program) (size : ℕ) (rows : List Window) (t : Shape) (pieces : Pieces) (next : ℕ) : Type 0 where
+  pub rows_are : AreBySorts program.theory size rows
+  pub all_sorts : length rows ≡ length program.theory.sorts
+  pub right : IsRight program t
+  pub complete : AreComplete program t
+  pub expansions : AreExpansions program (windows_in rows) t
+  pub shown : ArePiecesOf program (windows_in rows) pieces t
+  pub none_from : NoneFrom pieces next
+
+abbrev pub IsBoard : BoardView → Type 0
+IsBoard v = IsKnown (views.program v) v.settings.values v.windows (views.tree v) (views.pieces v) v.session.tree.next
+
+-- the work is what the origin can do: it has the plans of its composites, its ways to act, and ways for the trees of its plans
+pub record IsWorkAt (program : Program) (w : Windows) (o : Source) (work : Work) : Type 0 where
+  pub expansion : IsExpansion program w (meaning program o) work.plans
+  pub ways : Each (IsWayOf program (meaning program o)) work.ways
+  pub complete : IsComplete program o work

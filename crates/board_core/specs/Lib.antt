@@ -1,0 +1,8 @@
+pub mod Boards
+pub mod Ends
+pub mod Entries
+pub mod Idle
+pub mod Settled
+pub mod Reasons
+pub mod Views
+pub mod Working

@@ -1,0 +1,80 @@
+-- What the board settles.
+use Rattle.std.specs.Prelude.{◌≡◌, ◌⊎◌, ◌∷◌, [], ◌++◌, Some, None, Option}
+use Rattle.spec_core.specs.Code.{Program}
+use Rattle.spec_core.specs.Lists.{Each}
+use Rattle.rule_model.specs.declared.reply.LimitKind.TheVariants.{Steps}
+use Rattle.rule_model.specs.Answers.{Answer}
+use Rattle.rule_model.specs.Answering.{name_of}
+use Rattle.rule_model.specs.Derivations.{Derivation}
+use Rattle.rule_model.specs.Events.{Event, OfferName, replied}
+use Rattle.rule_model.specs.Legal.{IsPossible}
+use Rattle.rule_model.specs.States.{PendingOffer, State}
+use Rattle.board_tree.specs.Steps.{Follows}
+use Rattle.courses.specs.Rules.{Next, takes, deadlocks, goes_on, nothing}
+use Rattle.asked_trees.specs.Laws.{EntryHolds}
+use Rattle.session_record.specs.Records.{MayAct}
+use Rattle.session_rules.specs.Next.{GoesByRules, IsAtLimit, IsLeast, IsNextEvent, IsNextOf, IsStopReply}
+use Rattle.tree_nodes.specs.Shapes.{Shape}
+use Rattle.waiting_offers.specs.Waiting.{waiting_in}
+use Rattle.session_rules.specs.declared.stop_reason.StopReason.{StopReason}
+use Rattle.session_rules.specs.declared.stop_reason.StopReason.TheVariants.{Limit}
+use Rattle.board_core.specs.Idle.{IsIdle}
+use Rattle.board_core.specs.Views.{BoardView, program, state, events, tree, windows, decided_at, SameLog, SameNodes}
+
+-- by the tree the behaviour may act, and each node that takes part is ready for it
+pub record MayFollow (program : Program) (s : State) (t : Shape) (by : Option OfferName) (d : Derivation) : Type 0 where
+  pub may : MayAct program s d by
+  pub follows : Follows t d
+
+-- an entry may be appended: its actions may be done, and there are some; an offer that is told of a deadlock is pending
+abbrev pub MayBeDone : Program → State → Shape → Next PendingOffer Derivation → Type 0
+MayBeDone program s t (takes p d) = MayFollow program s t (Some (name_of p)) d
+MayBeDone program s t (goes_on trees) = (trees ≡ [] → ⊥) × Each (MayFollow program s t None) trees
+MayBeDone program s t deadlocks = s.pending ≡ [] → ⊥
+MayBeDone program s t _ = Unit {0}
+
+-- the entry comes next, it says what is so, and it may be appended
+pub record IsDue (v : BoardView) (entry : Next PendingOffer Derivation) : Type 0 where
+  pub next : IsNextOf (program v) v.settings (state v) entry
+  pub holds : EntryHolds (program v) (windows v) (state v).behaviour (waiting_in (state v)) entry
+  pub done : MayBeDone (program v) (state v) (tree v) entry
+
+-- Why the event is appended. It is what comes next by the rules; or the session has stopped, and the event tells why; or an action would
+-- come next, but there were as many as are allowed, which stops the session, and the event tells so.
+pub data IsSettled (old new : BoardView) (event : Event) : Type 0 where
+  settled_next : old.stop ≡ None → new.stop ≡ None → IsNextEvent (program old) old.settings (state old) event → IsSettled old new event
+  settled_stopped : (reason : StopReason) → old.stop ≡ Some reason → new.stop ≡ Some reason → IsStopReply (state old) reason event →
+      IsSettled old new event
+  settled_limit : old.stop ≡ None → new.stop ≡ Some (Limit Steps) → IsAtLimit (program old) old.settings (state old) →
+      IsStopReply (state old) (Limit Steps) event → IsSettled old new event
+
+-- the least client with a pending offer gets this answer
+abbrev pub AnswersLeast : BoardView → BoardView → Answer → Type 0
+AnswersLeast old new answer =
+    (p : PendingOffer) × IsLeast (state old) p × (events new ≡ events old ++ replied p.client p.number answer ∷ []) ×
+    IsPossible (program old) (state old) (replied p.client p.number answer) (state new)
+
+-- one more entry, which is possible, and why
+pub record HasSettled (old new : BoardView) : Type 0 where
+  pub event : Event
+  pub log : events new ≡ events old ++ event ∷ []
+  pub possible : IsPossible (program old) (state old) event (state new)
+  pub why : IsSettled old new event
+
+-- Why there is no further entry. The session has stopped, and no offer is pending; what is known doesn't decide what comes next by the
+-- rules; nothing comes next, since the session is idle or what is known decides so; or an action would come next, but there were as many as
+-- are allowed, which stops the session, and no offer is pending.
+pub data WhyQuiet (old new : BoardView) : Type 0 where
+  quiet_stopped : (reason : StopReason) → old.stop ≡ Some reason → new.stop ≡ Some reason → (state old).pending ≡ [] → WhyQuiet old new
+  quiet_undecided : old.stop ≡ None → new.stop ≡ None → GoesByRules (state old) → (IsIdle (state old) → ⊥) → decided_at old ≡ None →
+      WhyQuiet old new
+  quiet_nothing : old.stop ≡ None → new.stop ≡ None → GoesByRules (state old) → IsNextOf (program old) old.settings (state old) nothing →
+      IsIdle (state old) ⊎ (decided_at old ≡ Some nothing) → WhyQuiet old new
+  quiet_limit : old.stop ≡ None → new.stop ≡ Some (Limit Steps) → IsAtLimit (program old) old.settings (state old) →
+      (state old).pending ≡ [] → WhyQuiet old new
+
+-- there is no further entry
+pub record IsQuiet (old new : BoardView) : Type 0 where
+  pub log : SameLog old new
+  pub nodes : SameNodes old new
+  pub why : WhyQuiet old new

@@ -1,0 +1,67 @@
+-- Jobs that are handed out, and what comes of them.
+use Rattle.std.specs.Prelude.{◌≡◌, ◌<◌, ◌⊎◌, ◌++◌, ◌∷◌, [], List, map, filter, not, Option, Some, None}
+use Rattle.settling.specs.Jobs.{first_not_out}
+use Rattle.candidates.specs.Jobs.{NodeJob, to_expand, to_judge, same_job, is_out}
+use Rattle.candidates.specs.Models.{job_of}
+use Rattle.needed_jobs.specs.Needed.{Waits, generation_of}
+use Rattle.session_rules.specs.Next.{GoesByRules}
+use Rattle.tree_nodes.specs.Origins.{source_of}
+use Rattle.tree_nodes.specs.Shapes.{Held, Shape, IsNodeOf, Lives}
+use Rattle.board_core.specs.declared.job.Job.{Job}
+use Rattle.rule_model.specs.declared.reply.LimitKind.TheVariants.{Offers}
+use Rattle.offer_counts.specs.Counts.{offers_limit, offers_of_tree}
+use Rattle.session_rules.specs.declared.stop_reason.StopReason.{StopReason}
+use Rattle.session_rules.specs.declared.stop_reason.StopReason.TheVariants.{Limit}
+use Rattle.board_core.specs.Idle.{IsIdle}
+use Rattle.board_core.specs.Views.{BoardView, needed_at, program, state, tree, windows}
+
+-- the first job that the rules need and that isn't out
+abbrev pub first_free : BoardView → Option NodeJob
+first_free v = first_not_out (is_out (map job_of v.out)) (needed_at v)
+
+-- the job is the first that is needed and wasn't out, it is out now, and its origin is that of its node
+pub record IsHandedOut (old new : BoardView) (job : Job) : Type 0 where
+  pub first : first_free old ≡ Some (job_of job.task)
+  pub out : map job_of new.out ≡ map job_of old.out ++ job_of job.task ∷ []
+  pub lives : Lives (tree old) (generation_of (job_of job.task))
+  pub origin : (n : Held) → IsNodeOf (tree old) (generation_of (job_of job.task)) n → n.source ≡ source_of job.origin
+
+-- why no job is handed out: the session has stopped, or ended with an offer pending, or waits for its clients; or no further job is needed
+pub data NoneFree (v : BoardView) : Type 0 where
+  none_stopped : (v.stop ≡ None → ⊥) → NoneFree v
+  none_ended : (GoesByRules (state v) → ⊥) → NoneFree v
+  none_idle : IsIdle (state v) → NoneFree v
+  none_needed : v.stop ≡ None → GoesByRules (state v) → first_free v ≡ None → NoneFree v
+
+-- the job is to find what a node shows
+abbrev pub IsVerdict : NodeJob → Type 0
+IsVerdict (to_expand g) = ⊥
+IsVerdict (to_judge p) = Unit {0}
+
+-- What a node shows is needed next, and the behaviour that is reached has more possible agreements than are looked at, of those of which
+-- every participant is expanded: this stops the session.
+pub record IsTooMany (old new : BoardView) : Type 0 where
+  pub running : old.stop ≡ None
+  pub job : NodeJob
+  pub first : first_free old ≡ Some job
+  pub verdict : IsVerdict job
+  pub many : offers_limit < offers_of_tree (program old) (windows old) (tree old)
+  pub stop : new.stop ≡ Some (Limit Offers)
+
+-- why no job is handed out, or that there are too many possible agreements
+abbrev pub WhyNone : BoardView → BoardView → Type 0
+WhyNone old new = NoneFree old × (new.stop ≡ old.stop) ⊎ IsTooMany old new
+
+-- the others of the jobs that are out
+abbrev pub left_out : NodeJob → List NodeJob → List NodeJob
+left_out job out = filter (λ other. not (same_job other job)) out
+
+-- what the job is to find isn't known yet: the node waits; or it lives
+abbrev pub IsFree : Shape → NodeJob → Type 0
+IsFree t (to_expand g) = Waits t g
+IsFree t (to_judge p) = Lives t p.generation
+
+-- the first reason stays
+abbrev pub first_reason : Option StopReason → StopReason → Option StopReason
+first_reason None reason = Some reason
+first_reason (Some first) reason = Some first

@@ -1,0 +1,207 @@
+// The board of a session.
+
+ghost use Rattle.std.specs.Prelude.{◌≡◌, ◌≤◌, ◌∷◌, ◌++◌, [], IfOk, IfErr, IfSome, IfNone, OnOk, OnErr, is_some, None, map, option_map, length};
+ghost use Rattle.spec_core.specs.Code.{program_of};
+ghost use Rattle.spec_core.specs.Ready.{IsReady};
+ghost use Rattle.spec_core.specs.Theories.{theory_of};
+ghost use Rattle.rule_model.specs.Answers.{answer_of};
+ghost use Rattle.rule_model.specs.Derivations.{derivation_of};
+ghost use Rattle.rule_model.specs.Events.{event_of, left, pended};
+ghost use Rattle.rule_model.specs.Logs.{events_of};
+ghost use Rattle.rule_model.specs.States.{after_leave, after_offer};
+ghost use Rattle.session_record.specs.Answered.{answered_of, reply_to};
+ghost use Rattle.session_record.specs.Faults.{ExplainsLeave, ExplainsPend};
+ghost use Rattle.session_record.specs.Records.{IsSession};
+ghost use Rattle.session_states.specs.Possible.{MayLeave, MayOffer};
+ghost use Rattle.session_states.specs.Views.{state_of};
+ghost use Rattle.tree_nodes.specs.Shapes.{stands_for};
+ghost use Rattle.board_core.specs.Views as views;
+ghost use Rattle.board_core.specs.Views.{program, events, state, tree, SameSetting, SameLog, SameNodes};
+
+use candidates::job::NodeJob;
+use known_shows::pieces::Pieces;
+use rule_model::log::{Entry, Log};
+use rule_model::offer::Offer;
+use session_record::record::Record;
+use session_record::{Answered, LeaveFault, PendFault};
+use session_rules::stop_reason::StopReason;
+use session_states::state::SessionState;
+use sort_windows::windows;
+use spec_core::code::Checked;
+use spec_core::memory::Memory;
+use spec_core::settings::Settings;
+use spec_core::window::Window;
+use std::alloc::Global;
+use std::marker::Model;
+
+/// The board of a session: its record, what is known of the nodes of the behaviour that is reached, which jobs are out, and why the session
+/// has stopped, if it has.
+///
+/// A call that refuses, or wants memory, changes nothing of what contracts tell.
+#[derive(Drop)]
+pub struct Board {
+    pub(crate) record: Record,
+    pub(crate) settings: Settings,
+    pub(crate) windows: Vec<Window>,
+    pub(crate) pieces: Pieces,
+    pub(crate) out: Vec<NodeJob>,
+    pub(crate) stop: Option<StopReason>,
+}
+
+impl Model for Board {
+    ghost use Rattle.std.specs.Coded.{codes};
+    ghost use Rattle.candidates.specs.contracts.job.NodeJob as j;
+    ghost use Rattle.known_shows.specs.contracts.pieces.Pieces as p;
+    ghost use Rattle.session_record.specs.contracts.record.Record as r;
+    ghost use Rattle.spec_core.specs.contracts.settings.Settings as s;
+    ghost use Rattle.spec_core.specs.contracts.window.Window as w;
+    ghost use Rattle.session_rules.specs.contracts.stop_reason.StopReason as t;
+    ghost use Rattle.board_core.specs.Boards.{IsBoard};
+    ghost use Rattle.board_core.specs.Views.{BoardView};
+
+    ghost Value = { BoardView };
+
+    ghost coded = { Prim.hlevel (codes, r.the_row.coded, s.the_row.coded, w.the_row.coded, p.the_row.coded, j.the_row.coded, t.the_row.coded) };
+
+    ghost view = { λ v. record {
+      session = v.record;
+      settings = v.settings;
+      windows = v.windows.items;
+      pieces = v.pieces;
+      out = v.out.items;
+      stop = v.stop;
+    } };
+
+    ghost invariant = { λ v. IsBoard (record {
+      session = v.record;
+      settings = v.settings;
+      windows = v.windows.items;
+      pieces = v.pieces;
+      out = v.out.items;
+      stop = v.stop;
+    }) };
+}
+
+impl Board {
+    /// A board for a session in which nothing happened yet, with so many clients, whose numbers begin with 1.
+    pub fn new(
+        alloc: Global,
+        checked: Checked,
+        settings: Settings,
+        clients: u32,
+    ) -> Result<Board, Memory>
+        requires ready { IsReady (program_of checked) }
+        requires clients { clients ≤ 64 }
+        ensures checked { IfOk result (λ b. b.session.checked ≡ checked) }
+        ensures settings { IfOk result (λ b. b.settings ≡ settings) }
+        ensures clients { IfOk result (λ b. b.session.clients ≡ clients) }
+        ensures log { IfOk result (λ b. events b ≡ []) }
+        ensures out { IfOk result (λ b. b.out ≡ []) }
+        ensures stop { IfOk result (λ b. b.stop ≡ None) }
+    {
+        let windows = windows(alloc, &checked.algebra, settings.values)?;
+        let record = Record::new(alloc, checked, clients)?;
+        Ok(Board {
+            record,
+            settings,
+            windows,
+            pieces: Pieces::new(alloc),
+            out: Vec::new(alloc),
+            stop: None,
+        })
+    }
+
+    /// The log is a derivation, from the specification's behaviour with the clients to the state, whose behaviour the tree stands for.
+    pub fn log_is_a_derivation(&self)
+        ensures session { IsSession (program self.now) self.now.session.clients (events self.now) (state self.now) }
+        ensures reached { (state self.now).behaviour ≡ stands_for (program self.now) (tree self.now) }
+        ensures ready { IsReady (program self.now) }
+    {
+        self.record.log_is_a_derivation();
+    }
+
+    /// The specification. It takes no memory.
+    pub fn checked(&self) -> &Checked
+        ensures { result.now ≡ self.now.session.checked }
+    {
+        self.record.checked()
+    }
+
+    /// The session's settings. It takes no memory.
+    pub fn settings(&self) -> Settings
+        ensures { result ≡ self.now.settings }
+    {
+        self.settings
+    }
+
+    /// What happened, in order. It takes no memory.
+    pub fn log(&self) -> &[Entry]
+        ensures { map event_of result.now ≡ events self.now }
+    {
+        self.record.log()
+    }
+
+    /// The state: who is open, what is offered, and what was done. It takes no memory.
+    pub fn state(&self) -> &SessionState
+        ensures { state_of result.now ≡ state self.now }
+    {
+        self.record.state()
+    }
+
+    /// How many clients are open. It takes no memory.
+    pub fn open_clients(&self) -> usize
+        ensures { result ≡ length (state self.now).open_clients }
+    {
+        self.record.state().open_clients()
+    }
+
+    /// Whether the session has stopped. It takes no memory.
+    pub fn stopped(&self) -> bool
+        ensures { result ≡ is_some self.now.stop }
+    {
+        self.stop.is_some()
+    }
+
+    /// How the offer of this client and number was answered; None where it isn't answered yet. It takes no memory.
+    pub fn reply_of(&self, client: u32, number: u64) -> Option<Answered<'_>>
+        ensures { option_map answered_of result ≡ reply_to 0 (events self.now) (client, number) }
+    {
+        self.record.reply_of(client, number)
+    }
+
+    /// A client makes its next offer, or only asks for it; its number, from 1 for each client.
+    pub fn pend(
+        &mut self,
+        alloc: Global,
+        client: u32,
+        offer: &Offer,
+        ask: bool,
+    ) -> Result<u64, PendFault>
+        ensures may { IfOk result (λ n. MayOffer (length (program self.old).gates) (state self.old) client n offer.now) }
+        ensures log { IfOk result (λ n. events self.new ≡ events self.old ++ pended client n offer.now ask ∷ []) }
+        ensures state { IfOk result (λ n. state self.new ≡ after_offer (state self.old) client n offer.now ask) }
+        ensures same { OnErr result (SameLog self.old self.new) }
+        ensures fault { IfErr result (ExplainsPend (program self.old) (state self.old) client offer.now) }
+        ensures setting { SameSetting self.old self.new }
+        ensures nodes { SameNodes self.old self.new }
+        ensures out { self.new.out ≡ self.old.out }
+        ensures stop { self.new.stop ≡ self.old.stop }
+    {
+        self.record.pend(alloc, client, offer, ask)
+    }
+
+    /// A client leaves.
+    pub fn leave(&mut self, alloc: Global, client: u32) -> Result<(), LeaveFault>
+        ensures may { OnOk result (MayLeave (state self.old) client) }
+        ensures log { OnOk result (events self.new ≡ events self.old ++ left client ∷ []) }
+        ensures state { OnOk result (state self.new ≡ after_leave (state self.old) client) }
+        ensures same { OnErr result (SameLog self.old self.new) }
+        ensures fault { IfErr result (ExplainsLeave (state self.old) client) }
+        ensures setting { SameSetting self.old self.new }
+        ensures nodes { SameNodes self.old self.new }
+        ensures out { self.new.out ≡ self.old.out }
+        ensures stop { self.new.stop ≡ self.old.stop }
+    {
+        self.record.leave(alloc, client)
+    }
+}

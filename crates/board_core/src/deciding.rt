@@ -1,0 +1,63 @@
+// What comes next, as far as what is known decides it.
+
+ghost use Rattle.std.specs.Prelude.{◌≡◌, IfOk, Some, map, option_map};
+ghost use Rattle.rule_model.specs.Derivations.{derivation_of};
+ghost use Rattle.session_states.specs.Views.{pending_of};
+ghost use Rattle.candidates.specs.KnownTrees.{HasItsParts};
+ghost use Rattle.candidates.specs.Jobs.{is_out};
+ghost use Rattle.candidates.specs.Models.{job_of};
+ghost use Rattle.settling.specs.Jobs.{first_not_out};
+ghost use Rattle.tree_nodes.specs.Shapes.{shape_of};
+ghost use Rattle.board_core.specs.Entries.{entry_of};
+ghost use Rattle.board_core.specs.Views.{state, tree, decided_at, needed_at};
+
+use crate::board::Board;
+use candidates::entry::{next_entry, next_job};
+use candidates::job::NodeJob;
+use candidates::known_tree::KnownTree;
+use rule_model::rules::Rules;
+use settling::settle::Settled;
+use spec_core::memory::Memory;
+use std::alloc::Global;
+use waiting_offers::waiting::offers_by_number;
+
+impl Board {
+    // The tree with what is known of it.
+    pub(crate) fn known(&self, alloc: Global) -> Result<KnownTree<'_>, Memory>
+        ensures algebra { IfOk result (λ k. k.algebra.now ≡ self.now.session.checked.algebra) }
+        ensures windows { IfOk result (λ k. k.windows.now ≡ self.now.windows) }
+        ensures tree { IfOk result (λ k. shape_of k.tree.now ≡ tree self.now) }
+        ensures pieces { IfOk result (λ k. k.pieces.now ≡ self.now.pieces) }
+        ensures offers { IfOk result (λ k. map pending_of k.offers.now ≡ (state self.now).pending) }
+        ensures parts { IfOk result HasItsParts }
+        ensures out { IfOk result (λ k. k.out.now ≡ self.now.out) }
+    {
+        KnownTree::new(
+            alloc,
+            &self.record.checked().algebra,
+            &self.windows,
+            self.record.tree().root(),
+            &self.pieces,
+            self.record.state().pending(),
+            &self.out,
+        )
+    }
+
+    // The next entry by the rules of a session.
+    pub(crate) fn next(&self, alloc: Global) -> Result<Settled<Rules>, Memory>
+        ensures next { IfOk result (λ s. entry_of self.now s ≡ decided_at self.now) }
+    {
+        let offers = offers_by_number(alloc, self.state())?;
+        let known = self.known(alloc)?;
+        next_entry(alloc, &known, &offers)
+    }
+
+    // The first job that the rules still need and that isn't out.
+    pub(crate) fn next_task(&self, alloc: Global) -> Result<Option<NodeJob>, Memory>
+        ensures job { IfOk result (λ job. option_map job_of job ≡ first_not_out (is_out (map job_of self.now.out)) (needed_at self.now)) }
+    {
+        let offers = offers_by_number(alloc, self.state())?;
+        let known = self.known(alloc)?;
+        next_job(alloc, &known, &offers)
+    }
+}

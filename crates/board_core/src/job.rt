@@ -1,0 +1,20 @@
+// Jobs that the board hands out.
+
+use candidates::job::NodeJob;
+use tree_nodes::origin::Origin;
+
+/// What is to be done at a node, and what the node stands for. A worker does it without the board.
+#[derive(Drop)]
+pub struct Job {
+    pub task: NodeJob,
+    pub origin: Origin,
+}
+
+/// What comes of handing in what a job brought.
+#[derive(Clone, Copy, Debug, PartialEq, Eq)]
+pub enum Post {
+    /// It is kept.
+    Posted,
+    /// The node at which it was done is gone, or, of an expansion, is expanded already. Nothing has changed.
+    Stale,
+}
