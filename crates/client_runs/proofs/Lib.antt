@@ -1,0 +1,4 @@
+pub mod Endings
+pub mod Jobs
+pub mod Running
+pub mod Settled

@@ -1,0 +1,73 @@
+use Rattle.std.proofs.Common.{◌≡◌, ◌∙◌, IfSome, IfNone, false, is_some, length, rules, subst, sym}
+use Rattle.board_core.specs.Settled.{IsQuiet}
+use Rattle.board_core.specs.Views.{events}
+use Rattle.board_core.specs.Working.{IsHandedOut, WhyNone}
+use Rattle.candidates.specs.Models.{job_of}
+use Rattle.needed_jobs.specs.Needed.{generation_of}
+use Rattle.tree_nodes.specs.Origins.{source_of}
+use Rattle.tree_nodes.specs.Shapes.{Held, IsNodeOf, Shape}
+use Rattle.client_runs.proofs.Running.{after_settling, none_taken, onward, same_run, was_quiet}
+use Rattle.client_runs.proofs.Settled.{IsLike, like_twice, none_left_there, why_stays}
+use Rattle.client_runs.proofs.settling_all.settle_once.Goals as goal
+
+pub returns-then-is_some-clause-continues : goal.returns-then-is_some-clause-continues
+returns-then-is_some-clause-continues c =
+    let h = c.in_ok-settle.ensures in
+    after_settling c.args.board.now c.settle.new.self h.session c.in_ok-settle.field-0 (length (events c.args.board.now)) h.settled h.none
+
+pub work-requires : goal.work-requires
+work-requires c =
+    let job = c.in-Some.job in
+    let g = c.give_back_all.new.self in
+    let d = c.take_job.new.self in
+    let out =
+    subst (λ o. IfSome o (λ j. IsHandedOut g d j × (d.stop ≡ g.stop))) c.in-Some.is c.in_ok-take_job.ensures.job in
+    record {
+      origin =
+          subst (λ (t : Shape). (n : Held) → IsNodeOf t (generation_of (job_of job.task)) n → n.source ≡ source_of job.origin)
+          (search rules) out.0.origin;
+    }
+
+pub returns-in-None-clause-continues : goal.returns-in-None-clause-continues
+returns-in-None-clause-continues c =
+    let a = c.args.board.now in
+    let b = c.settle.new.self in
+    let h = c.in_ok-settle.ensures in
+    let g = c.give_back_all.ensures in
+    let t = c.in_ok-take_job.ensures in
+    onward a b c.take_job.new.self (after_settling a b h.session c.in_ok-settle.field-0 (length (events a)) h.settled h.none)
+    (onward b c.give_back_all.new.self c.take_job.new.self (same_run b c.give_back_all.new.self g.session g.log g.stop)
+    (none_taken c.give_back_all.new.self c.take_job.new.self t.session t.log
+    (subst (λ o. IfNone o (WhyNone c.give_back_all.new.self c.take_job.new.self)) c.in-None.is t.none)))
+
+pub returns-in-None-clause-settled : goal.returns-in-None-clause-settled
+returns-in-None-clause-settled c =
+    let a = c.args.board.now in
+    let b = c.settle.new.self in
+    let g = c.give_back_all.new.self in
+    let d = c.take_job.new.self in
+    let none : is_some c.in_ok-settle.field-0 ≡ false = search rules in
+    let quiet : IsQuiet a b = was_quiet a b c.in_ok-settle.field-0 none c.in_ok-settle.ensures.none in
+    let ab : IsLike a b = record { session = c.in_ok-settle.ensures.session; log = quiet.log; nodes = quiet.nodes } in
+    let e = c.give_back_all.ensures in
+    let bg : IsLike b g = record { session = e.session; log = e.log; nodes = e.nodes } in
+    let t = c.in_ok-take_job.ensures in
+    let gd : IsLike g d = record { session = t.session; log = t.log; nodes = t.nodes } in
+    let why : WhyNone g d = subst (λ o. IfNone o (WhyNone g d)) c.in-None.is t.none in
+    λ done. none_left_there a g d (like_twice a b g ab bg) gd (why_stays a b g e.stop quiet.why) why e.out
+    (sym c.stopped-before.ensures ∙ c.is_as_before.ensures done ∙ c.stopped-after.ensures)
+
+pub returns-in_ok-work-in-Some-clause-continues : goal.returns-in_ok-work-in-Some-clause-continues
+returns-in_ok-work-in-Some-clause-continues c =
+    let a = c.args.board.now in
+    let b = c.settle.new.self in
+    let h = c.in_ok-settle.ensures in
+    let g = c.give_back_all.ensures in
+    let t = c.in_ok-take_job.ensures in
+    let gb = c.give_back_all.new.self in
+    let d = c.take_job.new.self in
+    let out = subst (λ o. IfSome o (λ j. IsHandedOut gb d j × (d.stop ≡ gb.stop))) c.in-Some.is t.job in
+    onward a b c.work.new.board (after_settling a b h.session c.in_ok-settle.field-0 (length (events a)) h.settled h.none)
+    (onward b c.give_back_all.new.self c.work.new.board (same_run b c.give_back_all.new.self g.session g.log g.stop)
+    (onward c.give_back_all.new.self c.take_job.new.self c.work.new.board
+    (same_run c.give_back_all.new.self c.take_job.new.self t.session t.log out.1) c.in_ok-work-in-Some.ensures.continues))

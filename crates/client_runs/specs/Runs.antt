@@ -1,0 +1,47 @@
+-- Runs of boards.
+use Rattle.std.specs.Prelude.{ℕ, ◌≡◌, ◌⊎◌, List, [], Option, Some, None}
+use Rattle.spec_core.specs.declared.settings.Settings.{Settings}
+use Rattle.spec_core.specs.Code.{Program}
+use Rattle.rule_model.specs.Behaviours.{Behaviour}
+use Rattle.rule_model.specs.Code.{IsStart}
+use Rattle.rule_model.specs.Events.{Ending, Event}
+use Rattle.rule_model.specs.Settling.{Wish}
+use Rattle.rule_model.specs.States.{State, start_state}
+use Rattle.courses.specs.Rules.{nothing}
+use Rattle.session_rules.specs.declared.stop_reason.StopReason.{StopReason}
+use Rattle.session_states.specs.Clients.{numbers_from}
+use Rattle.client_sessions.specs.Ends.{IsEndingOf}
+use Rattle.client_sessions.specs.Runs.{IsRun, IsSettledAt}
+use Rattle.board_core.specs.Idle.{IsIdle}
+use Rattle.board_core.specs.Views as views
+use Rattle.board_core.specs.Views.{BoardView}
+
+-- the run of a board
+abbrev pub IsRunOn : State → List Wish → BoardView → Type 0
+IsRunOn start wishes v = IsRun (views.program v) v.settings start v.stop wishes (views.events v) (views.state v)
+
+-- each run that led to the first board leads on to the second
+abbrev pub Continues : BoardView → BoardView → Type 0
+Continues old new = (start : State) (wishes : List Wish) → IsRunOn start wishes old → IsRunOn start wishes new
+
+-- nothing is left to be done on a board; where it hasn't stopped, and isn't idle, what is known decides so
+pub record IsSettledOn (v : BoardView) : Type 0 where
+  pub at : IsSettledAt (views.program v) v.settings v.stop (views.state v)
+  pub known : v.stop ≡ None → IsIdle (views.state v) ⊎ (views.decided_at v ≡ Some nothing)
+
+-- the session of a board has begun, with so many clients
+pub record HasBegun (clients : ℕ) (v : BoardView) : Type 0 where
+  pub behaviour : Behaviour
+  pub start : IsStart (views.program v) behaviour
+  pub run : IsRunOn (start_state behaviour (numbers_from 1 clients)) [] v
+  pub all_open : (views.state v).open_clients ≡ numbers_from 1 clients
+
+-- a run up to where no client is open and nothing is left to be done, and how it ends
+pub record IsEndedRun (program : Program) (settings : Settings) (start : State) (wishes : List Wish) (log : List Event) (ending : Ending) :
+    Type 0 where
+  pub stop : Option StopReason
+  pub last : State
+  pub run : IsRun program settings start stop wishes log last
+  pub settled : IsSettledAt program settings stop last
+  pub closed : last.open_clients ≡ []
+  pub ends : IsEndingOf program settings last stop ending

@@ -1,0 +1,6 @@
+// The session of one client, or of none, on a board without threads.
+#![tactic(auto)]
+
+pub mod run;
+mod settling_all;
+mod working;

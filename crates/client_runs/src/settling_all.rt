@@ -1,0 +1,54 @@
+// Settling, until nothing is left.
+
+ghost use Rattle.std.specs.Prelude.{◌≡◌, IfOk, IsTrue, OnOk};
+ghost use Rattle.board_core.specs.Views.{SameSession};
+ghost use Rattle.client_runs.specs.Runs.{Continues, IsSettledOn};
+
+use crate::working::work;
+use board_core::board::Board;
+use spec_core::memory::Memory;
+use std::alloc::Global;
+
+// Whether the board has stopped just where it had before.
+fn is_as_before(before: bool, after: bool) -> bool
+    ensures { IsTrue result → before ≡ after }
+{
+    before == after
+}
+
+// One entry, or one job; whether nothing was left.
+fn settle_once(alloc: Global, board: &mut Board) -> Result<bool, Memory>
+    ensures continues { OnOk result (Continues board.old board.new) }
+    ensures settled { IfOk result (λ done. IsTrue done → IsSettledOn board.new) }
+    ensures session { SameSession board.old board.new }
+{
+    if board.settle(alloc)?.is_some() {
+        return Ok(false);
+    }
+    board.give_back_all();
+    let before = board.stopped();
+    match board.take_job(alloc)? {
+        None => {
+            let after = board.stopped();
+            Ok(is_as_before(before, after))
+        }
+        Some(job) => {
+            work(alloc, board, job)?;
+            Ok(false)
+        }
+    }
+}
+
+/// Settles, and does what jobs this needs, until nothing is left to be done.
+pub fn settle_all(alloc: Global, board: &mut Board) -> Result<(), Memory>
+    ensures continues { OnOk result (Continues board.old board.new) }
+    ensures settled { OnOk result (IsSettledOn board.new) }
+    ensures session { SameSession board.old board.new }
+{
+    for _ in 0..u64::MAX {
+        if settle_once(alloc, board)? {
+            return Ok(());
+        }
+    }
+    Err(Memory)
+}

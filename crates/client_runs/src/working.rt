@@ -1,0 +1,103 @@
+// Jobs, done at once.
+
+ghost use Rattle.std.specs.Prelude.{◌≡◌};
+ghost use Rattle.candidates.specs.Models.{job_of};
+ghost use Rattle.tree_nodes.specs.Origins.{source_of};
+ghost use Rattle.tree_nodes.specs.Shapes.{Held, IsNodeOf};
+ghost use Rattle.needed_jobs.specs.Needed.{generation_of};
+ghost use Rattle.board_core.specs.Views.{tree, SameSession};
+ghost use Rattle.client_runs.specs.Runs.{Continues};
+
+use board_core::board::Board;
+use board_core::job::Job;
+use board_core::reasons::reason_for;
+use candidates::job::NodeJob;
+use judging::origins::shown_by;
+use known_shows::pieces::Piece;
+use marked_values::stop::Stop;
+use node_expansion::node::expand_node;
+use rule_model::rules::Rules;
+use spec_core::memory::Memory;
+use std::alloc::Global;
+use tree_nodes::origin::{Gen, Origin};
+
+// A job has no answer, which stops the session, unless it only wants memory.
+fn fail(board: &mut Board, task: &NodeJob, stop: Stop) -> Result<(), Memory>
+    ensures continues { Continues board.old board.new }
+    ensures session { SameSession board.old board.new }
+{
+    match reason_for(stop) {
+        None => Err(Memory),
+        Some(reason) => {
+            board.fail(task, reason);
+            Ok(())
+        }
+    }
+}
+
+// A node is expanded.
+fn expand(alloc: Global, board: &mut Board, generation: Gen, origin: &Origin) -> Result<(), Memory>
+    requires origin { (n : Held) → IsNodeOf (tree board.old) generation.0 n → n.source ≡ source_of origin.now }
+    ensures continues { Continues board.old board.new }
+    ensures session { SameSession board.old board.new }
+{
+    board.log_is_a_derivation();
+    let budget = board.settings().budget;
+    match expand_node(alloc, board.checked(), board.windows(), origin, budget) {
+        Ok(work) => {
+            board.post(generation, work);
+            Ok(())
+        }
+        Err(stop) => fail(board, &NodeJob::Expand(generation), stop),
+    }
+}
+
+// It is found out what a node shows by a tree of rules.
+fn judge(
+    alloc: Global,
+    board: &mut Board,
+    generation: Gen,
+    origin: &Origin,
+    rules: Rules,
+) -> Result<(), Memory>
+    requires origin { (n : Held) → IsNodeOf (tree board.old) generation.0 n → n.source ≡ source_of origin.now }
+    ensures continues { Continues board.old board.new }
+    ensures session { SameSession board.old board.new }
+{
+    board.log_is_a_derivation();
+    let budget = board.settings().budget;
+    match shown_by(
+        alloc,
+        board.checked(),
+        board.windows(),
+        origin,
+        &rules,
+        budget,
+    ) {
+        Ok(shown) => {
+            board.judged(
+                alloc,
+                Piece {
+                    generation,
+                    rules,
+                    shown,
+                },
+            )?;
+            Ok(())
+        }
+        Err(stop) => fail(board, &NodeJob::Judge(generation, rules), stop),
+    }
+}
+
+/// Does a job, and hands in what it brought.
+pub fn work(alloc: Global, board: &mut Board, job: Job) -> Result<(), Memory>
+    requires origin { (n : Held) → IsNodeOf (tree board.old) (generation_of (job_of job.task)) n → n.source ≡ source_of job.origin }
+    ensures continues { Continues board.old board.new }
+    ensures session { SameSession board.old board.new }
+{
+    let Job { task, origin } = job;
+    match task {
+        NodeJob::Expand(generation) => expand(alloc, board, generation, &origin),
+        NodeJob::Judge(generation, rules) => judge(alloc, board, generation, &origin, rules),
+    }
+}
