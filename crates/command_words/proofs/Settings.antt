@@ -1,7 +1,6 @@
 -- Two words, an option and its number, and those behind them.
-use Rattle.std.proofs.Common.{ℕ, ◌≡◌, ◌≤◌, ◌-◌, ◌∙◌, sym, ap, List, [], ◌∷◌, map, length, take, drop, Option, None, Bool, true, false, slice_index_or, arith}
+use Rattle.std.proofs.Common.{ℕ, ◌≡◌, ◌≤◌, ◌-◌, ◌∙◌, sym, ap, List, [], ◌∷◌, map, length, take, drop, None, true, false, slice_index_or, arith}
 use Rattle.std.proofs.lemmas.List.{take_all, length-drop}
-use Rattle.spec_core.specs.declared.settings.Settings.{Settings}
 use Rattle.command_words.specs.declared.option.OptionName.{OptionName}
 use Rattle.command_words.specs.Options.{is_given, option_named, set_named, settings_of}
 

@@ -1,6 +1,6 @@
 -- Too few words behind a command.
-use Rattle.std.proofs.Common.{ℕ, ◌≡◌, ◌<◌, List, [], ◌∷◌, map, length, Option, None, refl, arith}
-use Rattle.command_words.specs.Commands.{Command, run_of, equal_of, replay_of}
+use Rattle.std.proofs.Common.{ℕ, ◌≡◌, ◌<◌, List, [], ◌∷◌, map, length, None, refl, arith}
+use Rattle.command_words.specs.Commands.{run_of, equal_of, replay_of}
 
 pub no_run : {S : Type 0} (f : S → List ℕ) (words : List S) → length words < 2 → run_of (map f words) ≡ None
 no_run f [] h = refl

@@ -1,5 +1,5 @@
 -- The value of digits grows with each digit.
-use Rattle.std.proofs.Common.{ℕ, ◌+◌, ◌-◌, ◌*◌, ◌≡◌, ◌<◌, List, [], ◌∷◌, nat_le, Bool, false, arith}
+use Rattle.std.proofs.Common.{ℕ, ◌+◌, ◌-◌, ◌*◌, ◌≡◌, ◌<◌, List, [], ◌∷◌, nat_le, false, arith}
 use Rattle.command_words.specs.Options.{value_behind}
 
 -- digits behind too great a number make none that isn't

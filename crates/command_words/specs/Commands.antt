@@ -7,12 +7,12 @@ use Rattle.spec_core.specs.declared.settings.Settings.{Settings}
 use Rattle.command_words.specs.declared.command.Command as words
 use Rattle.command_words.specs.declared.command.Command.TheVariants.{Run, Check, Equal, Replay}
 use Rattle.command_words.specs.declared.option.OptionName.{OptionName}
-use Rattle.command_words.specs.declared.option.OptionName.TheVariants.{Budget}
+use Rattle.command_words.specs.declared.option.OptionName.TheVariants.{Budget, Values, Steps, Seed}
 use Rattle.command_words.specs.Options.{settings_of}
 
 pub data Command : Type 0 where
-  -- a session of the specification in the first file, whose client makes the offers of the script in the second
-  run : List ℕ → List ℕ → Command
+  -- a session of the specification in the first file, whose clients make the offers of the script in the second, by these settings
+  run : List ℕ → List ℕ → Settings → Command
   -- whether the specification in the file is accepted
   check : List ℕ → Command
   -- whether two terms of the specification in the file are equal, with so many uses of equations for each
@@ -33,7 +33,8 @@ set_behind names options words = if list_all is_name names then settings_of opti
 
 abbrev pub run_of : List (List ℕ) → Option Command
 run_of (specification ∷ script ∷ words) =
-    option_map (λ settings. run specification script) (set_behind (specification ∷ script ∷ []) [] words)
+    option_map (run specification script)
+    (set_behind (specification ∷ script ∷ []) (Budget ∷ Values ∷ Steps ∷ Seed ∷ []) words)
 run_of _ = None
 
 abbrev pub check_of : List (List ℕ) → Option Command
@@ -62,7 +63,7 @@ command_of [] = None
 
 -- what a value of the program stands for
 abbrev pub command_named : words.Command → Command
-command_named (Run specification script) = run specification.now script.now
+command_named (Run specification script settings) = run specification.now script.now settings
 command_named (Check specification) = check specification.now
 command_named (Equal specification first second budget) = equal specification.now first.now second.now budget
 command_named (Replay specification trace budget) = replay specification.now trace.now budget

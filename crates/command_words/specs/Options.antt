@@ -6,18 +6,27 @@ use Rattle.std.specs.List.{list_all}
 use Rattle.std.specs.Str.{bytes_eq}
 use Rattle.spec_core.specs.declared.settings.Settings.{Settings}
 use Rattle.command_words.specs.declared.option.OptionName.{OptionName}
-use Rattle.command_words.specs.declared.option.OptionName.TheVariants.{Budget}
+use Rattle.command_words.specs.declared.option.OptionName.TheVariants.{Budget, Values, Steps, Seed}
 
 -- how an option is written
 abbrev pub word_of : OptionName → List ℕ
 word_of Budget = codes "--budget"
+word_of Values = codes "--values"
+word_of Steps = codes "--steps"
+word_of Seed = codes "--seed"
 
 -- the least and the greatest number that it may be given
 abbrev pub least : OptionName → ℕ
 least Budget = 1
+least Values = 1
+least Steps = 1
+least Seed = 0
 
 abbrev pub greatest : OptionName → ℕ
 greatest Budget = 4294967296
+greatest Values = 256
+greatest Steps = 1000000
+greatest Seed = 4294967295
 
 -- what holds where no option is given
 abbrev pub usual : Settings
@@ -26,6 +35,9 @@ usual = record { budget = 1000000; values = 16; steps = 10000; seed = 0 }
 -- the settings with another number for the option
 abbrev pub setting : OptionName → Settings → ℕ → Settings
 setting Budget s number = record { budget = number; values = s.values; steps = s.steps; seed = s.seed }
+setting Values s number = record { budget = s.budget; values = number; steps = s.steps; seed = s.seed }
+setting Steps s number = record { budget = s.budget; values = s.values; steps = number; seed = s.seed }
+setting Seed s number = record { budget = s.budget; values = s.values; steps = s.steps; seed = number }
 
 -- the value of decimal digits behind others
 abbrev pub value_behind : ℕ → List ℕ → ℕ

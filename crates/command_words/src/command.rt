@@ -14,6 +14,8 @@ pub enum Command<'w> {
     Run {
         specification: &'w str,
         script: &'w str,
+        /// What bounds and steers the session.
+        settings: Settings,
     },
     /// Whether a specification is accepted.
     Check {
@@ -46,6 +48,14 @@ fn is_name(word: &str) -> bool
     }
 }
 
+// The options of `run`.
+const RUN_OPTIONS: [OptionName; 4] = [
+    OptionName::Budget,
+    OptionName::Values,
+    OptionName::Steps,
+    OptionName::Seed,
+];
+
 // What `run` is told by the words behind it.
 #[tactic(auto, using(crate::proofs::Short::no_run))]
 fn run(words: &[String]) -> Option<Command<'_>>
@@ -58,10 +68,11 @@ fn run(words: &[String]) -> Option<Command<'_>>
             if !is_name(specification) || !is_name(script) {
                 return None;
             }
-            settings_of(&[], options)?;
+            let settings = settings_of(&RUN_OPTIONS, options)?;
             Some(Command::Run {
                 specification,
                 script,
+                settings,
             })
         }
         _ => None,

@@ -1,6 +1,6 @@
 // Options behind the words of a command.
 
-ghost use Rattle.std.specs.Prelude.{◌≡◌, ◌≤◌, ◌<◌, ◌^◌, ◌&&◌, nat_le, if◌then◌else◌, Some, None, map, string_bytes};
+ghost use Rattle.std.specs.Prelude.{◌≡◌, ◌≤◌, ◌<◌, ◌^◌, ◌&&◌, nat_le, if◌then◌else◌, Some, None, IfSome, map, string_bytes};
 ghost use Rattle.std.specs.Char.{is_ascii_digit};
 ghost use Rattle.std.specs.List.{list_all};
 ghost use Rattle.command_words.specs.Options as options;
@@ -13,6 +13,12 @@ use spec_core::settings::Settings;
 pub enum OptionName {
     /// The greatest number of uses of equations in one evaluation, from 1 to 2^32.
     Budget,
+    /// How many values of a sort are tried, from 1 to 256.
+    Values,
+    /// The greatest number of actions, from 1 to 1,000,000.
+    Steps,
+    /// What chooses among internal steps, from 0 to 2^32 - 1.
+    Seed,
 }
 
 impl OptionName {
@@ -22,6 +28,9 @@ impl OptionName {
     {
         match self {
             OptionName::Budget => "--budget",
+            OptionName::Values => "--values",
+            OptionName::Steps => "--steps",
+            OptionName::Seed => "--seed",
         }
     }
 
@@ -31,25 +40,45 @@ impl OptionName {
     {
         match self {
             OptionName::Budget => 1,
+            OptionName::Values => 1,
+            OptionName::Steps => 1,
+            OptionName::Seed => 0,
         }
     }
 
     // The greatest number that it may be given.
     fn greatest(self) -> u64
-        ensures { result ≡ options.greatest self }
+        ensures greatest { result ≡ options.greatest self }
+        ensures small { result < 2 ^ 60 }
     {
         match self {
             OptionName::Budget => 4_294_967_296,
+            OptionName::Values => 256,
+            OptionName::Steps => 1_000_000,
+            OptionName::Seed => 4_294_967_295,
         }
     }
 
     // The settings with this number for the option.
     fn set(self, settings: Settings, number: u64) -> Settings
+        requires { number ≤ options.greatest self }
         ensures { result ≡ options.setting self settings number }
     {
         match self {
             OptionName::Budget => Settings {
                 budget: number,
+                ..settings
+            },
+            OptionName::Values => Settings {
+                values: number as u32,
+                ..settings
+            },
+            OptionName::Steps => Settings {
+                steps: number as u32,
+                ..settings
+            },
+            OptionName::Seed => Settings {
+                seed: number as u32,
                 ..settings
             },
         }
@@ -89,7 +118,8 @@ fn value_behind(before: u64, digits: &[u8], greatest: u64) -> Option<u64>
 
 // The number that a word gives an option.
 fn number_of(option: OptionName, word: &str) -> Option<u64>
-    ensures { result ≡ options.number_of option word.now }
+    ensures number { result ≡ options.number_of option word.now }
+    ensures within { IfSome result (λ number. number ≤ options.greatest option) }
 {
     let digits = word.as_bytes();
     if digits.is_empty() {

@@ -1,4 +1,4 @@
 mod Equals
 mod Fetched
 mod Final
-mod Replays
+mod SecondFiles

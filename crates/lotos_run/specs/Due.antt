@@ -2,13 +2,13 @@
 use Rattle.std.specs.Prelude.{ℕ, ◌≡◌, List, Option, Some, None, codes}
 use Rattle.command_words.specs.Commands.{Command, run, check, equal, replay}
 use Rattle.lotos_outside.specs.Sink.{with_more, AppendsPrefix}
+use Rattle.lotos_run.specs.declared.second_file.Second.TheVariants.{Script, Trace}
 use Rattle.lotos_run.specs.declared.status.Status.{Status}
 use Rattle.lotos_run.specs.declared.status.Status.TheVariants.{Usage}
 use Rattle.lotos_run.specs.Checks.{IsCheckDue}
 use Rattle.lotos_run.specs.Equals.{IsEqualDue}
 use Rattle.lotos_run.specs.Outside.{Shelved, Outside}
-use Rattle.lotos_run.specs.Replays.{IsReplayDue}
-use Rattle.lotos_run.specs.Runs.{IsRunDue}
+use Rattle.lotos_run.specs.SecondFiles.{IsSecondDue}
 
 -- what is due where the words name no command
 abbrev pub IsUsageDue : Status → List ℕ → Type 0
@@ -18,10 +18,10 @@ IsUsageDue _ text = ⊥
 -- which status is due, with which text
 abbrev pub IsDue : Shelved → Option Command → Status → List ℕ → Type 0
 IsDue shelf None status text = IsUsageDue status text
-IsDue shelf (Some (run specification script)) status text = IsRunDue shelf specification script status text
+IsDue shelf (Some (run specification script settings)) status text = IsSecondDue shelf (Script settings) specification script status text
 IsDue shelf (Some (check specification)) status text = IsCheckDue shelf specification status text
 IsDue shelf (Some (equal specification first second budget)) status text = IsEqualDue shelf specification first second budget status text
-IsDue shelf (Some (replay specification trace budget)) status text = IsReplayDue shelf specification trace budget status text
+IsDue shelf (Some (replay specification trace budget)) status text = IsSecondDue shelf (Trace budget) specification trace status text
 
 -- the status is due, and the text that is due with it was written
 abbrev pub IsAnswered : Outside → Option Command → Status → Type 0

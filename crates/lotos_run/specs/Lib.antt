@@ -8,4 +8,6 @@ pub mod Outside
 pub mod ReplayTexts
 pub mod Replays
 pub mod Runs
+pub mod RunTexts
+pub mod SecondFiles
 pub mod Statuses

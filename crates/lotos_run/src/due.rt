@@ -8,8 +8,7 @@ ghost use Rattle.lotos_run.specs.Outside.{shelved};
 use crate::answer::{Answer, with_text};
 use crate::check::check;
 use crate::equal::equal;
-use crate::replay::replay;
-use crate::run::run;
+use crate::second_file::{Second, over_specification};
 use crate::status::Status;
 use command_words::{Command, read_command};
 use lotos_outside::shelf::Shelf;
@@ -31,8 +30,15 @@ pub fn due_answer<F: Shelf>(
             Command::Run {
                 specification,
                 script,
+                settings,
             },
-        ) => run(alloc, shelf, specification, script),
+        ) => over_specification(
+            alloc,
+            shelf,
+            specification,
+            script,
+            Second::Script(settings),
+        ),
         Some(Command::Check { specification }) => check(alloc, shelf, specification),
         Some(
             Command::Equal {
@@ -48,6 +54,6 @@ pub fn due_answer<F: Shelf>(
                 trace,
                 budget,
             },
-        ) => replay(alloc, shelf, specification, trace, budget),
+        ) => over_specification(alloc, shelf, specification, trace, Second::Trace(budget)),
     }
 }

@@ -8,9 +8,9 @@ mod due;
 mod equal;
 mod equal_text;
 mod lines;
-mod replay;
 mod replay_text;
-mod run;
+mod run_text;
+mod second_file;
 pub mod status;
 
 ghost use Rattle.std.specs.Prelude.{◌≡◌, map, string_bytes};

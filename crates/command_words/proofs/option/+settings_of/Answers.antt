@@ -1,5 +1,5 @@
 use Rattle.std.proofs.Common.{map, string_bytes, sym, ap, ◌∙◌}
-use Rattle.command_words.specs.Options.{is_given, option_named, set_named, settings_of}
+use Rattle.command_words.specs.Options.{is_given, option_named, set_named}
 use Rattle.command_words.proofs.Settings.{behind, again, once}
 use Rattle.command_words.proofs.option.+settings_of.Goals as goal
 

@@ -1,0 +1,147 @@
+// Commands that read a second file over a specification: `run` and `replay`.
+
+ghost use Rattle.std.specs.Prelude.{◌≡◌, IfOk};
+ghost use Rattle.spec_core.specs.Code.{program_of};
+ghost use Rattle.spec_core.specs.Ready.{IsReady};
+ghost use Rattle.lotos_run.specs.Outside.{shelved};
+ghost use Rattle.lotos_run.specs.Replays.{IsReplayed};
+ghost use Rattle.lotos_run.specs.Runs.{IsScripted};
+ghost use Rattle.lotos_run.specs.SecondFiles.{most, SecondComes, IsDueForSecond, IsDueForText, IsSecondDue};
+
+use crate::answer::{Answer, fetch, with_text};
+use crate::check_text::refusal_text;
+use crate::status::Status;
+use crate::{replay_text, run_text};
+use accepted_laws::laws::accepted_is_ready;
+use lotos_ast::refusal::FrontFault;
+use lotos_front::accept;
+use lotos_outside::shelf::{Shelf, ShelfFault};
+use script_runs::run_text as run_script;
+use spec_core::code::Checked;
+use spec_core::memory::Memory;
+use spec_core::settings::Settings;
+use std::alloc::Global;
+use trace_replay::replay_text as replay_trace;
+
+/// What the second file is to be.
+#[derive(Clone, Copy)]
+pub enum Second {
+    /// A script, whose session is run.
+    Script(Settings),
+    /// A trace, which is replayed, with at most so many uses of equations for each term, from 1 to 2^32.
+    Trace(u64),
+}
+
+impl Second {
+    // How many bytes of it are fetched: one more than it may have.
+    fn most(self) -> usize
+        ensures { result ≡ most self }
+    {
+        match self {
+            Second::Script(_) => 1_048_577,
+            Second::Trace(_) => 67_108_865,
+        }
+    }
+}
+
+// What comes of a script.
+fn scripted(
+    alloc: Global,
+    checked: &Checked,
+    text: &[u8],
+    settings: Settings,
+) -> Result<Answer, Memory>
+    requires ready { IsReady (program_of checked.now) }
+    ensures { IfOk result (λ a. IsScripted (program_of checked.now) text.now settings a.status a.text.items) }
+{
+    let came = run_script(alloc, checked, text, settings)?;
+    Ok(Answer {
+        status: run_text::answer_status(&came),
+        text: run_text::answer_text(alloc, checked, &came)?,
+    })
+}
+
+// What comes of a trace.
+fn replayed(alloc: Global, checked: &Checked, text: &[u8], budget: u64) -> Result<Answer, Memory>
+    requires ready { IsReady (program_of checked.now) }
+    ensures { IfOk result (λ a. IsReplayed (program_of checked.now) text.now budget a.status a.text.items) }
+{
+    let came = replay_trace(alloc, checked, text, budget)?;
+    Ok(Answer {
+        status: replay_text::answer_status(&came),
+        text: replay_text::answer_text(alloc, &checked.algebra, &came)?,
+    })
+}
+
+// What comes of the text of the second file, over an accepted specification.
+fn come(alloc: Global, checked: &Checked, text: &[u8], second: Second) -> Result<Answer, Memory>
+    requires ready { IsReady (program_of checked.now) }
+    ensures { IfOk result (λ a. SecondComes second (program_of checked.now) text.now a.status a.text.items) }
+{
+    match second {
+        Second::Script(settings) => scripted(alloc, checked, text, settings),
+        Second::Trace(budget) => replayed(alloc, checked, text, budget),
+    }
+}
+
+// What is due for the second file, over an accepted specification.
+#[tactic(auto, using(crate::proofs::SecondFiles::second_due))]
+fn read_second<F: Shelf>(
+    alloc: Global,
+    shelf: &mut F,
+    checked: &Checked,
+    name: &str,
+    second: Second,
+) -> Result<Answer, Memory>
+    requires ready { IsReady (program_of checked.now) }
+    ensures { IfOk result (λ a. IsDueForSecond (shelved (F.files shelf.old) (F.failed shelf.old) (F.failed shelf.new))
+        second (program_of checked.now) name.now a.status a.text.items) }
+{
+    match fetch(alloc, shelf, name, second.most()) {
+        Err(ShelfFault::Failed) => with_text(alloc, Status::ReadFault, b"read fault\n"),
+        Err(ShelfFault::Memory) => Err(Memory),
+        Ok(bytes) => come(alloc, checked, &bytes, second),
+    }
+}
+
+// What is due for the second file, over a text that is to be a specification.
+fn read_over<F: Shelf>(
+    alloc: Global,
+    shelf: &mut F,
+    text: &[u8],
+    name: &str,
+    second: Second,
+) -> Result<Answer, Memory>
+    ensures { IfOk result (λ a. IsDueForText (shelved (F.files shelf.old) (F.failed shelf.old) (F.failed shelf.new))
+        second text.now name.now a.status a.text.items) }
+{
+    accepted_is_ready();
+    match accept(alloc, text) {
+        Ok(checked) => read_second(alloc, shelf, &checked, name, second),
+        Err(FrontFault::Refused(refusal)) => Ok(Answer {
+            status: Status::Refused,
+            text: refusal_text(alloc, &refusal)?,
+        }),
+        Err(FrontFault::Memory) => Err(Memory),
+    }
+}
+
+/// What is due for the specification in the one file and the script or the trace in the other: of a script, the trace of its session; of a
+/// trace, whether its log is a derivation; or why that isn't so; or the specification's first refusal.
+#[tactic(auto, using(crate::proofs::SecondFiles::text_due))]
+pub fn over_specification<F: Shelf>(
+    alloc: Global,
+    shelf: &mut F,
+    specification: &str,
+    name: &str,
+    second: Second,
+) -> Result<Answer, Memory>
+    ensures { IfOk result (λ a. IsSecondDue (shelved (F.files shelf.old) (F.failed shelf.old) (F.failed shelf.new)) second
+        specification.now name.now a.status a.text.items) }
+{
+    match fetch(alloc, shelf, specification, 4_194_305) {
+        Err(ShelfFault::Failed) => with_text(alloc, Status::ReadFault, b"read fault\n"),
+        Err(ShelfFault::Memory) => Err(Memory),
+        Ok(bytes) => read_over(alloc, shelf, &bytes, name, second),
+    }
+}
