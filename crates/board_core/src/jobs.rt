@@ -1,13 +1,14 @@
 // The jobs of a board: what workers do for it.
 
-ghost use Rattle.std.specs.Prelude.{ℕ, ◌≡◌, ◌↔◌, ◌<◌, IfOk, IfSome, IfNone, IsTrue, OnErr, None, Some, [], false, map};
+ghost use Rattle.std.specs.Prelude.{ℕ, ◌≡◌, ◌↔◌, ◌<◌, ◌≤◌, IfOk, IfSome, IfNone, IsTrue, OnErr, None, Some, [], false, map};
 ghost use Rattle.spec_core.specs.Lists.{IsOneOf};
 ghost use Rattle.candidates.specs.Jobs as jobs;
-ghost use Rattle.candidates.specs.Jobs.{to_expand};
+ghost use Rattle.candidates.specs.Jobs.{to_expand, to_judge};
 ghost use Rattle.candidates.specs.Models.{job_of};
+ghost use Rattle.known_shows.specs.Known.{node_part};
 ghost use Rattle.known_shows.specs.Laws.{IsPieceOf};
 ghost use Rattle.known_shows.specs.Stored.{with_piece};
-ghost use Rattle.rule_model.specs.Derivations.{Derivation};
+ghost use Rattle.rule_model.specs.Derivations.{Derivation, derivation_of};
 ghost use Rattle.session_rules.specs.Next.{GoesByRules};
 ghost use Rattle.sort_windows.specs.Found.{AreBySorts};
 ghost use Rattle.tree_nodes.specs.Origins.{source_of};
@@ -90,8 +91,10 @@ impl Board {
 
     // Whether the job is to find what a node shows, and there are more possible agreements than are looked at.
     fn is_too_much(&self, alloc: Global, task: &NodeJob) -> Result<bool, Memory>
-        ensures { IfOk result (λ many. IsTrue many → IsVerdict (job_of task.now) ×
+        ensures many { IfOk result (λ many. IsTrue many → IsVerdict (job_of task.now) ×
             (offers_limit < offers_of_tree (program self.now) (windows self.now) (tree self.now))) }
+        ensures few { IfOk result (λ many. many ≡ false → IsVerdict (job_of task.now) →
+            offers_of_tree (program self.now) (windows self.now) (tree self.now) ≤ offers_limit) }
     {
         match task {
             NodeJob::Expand(_) => Ok(false),
@@ -122,6 +125,8 @@ impl Board {
     /// expanded, there is none, and this stops the session.
     pub fn take_job(&mut self, alloc: Global) -> Result<Option<Job>, Memory>
         ensures job { IfOk result (λ o. IfSome o (λ job. IsHandedOut self.old self.new job × (self.new.stop ≡ self.old.stop))) }
+        ensures few { IfOk result (λ o. IfSome o (λ job. IsVerdict (job_of job.task) →
+            offers_of_tree (program self.old) (windows self.old) (tree self.old) ≤ offers_limit)) }
         ensures none { IfOk result (λ o. IfNone o (WhyNone self.old self.new)) }
         ensures out { IfOk result (λ o. IfNone o (self.new.out ≡ self.old.out)) }
         ensures kept { OnErr result ((self.new.out ≡ self.old.out) × (self.new.stop ≡ self.old.stop)) }
@@ -215,6 +220,8 @@ impl Board {
             ((g : ℕ) (d : Derivation) → pieces self.new g d ≡ with_piece (pieces self.old) piece g d)) }
         ensures stale { IfOk result (λ post. post ≡ Post.Stale → (Lives (tree self.old) piece.generation.0 → ⊥) ×
             (self.new.pieces ≡ self.old.pieces)) }
+        ensures out { IfOk result (λ post. post ≡ Post.Posted → map job_of self.new.out ≡
+            left_out (to_judge (node_part piece.generation.0 (derivation_of piece.rules))) (map job_of self.old.out)) }
         ensures kept { OnErr result (self.new.out ≡ self.old.out) }
         ensures tree { tree self.new ≡ tree self.old }
         ensures log { SameLog self.old self.new }
@@ -245,6 +252,8 @@ impl Board {
     pub fn fail(&mut self, task: &NodeJob, reason: StopReason) -> Post
         ensures posted { result ≡ Post.Posted → IsFree (tree self.old) (job_of task.now) × (self.new.stop ≡ first_reason self.old.stop reason) }
         ensures stale { result ≡ Post.Stale → (IsFree (tree self.old) (job_of task.now) → ⊥) × (self.new.stop ≡ self.old.stop) }
+        ensures out { result ≡ Post.Posted → map job_of self.new.out ≡ left_out (job_of task.now) (map job_of self.old.out) }
+        ensures kept { result ≡ Post.Stale → self.new.out ≡ self.old.out }
         ensures log { SameLog self.old self.new }
         ensures nodes { SameNodes self.old self.new }
         ensures session { SameSession self.old self.new }

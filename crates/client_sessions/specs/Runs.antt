@@ -22,6 +22,7 @@ module _ (program : Program) (settings : Settings) where
 
   -- A run from a state on, of a client that makes these offers in order, each where nothing else is left to be done, and may leave then.
   -- What comes next by the rules is appended. Once there is a reason to stop, nothing but what comes of it is: each offer is answered by it.
+  -- Nothing is asked of the reason.
   pub data IsRun (start : State) : Option StopReason → List Wish → List Event → State → Type 0 where
     run_begins : {stop : Option StopReason} {wishes : List Wish} {log : List Event} {s : State} → stop ≡ None → wishes ≡ [] → log ≡ [] →
         s ≡ start → IsRun start stop wishes log s

@@ -32,7 +32,7 @@ pub returns-then-branch-clause-none : goal.returns-then-branch-clause-none
 returns-then-branch-clause-none c =
     let on : IsTrue c.goes_on.result = search rules in
     let many : IsTrue c.in_ok-is_too_much-in-Some.field-0 = search rules in
-    let h = c.in_ok-is_too_much-in-Some.ensures many in
+    let h = c.in_ok-is_too_much-in-Some.ensures.many many in
     inr (record {
       running = (c.goes_on.ensures.goes_on on).0;
       job = job_of c.in-Some.task;
