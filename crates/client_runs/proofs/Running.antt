@@ -9,7 +9,7 @@ use Rattle.rule_model.specs.Behaviours.{Behaviour}
 use Rattle.rule_model.specs.Code.{IsStart}
 use Rattle.rule_model.specs.Events.{Ending, Event, left, pended}
 use Rattle.rule_model.specs.Legal.{IsDerivation}
-use Rattle.rule_model.specs.Settling.{Wish}
+use Rattle.rule_model.specs.Wishes.{Wish}
 use Rattle.rule_model.specs.States.{State, after_leave, after_offer, start_state}
 use Rattle.session_record.specs.Records.{IsSession}
 use Rattle.session_states.specs.Clients.{numbers_from}

@@ -5,7 +5,7 @@ use Rattle.spec_core.specs.Code.{Program}
 use Rattle.rule_model.specs.Behaviours.{Behaviour}
 use Rattle.rule_model.specs.Code.{IsStart}
 use Rattle.rule_model.specs.Events.{Ending, Event}
-use Rattle.rule_model.specs.Settling.{Wish}
+use Rattle.rule_model.specs.Wishes.{Wish}
 use Rattle.rule_model.specs.States.{State, start_state}
 use Rattle.courses.specs.Rules.{nothing}
 use Rattle.session_rules.specs.declared.stop_reason.StopReason.{StopReason}

@@ -6,7 +6,7 @@ ghost use Rattle.spec_core.specs.Lists.{Each};
 ghost use Rattle.spec_core.specs.Ready.{IsReady};
 ghost use Rattle.rule_model.specs.Events.{ending_of};
 ghost use Rattle.rule_model.specs.Logs.{events_of};
-ghost use Rattle.rule_model.specs.Settling.{Wish};
+ghost use Rattle.rule_model.specs.Wishes.{Wish};
 ghost use Rattle.rule_model.specs.States.{State};
 ghost use Rattle.client_wishes.specs.Views.{wish_of};
 ghost use Rattle.board_core.specs.Views.{program, state, SameSetting};

@@ -9,7 +9,7 @@ use Rattle.rule_model.specs.Answering.{name_of, offers_in, answered_in, numbered
 use Rattle.rule_model.specs.Derivations.{Derivation}
 use Rattle.rule_model.specs.Events.{Event, pended, acted, replied, stalled, left}
 use Rattle.rule_model.specs.Legal.{IsPossible}
-use Rattle.rule_model.specs.Settling.{Wish}
+use Rattle.rule_model.specs.Wishes.{Wish}
 use Rattle.rule_model.specs.States.{PendingOffer, State, without}
 use Rattle.courses.specs.Rules.{Next, takes, deadlocks, is_beyond, is_not_now, goes_on, stalls, nothing}
 use Rattle.session_states.proofs.Members.{none_in, first_in, in_cases}

@@ -4,7 +4,7 @@ use Rattle.spec_core.specs.declared.settings.Settings.{Settings}
 use Rattle.spec_core.specs.Code.{Program}
 use Rattle.rule_model.specs.Events.{Event, pended, left}
 use Rattle.rule_model.specs.Legal.{IsPossible, IsDerivation}
-use Rattle.rule_model.specs.Settling.{Wish}
+use Rattle.rule_model.specs.Wishes.{Wish}
 use Rattle.rule_model.specs.States.{State}
 use Rattle.session_states.proofs.Derivations.{further}
 use Rattle.session_rules.specs.declared.stop_reason.StopReason.{StopReason}

@@ -7,7 +7,7 @@ use Rattle.spec_core.specs.Ready.{IsReady}
 use Rattle.rule_model.specs.Derivations.{Derivation}
 use Rattle.rule_model.specs.Events.{Event, pended, replied, left}
 use Rattle.rule_model.specs.Legal.{IsPossible}
-use Rattle.rule_model.specs.Settling.{Wish}
+use Rattle.rule_model.specs.Wishes.{Wish}
 use Rattle.rule_model.specs.States.{PendingOffer, State, start_state}
 use Rattle.windowed_trees.specs.Windows.{Windows, AreWindows}
 use Rattle.courses.specs.Rules.{Next, takes, deadlocks, is_beyond, is_not_now, goes_on, stalls, nothing}

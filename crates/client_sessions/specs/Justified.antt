@@ -13,7 +13,7 @@ use Rattle.rule_model.specs.Derives.{NoStep}
 use Rattle.rule_model.specs.Events.{OfferName, Event, Ending, pended, acted, replied, stalled, left}
 use Rattle.rule_model.specs.Legal.{AllWait, NoneMet, IsPossible}
 use Rattle.rule_model.specs.Meets.{NeverMeets, NoUnseenStep}
-use Rattle.rule_model.specs.Settling.{Wish}
+use Rattle.rule_model.specs.Wishes.{Wish}
 use Rattle.rule_model.specs.States.{PendingOffer, State, start_state}
 use Rattle.windowed_trees.specs.Windows.{Windows, AreWindows}
 use Rattle.asked_trees.specs.Laws.{EntryHolds, IsAnsweredBeyond}

@@ -8,7 +8,7 @@ use Rattle.rule_model.specs.Behaviours.{Behaviour}
 use Rattle.rule_model.specs.Code.{IsStart}
 use Rattle.rule_model.specs.Events.{Event, Ending}
 use Rattle.rule_model.specs.Legal.{IsDerivation}
-use Rattle.rule_model.specs.Settling.{Wish}
+use Rattle.rule_model.specs.Wishes.{Wish}
 use Rattle.rule_model.specs.States.{State, start_state}
 use Rattle.session_states.specs.Clients.{numbers_from}
 use Rattle.session_rules.specs.declared.stop_reason.StopReason.{StopReason}

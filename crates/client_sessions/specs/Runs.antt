@@ -6,7 +6,7 @@ use Rattle.rule_model.specs.Behaviours.{Behaviour}
 use Rattle.rule_model.specs.Code.{IsStart}
 use Rattle.rule_model.specs.Events.{Event, Ending, pended, left}
 use Rattle.rule_model.specs.Legal.{IsPossible}
-use Rattle.rule_model.specs.Settling.{Wish}
+use Rattle.rule_model.specs.Wishes.{Wish}
 use Rattle.rule_model.specs.States.{State, start_state}
 use Rattle.courses.specs.Rules.{nothing}
 use Rattle.session_rules.specs.Next.{GoesByRules, IsNextEvent, IsNextOf, IsStopReply}

@@ -1,5 +1,5 @@
 -- What a wish of the program stands for.
-use Rattle.rule_model.specs.Settling.{Wish}
+use Rattle.rule_model.specs.Wishes.{Wish}
 use Rattle.client_wishes.specs.declared.ClientWish.{ClientWish}
 
 abbrev pub wish_of : ClientWish → Wish

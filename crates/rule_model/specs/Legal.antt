@@ -1,12 +1,12 @@
--- Logs that are derivations: each entry is possible in the state before it; and legal logs, in which each reply is justified too.
+-- Logs that are derivations: each entry is possible in the state before it.
 use Rattle.std.specs.Prelude.{ℕ, ◌+◌, ◌<◌, ◌≡◌, List, [], ◌∷◌, Option, Some, None, Contains, map, length}
 use Rattle.std.specs.List.Sorted.{IsStrictlyIncreasing}
 use Rattle.spec_core.specs.Code.{Program}
 use Rattle.rule_model.specs.declared.action.Action.{Action}
 use Rattle.rule_model.specs.declared.offer.Offer.{Offer}
 use Rattle.rule_model.specs.Behaviours.{Behaviour}
-use Rattle.rule_model.specs.Derives.{Derives, NoStep}
-use Rattle.rule_model.specs.Meets.{Meets, NeverMeets, IsUnseen, NoUnseenStep}
+use Rattle.rule_model.specs.Derives.{Derives}
+use Rattle.rule_model.specs.Meets.{Meets, NeverMeets, IsUnseen}
 use Rattle.rule_model.specs.Answers.{Answer, taken, deadlock, stalls, beyond, not_now, ended, spent, too_large, limit}
 use Rattle.rule_model.specs.Events.{OfferName, Event, pended, acted, replied, stalled, left}
 use Rattle.rule_model.specs.States.{PendingOffer, State, after_offer, after_action, after_reply, after_stall, after_leave}
@@ -74,19 +74,3 @@ module _ (program : Program) where
   abbrev pub IsDerivation : List Event → State → State → Type 0
   IsDerivation [] s t = t ≡ s
   IsDerivation (event ∷ log) s t = (next : State) × IsPossible s event next × IsDerivation log next t
-
-  -- Why a reply or a stall is given, in the state before it. What isn't listed here isn't given yet.
-  --   deadlock: no rule gives a step;
-  --   stall: each open client has an offer pending, no step is unseen, and none meets a pending offer.
-  abbrev pub Justifies : State → Event → Type 0
-  Justifies s (replied client number (deadlock at)) = NoStep program s.behaviour
-  Justifies s (replied client number answer) = ⊥
-  Justifies s (stalled names) = AllWait s × NoUnseenStep program s.behaviour × NoneMet s s.pending
-  Justifies s (pended client number offer ask) = Unit {0}
-  Justifies s (acted action d by) = Unit {0}
-  Justifies s (left client) = Unit {0}
-
-  -- the log is a derivation, and each reply and stall in it is justified
-  abbrev pub IsLegal : List Event → State → State → Type 0
-  IsLegal [] s t = t ≡ s
-  IsLegal (event ∷ log) s t = (next : State) × IsPossible s event next × Justifies s event × IsLegal log next t

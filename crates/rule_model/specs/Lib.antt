@@ -12,6 +12,5 @@ pub mod Logs
 pub mod Meets
 pub mod States
 pub mod Legal
-pub mod Settling
+pub mod Wishes
 pub mod Answering
-pub mod Laws

@@ -3,7 +3,6 @@
 
 pub mod action;
 pub mod beh;
-pub mod laws;
 pub mod log;
 pub mod offer;
 pub mod parts;

@@ -7,7 +7,7 @@ use Rattle.spec_core.specs.Theories.{Theory}
 use Rattle.rewriter.specs.Answers.{SpellsValue, IsWithin}
 use Rattle.rule_model.specs.declared.offer.Field.{Field}
 use Rattle.rule_model.specs.declared.offer.Field.TheVariants.{Give, Take}
-use Rattle.rule_model.specs.Settling.{Wish}
+use Rattle.rule_model.specs.Wishes.{Wish}
 use Rattle.script_text.specs.Scripts.{WishFits}
 use Rattle.script_text.specs.Wishes.{WishedField, gives, takes, Wished}
 use Rattle.script_offers.specs.declared.fault.WishFault.{WishFault}

@@ -8,7 +8,7 @@ use Rattle.spec_core.specs.Values.{IsValue}
 use Rattle.rule_model.specs.declared.offer.Field.{Field}
 use Rattle.rule_model.specs.declared.offer.Field.TheVariants.{Give, Take}
 use Rattle.rule_model.specs.Fields.{GivesValue}
-use Rattle.rule_model.specs.Settling.{Wish}
+use Rattle.rule_model.specs.Wishes.{Wish}
 use Rattle.client_wishes.specs.declared.ClientWish.{ClientWish}
 use Rattle.client_wishes.specs.Views.{wish_of}
 use Rattle.script_text.specs.Wishes.{WishedField, gives, takes, Wished}

@@ -7,7 +7,7 @@ use Rattle.spec_core.specs.declared.settings.Settings.{Settings}
 use Rattle.rewriter.specs.Answers.{MeetsTooLarge}
 use Rattle.rule_model.specs.Events.{Event, Ending, ending_of}
 use Rattle.rule_model.specs.Logs.{events_of}
-use Rattle.rule_model.specs.Settling.{Wish}
+use Rattle.rule_model.specs.Wishes.{Wish}
 use Rattle.script_text.specs.Scripts.{SpellsScript, IsScriptFault}
 use Rattle.script_text.specs.Wishes.{Wished}
 use Rattle.script_offers.specs.Given.{all_given, IsFirstWithout}
