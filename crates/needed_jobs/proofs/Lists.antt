@@ -23,6 +23,14 @@ pub each_flat : {A B : Type 0} (P : B → Type 0) (Q : A → Type 0) (f : A → 
 each_flat P Q f h [] k = tt
 each_flat P Q f h (x ∷ xs) k = each_join P (f x) (flat_map f xs) (h x k.0) (each_flat P Q f h xs k.1)
 
+pub each_more : {A : Type 0} (P Q : A → Type 0) → ((x : A) → P x → Q x) → (xs : List A) → Each P xs → Each Q xs
+each_more P Q f [] h = tt
+each_more P Q f (x ∷ xs) h = (f x h.0, each_more P Q f xs h.1)
+
+pub each_listed : {A : Type 0} (xs : List A) → Each (λ x. IsOneOf x xs) xs
+each_listed [] = tt
+each_listed (x ∷ xs) = (inl refl, each_more (λ y. IsOneOf y xs) (λ y. IsOneOf y (x ∷ xs)) (λ y i. inr i) xs (each_listed xs))
+
 pub each_map : {A B : Type 0} (P : B → Type 0) (f : A → B) (xs : List A) → ((x : A) → IsOneOf x xs → P (f x)) → Each P (map f xs)
 each_map P f [] h = tt
 each_map P f (x ∷ xs) h = (h x (inl refl), each_map P f xs (λ y i. h y (inr i)))

@@ -1,7 +1,7 @@
--- The jobs that searches ask are of nodes of the tree, and aren't done.
+-- The jobs that searches ask are of nodes of the tree, and aren't done; parts to be judged are of trees for which a query may ask.
 use Rattle.std.proofs.Common.{ℕ, ◌≡◌, ◌++◌, List, [], ◌∷◌, map, flat_map, refl, Option, Some, None, Bool, true, false}
 use Rattle.std.proofs.Common.{if◌then◌else◌}
-use Rattle.spec_core.specs.Lists.{Each}
+use Rattle.spec_core.specs.Lists.{Each, IsOneOf}
 use Rattle.spec_core.specs.Theories.{Theory}
 use Rattle.spec_core.specs.Code.{Synchronised}
 use Rattle.rule_model.specs.Derivations.{Derivation}
@@ -24,10 +24,11 @@ use Rattle.tree_composites.specs.Known.{PlanOrGap, turned, each_turned, over_one
 use Rattle.known_shows.specs.Known.{Pieces, missing_parts}
 use Rattle.known_shows.proofs.Missing.{missing_parts_are_missing}
 use Rattle.candidates.specs.Listed.{tree_verdict, known_trees, asked_for_first, asked_for_all, is_known_to_hold}
-use Rattle.candidates.specs.Jobs.{NodeJob, to_judge, jobs_of, all_jobs}
-use Rattle.needed_jobs.specs.Needed.{jobs_needed, generation_of, Waits, IsUndone}
-use Rattle.needed_jobs.specs.Laws.{NeededJobsLive, NeededJobsAreUndone}
-use Rattle.needed_jobs.proofs.Lists.{each_join, each_flat, each_map, at_element}
+use Rattle.candidates.specs.Jobs.{NodeJob, to_expand, to_judge, jobs_of, all_jobs}
+use Rattle.needed_jobs.specs.Needed.{jobs_needed, generation_of, Waits, IsOfRules, IsPartOfTree, IsUndone}
+use Rattle.needed_jobs.specs.Laws.{NeededJobsLive, NeededJobsAreUndone, NeededPartsAreOfTrees}
+use Rattle.needed_jobs.proofs.Elements.{AreElements, elements_listed}
+use Rattle.needed_jobs.proofs.Lists.{each_join, each_flat, each_map, each_listed, at_element}
 
 -- P holds of the number of each gap
 abbrev AreGaps : {A : Type 0} → (ℕ → Type 0) → List (OrGap A) → Type 0
@@ -114,36 +115,36 @@ gaps_wait theory (between o x y) =
     (gaps_more (Waits x) (Waits (between o x y)) (waits_left o x y) (known_plans theory x) (gaps_wait theory x))
     (gaps_more (Waits y) (Waits (between o x y)) (waits_right o x y) (known_plans theory y) (gaps_wait theory y))
 
--- P holds of the number of a node that is to be expanded
-abbrev OfNode : {A : Type 0} → (ℕ → Type 0) → Question A → Type 0
-OfNode P (expand g) = P g
-OfNode P (judge a) = Unit {0}
+-- P holds of the number of a node that is to be expanded, and R of what is to be judged
+abbrev OfQuestion : {A : Type 0} → (ℕ → Type 0) → (A → Type 0) → Question A → Type 0
+OfQuestion P R (expand g) = P g
+OfQuestion P R (judge a) = R a
 
-module _ {A : Type 0} (P : ℕ → Type 0) (verdict : A → Option Bool) where
-  asked_to_first : (l : List (OrGap A)) → AreGaps P l → Each (OfNode P) (missing_to_first verdict l)
-  asked_to_first [] h = tt
-  asked_to_first (gap g ∷ l) h = (h.0, asked_to_first l h.1)
-  asked_to_first (element a ∷ l) h = by_verdict (verdict a) (asked_to_first l h)
+module _ {A : Type 0} (P : ℕ → Type 0) (R : A → Type 0) (verdict : A → Option Bool) where
+  asked_to_first : (l : List (OrGap A)) → AreGaps P l → AreElements R l → Each (OfQuestion P R) (missing_to_first verdict l)
+  asked_to_first [] h k = tt
+  asked_to_first (gap g ∷ l) h k = (h.0, asked_to_first l h.1 k)
+  asked_to_first (element a ∷ l) h k = by_verdict (verdict a) (asked_to_first l h k.1)
     where
-      by_verdict : (o : Option Bool) → Each (OfNode P) (missing_to_first verdict l) →
-          Each (OfNode P) (unless_known o (judge a) (if known_or o false then [] else missing_to_first verdict l))
-      by_verdict None k = (tt, k)
-      by_verdict (Some true) k = tt
-      by_verdict (Some false) k = k
+      by_verdict : (o : Option Bool) → Each (OfQuestion P R) (missing_to_first verdict l) →
+          Each (OfQuestion P R) (unless_known o (judge a) (if known_or o false then [] else missing_to_first verdict l))
+      by_verdict None r = (k.0, r)
+      by_verdict (Some true) r = tt
+      by_verdict (Some false) r = r
 
-  asked_to_all : (l : List (OrGap A)) → AreGaps P l → Each (OfNode P) (all_missing verdict l)
-  asked_to_all [] h = tt
-  asked_to_all (gap g ∷ l) h = (h.0, asked_to_all l h.1)
-  asked_to_all (element a ∷ l) h = by_verdict (verdict a) (asked_to_all l h)
+  asked_to_all : (l : List (OrGap A)) → AreGaps P l → AreElements R l → Each (OfQuestion P R) (all_missing verdict l)
+  asked_to_all [] h k = tt
+  asked_to_all (gap g ∷ l) h k = (h.0, asked_to_all l h.1 k)
+  asked_to_all (element a ∷ l) h k = by_verdict (verdict a) (asked_to_all l h k.1)
     where
-      by_verdict : (o : Option Bool) → Each (OfNode P) (all_missing verdict l) →
-          Each (OfNode P) (unless_known o (judge a) (all_missing verdict l))
-      by_verdict None k = (tt, k)
-      by_verdict (Some b) k = k
+      by_verdict : (o : Option Bool) → Each (OfQuestion P R) (all_missing verdict l) →
+          Each (OfQuestion P R) (unless_known o (judge a) (all_missing verdict l))
+      by_verdict None r = (k.0, r)
+      by_verdict (Some b) r = r
 
--- What holds of all that searches ask holds of all that they ask by the rules.
+-- What holds of all that searches by queries of the rules ask holds of all that is asked by the rules.
 module _ {P J : Type 0} (Q : J → Type 0) (missing every_missing : Query P → List J) (is_there : Query P → Bool) (w : Waiting P)
-    (firsts : (q : Query P) → Each Q (missing q)) (alls : (q : Query P) → Each Q (every_missing q)) where
+    (firsts : (q : Query P) → IsOfRules w q → Each Q (missing q)) (alls : (q : Query P) → IsOfRules w q → Each Q (every_missing q)) where
   chosen : (b : Bool) (xs ys : List J) → Each Q xs → Each Q ys → Each Q (when b xs ys)
   chosen true xs ys h k = h
   chosen false xs ys h k = k
@@ -152,71 +153,93 @@ module _ {P J : Type 0} (Q : J → Type 0) (missing every_missing : Query P → 
   search : (b : Bool) (js xs ys : List J) → Each Q js → Each Q xs → Each Q ys → Each Q (js ++ when b xs ys)
   search b js xs ys g h k = each_join Q js (when b xs ys) g (chosen b xs ys h k)
 
-  in_turn : (query : P → Query P) (ps : List P) (rest : List J) → Each Q rest →
+  in_turn : (query : P → Query P) (ps : List P) (rest : List J) → Each (λ p. IsOfRules w (query p)) ps → Each Q rest →
       Each Q (first_needed missing every_missing is_there w query ps rest)
-  in_turn query [] rest h = h
-  in_turn query (p ∷ ps) rest h =
-      search (is_there (query p)) (missing (query p)) [] (first_needed missing every_missing is_there w query ps rest) (firsts (query p)) tt
-      (in_turn query ps rest h)
+  in_turn query [] rest k h = h
+  in_turn query (p ∷ ps) rest k h =
+      search (is_there (query p)) (missing (query p)) [] (first_needed missing every_missing is_there w query ps rest)
+      (firsts (query p) k.0) tt (in_turn query ps rest k.1 h)
 
   unseens : Each Q (unseen_needed missing every_missing is_there w)
   unseens =
       search (is_there unseen) (every_missing unseen) [] (first_needed missing every_missing is_there w beyond_or_unseen w.by_client [])
-      (alls unseen) tt (in_turn beyond_or_unseen w.by_client [] tt)
+      (alls unseen tt) tt (in_turn beyond_or_unseen w.by_client [] (each_listed w.by_client) tt)
 
-  asks : (ps : List P) → Each Q (asked_needed missing every_missing is_there w ps)
-  asks [] = chosen w.all_wait (unseen_needed missing every_missing is_there w) [] unseens tt
-  asks (p ∷ ps) = firsts (beyond p)
+  asks : (ps : List P) → Each (λ p. IsOfRules w (beyond p)) ps → Each Q (asked_needed missing every_missing is_there w ps)
+  asks [] k = chosen w.all_wait (unseen_needed missing every_missing is_there w) [] unseens tt
+  asks (p ∷ ps) k = firsts (beyond p) k.0
 
   marked : Each Q (marked_needed missing every_missing is_there w)
   marked =
-      search (is_there any_beyond) (missing any_beyond) (asked_needed missing every_missing is_there w w.asks) [] (firsts any_beyond)
-      (asks w.asks) tt
+      search (is_there any_beyond) (missing any_beyond) (asked_needed missing every_missing is_there w w.asks) []
+      (firsts any_beyond tt) (asks w.asks (each_listed w.asks)) tt
 
   unmet : Each Q (unmet_needed missing every_missing is_there w)
   unmet =
       search (is_there any) (missing any) (asked_needed missing every_missing is_there w w.asks)
-      (marked_needed missing every_missing is_there w) (firsts any) (asks w.asks) marked
+      (marked_needed missing every_missing is_there w) (firsts any tt) (asks w.asks (each_listed w.asks)) marked
 
   each_needed : Each Q (next_needed missing every_missing is_there w)
-  each_needed = in_turn meeting w.pending (unmet_needed missing every_missing is_there w) unmet
+  each_needed = in_turn meeting w.pending (unmet_needed missing every_missing is_there w) (each_listed w.pending) unmet
 
--- the node of the job is one of the tree's, and the job isn't done
-record IsOfNode (pieces : Pieces) (t : Shape) (job : NodeJob) : Type 0 where
-  pub lives : Lives t (generation_of job)
-  pub undone : IsUndone pieces t job
+module _ (theory : Theory) (w : Windows) (t : Shape) (pieces : Pieces) (state : Waiting PendingOffer) where
+  -- a part that is to be judged is one of a tree for which a query of the rules may ask
+  abbrev IsOfTree : NodeJob → Type 0
+  IsOfTree (to_expand g) = Unit {0}
+  IsOfTree (to_judge part) = IsPartOfTree theory w t pieces state part
 
-module _ (theory : Theory) (w : Windows) (t : Shape) (pieces : Pieces) where
-  abbrev IsIts : NodeJob → Type 0
-  IsIts = IsOfNode pieces t
+  -- the node of the job is one of the tree's, the job isn't done, and a part is of such a tree
+  record IsIts (job : NodeJob) : Type 0 where
+    pub lives : Lives t (generation_of job)
+    pub undone : IsUndone pieces t job
+    pub of_tree : IsOfTree job
 
-  jobs_are : (x : Question Derivation) → OfNode (Waits t) x → Each IsIts (jobs_of pieces t x)
-  jobs_are (expand g) h = (record { lives = record { node = h.node; is = h.is }; undone = h }, tt)
-  jobs_are (judge d) h =
-      let m = missing_parts_are_missing theory w pieces t d in
-      each_map IsIts to_judge (missing_parts pieces t d) (λ p i. record { lives = m.lives p i; undone = m.unknown p i })
+  module _ (q : TreeQuery) (of_rules : IsOfRules state q) where
+    abbrev Listed : Derivation → Type 0
+    Listed d = IsOneOf (element d) (known_trees theory w t q)
 
-  all_are : (xs : List (Question Derivation)) → Each (OfNode (Waits t)) xs → Each IsIts (all_jobs pieces t xs)
-  all_are xs h = each_flat IsIts (OfNode (Waits t)) (jobs_of pieces t) jobs_are xs h
+    jobs_are : (x : Question Derivation) → OfQuestion (Waits t) Listed x → Each IsIts (jobs_of pieces t x)
+    jobs_are (expand g) h = (record { lives = record { node = h.node; is = h.is }; undone = h; of_tree = tt }, tt)
+    jobs_are (judge d) h =
+        let m = missing_parts_are_missing theory w pieces t d in
+        each_map IsIts to_judge (missing_parts pieces t d)
+        (λ p i. record {
+          lives = m.lives p i;
+          undone = m.unknown p i;
+          of_tree = record { query = q; of_rules = of_rules; tree = d; listed = h; missing = i };
+        })
 
-  trees_wait : (q : TreeQuery) → AreGaps (Waits t) (known_trees theory w t q)
-  trees_wait q =
-      gaps_placed (Waits t) (λ p. map element (asked_from theory w (for_offer q) p 0))
-      (λ p. no_gaps (Waits t) (asked_from theory w (for_offer q) p 0)) (known_plans theory t) (gaps_wait theory t)
+    all_are : (xs : List (Question Derivation)) → Each (OfQuestion (Waits t) Listed) xs → Each IsIts (all_jobs pieces t xs)
+    all_are xs h = each_flat IsIts (OfQuestion (Waits t) Listed) (jobs_of pieces t) jobs_are xs h
 
-  are_of_nodes : (state : Waiting PendingOffer) → Each IsIts (jobs_needed theory w t pieces state)
-  are_of_nodes state =
-      each_needed IsIts (λ q. all_jobs pieces t (asked_for_first theory w pieces t q))
-      (λ q. all_jobs pieces t (asked_for_all theory w pieces t q)) (is_known_to_hold theory w pieces t) state
-      (λ q. all_are (asked_for_first theory w pieces t q)
-      (asked_to_first (Waits t) (tree_verdict theory w pieces t q) (known_trees theory w t q) (trees_wait q)))
-      (λ q. all_are (asked_for_all theory w pieces t q)
-      (asked_to_all (Waits t) (tree_verdict theory w pieces t q) (known_trees theory w t q) (trees_wait q)))
+    trees_wait : AreGaps (Waits t) (known_trees theory w t q)
+    trees_wait =
+        gaps_placed (Waits t) (λ p. map element (asked_from theory w (for_offer q) p 0))
+        (λ p. no_gaps (Waits t) (asked_from theory w (for_offer q) p 0)) (known_plans theory t) (gaps_wait theory t)
+
+    first_are : Each IsIts (all_jobs pieces t (asked_for_first theory w pieces t q))
+    first_are =
+        all_are (asked_for_first theory w pieces t q)
+        (asked_to_first (Waits t) Listed (tree_verdict theory w pieces t q) (known_trees theory w t q) trees_wait
+        (elements_listed (known_trees theory w t q)))
+
+    every_are : Each IsIts (all_jobs pieces t (asked_for_all theory w pieces t q))
+    every_are =
+        all_are (asked_for_all theory w pieces t q)
+        (asked_to_all (Waits t) Listed (tree_verdict theory w pieces t q) (known_trees theory w t q) trees_wait
+        (elements_listed (known_trees theory w t q)))
+
+  each_is_its : (job : NodeJob) → IsOneOf job (jobs_needed theory w t pieces state) → IsIts job
+  each_is_its job i =
+      at_element IsIts job (jobs_needed theory w t pieces state)
+      (each_needed IsIts (λ q. all_jobs pieces t (asked_for_first theory w pieces t q))
+      (λ q. all_jobs pieces t (asked_for_all theory w pieces t q)) (is_known_to_hold theory w pieces t) state first_are every_are) i
 
 pub needed_jobs_live : NeededJobsLive
-needed_jobs_live theory w t pieces state job i =
-    (at_element (IsOfNode pieces t) job (jobs_needed theory w t pieces state) (are_of_nodes theory w t pieces state) i).lives
+needed_jobs_live theory w t pieces state job i = (each_is_its theory w t pieces state job i).lives
 
 pub needed_jobs_are_undone : NeededJobsAreUndone
-needed_jobs_are_undone theory w t pieces state job i =
-    (at_element (IsOfNode pieces t) job (jobs_needed theory w t pieces state) (are_of_nodes theory w t pieces state) i).undone
+needed_jobs_are_undone theory w t pieces state job i = (each_is_its theory w t pieces state job i).undone
+
+pub needed_parts_are_of_trees : NeededPartsAreOfTrees
+needed_parts_are_of_trees theory w t pieces state part i = (each_is_its theory w t pieces state (to_judge part) i).of_tree

@@ -15,11 +15,11 @@ use Rattle.composites.specs.Evaluations.{Evaluation}
 use Rattle.asked_trees.specs.Asked.{TreeQuery, TestsAsked}
 use Rattle.asked_trees.specs.Laws.{lists_of}
 use Rattle.tree_nodes.specs.Shapes.{Shape, Lives, stands_for}
-use Rattle.known_shows.specs.Known.{Pieces}
+use Rattle.known_shows.specs.Known.{NodePart, Pieces}
 use Rattle.candidates.specs.Listed.{first_tree}
-use Rattle.candidates.specs.Jobs.{NodeJob}
+use Rattle.candidates.specs.Jobs.{NodeJob, to_judge}
 use Rattle.candidates.specs.Laws.{IsKnownTree}
-use Rattle.needed_jobs.specs.Needed.{jobs_needed, entry_decided, generation_of, IsUndone}
+use Rattle.needed_jobs.specs.Needed.{jobs_needed, entry_decided, generation_of, IsPartOfTree, IsUndone}
 
 -- where searches ask no job, the rules decide an entry
 abbrev pub NothingNeededIsDecided : Type 0
@@ -42,6 +42,13 @@ NeededJobsAreUndone =
     (theory : Theory) (w : Windows) (t : Shape) (pieces : Pieces) (state : Waiting PendingOffer) (job : NodeJob) →
     IsOneOf job (jobs_needed theory w t pieces state) →
     IsUndone pieces t job
+
+-- a part that searches ask to judge is one of a tree for which a query of the rules may ask
+abbrev pub NeededPartsAreOfTrees : Type 0
+NeededPartsAreOfTrees =
+    (theory : Theory) (w : Windows) (t : Shape) (pieces : Pieces) (state : Waiting PendingOffer) (part : NodePart) →
+    IsOneOf (to_judge part) (jobs_needed theory w t pieces state) →
+    IsPartOfTree theory w t pieces state part
 
 -- where each open client waits, and nothing comes next, no offer is pending
 abbrev pub NothingNextNothingPending : Type 0

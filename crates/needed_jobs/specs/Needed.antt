@@ -1,15 +1,18 @@
 -- What the rules still need of a tree of nodes, and what they decide of it. (This profile.)
 use Rattle.std.specs.Prelude.{ℕ, ◌≡◌, List, Option, None}
+use Rattle.spec_core.specs.Lists.{IsOneOf}
 use Rattle.spec_core.specs.Theories.{Theory}
 use Rattle.rule_model.specs.Derivations.{Derivation}
 use Rattle.rule_model.specs.States.{PendingOffer}
 use Rattle.windowed_trees.specs.Windows.{Windows}
-use Rattle.courses.specs.Rules.{Waiting, Next}
+use Rattle.courses.specs.Gaps.{element}
+use Rattle.courses.specs.Rules.{Query, meeting, any, unseen, beyond, any_beyond, beyond_or_unseen, Waiting, Next}
 use Rattle.settling.specs.Rules.{next_decided}
 use Rattle.settling.specs.Needed.{next_needed}
 use Rattle.tree_nodes.specs.Shapes.{Held, Shape, IsNodeOf}
-use Rattle.known_shows.specs.Known.{Pieces}
-use Rattle.candidates.specs.Listed.{first_tree, all_trees, asked_for_first, asked_for_all, is_known_to_hold}
+use Rattle.asked_trees.specs.Asked.{TreeQuery}
+use Rattle.known_shows.specs.Known.{NodePart, Pieces, missing_parts}
+use Rattle.candidates.specs.Listed.{first_tree, all_trees, asked_for_first, asked_for_all, is_known_to_hold, known_trees}
 use Rattle.candidates.specs.Jobs.{NodeJob, to_expand, to_judge, all_jobs}
 
 module _ (theory : Theory) (w : Windows) (t : Shape) (pieces : Pieces) (state : Waiting PendingOffer) where
@@ -38,3 +41,21 @@ pub record Waits (t : Shape) (g : ℕ) : Type 0 where
 abbrev pub IsUndone : Pieces → Shape → NodeJob → Type 0
 IsUndone pieces t (to_expand g) = Waits t g
 IsUndone pieces t (to_judge p) = pieces p.generation p.rules ≡ None
+
+-- the rules ask this query where these offers wait: an offer for which it asks is one of them
+abbrev pub IsOfRules : {P : Type 0} → Waiting P → Query P → Type 0
+IsOfRules state (meeting p) = IsOneOf p state.pending
+IsOfRules state any = Unit {0}
+IsOfRules state unseen = Unit {0}
+IsOfRules state (beyond p) = IsOneOf p state.asks
+IsOfRules state any_beyond = Unit {0}
+IsOfRules state (beyond_or_unseen p) = IsOneOf p state.by_client
+
+-- the part is one that is missing of a tree of rules, for which a query of the rules may ask
+pub record IsPartOfTree (theory : Theory) (w : Windows) (t : Shape) (pieces : Pieces) (state : Waiting PendingOffer) (part : NodePart) :
+    Type 0 where
+  pub query : TreeQuery
+  pub of_rules : IsOfRules state query
+  pub tree : Derivation
+  pub listed : IsOneOf (element tree) (known_trees theory w t query)
+  pub missing : IsOneOf part (missing_parts pieces t tree)

@@ -1,6 +1,7 @@
 // What follows from the definitions: each law is the contract of a function that does nothing.
 
-ghost use Rattle.needed_jobs.specs.Laws.{NothingNeededIsDecided, NeededJobsLive, NeededJobsAreUndone, NothingNextNothingPending};
+ghost use Rattle.needed_jobs.specs.Laws.{NothingNeededIsDecided, NeededJobsLive, NeededJobsAreUndone};
+ghost use Rattle.needed_jobs.specs.Laws.{NeededPartsAreOfTrees, NothingNextNothingPending};
 ghost use Rattle.needed_jobs.specs.Laws.{FirstTreesAreThose, FirstTreesAreSo};
 
 /// Where searches in a tree ask no job, the rules decide an entry.
@@ -16,6 +17,11 @@ pub fn needed_jobs_live()
 /// No job that searches in a tree ask is done: a node to be expanded waits, and nothing is known of a part that is to be judged.
 pub fn needed_jobs_are_undone()
     ensures { NeededJobsAreUndone }
+{}
+
+/// A part that searches ask to judge is one of a tree for which a query of the rules may ask.
+pub fn needed_parts_are_of_trees()
+    ensures { NeededPartsAreOfTrees }
 {}
 
 /// Where each open client waits, and nothing comes next, no offer is pending.

@@ -24,17 +24,17 @@ use Rattle.offer_counts.proofs.Own.{own_plans_are_those, for_all}
 use Rattle.offer_counts.proofs.Sums.{plans_or, all_over_two, all_plans, known_part, known_no_more}
 
 module _ (program : Program) (e : Evaluation) (w : Windows) where
-  abbrev of : Behaviour → List Composite
+  abbrev pub of : Behaviour → List Composite
   of b = composites program.theory e w (length program.code) unmarked b
 
   -- the plans of a behaviour, and of an origin
-  abbrev own_of : Behaviour → List OpenPlan
+  abbrev pub own_of : Behaviour → List OpenPlan
   own_of b = own_plans program.theory e w (length program.code) unmarked b
 
-  abbrev own : Source → List OpenPlan
+  abbrev pub own : Source → List OpenPlan
   own o = own_of (meaning program o)
 
-  abbrev all : Shape → List OpenPlan
+  abbrev pub all : Shape → List OpenPlan
   all t = all_plans program.theory own t
 
   made : PlansAreOfComposites program.theory w
@@ -58,7 +58,8 @@ module _ (program : Program) (e : Evaluation) (w : Windows) where
   of_leaf n None i h = own_plans_are_those program.theory e w (length program.code) unmarked (meaning program n.source)
   of_leaf n (Some work) i h = h [] n refl work i
 
-  whole_plans : (t : Shape) → AreOriginsOwn program e w t → composites_of program.theory w (all t) ≡ of (stands_for program t)
+  -- the plans of a tree, with those that its waiting nodes have of their own, make the composites of what it stands for
+  pub whole_plans : (t : Shape) → AreOriginsOwn program e w t → composites_of program.theory w (all t) ≡ of (stands_for program t)
   whole_plans (leaf n) h = of_leaf n n.work refl h
   whole_plans ended h = refl
   whole_plans (over o x) h = of_one o x (whole_plans x (λ up n i. h (above_one o ∷ up) n (refl, i)))
