@@ -30,6 +30,8 @@ use Rattle.session_rules.specs.Next.{IsNextOf}
 use Rattle.waiting_offers.specs.Waiting.{waiting_in}
 use Rattle.waiting_offers.proofs.Members.{held}
 use Rattle.waiting_offers.proofs.Sound.{waiting_is_sound}
+use Rattle.stop_reasons.specs.Laws.{GiveReasons}
+use Rattle.stop_reasons.proofs.Given as given
 use Rattle.board_core.specs.Boards.{IsBoard}
 use Rattle.board_core.specs.Settled.{IsDue, MayBeDone, MayFollow}
 use Rattle.board_core.specs.Views.{BoardView, program, state, tree, windows, pieces, decided_at, first_at, all_at}
@@ -60,6 +62,12 @@ module _ (v : BoardView) (is : IsBoard v) (ready : IsReady (program v)) (apart :
   first_trees_say =
       let exact = exact_answers_exist (program v) ready in
       first_trees_are_so (program v) exact.0 v.settings.values (windows v) (tree v) (pieces v) (known_tree exact.0 exact.1)
+
+  pub jobs_give_reasons : GiveReasons (program v) v.settings (windows v) (tree v) (pieces v) (state v)
+  jobs_give_reasons =
+      let exact = exact_answers_exist (program v) ready in
+      given.jobs_give_reasons (program v) v.settings exact.0 (windows v) (tree v) (pieces v) (state v)
+      (record { known = known_tree exact.0 exact.1; reached = reached })
 
   module _ (entry : Next PendingOffer Derivation) (decided : decided_at v ≡ Some entry) where
     next : IsNextOf (program v) v.settings (state v) entry

@@ -3,6 +3,5 @@ pub mod Ends
 pub mod Entries
 pub mod Idle
 pub mod Settled
-pub mod Reasons
 pub mod Views
 pub mod Working

@@ -1,11 +1,11 @@
 // The board of a session.
 
-ghost use Rattle.std.specs.Prelude.{◌≡◌, ◌≤◌, ◌∷◌, ◌++◌, [], IfOk, IfErr, IfSome, IfNone, OnOk, OnErr, is_some, None, map, option_map, length};
+ghost use Rattle.std.specs.Prelude.{ℕ, ◌≡◌, ◌≤◌, ◌∷◌, ◌++◌, [], IfOk, IfErr, IfSome, IfNone, OnOk, OnErr, is_some, None, map, option_map, length};
 ghost use Rattle.spec_core.specs.Code.{program_of};
 ghost use Rattle.spec_core.specs.Ready.{IsReady};
 ghost use Rattle.spec_core.specs.Theories.{theory_of};
 ghost use Rattle.rule_model.specs.Answers.{answer_of};
-ghost use Rattle.rule_model.specs.Derivations.{derivation_of};
+ghost use Rattle.rule_model.specs.Derivations.{Derivation, derivation_of};
 ghost use Rattle.rule_model.specs.Events.{event_of, left, pended};
 ghost use Rattle.rule_model.specs.Logs.{events_of};
 ghost use Rattle.rule_model.specs.States.{after_leave, after_offer};
@@ -14,9 +14,9 @@ ghost use Rattle.session_record.specs.Faults.{ExplainsLeave, ExplainsPend};
 ghost use Rattle.session_record.specs.Records.{IsSession};
 ghost use Rattle.session_states.specs.Possible.{MayLeave, MayOffer};
 ghost use Rattle.session_states.specs.Views.{state_of};
-ghost use Rattle.tree_nodes.specs.Shapes.{stands_for};
+ghost use Rattle.tree_nodes.specs.Shapes.{AllWait, stands_for};
 ghost use Rattle.board_core.specs.Views as views;
-ghost use Rattle.board_core.specs.Views.{program, events, state, tree, SameSetting, SameLog, SameNodes};
+ghost use Rattle.board_core.specs.Views.{program, events, pieces, state, tree, SameSetting, SameLog, SameNodes};
 
 use candidates::job::NodeJob;
 use known_shows::pieces::Pieces;
@@ -96,6 +96,8 @@ impl Board {
         ensures settings { IfOk result (λ b. b.settings ≡ settings) }
         ensures clients { IfOk result (λ b. b.session.clients ≡ clients) }
         ensures log { IfOk result (λ b. events b ≡ []) }
+        ensures waits { IfOk result (λ b. AllWait (tree b)) }
+        ensures unknown { IfOk result (λ b. (g : ℕ) (d : Derivation) → pieces b g d ≡ None) }
         ensures out { IfOk result (λ b. b.out ≡ []) }
         ensures stop { IfOk result (λ b. b.stop ≡ None) }
     {

@@ -11,6 +11,8 @@ ghost use Rattle.known_shows.specs.Stored.{with_piece};
 ghost use Rattle.rule_model.specs.Derivations.{Derivation, derivation_of};
 ghost use Rattle.session_rules.specs.Next.{GoesByRules};
 ghost use Rattle.sort_windows.specs.Found.{AreBySorts};
+ghost use Rattle.stop_reasons.specs.Laws.{GiveReasons};
+ghost use Rattle.stop_reasons.specs.Reasons.{IsReasonToStop};
 ghost use Rattle.tree_nodes.specs.Origins.{source_of};
 ghost use Rattle.tree_nodes.specs.Rests.{expansion_of};
 ghost use Rattle.tree_nodes.specs.Shapes.{Held, IsNodeOf, Lives, posted};
@@ -77,6 +79,15 @@ impl Board {
     fn needed_jobs_live(&self)
         ensures { (job : jobs.NodeJob) → IsOneOf job (needed_at self.now) → Lives (tree self.now) (generation_of job) }
     {}
+
+    /// Why a job has no answer that the rules need is a reason to stop in the state that is reached; and so is that its behaviour has more
+    /// possible agreements than are looked at.
+    pub fn jobs_give_reasons(&self)
+        ensures { GiveReasons (program self.now) self.now.settings (windows self.now) (tree self.now) (pieces self.now) (state self.now) }
+    {
+        self.record.log_is_a_derivation();
+        self.record.tree().generations_are_sound();
+    }
 
     // How many possible agreements the behaviour has that is reached, of those of which every participant is expanded; all above the limit
     // comes to one more.
@@ -223,6 +234,7 @@ impl Board {
         ensures out { IfOk result (λ post. post ≡ Post.Posted → map job_of self.new.out ≡
             left_out (to_judge (node_part piece.generation.0 (derivation_of piece.rules))) (map job_of self.old.out)) }
         ensures kept { OnErr result (self.new.out ≡ self.old.out) }
+        ensures known { OnErr result ((g : ℕ) (d : Derivation) → pieces self.new g d ≡ pieces self.old g d) }
         ensures tree { tree self.new ≡ tree self.old }
         ensures log { SameLog self.old self.new }
         ensures session { SameSession self.old self.new }
@@ -247,9 +259,11 @@ impl Board {
         }
     }
 
-    /// A job has no answer, for this reason, which stops the session, unless another has. It is stale where its node is gone, or, for an
-    /// expansion, is expanded already. It takes no memory.
+    /// A job has no answer, for this reason, which is so in the state that is reached, and stops the session, unless another has. It is stale
+    /// where its node is gone, or, for an expansion, is expanded already. It takes no memory.
     pub fn fail(&mut self, task: &NodeJob, reason: StopReason) -> Post
+        requires reason { IsFree (tree self.old) (job_of task.now) →
+            IsReasonToStop (program self.old) self.old.settings (state self.old) reason }
         ensures posted { result ≡ Post.Posted → IsFree (tree self.old) (job_of task.now) × (self.new.stop ≡ first_reason self.old.stop reason) }
         ensures stale { result ≡ Post.Stale → (IsFree (tree self.old) (job_of task.now) → ⊥) × (self.new.stop ≡ self.old.stop) }
         ensures out { result ≡ Post.Posted → map job_of self.new.out ≡ left_out (job_of task.now) (map job_of self.old.out) }

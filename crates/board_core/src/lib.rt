@@ -8,4 +8,3 @@ mod deciding;
 mod finishing;
 pub mod job;
 mod jobs;
-pub mod reasons;

@@ -4,6 +4,11 @@ use Rattle.spec_core.specs.declared.code.Checked.{Checked}
 use Rattle.spec_core.specs.declared.window.Window.{Window}
 use Rattle.spec_core.specs.Code.{program_of}
 use Rattle.rule_model.specs.Derivations.{Derivation}
+use Rattle.windowed_trees.specs.MarkedTerms.{unmarked}
+use Rattle.marked_values.specs.declared.stop.Stop.{Stop}
+use Rattle.marked_values.specs.Stops.{Stops, Never}
+use Rattle.expand.specs.Expansions.{IsStop}
+use Rattle.judging.specs.Asking.{TreeAsks}
 use Rattle.shown_actions.specs.Shows.{Show, Shows}
 use Rattle.tree_nodes.specs.Origins.{Source, meaning}
 use Rattle.tree_nodes.specs.Rests.{Work}
@@ -31,3 +36,32 @@ piece_of_node v checked rows g o d shown e f origin h up n stands same =
     subst (λ s. Shows (program v) (windows v) (meaning (program v) s) d shown) (sym (origin n (record { up = up; stands = stands; same = same })))
     (subst (λ r. Shows (program v) (windows_in r) (meaning (program v) o) d shown) f
     (subst (λ z. Shows (program_of z) (windows_in rows) (meaning (program_of z) o) d shown) e h))
+
+-- why an origin can't be expanded is why the node can't that stands for it
+pub stop_of_node : (v : BoardView) (checked : Checked) (rows : List Window) (g : ℕ) (o : Source) (budget : ℕ) (stop : Stop) →
+    checked ≡ v.session.checked → rows ≡ v.windows → budget ≡ v.settings.budget → ((n : Held) → IsNodeOf (tree v) g n → n.source ≡ o) →
+    IsStop (program_of checked) (windows_in rows) (meaning (program_of checked) o) budget stop →
+    (n : Held) → IsNodeOf (tree v) g n → IsStop (program v) (windows v) (meaning (program v) n.source) v.settings.budget stop
+stop_of_node v checked rows g o budget stop e f b origin h n is =
+    subst (λ s. IsStop (program v) (windows v) (meaning (program v) s) v.settings.budget stop) (sym (origin n is))
+    (subst (λ k. IsStop (program v) (windows v) (meaning (program v) o) k stop) b
+    (subst (λ r. IsStop (program v) (windows_in r) (meaning (program v) o) budget stop) f
+    (subst (λ z. IsStop (program_of z) (windows_in rows) (meaning (program_of z) o) budget stop) e h)))
+
+-- and so it is of why it can't be found what it shows
+pub unshown_of_node : (v : BoardView) (checked : Checked) (rows : List Window) (g : ℕ) (o : Source) (budget : ℕ) (d : Derivation)
+    (stop : Stop) → checked ≡ v.session.checked → rows ≡ v.windows → budget ≡ v.settings.budget →
+    ((n : Held) → IsNodeOf (tree v) g n → n.source ≡ o) →
+    Stops (program_of checked).theory budget (TreeAsks (program_of checked) (windows_in rows) unmarked (meaning (program_of checked) o) d)
+    Never stop →
+    (n : Held) → IsNodeOf (tree v) g n →
+    Stops (program v).theory v.settings.budget (TreeAsks (program v) (windows v) unmarked (meaning (program v) n.source) d) Never stop
+unshown_of_node v checked rows g o budget d stop e f b origin h n is =
+    subst
+    (λ s. Stops (program v).theory v.settings.budget (TreeAsks (program v) (windows v) unmarked (meaning (program v) s) d) Never stop)
+    (sym (origin n is))
+    (subst (λ k. Stops (program v).theory k (TreeAsks (program v) (windows v) unmarked (meaning (program v) o) d) Never stop) b
+    (subst (λ r. Stops (program v).theory budget (TreeAsks (program v) (windows_in r) unmarked (meaning (program v) o) d) Never stop) f
+    (subst
+    (λ z. Stops (program_of z).theory budget (TreeAsks (program_of z) (windows_in rows) unmarked (meaning (program_of z) o) d) Never stop)
+    e h)))

@@ -3,26 +3,29 @@ use Rattle.std.proofs.Common.{is_some, true, false, ℕ, zero, suc, ◌≡◌, �
 use Rattle.spec_core.specs.declared.settings.Settings.{Settings}
 use Rattle.spec_core.specs.declared.window.Window.{Window}
 use Rattle.spec_core.specs.Code.{Program, program_of}
+use Rattle.spec_core.specs.Theories.{Theory}
 use Rattle.spec_core.specs.Ready.{IsReady}
 use Rattle.rule_model.specs.declared.reply.LimitKind.TheVariants.{Steps}
 use Rattle.rule_model.specs.Legal as legal
 use Rattle.rule_model.specs.States.{PendingOffer, State}
 use Rattle.ready_lists.proofs.Answers.{exact_answers_exist}
 use Rattle.courses.specs.Lazy.{first}
-use Rattle.courses.specs.Rules.{nothing}
+use Rattle.courses.specs.Rules.{Waiting, nothing}
 use Rattle.settling.specs.Jobs.{first_not_out, not_out}
 use Rattle.asked_trees.specs.Laws.{lists_of}
 use Rattle.asked_trees.proofs.Testing.{asked_can_be_tested}
 use Rattle.session_states.specs.Possible.{HasPending}
 use Rattle.session_states.proofs.Members.{none_in}
 use Rattle.tree_nodes.specs.Shapes.{Shape}
+use Rattle.windowed_trees.specs.Windows.{Windows}
 use Rattle.window_tables.specs.Tables.{windows_in}
 use Rattle.known_shows.specs.declared.pieces.Pieces.{Pieces}
+use Rattle.known_shows.specs.Known as known
 use Rattle.known_shows.specs.Stored.{stored}
 use Rattle.candidates.specs.declared.job.NodeJob as declared
 use Rattle.candidates.specs.Jobs.{NodeJob, is_out}
 use Rattle.candidates.specs.Models.{job_of}
-use Rattle.needed_jobs.specs.Needed.{entry_decided}
+use Rattle.needed_jobs.specs.Needed.{entry_decided, jobs_needed}
 use Rattle.needed_jobs.proofs.Pending.{nothing_next_nothing_pending}
 use Rattle.needed_jobs.proofs.Settling.{nothing_needed_is_decided}
 use Rattle.session_rules.specs.declared.stop_reason.StopReason.TheVariants.{Limit}
@@ -71,16 +74,24 @@ like_twice a b c x y = record {
 }
 
 module _ (old new : BoardView) (like : IsLike old new) where
-  -- the same is decided
+  -- what is told by the data, the windows, the tree, what is known of it, and the offers that wait is the same
+  same : {A : Type 0} (f : Theory → Windows → Shape → known.Pieces → Waiting PendingOffer → A) →
+      f (program new).theory (windows new) (tree new) (pieces new) (waiting_in (state new)) ≡
+      f (program old).theory (windows old) (tree old) (pieces old) (waiting_in (state old))
+  same f =
+      ap (λ (p : Program). f p.theory (windows new) (tree new) (pieces new) (waiting_in (state new))) (ap program_of like.session.0.0.0)
+      ∙ ap (λ (w : List Window). f (program old).theory (windows_in w) (tree new) (pieces new) (waiting_in (state new))) like.session.0.2
+      ∙ ap (λ (t : Shape). f (program old).theory (windows old) t (pieces new) (waiting_in (state new))) like.nodes.0
+      ∙ ap (λ (p : Pieces). f (program old).theory (windows old) (tree old) (stored p) (waiting_in (state new))) like.nodes.2
+      ∙ ap (λ (s : State). f (program old).theory (windows old) (tree old) (pieces old) (waiting_in s)) like.log.1
+
+  -- the same is decided, and the same is needed
+
   same_decided : decided_at new ≡ decided_at old
-  same_decided =
-      ap (λ (p : Program). entry_decided p.theory (windows new) (tree new) (pieces new) (waiting_in (state new)))
-      (ap program_of like.session.0.0.0)
-      ∙ ap (λ (w : List Window). entry_decided (program old).theory (windows_in w) (tree new) (pieces new) (waiting_in (state new)))
-      like.session.0.2
-      ∙ ap (λ (t : Shape). entry_decided (program old).theory (windows old) t (pieces new) (waiting_in (state new))) like.nodes.0
-      ∙ ap (λ (p : Pieces). entry_decided (program old).theory (windows old) (tree old) (stored p) (waiting_in (state new))) like.nodes.2
-      ∙ ap (λ (s : State). entry_decided (program old).theory (windows old) (tree old) (pieces old) (waiting_in s)) like.log.1
+  same_decided = same entry_decided
+
+  pub same_needed : needed_at new ≡ needed_at old
+  same_needed = same jobs_needed
 
   next_there : IsNextOf (program old) old.settings (state old) nothing → IsNextOf (program new) new.settings (state new) nothing
   next_there h =

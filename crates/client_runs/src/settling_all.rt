@@ -26,6 +26,7 @@ fn settle_once(alloc: Global, board: &mut Board) -> Result<bool, Memory>
         return Ok(false);
     }
     board.give_back_all();
+    board.jobs_give_reasons();
     let before = board.stopped();
     match board.take_job(alloc)? {
         None => {

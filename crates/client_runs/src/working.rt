@@ -1,16 +1,23 @@
 // Jobs, done at once.
 
-ghost use Rattle.std.specs.Prelude.{◌≡◌};
+ghost use Rattle.std.specs.Prelude.{◌≡◌, Some};
+ghost use Rattle.spec_core.specs.Lists.{IsOneOf};
+ghost use Rattle.rule_model.specs.Derivations.{derivation_of};
+ghost use Rattle.candidates.specs.Jobs.{to_judge};
 ghost use Rattle.candidates.specs.Models.{job_of};
+ghost use Rattle.known_shows.specs.Known.{node_part};
 ghost use Rattle.tree_nodes.specs.Origins.{source_of};
 ghost use Rattle.tree_nodes.specs.Shapes.{Held, IsNodeOf};
 ghost use Rattle.needed_jobs.specs.Needed.{generation_of};
-ghost use Rattle.board_core.specs.Views.{tree, SameSession};
+ghost use Rattle.session_rules.specs.declared.stop_reason.StopReason.{StopReason};
+ghost use Rattle.stop_reasons.specs.Given.{reason_of};
+ghost use Rattle.stop_reasons.specs.Reasons.{IsReasonToStop};
+ghost use Rattle.board_core.specs.Views.{needed_at, program, state, tree, SameSession};
+ghost use Rattle.board_core.specs.Working.{IsFree};
 ghost use Rattle.client_runs.specs.Runs.{Continues};
 
 use board_core::board::Board;
 use board_core::job::Job;
-use board_core::reasons::reason_for;
 use candidates::job::NodeJob;
 use judging::origins::shown_by;
 use known_shows::pieces::Piece;
@@ -19,10 +26,13 @@ use node_expansion::node::expand_node;
 use rule_model::rules::Rules;
 use spec_core::memory::Memory;
 use std::alloc::Global;
+use stop_reasons::reasons::reason_for;
 use tree_nodes::origin::{Gen, Origin};
 
 // A job has no answer, which stops the session, unless it only wants memory.
 fn fail(board: &mut Board, task: &NodeJob, stop: Stop) -> Result<(), Memory>
+    requires reason { IsFree (tree board.old) (job_of task.now) → (reason : StopReason) → reason_of stop ≡ Some reason →
+        IsReasonToStop (program board.old) board.old.settings (state board.old) reason }
     ensures continues { Continues board.old board.new }
     ensures session { SameSession board.old board.new }
 {
@@ -42,6 +52,7 @@ fn expand(alloc: Global, board: &mut Board, generation: Gen, origin: &Origin) ->
     ensures session { SameSession board.old board.new }
 {
     board.log_is_a_derivation();
+    board.jobs_give_reasons();
     let budget = board.settings().budget;
     match expand_node(alloc, board.checked(), board.windows(), origin, budget) {
         Ok(work) => {
@@ -60,11 +71,13 @@ fn judge(
     origin: &Origin,
     rules: Rules,
 ) -> Result<(), Memory>
+    requires needed { IsOneOf (to_judge (node_part generation.0 (derivation_of rules))) (needed_at board.old) }
     requires origin { (n : Held) → IsNodeOf (tree board.old) generation.0 n → n.source ≡ source_of origin.now }
     ensures continues { Continues board.old board.new }
     ensures session { SameSession board.old board.new }
 {
     board.log_is_a_derivation();
+    board.jobs_give_reasons();
     let budget = board.settings().budget;
     match shown_by(
         alloc,
@@ -89,8 +102,9 @@ fn judge(
     }
 }
 
-/// Does a job, and hands in what it brought.
+/// Does a job that the rules need, and hands in what it brought.
 pub fn work(alloc: Global, board: &mut Board, job: Job) -> Result<(), Memory>
+    requires needed { IsOneOf (job_of job.task) (needed_at board.old) }
     requires origin { (n : Held) → IsNodeOf (tree board.old) (generation_of (job_of job.task)) n → n.source ≡ source_of job.origin }
     ensures continues { Continues board.old board.new }
     ensures session { SameSession board.old board.new }

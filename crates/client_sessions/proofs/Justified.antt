@@ -29,6 +29,7 @@ use Rattle.client_sessions.specs.Justified.{IsJustified, IsJustifiedLog}
 use Rattle.client_sessions.specs.Laws.{NextEventsHold, RunsAreJustified, JustifiedLogsAreDerivations, ClientRunsAreLegal}
 use Rattle.client_sessions.specs.Runs.{IsRun, run_begins, run_offers, run_leaves, run_goes_on, run_stops, run_tells, clients_for}
 use Rattle.client_sessions.proofs.Clients.{settled_waits}
+use Rattle.client_sessions.proofs.Stopped.{runs_stop_for_reasons}
 
 -- what is among those that only ask does so
 only_ask : (ps : List PendingOffer) (p : PendingOffer) → IsOneOf p (only_asks ps) → p.ask ≡ true
@@ -123,7 +124,7 @@ module _ (program : Program) (settings : Settings) where
           one_more log before (left 1) m s e (run_justified stop wishes before m stays run) possible tt
       run_justified stop wishes log s stays (run_goes_on before event m a e run next possible) =
           one_more log before event m s e (run_justified stop wishes before m stays run) possible (next_justifies m final event next)
-      run_justified stop wishes log s stays (run_stops reason a run) =
+      run_justified stop wishes log s stays (run_stops reason a run is_so) =
           run_justified None wishes log s (λ r e. let no : ⊥ = cc in absurd no) run
       run_justified stop wishes log s stays (run_tells reason before event m a e run told possible) =
           one_more log before event m s e (run_justified stop wishes before m stays run) possible
@@ -157,6 +158,8 @@ client_runs_are_legal program settings wishes log ending ready run = record {
   last = run.last;
   entries = runs_are_justified program settings (start_state run.behaviour (numbers_from 1 (clients_for wishes))) run.stop wishes log
       run.last ready run.run;
+  stops = λ reason e. runs_stop_for_reasons program settings (start_state run.behaviour (numbers_from 1 (clients_for wishes))) run.stop
+      wishes log run.last run.run reason e;
   closed = run.closed;
   answered = settled_waits program settings ready run.stop run.last run.closed run.settled;
   ends = run.ends;

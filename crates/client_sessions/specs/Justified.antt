@@ -1,8 +1,8 @@
 -- Why the entries of a log are given, by the steps of the behaviour that is reached. (This profile.)
-use Rattle.std.specs.Prelude.{◌≡◌, List, [], ◌∷◌, Option, Some, None, true}
+use Rattle.std.specs.Prelude.{ℕ, ◌≡◌, List, [], ◌∷◌, ◌++◌, Option, Some, None, true}
 use Rattle.spec_core.specs.declared.settings.Settings.{Settings}
 use Rattle.spec_core.specs.Code.{Program}
-use Rattle.spec_core.specs.Lists.{IsOneOf}
+use Rattle.spec_core.specs.Lists.{Each, IsOneOf}
 use Rattle.courses.specs.Rules.{Next}
 use Rattle.rule_model.specs.Answering.{name_of}
 use Rattle.rule_model.specs.Answers.{Answer, taken, deadlock, stalls, beyond, not_now, ended, spent, too_large, limit}
@@ -10,8 +10,9 @@ use Rattle.rule_model.specs.Behaviours.{Behaviour}
 use Rattle.rule_model.specs.Code.{IsStart}
 use Rattle.rule_model.specs.Derivations.{Derivation}
 use Rattle.rule_model.specs.Derives.{NoStep}
-use Rattle.rule_model.specs.Events.{OfferName, Event, Ending, pended, acted, replied, stalled, left}
-use Rattle.rule_model.specs.Legal.{AllWait, NoneMet, IsPossible}
+use Rattle.rule_model.specs.Events.{OfferName, Event, Ending, pended, acted, replied, stalled, left, exits, deadlocked, waiting, ends_beyond}
+use Rattle.rule_model.specs.Events.{ends_spent, ends_too_large, ends_at_limit}
+use Rattle.rule_model.specs.Legal.{AllWait, NoneMet, IsDerivation, IsPossible}
 use Rattle.rule_model.specs.Meets.{NeverMeets, NoUnseenStep}
 use Rattle.rule_model.specs.Wishes.{Wish}
 use Rattle.rule_model.specs.States.{PendingOffer, State, start_state}
@@ -22,6 +23,7 @@ use Rattle.session_states.specs.Clients.{numbers_from}
 use Rattle.session_rules.specs.declared.stop_reason.StopReason.{StopReason}
 use Rattle.session_rules.specs.Next.{HasEnded, GoesByRules, IsEventOf, IsLeast}
 use Rattle.session_rules.specs.Stopping.{answer_by}
+use Rattle.stop_reasons.specs.Reasons.{IsReasonToStop}
 use Rattle.client_sessions.specs.Ends.{IsEndingOf}
 use Rattle.client_sessions.specs.Runs.{clients_for}
 
@@ -91,14 +93,54 @@ module _ (program : Program) (settings : Settings) where
   IsJustifiedLog stop (event ∷ log) s t =
       (next : State) × IsPossible program s event next × IsJustified s stop event × IsJustifiedLog stop log next t
 
--- The session of a client with these wishes is legal: from the specification's behaviour on, each entry is possible and justified; at the
--- end no client is open and no offer is pending; and the end is that of the state that is reached.
+-- an entry of a session that has stopped for this reason: an offer, a reply that gives the reason, or that a client leaves
+abbrev pub ComesAfterStop : StopReason → Event → Type 0
+ComesAfterStop reason (pended client number offer ask) = Unit {0}
+ComesAfterStop reason (acted action d by) = ⊥
+ComesAfterStop reason (replied client number answer) = (at : ℕ) × (answer ≡ answer_by at reason)
+ComesAfterStop reason (stalled names) = ⊥
+ComesAfterStop reason (left client) = Unit {0}
+
+-- On the way the session stops for this reason: the log leads to a state in which the reason is so, and from there on nothing comes but what
+-- comes of it.
+pub record StopsFor (program : Program) (settings : Settings) (log : List Event) (s : State) (reason : StopReason) : Type 0 where
+  pub before : List Event
+  pub after : List Event
+  pub parts : log ≡ before ++ after
+  pub middle : State
+  pub leads : IsDerivation program before s middle
+  pub is_so : IsReasonToStop program settings middle reason
+  pub comes : Each (ComesAfterStop reason) after
+
+-- The session of a client with these wishes is legal: from the specification's behaviour on, each entry is possible and justified; what
+-- stops it is so where it stops; at the end no client is open and no offer is pending; and the end is that of the state that is reached.
 pub record IsLegalSession (program : Program) (settings : Settings) (wishes : List Wish) (log : List Event) (ending : Ending) : Type 0 where
   pub behaviour : Behaviour
   pub start : IsStart program behaviour
   pub stop : Option StopReason
   pub last : State
   pub entries : IsJustifiedLog program settings stop log (start_state behaviour (numbers_from 1 (clients_for wishes))) last
+  pub stops : (reason : StopReason) → stop ≡ Some reason →
+      StopsFor program settings log (start_state behaviour (numbers_from 1 (clients_for wishes))) reason
   pub closed : last.open_clients ≡ []
   pub answered : last.pending ≡ []
   pub ends : IsEndingOf program settings last stop ending
+
+-- no reason to stop is so on the way, from the specification's behaviour on
+abbrev pub NeverStops : Program → Settings → List Wish → List Event → Type 0
+NeverStops program settings wishes log =
+    (behaviour : Behaviour) →
+    IsStart program behaviour →
+    (reason : StopReason) →
+    StopsFor program settings log (start_state behaviour (numbers_from 1 (clients_for wishes))) reason →
+    ⊥
+
+-- the session wasn't stopped
+abbrev pub IsUnstopped : Ending → Type 0
+IsUnstopped exits = Unit {0}
+IsUnstopped deadlocked = Unit {0}
+IsUnstopped waiting = Unit {0}
+IsUnstopped ends_beyond = Unit {0}
+IsUnstopped (ends_spent term) = ⊥
+IsUnstopped (ends_too_large term) = ⊥
+IsUnstopped (ends_at_limit kind) = ⊥

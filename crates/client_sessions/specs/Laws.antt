@@ -1,5 +1,5 @@
 -- What follows from the definitions.
-use Rattle.std.specs.Prelude.{◌≡◌, ◌⊎◌, List, [], Option}
+use Rattle.std.specs.Prelude.{◌≡◌, ◌⊎◌, List, [], Option, Some}
 use Rattle.spec_core.specs.declared.settings.Settings.{Settings}
 use Rattle.spec_core.specs.Code.{Program}
 use Rattle.spec_core.specs.Ready.{IsReady}
@@ -13,7 +13,8 @@ use Rattle.rule_model.specs.States.{State, start_state}
 use Rattle.session_states.specs.Clients.{numbers_from}
 use Rattle.session_rules.specs.declared.stop_reason.StopReason.{StopReason}
 use Rattle.session_rules.specs.Next.{IsNextEvent}
-use Rattle.client_sessions.specs.Justified.{IsEndedReply, HoldsByRules, IsJustifiedLog, IsLegalSession}
+use Rattle.client_sessions.specs.Justified.{IsEndedReply, HoldsByRules, IsJustifiedLog, StopsFor, IsLegalSession, NeverStops}
+use Rattle.client_sessions.specs.Justified.{IsUnstopped}
 use Rattle.client_sessions.specs.Runs.{IsRun, IsClientRun, clients_for}
 
 -- each run is a derivation by the inference rules
@@ -62,6 +63,16 @@ NextEventsHold =
     IsNextEvent program settings s event →
     IsEndedReply s event ⊎ HoldsByRules program settings s event
 
+-- a run that has stopped stopped for its reason where this is so
+abbrev pub RunsStopForReasons : Type 0
+RunsStopForReasons =
+    (program : Program) (settings : Settings) (start : State) (stop : Option StopReason) (wishes : List Wish) (log : List Event)
+    (s : State) →
+    IsRun program settings start stop wishes log s →
+    (reason : StopReason) →
+    stop ≡ Some reason →
+    StopsFor program settings log start reason
+
 -- in each run of a specification that is ready each entry is possible and justified
 abbrev pub RunsAreJustified : Type 0
 RunsAreJustified =
@@ -85,3 +96,11 @@ ClientRunsAreLegal =
     IsReady program →
     IsClientRun program settings wishes log ending →
     IsLegalSession program settings wishes log ending
+
+-- where no reason to stop is so on the way, the session isn't stopped: it goes on to its end by the rules
+abbrev pub ClientRunsAreComplete : Type 0
+ClientRunsAreComplete =
+    (program : Program) (settings : Settings) (wishes : List Wish) (log : List Event) (ending : Ending) →
+    IsClientRun program settings wishes log ending →
+    NeverStops program settings wishes log →
+    IsUnstopped ending

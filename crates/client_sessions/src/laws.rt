@@ -1,7 +1,8 @@
 // What follows from the definitions: each law is the contract of a function that does nothing.
 
 ghost use Rattle.client_sessions.specs.Laws.{RunsAreDerivations, RunsAnswerEach, ClientRunsAreDerivations, ClientRunsAnswerEach};
-ghost use Rattle.client_sessions.specs.Laws.{NextEventsHold, RunsAreJustified, JustifiedLogsAreDerivations, ClientRunsAreLegal};
+ghost use Rattle.client_sessions.specs.Laws.{NextEventsHold, RunsStopForReasons, RunsAreJustified, JustifiedLogsAreDerivations, ClientRunsAreLegal};
+ghost use Rattle.client_sessions.specs.Laws.{ClientRunsAreComplete};
 
 /// Each run is a derivation by the inference rules.
 pub fn runs_are_derivations()
@@ -28,6 +29,11 @@ pub fn next_events_hold()
     ensures { NextEventsHold }
 {}
 
+/// A run that has stopped stopped for its reason where this is so.
+pub fn runs_stop_for_reasons()
+    ensures { RunsStopForReasons }
+{}
+
 /// In each run each entry is possible and justified.
 pub fn runs_are_justified()
     ensures { RunsAreJustified }
@@ -38,7 +44,13 @@ pub fn justified_logs_are_derivations()
     ensures { JustifiedLogsAreDerivations }
 {}
 
-/// The session of a client is legal: each entry is possible and justified, and the end is that of the state that is reached.
+/// The session of a client is legal: each entry is possible and justified, what stops it is so where it stops, and the end is that of the
+/// state that is reached.
 pub fn client_runs_are_legal()
     ensures { ClientRunsAreLegal }
+{}
+
+/// Where no reason to stop is so on the way, the session isn't stopped.
+pub fn client_runs_are_complete()
+    ensures { ClientRunsAreComplete }
 {}

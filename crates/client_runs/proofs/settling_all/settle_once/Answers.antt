@@ -1,13 +1,16 @@
-use Rattle.std.proofs.Common.{◌≡◌, ◌∙◌, IfSome, IfNone, false, is_some, length, rules, subst, sym}
+use Rattle.std.proofs.Common.{◌≡◌, ◌∙◌, IfSome, IfNone, false, is_some, length, map, rules, subst, sym}
 use Rattle.board_core.specs.Settled.{IsQuiet}
-use Rattle.board_core.specs.Views.{events}
+use Rattle.spec_core.specs.Lists.{IsOneOf}
+use Rattle.board_core.specs.Views.{events, needed_at}
+use Rattle.board_core.proofs.Knowing.{free_is_needed}
 use Rattle.board_core.specs.Working.{IsHandedOut, WhyNone}
+use Rattle.candidates.specs.Jobs.{is_out}
 use Rattle.candidates.specs.Models.{job_of}
 use Rattle.needed_jobs.specs.Needed.{generation_of}
 use Rattle.tree_nodes.specs.Origins.{source_of}
 use Rattle.tree_nodes.specs.Shapes.{Held, IsNodeOf, Shape}
 use Rattle.client_runs.proofs.Running.{after_settling, none_taken, onward, same_run, was_quiet}
-use Rattle.client_runs.proofs.Settled.{IsLike, like_twice, none_left_there, why_stays}
+use Rattle.client_runs.proofs.Settled.{IsLike, like_twice, none_left_there, same_needed, why_stays}
 use Rattle.client_runs.proofs.settling_all.settle_once.Goals as goal
 
 pub returns-then-is_some-clause-continues : goal.returns-then-is_some-clause-continues
@@ -22,7 +25,12 @@ work-requires c =
     let d = c.take_job.new.self in
     let out =
     subst (λ o. IfSome o (λ j. IsHandedOut g d j × (d.stop ≡ g.stop))) c.in-Some.is c.in_ok-take_job.ensures.job in
+    let t = c.in_ok-take_job.ensures in
+    let gd : IsLike g d = record { session = t.session; log = t.log; nodes = t.nodes } in
     record {
+      needed =
+          subst (IsOneOf (job_of job.task)) (sym (same_needed g d gd))
+          (free_is_needed (is_out (map job_of g.out)) (needed_at g) (job_of job.task) out.0.first);
       origin =
           subst (λ (t : Shape). (n : Held) → IsNodeOf t (generation_of (job_of job.task)) n → n.source ≡ source_of job.origin)
           (search rules) out.0.origin;
@@ -37,7 +45,7 @@ returns-in-None-clause-continues c =
     let t = c.in_ok-take_job.ensures in
     onward a b c.take_job.new.self (after_settling a b h.session c.in_ok-settle.field-0 (length (events a)) h.settled h.none)
     (onward b c.give_back_all.new.self c.take_job.new.self (same_run b c.give_back_all.new.self g.session g.log g.stop)
-    (none_taken c.give_back_all.new.self c.take_job.new.self t.session t.log
+    (none_taken c.give_back_all.new.self c.take_job.new.self t.session t.log c.jobs_give_reasons.ensures.offers
     (subst (λ o. IfNone o (WhyNone c.give_back_all.new.self c.take_job.new.self)) c.in-None.is t.none)))
 
 pub returns-in-None-clause-settled : goal.returns-in-None-clause-settled

@@ -1,7 +1,7 @@
 // Why jobs stop a session.
 
 ghost use Rattle.std.specs.Prelude.{◌≡◌};
-ghost use Rattle.board_core.specs.Reasons.{reason_of};
+ghost use Rattle.stop_reasons.specs.Given.{reason_of};
 
 use marked_values::stop::Stop;
 use rule_model::reply::LimitKind;

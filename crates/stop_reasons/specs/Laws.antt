@@ -1,0 +1,72 @@
+-- What follows from the definitions.
+use Rattle.std.specs.Prelude.{ℕ, ◌≡◌, ◌<◌, Some}
+use Rattle.spec_core.specs.declared.settings.Settings.{Settings}
+use Rattle.spec_core.specs.Code.{Program}
+use Rattle.spec_core.specs.Lists.{IsOneOf}
+use Rattle.rule_model.specs.States.{State}
+use Rattle.rule_model.specs.declared.reply.LimitKind.TheVariants.{Offers}
+use Rattle.windowed_trees.specs.Windows.{Windows}
+use Rattle.windowed_trees.specs.MarkedTerms.{unmarked}
+use Rattle.composites.specs.Evaluations.{Evaluation}
+use Rattle.marked_values.specs.declared.stop.Stop.{Stop}
+use Rattle.marked_values.specs.Stops.{Stops, Never}
+use Rattle.expand.specs.Expansions.{IsStop}
+use Rattle.judging.specs.Asking.{TreeAsks}
+use Rattle.tree_nodes.specs.Origins.{meaning}
+use Rattle.tree_nodes.specs.Shapes.{Held, Shape, IsNodeOf, stands_for}
+use Rattle.known_shows.specs.Known.{NodePart, Pieces}
+use Rattle.candidates.specs.Jobs.{to_judge}
+use Rattle.candidates.specs.Laws.{IsKnownTree}
+use Rattle.needed_jobs.specs.Needed.{jobs_needed}
+use Rattle.offer_counts.specs.Counts.{offers_limit, offers_of_tree}
+use Rattle.waiting_offers.specs.Waiting.{waiting_in}
+use Rattle.session_rules.specs.declared.stop_reason.StopReason.{StopReason}
+use Rattle.session_rules.specs.declared.stop_reason.StopReason.TheVariants.{Limit}
+use Rattle.stop_reasons.specs.Given.{reason_of}
+use Rattle.stop_reasons.specs.Reasons.{IsReasonToStop}
+
+-- The state is reached whose behaviour the tree stands for, and what is known of the tree is so.
+pub record IsKnownState (program : Program) (settings : Settings) (e : Evaluation) (w : Windows) (t : Shape) (pieces : Pieces) (s : State) :
+    Type 0 where
+  pub known : IsKnownTree program e settings.values w t pieces
+  pub reached : s.behaviour ≡ stands_for program t
+
+module _ (program : Program) (settings : Settings) (w : Windows) (t : Shape) (pieces : Pieces) (s : State) where
+  -- why a node can't be expanded is a reason to stop
+  abbrev pub ExpansionsGiveReasons : Type 0
+  ExpansionsGiveReasons =
+      (g : ℕ) (n : Held) →
+      IsNodeOf t g n →
+      (stop : Stop) →
+      IsStop program w (meaning program n.source) settings.budget stop →
+      (reason : StopReason) →
+      reason_of stop ≡ Some reason →
+      IsReasonToStop program settings s reason
+
+  -- why it can't be found what a node shows is one, where the rules need it
+  abbrev pub VerdictsGiveReasons : Type 0
+  VerdictsGiveReasons =
+      (part : NodePart) (n : Held) →
+      IsOneOf (to_judge part) (jobs_needed program.theory w t pieces (waiting_in s)) →
+      IsNodeOf t part.generation n →
+      (stop : Stop) →
+      Stops program.theory settings.budget (TreeAsks program w unmarked (meaning program n.source) part.rules) Never stop →
+      (reason : StopReason) →
+      reason_of stop ≡ Some reason →
+      IsReasonToStop program settings s reason
+
+  -- and so is that of the tree there are more possible agreements than are looked at
+  abbrev pub OffersGiveReasons : Type 0
+  OffersGiveReasons = offers_limit < offers_of_tree program w t → IsReasonToStop program settings s (Limit Offers)
+
+  pub record GiveReasons : Type 0 where
+    pub expansions : ExpansionsGiveReasons
+    pub verdicts : VerdictsGiveReasons
+    pub offers : OffersGiveReasons
+
+-- why a job has no answer that a session needs is a reason to stop in its state
+abbrev pub JobsGiveReasons : Type 0
+JobsGiveReasons =
+    (program : Program) (settings : Settings) (e : Evaluation) (w : Windows) (t : Shape) (pieces : Pieces) (s : State) →
+    IsKnownState program settings e w t pieces s →
+    GiveReasons program settings w t pieces s
