@@ -26,7 +26,7 @@ use Rattle.known_shows.specs.declared.pieces.Pieces.{Pieces}
 use Rattle.known_shows.specs.Stored.{stored}
 use Rattle.candidates.specs.declared.known_tree.KnownTree.{KnownTree}
 use Rattle.candidates.specs.declared.job.NodeJob as declared
-use Rattle.candidates.specs.Jobs.{NodeJob, is_out, same_job}
+use Rattle.candidates.specs.Jobs.{NodeJob, is_out}
 use Rattle.candidates.specs.KnownTrees.{offer_in, first_in, all_in, is_out_in, jobs_to_first, jobs_to_all, is_held_in}
 use Rattle.candidates.specs.Listed.{first_tree}
 use Rattle.candidates.specs.Models.{job_of}
@@ -36,15 +36,14 @@ use Rattle.waiting_offers.specs.Waiting.{waiting_in}
 use Rattle.board_core.specs.declared.job.Job.{Job}
 use Rattle.board_core.specs.Entries.{entry_of}
 use Rattle.board_core.specs.Views.{BoardView, state, tree, decided_at, first_at, needed_at}
-use Rattle.board_core.specs.Working.{IsHandedOut, first_free, left_out}
+use Rattle.board_core.specs.Working.{IsHandedOut, first_free}
 
--- the jobs that are left out of a list are left out of what they stand for
-pub left_over : (task : NodeJob) (jobs : List declared.NodeJob) →
-    map job_of (filter (λ job. not (same_job (job_of job) task)) jobs) ≡ left_out task (map job_of jobs)
-left_over task [] = refl
-left_over task (job ∷ jobs) =
-    by_test (not (same_job (job_of job) task)) (filter (λ other. not (same_job (job_of other) task)) jobs) (left_out task (map job_of jobs))
-    (left_over task jobs)
+-- the jobs that are kept of a list are kept of what they stand for
+pub kept_over : (keep : NodeJob → Bool) (jobs : List declared.NodeJob) →
+    map job_of (filter (λ job. keep (job_of job)) jobs) ≡ filter keep (map job_of jobs)
+kept_over keep [] = refl
+kept_over keep (job ∷ jobs) =
+    by_test (keep (job_of job)) (filter (λ other. keep (job_of other)) jobs) (filter keep (map job_of jobs)) (kept_over keep jobs)
   where
     by_test : (b : Bool) (kept : List declared.NodeJob) (others : List NodeJob) → map job_of kept ≡ others →
         map job_of (cond b (job ∷ kept) kept) ≡ cond b (job_of job ∷ others) others

@@ -3,4 +3,5 @@ pub mod Entries
 pub mod Found
 pub mod Keeping
 pub mod Knowing
+pub mod Origins
 pub mod Quiet

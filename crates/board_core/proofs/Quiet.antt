@@ -16,7 +16,7 @@ use Rattle.session_rules.specs.Next.{GoesByRules, IsNextOf}
 use Rattle.waiting_offers.specs.Waiting.{by_client, only_asks, waiting_in}
 use Rattle.waiting_offers.proofs.AllWait.{all_wait_is_decided}
 use Rattle.board_core.specs.Boards.{IsBoard}
-use Rattle.board_core.specs.Idle.{IsIdle}
+use Rattle.board_core.specs.Awaiting.{AwaitsClients}
 use Rattle.board_core.specs.Settled.{IsQuiet, quiet_nothing, quiet_stopped, quiet_undecided}
 use Rattle.board_core.specs.Views.{BoardView, program, state, windows, decided_at}
 
@@ -40,32 +40,33 @@ not_all b never = by_case b refl
     by_case true e = absurd (never e)
     by_case false e = e
 
--- whether a session is idle
-pub idle_by : (s : State) (b : Bool) → s.pending ≡ [] → (IsTrue b ↔ AllWait s) →
-    (IsTrue (not b) → IsIdle s) × (IsIdle s → IsTrue (not b))
-idle_by s true none waits = (λ h. let no : ⊥ = cc in absurd no, λ i. absurd (i.some (waits.0 refl)))
-idle_by s false none waits = (λ h. record { none = none; some = λ all. let e = waits.1 all in let no : ⊥ = cc in no }, λ i. refl)
+-- whether a session waits for its clients
+pub awaits_by : (s : State) (b : Bool) → s.pending ≡ [] → (IsTrue b ↔ AllWait s) →
+    (IsTrue (not b) → AwaitsClients s) × (AwaitsClients s → IsTrue (not b))
+awaits_by s true none waits = (λ h. let no : ⊥ = cc in absurd no, λ i. absurd (i.some (waits.0 refl)))
+awaits_by s false none waits = (λ h. record { none = none; some = λ all. let e = waits.1 all in let no : ⊥ = cc in no }, λ i. refl)
 
--- what an idle session asks
-idle_waiting : (s : State) → IsIdle s → waiting_in s ≡ record { pending = []; asks = []; by_client = by_client s.pending; all_wait = false }
-idle_waiting s idle =
-    let waits = not_all (waiting_in s).all_wait (λ h. idle.some ((all_wait_is_decided s).0 h)) in
+-- what a session that waits for its clients asks
+asked_awaiting : (s : State) → AwaitsClients s →
+    waiting_in s ≡ record { pending = []; asks = []; by_client = by_client s.pending; all_wait = false }
+asked_awaiting s awaits =
+    let waits = not_all (waiting_in s).all_wait (λ h. awaits.some ((all_wait_is_decided s).0 h)) in
     ap (λ (ps : List PendingOffer). record {
       pending = ps;
       asks = only_asks (by_client ps);
       by_client = by_client s.pending;
       all_wait = (waiting_in s).all_wait;
-    }) idle.none
+    }) awaits.none
     ∙ ap (λ (b : Bool). record { pending = []; asks = []; by_client = by_client s.pending; all_wait = b }) waits
 
-pub idle_next : (program : Program) (settings : Settings) (w : Windows) (s : State) → AreWindows program.theory settings.values w → IsIdle s →
-    IsNextOf program settings s nothing
-idle_next program settings w s sized idle = record {
+pub next_awaiting : (program : Program) (settings : Settings) (w : Windows) (s : State) → AreWindows program.theory settings.values w →
+    AwaitsClients s → IsNextOf program settings s nothing
+next_awaiting program settings w s sized awaits = record {
   windows = w;
   sized = sized;
   next = λ e is_asked exact tests.
       nothing_waits (lists_of program e w s.behaviour is_asked) (by_client s.pending)
-      ∙ ap (next_of (lists_of program e w s.behaviour is_asked)) (sym (idle_waiting s idle));
+      ∙ ap (next_of (lists_of program e w s.behaviour is_asked)) (sym (asked_awaiting s awaits));
 }
 
 -- the session has stopped, and no offer is pending
@@ -78,15 +79,15 @@ quiet_by_reason v some none = by_stop v.stop refl some
 
 module _ (v : BoardView) (running : v.stop ≡ None) (rules : GoesByRules (state v)) where
   -- the session waits for its clients
-  pub quiet_by_clients : IsBoard v → IsIdle (state v) → IsQuiet v v
-  quiet_by_clients is idle = record {
+  pub quiet_by_clients : IsBoard v → AwaitsClients (state v) → IsQuiet v v
+  quiet_by_clients is awaits = record {
     log = (refl, refl);
     nodes = (refl, refl, refl);
     why =
         quiet_nothing running running rules
-        (idle_next (program v) v.settings (windows v) (state v)
-        (table_windows (program v).theory v.settings.values v.windows is.rows_are is.all_sorts) idle)
-        (inl idle);
+        (next_awaiting (program v) v.settings (windows v) (state v)
+        (table_windows (program v).theory v.settings.values v.windows is.rows_are is.all_sorts) awaits)
+        (inl awaits);
   }
 
   -- what is known decides that nothing comes next
@@ -98,7 +99,7 @@ module _ (v : BoardView) (running : v.stop ≡ None) (rules : GoesByRules (state
   }
 
   -- what is known doesn't decide what comes next
-  pub quiet_so_far : (IsIdle (state v) → ⊥) → decided_at v ≡ None → IsQuiet v v
+  pub quiet_so_far : (AwaitsClients (state v) → ⊥) → decided_at v ≡ None → IsQuiet v v
   quiet_so_far busy undecided = record {
     log = (refl, refl);
     nodes = (refl, refl, refl);

@@ -1,7 +1,7 @@
+pub mod Awaiting
 pub mod Boards
 pub mod Ends
 pub mod Entries
-pub mod Idle
 pub mod Settled
 pub mod Views
 pub mod Working

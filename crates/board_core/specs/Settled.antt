@@ -18,7 +18,7 @@ use Rattle.tree_nodes.specs.Shapes.{Shape}
 use Rattle.waiting_offers.specs.Waiting.{waiting_in}
 use Rattle.session_rules.specs.declared.stop_reason.StopReason.{StopReason}
 use Rattle.session_rules.specs.declared.stop_reason.StopReason.TheVariants.{Limit}
-use Rattle.board_core.specs.Idle.{IsIdle}
+use Rattle.board_core.specs.Awaiting.{AwaitsClients}
 use Rattle.board_core.specs.Views.{BoardView, program, state, events, tree, windows, decided_at, SameLog, SameNodes}
 
 -- by the tree the behaviour may act, and each node that takes part is ready for it
@@ -62,14 +62,14 @@ pub record HasSettled (old new : BoardView) : Type 0 where
   pub why : IsSettled old new event
 
 -- Why there is no further entry. The session has stopped, and no offer is pending; what is known doesn't decide what comes next by the
--- rules; nothing comes next, since the session is idle or what is known decides so; or an action would come next, but there were as many as
--- are allowed, which stops the session, and no offer is pending.
+-- rules; nothing comes next, since the session waits for its clients or what is known decides so; or an action would come next, but there
+-- were as many as are allowed, which stops the session, and no offer is pending.
 pub data WhyQuiet (old new : BoardView) : Type 0 where
   quiet_stopped : (reason : StopReason) → old.stop ≡ Some reason → new.stop ≡ Some reason → (state old).pending ≡ [] → WhyQuiet old new
-  quiet_undecided : old.stop ≡ None → new.stop ≡ None → GoesByRules (state old) → (IsIdle (state old) → ⊥) → decided_at old ≡ None →
-      WhyQuiet old new
+  quiet_undecided : old.stop ≡ None → new.stop ≡ None → GoesByRules (state old) → (AwaitsClients (state old) → ⊥) →
+      decided_at old ≡ None → WhyQuiet old new
   quiet_nothing : old.stop ≡ None → new.stop ≡ None → GoesByRules (state old) → IsNextOf (program old) old.settings (state old) nothing →
-      IsIdle (state old) ⊎ (decided_at old ≡ Some nothing) → WhyQuiet old new
+      AwaitsClients (state old) ⊎ (decided_at old ≡ Some nothing) → WhyQuiet old new
   quiet_limit : old.stop ≡ None → new.stop ≡ Some (Limit Steps) → IsAtLimit (program old) old.settings (state old) →
       (state old).pending ≡ [] → WhyQuiet old new
 

@@ -1,18 +1,20 @@
 -- Jobs that are handed out, and what comes of them.
-use Rattle.std.specs.Prelude.{◌≡◌, ◌<◌, ◌⊎◌, ◌++◌, ◌∷◌, [], List, map, filter, not, Option, Some, None}
+use Rattle.std.specs.Prelude.{ℕ, ◌≡◌, ◌<◌, ◌≤◌, ◌⊎◌, ◌++◌, ◌∷◌, [], List, map, filter, not, Option, Some, None}
 use Rattle.settling.specs.Jobs.{first_not_out}
 use Rattle.candidates.specs.Jobs.{NodeJob, to_expand, to_judge, same_job, is_out}
 use Rattle.candidates.specs.Models.{job_of}
 use Rattle.needed_jobs.specs.Needed.{Waits, generation_of}
 use Rattle.session_rules.specs.Next.{GoesByRules}
-use Rattle.tree_nodes.specs.Origins.{source_of}
+use Rattle.known_shows.specs.Stored.{is_gone}
+use Rattle.tree_nodes.specs.declared.origin.Gen.{Gen}
+use Rattle.tree_nodes.specs.Origins.{Source, source_of}
 use Rattle.tree_nodes.specs.Shapes.{Held, Shape, IsNodeOf, Lives}
 use Rattle.board_core.specs.declared.job.Job.{Job}
 use Rattle.rule_model.specs.declared.reply.LimitKind.TheVariants.{Offers}
 use Rattle.offer_counts.specs.Counts.{offers_limit, offers_of_tree}
 use Rattle.session_rules.specs.declared.stop_reason.StopReason.{StopReason}
 use Rattle.session_rules.specs.declared.stop_reason.StopReason.TheVariants.{Limit}
-use Rattle.board_core.specs.Idle.{IsIdle}
+use Rattle.board_core.specs.Awaiting.{AwaitsClients}
 use Rattle.board_core.specs.Views.{BoardView, needed_at, program, state, tree, windows}
 
 -- the first job that the rules need and that isn't out
@@ -30,7 +32,7 @@ pub record IsHandedOut (old new : BoardView) (job : Job) : Type 0 where
 pub data NoneFree (v : BoardView) : Type 0 where
   none_stopped : (v.stop ≡ None → ⊥) → NoneFree v
   none_ended : (GoesByRules (state v) → ⊥) → NoneFree v
-  none_idle : IsIdle (state v) → NoneFree v
+  none_awaited : AwaitsClients (state v) → NoneFree v
   none_needed : v.stop ≡ None → GoesByRules (state v) → first_free v ≡ None → NoneFree v
 
 -- the job is to find what a node shows
@@ -60,6 +62,22 @@ left_out job out = filter (λ other. not (same_job other job)) out
 abbrev pub IsFree : Shape → NodeJob → Type 0
 IsFree t (to_expand g) = Waits t g
 IsFree t (to_judge p) = Lives t p.generation
+
+-- the jobs at other nodes than those of these generations
+abbrev pub jobs_left : List Gen → List NodeJob → List NodeJob
+jobs_left gone jobs = filter (λ job. not (is_gone gone (generation_of job))) jobs
+
+-- Nodes that live on keep what they stand for: each node of the new tree whose generation had begun was one of the old tree, and stands for
+-- the same. Generations go on.
+pub record KeepsNodes (old new : BoardView) : Type 0 where
+  pub more : old.session.tree.next ≤ new.session.tree.next
+  pub was : (g : ℕ) (m : Held) → IsNodeOf (tree new) g m → g < old.session.tree.next →
+      (n : Held) × IsNodeOf (tree old) g n × (m.source ≡ n.source)
+
+-- the generation has begun, and its node, where it lives, stands for this
+pub record IsOrigin (v : BoardView) (g : ℕ) (o : Source) : Type 0 where
+  pub begun : g < v.session.tree.next
+  pub origin : (n : Held) → IsNodeOf (tree v) g n → n.source ≡ o
 
 -- the first reason stays
 abbrev pub first_reason : Option StopReason → StopReason → Option StopReason

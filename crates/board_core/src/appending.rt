@@ -1,9 +1,11 @@
 // The entries that the board appends.
 
-ghost use Rattle.std.specs.Prelude.{◌≡◌, ◌↔◌, ◌∷◌, ◌++◌, ◌<◌, [], IfOk, IfSome, IfNone, IsSome, IsTrue, OnOk, OnErr, None, Some};
+ghost use Rattle.std.specs.Prelude.{ℕ, ◌≡◌, ◌↔◌, ◌∷◌, ◌++◌, ◌<◌, [], IfOk, IfSome, IfNone, IsSome, IsTrue, OnOk, OnErr, None, Some};
 ghost use Rattle.std.specs.Prelude.{false, length, map, option_map};
 ghost use Rattle.rule_model.specs.Derivations.{Derivation};
 ghost use Rattle.rule_model.specs.States.{PendingOffer};
+ghost use Rattle.board_tree.specs.Views.{IsStep};
+ghost use Rattle.candidates.specs.Models.{job_of};
 ghost use Rattle.courses.specs.Rules.{Next, takes, deadlocks, is_beyond, is_not_now, goes_on, stalls};
 ghost use Rattle.rule_model.specs.Answering.{name_of};
 ghost use Rattle.rule_model.specs.Answers.{answer_of, limit};
@@ -12,16 +14,18 @@ ghost use Rattle.rule_model.specs.Events.{replied, stalled};
 ghost use Rattle.rule_model.specs.Legal.{AllWait, IsPending, IsPossible, IsReplyAt};
 ghost use Rattle.courses.specs.Lazy.{first};
 ghost use Rattle.std.specs.List.{slice_get};
-ghost use Rattle.session_record.specs.Views.{HasActed};
+ghost use Rattle.known_shows.specs.Stored.{without};
+ghost use Rattle.session_record.specs.Views.{HasActed, IsActReserved};
 ghost use Rattle.session_rules.specs.Next.{HasEnded, IsAtLimit, GoesByRules};
 ghost use Rattle.session_states.specs.Possible.{MayStall};
 ghost use Rattle.session_states.specs.Views.{pending_of};
 ghost use Rattle.waiting_offers.specs.Offers.{offer_at};
 ghost use Rattle.waiting_offers.specs.Waiting.{by_client};
 ghost use Rattle.board_core.specs.Entries.{entry_of, OfAct};
-ghost use Rattle.board_core.specs.Idle.{IsIdle};
+ghost use Rattle.board_core.specs.Awaiting.{AwaitsClients};
 ghost use Rattle.board_core.specs.Settled.{AnswersLeast, HasSettled, IsDue, IsQuiet, MayFollow};
-ghost use Rattle.board_core.specs.Views.{program, events, state, tree, decided_at, SameLog, SameSession, SameNodes};
+ghost use Rattle.board_core.specs.Working.{KeepsNodes, jobs_left};
+ghost use Rattle.board_core.specs.Views.{program, events, state, tree, pieces, decided_at, SameLog, SameSession, SameNodes};
 
 use crate::board::Board;
 use crate::copying::generation_of;
@@ -83,8 +87,9 @@ fn tree_at(those: &[Rules], number: u32) -> Option<&Rules>
 }
 
 impl Board {
-    // The name of the pending offer with a number.
-    fn offer_name(&self, number: u32) -> (u32, u64)
+    /// The name of the pending offer with a number, from 0 in the order in which they were made: its client, and its number there. It takes
+    /// no memory.
+    pub fn offer_name(&self, number: u32) -> (u32, u64)
         ensures { result ≡ name_of (offer_at (state self.now).pending number) }
     {
         name_at(self.record.state().pending(), number)
@@ -118,8 +123,8 @@ impl Board {
         has_ended(self.record.state().last())
     }
 
-    // Whether the session goes on by its rules: it hasn't ended, or no offer is pending.
-    pub(crate) fn goes_by_rules(&self) -> bool
+    /// Whether the session goes on by its rules: it hasn't ended, or no offer is pending. It takes no memory.
+    pub fn goes_by_rules(&self) -> bool
         ensures goes { IsTrue result → GoesByRules (state self.now) }
         ensures ended { result ≡ false → HasEnded (state self.now).last × ((state self.now).pending ≡ [] → ⊥) }
     {
@@ -163,19 +168,62 @@ impl Board {
         self.record.stall(alloc, names)
     }
 
-    // The behaviour acts by these rules, and the offer named is taken. What was known of nodes that are gone is forgotten.
-    fn act(&mut self, alloc: Global, rules: &Rules, by: Option<(u32, u64)>) -> Result<(), Memory>
-        requires may { MayFollow (program self.old) (state self.old) (tree self.old) by (derivation_of rules.now) }
-        ensures acted { OnOk result (HasActed self.old.session self.new.session (derivation_of rules.now) by) }
-        ensures same { OnErr result (SameLog self.old self.new × SameNodes self.old self.new) }
+    /// Makes ready all that `commit` needs with the same rules, where these take the offer named. All else stays as it is, also where there
+    /// is no memory.
+    pub fn reserve_step(
+        &mut self,
+        alloc: Global,
+        rules: &Rules,
+        by: Option<(u32, u64)>,
+    ) -> Result<(), Memory>
+        ensures reserved { OnOk result (IsActReserved self.new.session (derivation_of rules.now) by) }
+        ensures log { SameLog self.old self.new }
+        ensures nodes { SameNodes self.old self.new }
+        ensures out { self.new.out ≡ self.old.out }
         ensures session { SameSession self.old self.new }
         ensures stop { self.new.stop ≡ self.old.stop }
     {
-        self.record.reserve_act(alloc, rules, by)?;
+        self.record.reserve_act(alloc, rules, by)
+    }
+
+    /// The behaviour acts by these rules, and the offer named is taken, for which all was made ready, and since then nothing has changed.
+    /// The session goes on by its rules, and there were fewer actions than are allowed. Nodes that live on keep what they stand for; what
+    /// was known of nodes that are gone is forgotten, and no job at them is out. It takes no memory.
+    pub fn commit(&mut self, rules: &Rules, by: Option<(u32, u64)>)
+        requires reserved { IsActReserved self.old.session (derivation_of rules.now) by }
+        requires may { MayFollow (program self.old) (state self.old) (tree self.old) by (derivation_of rules.now) }
+        requires running { self.old.stop ≡ None }
+        requires rules { GoesByRules (state self.old) }
+        requires below { (state self.old).actions < self.old.settings.steps }
+        ensures acted { HasActed self.old.session self.new.session (derivation_of rules.now) by }
+        ensures step { IsStep (program self.old) (tree self.old) self.old.session.tree.next (derivation_of rules.now) (tree self.new)
+            self.new.session.tree.next self.new.session.tree.gone self.new.session.tree.came }
+        ensures nodes { KeepsNodes self.old self.new }
+        ensures known { (g : ℕ) (d : Derivation) → pieces self.new g d ≡ without self.new.session.tree.gone (pieces self.old) g d }
+        ensures out { map job_of self.new.out ≡ jobs_left self.new.session.tree.gone (map job_of self.old.out) }
+        ensures session { SameSession self.old self.new }
+        ensures stop { self.new.stop ≡ self.old.stop }
+    {
         self.record.act(rules, by);
         let gone = self.record.tree().gone();
         self.pieces.drop_gone(gone);
         self.out.retain(|job| !is_gone(gone, generation_of(job)));
+    }
+
+    // The behaviour acts by these rules, and the offer named is taken.
+    fn act(&mut self, alloc: Global, rules: &Rules, by: Option<(u32, u64)>) -> Result<(), Memory>
+        requires may { MayFollow (program self.old) (state self.old) (tree self.old) by (derivation_of rules.now) }
+        requires running { self.old.stop ≡ None }
+        requires rules { GoesByRules (state self.old) }
+        requires below { (state self.old).actions < self.old.settings.steps }
+        ensures acted { OnOk result (HasActed self.old.session self.new.session (derivation_of rules.now) by) }
+        ensures same { OnErr result (SameLog self.old self.new) }
+        ensures nodes { KeepsNodes self.old self.new }
+        ensures session { SameSession self.old self.new }
+        ensures stop { self.new.stop ≡ self.old.stop }
+    {
+        self.reserve_step(alloc, rules, by)?;
+        self.commit(rules, by);
         Ok(())
     }
 
@@ -201,6 +249,7 @@ impl Board {
         requires some { (state self.old).pending ≡ [] → ⊥ }
         ensures settled { OnOk result (HasSettled self.old self.new) }
         ensures same { OnErr result (SameLog self.old self.new × (self.new.stop ≡ self.old.stop)) }
+        ensures nodes { KeepsNodes self.old self.new }
         ensures session { SameSession self.old self.new }
     {
         let at = self.actions();
@@ -219,6 +268,7 @@ impl Board {
         ensures settled { IfOk result (λ told. IsTrue told → HasSettled self.old self.new) }
         ensures none { IfOk result (λ told. told ≡ false → IsQuiet self.old self.new) }
         ensures same { OnErr result (SameLog self.old self.new × (self.new.stop ≡ self.old.stop)) }
+        ensures nodes { KeepsNodes self.old self.new }
         ensures session { SameSession self.old self.new }
     {
         if self.none_pending() {
@@ -249,6 +299,7 @@ impl Board {
         ensures settled { IfOk result (λ told. IsTrue told → HasSettled self.old self.new) }
         ensures none { IfOk result (λ told. told ≡ false → IsQuiet self.old self.new) }
         ensures same { OnErr result (SameLog self.old self.new × (self.new.stop ≡ self.old.stop)) }
+        ensures nodes { KeepsNodes self.old self.new }
         ensures session { SameSession self.old self.new }
     {
         if self.none_pending() {
@@ -267,6 +318,7 @@ impl Board {
         requires stop { self.old.stop ≡ None }
         ensures settled { OnOk result (HasSettled self.old self.new) }
         ensures same { OnErr result (SameLog self.old self.new × (self.new.stop ≡ self.old.stop)) }
+        ensures nodes { KeepsNodes self.old self.new }
         ensures session { SameSession self.old self.new }
     {
         let at = self.actions();
@@ -281,6 +333,7 @@ impl Board {
         requires stop { self.old.stop ≡ None }
         ensures settled { OnOk result (HasSettled self.old self.new) }
         ensures same { OnErr result (SameLog self.old self.new × (self.new.stop ≡ self.old.stop)) }
+        ensures nodes { KeepsNodes self.old self.new }
         ensures session { SameSession self.old self.new }
     {
         let name = self.offer_name(number);
@@ -295,6 +348,7 @@ impl Board {
         requires stop { self.old.stop ≡ None }
         ensures settled { OnOk result (HasSettled self.old self.new) }
         ensures same { OnErr result (SameLog self.old self.new × (self.new.stop ≡ self.old.stop)) }
+        ensures nodes { KeepsNodes self.old self.new }
         ensures session { SameSession self.old self.new }
     {
         if those.len() > 4_294_967_295 {
@@ -317,6 +371,7 @@ impl Board {
         requires stop { self.old.stop ≡ None }
         ensures settled { OnOk result (HasSettled self.old self.new) }
         ensures same { OnErr result (SameLog self.old self.new × (self.new.stop ≡ self.old.stop)) }
+        ensures nodes { KeepsNodes self.old self.new }
         ensures session { SameSession self.old self.new }
     {
         let at = self.actions();
@@ -331,6 +386,7 @@ impl Board {
         requires stop { self.old.stop ≡ None }
         ensures settled { OnOk result (HasSettled self.old self.new) }
         ensures same { OnErr result (SameLog self.old self.new × (self.new.stop ≡ self.old.stop)) }
+        ensures nodes { KeepsNodes self.old self.new }
         ensures session { SameSession self.old self.new }
     {
         let at = self.actions();
@@ -345,6 +401,7 @@ impl Board {
         requires stop { self.old.stop ≡ None }
         ensures settled { OnOk result (HasSettled self.old self.new) }
         ensures same { OnErr result (SameLog self.old self.new × (self.new.stop ≡ self.old.stop)) }
+        ensures nodes { KeepsNodes self.old self.new }
         ensures session { SameSession self.old self.new }
     {
         let at = self.actions();
@@ -358,6 +415,7 @@ impl Board {
         requires stop { self.old.stop ≡ None }
         ensures settled { OnOk result (HasSettled self.old self.new) }
         ensures same { OnErr result (SameLog self.old self.new × (self.new.stop ≡ self.old.stop)) }
+        ensures nodes { KeepsNodes self.old self.new }
         ensures session { SameSession self.old self.new }
     {
         self.log_is_a_derivation();
@@ -368,12 +426,13 @@ impl Board {
     fn append(&mut self, alloc: Global, settled: Settled<Rules>) -> Result<bool, Memory>
         requires decided { entry_of self.old settled ≡ decided_at self.old }
         requires due { (entry : Next PendingOffer Derivation) → decided_at self.old ≡ Some entry → IsDue self.old entry }
-        requires busy { IsIdle (state self.old) → ⊥ }
+        requires busy { AwaitsClients (state self.old) → ⊥ }
         requires rules { GoesByRules (state self.old) }
         requires stop { self.old.stop ≡ None }
         ensures settled { IfOk result (λ told. IsTrue told → HasSettled self.old self.new) }
         ensures none { IfOk result (λ told. told ≡ false → IsQuiet self.old self.new) }
         ensures same { OnErr result (SameLog self.old self.new × (self.new.stop ≡ self.old.stop)) }
+        ensures nodes { KeepsNodes self.old self.new }
         ensures session { SameSession self.old self.new }
     {
         if is_act(&settled) && self.actions() >= self.settings.steps as u64 {
@@ -391,16 +450,16 @@ impl Board {
         Ok(true)
     }
 
-    /// Whether no offer is pending, and a client that is open may make one: then nothing comes next, whatever the behaviour may do. It takes
-    /// no memory.
-    pub(crate) fn is_idle(&self) -> bool
-        ensures { IsTrue result ↔ IsIdle (state self.now) }
+    /// Whether no offer is pending, and a client that is open may make one: then nothing comes next, whatever the behaviour may do. It
+    /// takes no memory.
+    pub(crate) fn awaits_clients(&self) -> bool
+        ensures { IsTrue result ↔ AwaitsClients (state self.now) }
     {
         self.none_pending() && !self.all_wait()
     }
 
-    // What the rules decide is due.
-    fn decided_is_due(&self)
+    /// What the rules decide is due: it comes next, it says what is so, and it may be done.
+    pub fn decided_is_due(&self)
         ensures { (entry : Next PendingOffer Derivation) → decided_at self.now ≡ Some entry → IsDue self.now entry }
     {
         self.record.log_is_a_derivation();
@@ -412,6 +471,7 @@ impl Board {
         ensures settled { IfOk result (λ told. IsTrue told → HasSettled self.old self.new) }
         ensures none { IfOk result (λ told. told ≡ false → IsQuiet self.old self.new) }
         ensures same { OnErr result (SameLog self.old self.new × (self.new.stop ≡ self.old.stop)) }
+        ensures nodes { KeepsNodes self.old self.new }
         ensures session { SameSession self.old self.new }
     {
         if self.stop.is_some() {
@@ -421,7 +481,7 @@ impl Board {
             self.tell_end(alloc)?;
             return Ok(true);
         }
-        if self.is_idle() {
+        if self.awaits_clients() {
             return Ok(false);
         }
         self.decided_is_due();
@@ -430,11 +490,12 @@ impl Board {
     }
 
     /// Appends the entry that comes next by the rules, if there is one and what is known decides it; its number in the log, from 0. Where
-    /// the session has stopped, the least client with a pending offer is told why.
+    /// the session has stopped, the least client with a pending offer is told why. Nodes that live on keep what they stand for.
     pub fn settle(&mut self, alloc: Global) -> Result<Option<u64>, Memory>
         ensures settled { IfOk result (λ o. IfSome o (λ n. HasSettled self.old self.new × (n ≡ length (events self.old)))) }
         ensures none { IfOk result (λ o. IfNone o (IsQuiet self.old self.new)) }
         ensures same { OnErr result (SameLog self.old self.new × (self.new.stop ≡ self.old.stop)) }
+        ensures nodes { KeepsNodes self.old self.new }
         ensures session { SameSession self.old self.new }
     {
         let number = self.record.log().len() as u64;

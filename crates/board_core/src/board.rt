@@ -14,6 +14,7 @@ ghost use Rattle.session_record.specs.Faults.{ExplainsLeave, ExplainsPend};
 ghost use Rattle.session_record.specs.Records.{IsSession};
 ghost use Rattle.session_states.specs.Possible.{MayLeave, MayOffer};
 ghost use Rattle.session_states.specs.Views.{state_of};
+ghost use Rattle.tree_nodes.specs.Generations.{AreApart, AreBelow};
 ghost use Rattle.tree_nodes.specs.Shapes.{AllWait, stands_for};
 ghost use Rattle.board_core.specs.Views as views;
 ghost use Rattle.board_core.specs.Views.{program, events, pieces, state, tree, SameSetting, SameLog, SameNodes};
@@ -120,6 +121,14 @@ impl Board {
         ensures ready { IsReady (program self.now) }
     {
         self.record.log_is_a_derivation();
+    }
+
+    /// No two nodes of the tree have one generation, and each generation is below the next one.
+    pub fn generations_are_sound(&self)
+        ensures apart { AreApart (tree self.now) }
+        ensures below { AreBelow (tree self.now) self.now.session.tree.next }
+    {
+        self.record.tree().generations_are_sound();
     }
 
     /// The specification. It takes no memory.

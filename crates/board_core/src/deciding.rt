@@ -43,8 +43,8 @@ impl Board {
         )
     }
 
-    // The next entry by the rules of a session.
-    pub(crate) fn next(&self, alloc: Global) -> Result<Settled<Rules>, Memory>
+    /// The next entry by the rules of a session, as far as what is known decides it.
+    pub fn next(&self, alloc: Global) -> Result<Settled<Rules>, Memory>
         ensures next { IfOk result (λ s. entry_of self.now s ≡ decided_at self.now) }
     {
         let offers = offers_by_number(alloc, self.state())?;

@@ -19,7 +19,7 @@ ghost use Rattle.tree_nodes.specs.Shapes.{Held, IsNodeOf, Lives, posted};
 ghost use Rattle.board_core.specs.Boards.{IsWorkAt};
 ghost use Rattle.needed_jobs.specs.Needed.{Waits, generation_of};
 ghost use Rattle.offer_counts.specs.Counts.{limited, offers_limit, offers_of_tree};
-ghost use Rattle.board_core.specs.Working.{IsFree, IsHandedOut, IsVerdict, NoneFree, WhyNone, first_free, first_reason, left_out};
+ghost use Rattle.board_core.specs.Working.{IsFree, IsHandedOut, IsVerdict, KeepsNodes, NoneFree, WhyNone, first_free, first_reason, left_out};
 ghost use Rattle.board_core.specs.Views.{program, state, tree, windows, pieces, needed_at, SameLog, SameSession, SameNodes};
 
 use crate::board::Board;
@@ -57,7 +57,7 @@ impl Board {
         if !self.goes_by_rules() {
             return false;
         }
-        !self.is_idle()
+        !self.awaits_clients()
     }
 
     // The job with what its node stands for.
@@ -212,6 +212,7 @@ impl Board {
         ensures out { result ≡ Post.Posted → map job_of self.new.out ≡ left_out (to_expand generation.0) (map job_of self.old.out) }
         ensures kept { result ≡ Post.Stale → self.new.out ≡ self.old.out }
         ensures pieces { self.new.pieces ≡ self.old.pieces }
+        ensures nodes { KeepsNodes self.old self.new }
         ensures log { SameLog self.old self.new }
         ensures session { SameSession self.old self.new }
         ensures stop { self.new.stop ≡ self.old.stop }
@@ -236,6 +237,7 @@ impl Board {
         ensures kept { OnErr result (self.new.out ≡ self.old.out) }
         ensures known { OnErr result ((g : ℕ) (d : Derivation) → pieces self.new g d ≡ pieces self.old g d) }
         ensures tree { tree self.new ≡ tree self.old }
+        ensures nodes { KeepsNodes self.old self.new }
         ensures log { SameLog self.old self.new }
         ensures session { SameSession self.old self.new }
         ensures stop { self.new.stop ≡ self.old.stop }

@@ -35,10 +35,10 @@ use Rattle.waiting_offers.specs.Waiting.{waiting_in}
 use Rattle.waiting_offers.proofs.AllWait.{all_wait_is_decided}
 use Rattle.client_sessions.specs.Runs.{IsSettledAt, all_told, none_next}
 use Rattle.board_core.specs.Ends.{ending_at}
-use Rattle.board_core.specs.Idle.{IsIdle}
+use Rattle.board_core.specs.Awaiting.{AwaitsClients}
 use Rattle.board_core.specs.Settled.{WhyQuiet, quiet_stopped, quiet_undecided, quiet_nothing, quiet_limit}
 use Rattle.board_core.specs.Views.{BoardView, program, state, tree, windows, pieces, decided_at, needed_at, SameLog, SameNodes, SameSession}
-use Rattle.board_core.specs.Working.{NoneFree, WhyNone, first_free, none_stopped, none_ended, none_idle, none_needed}
+use Rattle.board_core.specs.Working.{NoneFree, WhyNone, first_free, none_stopped, none_ended, none_awaited, none_needed}
 use Rattle.client_runs.specs.Runs.{IsSettledOn}
 use Rattle.client_runs.proofs.Endings.{end_is_known}
 
@@ -105,8 +105,8 @@ module _ (old new : BoardView) (like : IsLike old new) where
   rules_there : GoesByRules (state old) → GoesByRules (state new)
   rules_there h = subst GoesByRules (sym like.log.1) h
 
-  known_there : IsIdle (state old) ⊎ (decided_at old ≡ Some nothing) → IsIdle (state new) ⊎ (decided_at new ≡ Some nothing)
-  known_there (inl idle) = inl (subst IsIdle (sym like.log.1) idle)
+  known_there : AwaitsClients (state old) ⊎ (decided_at old ≡ Some nothing) → AwaitsClients (state new) ⊎ (decided_at new ≡ Some nothing)
+  known_there (inl awaits) = inl (subst AwaitsClients (sym like.log.1) awaits)
   known_there (inr decided) = inr (same_decided ∙ decided)
 
   by_reason : (reason : StopReason) → new.stop ≡ Some reason → (state old).pending ≡ [] → IsSettledOn new
@@ -116,7 +116,7 @@ module _ (old new : BoardView) (like : IsLike old new) where
       stops_not {o} g h = cc
 
   by_rules : new.stop ≡ None → GoesByRules (state old) → IsNextOf (program old) old.settings (state old) nothing →
-      IsIdle (state old) ⊎ (decided_at old ≡ Some nothing) → IsSettledOn new
+      AwaitsClients (state old) ⊎ (decided_at old ≡ Some nothing) → IsSettledOn new
   by_rules e rules next known = record { at = none_next e (rules_there rules) (next_there next); known = λ f. known_there known }
 
   -- where the board settles nothing and no job is needed, nothing is left to be done
@@ -126,7 +126,7 @@ module _ (old new : BoardView) (like : IsLike old new) where
   nothing_left (quiet_nothing e f rules next known) free out = by_rules f rules next known
   nothing_left (quiet_undecided e f rules busy undecided) (none_stopped never) out = absurd (never f)
   nothing_left (quiet_undecided e f rules busy undecided) (none_ended never) out = absurd (never (rules_there rules))
-  nothing_left (quiet_undecided e f rules busy undecided) (none_idle idle) out = absurd (busy (subst IsIdle like.log.1 idle))
+  nothing_left (quiet_undecided e f rules busy undecided) (none_awaited awaits) out = absurd (busy (subst AwaitsClients like.log.1 awaits))
   nothing_left (quiet_undecided e f rules busy undecided) (none_needed a b free) out =
       absurd (nothing_needed_is_decided (program new).theory (windows new) (tree new) (pieces new) (waiting_in (state new))
       (none_left new out free) (same_decided ∙ undecided))
@@ -198,9 +198,9 @@ module _ (program : Program) (settings : Settings) (ready : IsReady program) (st
       all_wait_where_none : s.open_clients ≡ [] → legal.AllWait s
       all_wait_where_none f client among = absurd (none_in client (subst (λ (l : List ℕ). Contains l client) f among))
 
--- where no client is open, a session isn't idle
-pub closed_not_idle : (s : State) → s.open_clients ≡ [] → IsIdle s → ⊥
-closed_not_idle s e idle = idle.some (λ client among. absurd (none_in client (subst (λ (l : List ℕ). Contains l client) e among)))
+-- where no client is open, a session doesn't wait for its clients
+pub closed_not_awaiting : (s : State) → s.open_clients ≡ [] → AwaitsClients s → ⊥
+closed_not_awaiting s e awaits = awaits.some (λ client among. absurd (none_in client (subst (λ (l : List ℕ). Contains l client) e among)))
 
 -- a client that is idle has no offer pending
 pub idle_has_none : (s : State) (client : ℕ) → legal.IsIdle s client → HasPending s client → ⊥
@@ -215,6 +215,6 @@ module _ (v : BoardView) (ready : IsReady (program v)) (settled : IsSettledOn v)
   pub end_on : (state v).open_clients ≡ [] → ending_at v ≡ None → ⊥
   end_on e = end_is_known v (none_left_pending (program v) v.settings ready v.stop (state v) settled.at e) (λ stop. by_case (settled.known stop))
     where
-      by_case : IsIdle (state v) ⊎ (decided_at v ≡ Some nothing) → decided_at v ≡ Some nothing
-      by_case (inl idle) = absurd (closed_not_idle (state v) e idle)
+      by_case : AwaitsClients (state v) ⊎ (decided_at v ≡ Some nothing) → decided_at v ≡ Some nothing
+      by_case (inl awaits) = absurd (closed_not_awaiting (state v) e awaits)
       by_case (inr decided) = decided

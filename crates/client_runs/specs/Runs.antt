@@ -12,7 +12,7 @@ use Rattle.session_rules.specs.declared.stop_reason.StopReason.{StopReason}
 use Rattle.session_states.specs.Clients.{numbers_from}
 use Rattle.client_sessions.specs.Ends.{IsEndingOf}
 use Rattle.client_sessions.specs.Runs.{IsRun, IsSettledAt}
-use Rattle.board_core.specs.Idle.{IsIdle}
+use Rattle.board_core.specs.Awaiting.{AwaitsClients}
 use Rattle.board_core.specs.Views as views
 use Rattle.board_core.specs.Views.{BoardView}
 
@@ -24,10 +24,10 @@ IsRunOn start wishes v = IsRun (views.program v) v.settings start v.stop wishes 
 abbrev pub Continues : BoardView → BoardView → Type 0
 Continues old new = (start : State) (wishes : List Wish) → IsRunOn start wishes old → IsRunOn start wishes new
 
--- nothing is left to be done on a board; where it hasn't stopped, and isn't idle, what is known decides so
+-- nothing is left to be done on a board; where it hasn't stopped, and doesn't wait for its clients, what is known decides so
 pub record IsSettledOn (v : BoardView) : Type 0 where
   pub at : IsSettledAt (views.program v) v.settings v.stop (views.state v)
-  pub known : v.stop ≡ None → IsIdle (views.state v) ⊎ (views.decided_at v ≡ Some nothing)
+  pub known : v.stop ≡ None → AwaitsClients (views.state v) ⊎ (views.decided_at v ≡ Some nothing)
 
 -- the session of a board has begun, with so many clients
 pub record HasBegun (clients : ℕ) (v : BoardView) : Type 0 where

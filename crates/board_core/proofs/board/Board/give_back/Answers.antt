@@ -4,7 +4,7 @@ use Rattle.candidates.specs.Jobs.{same_job}
 use Rattle.candidates.specs.Models.{job_of}
 use Rattle.board_core.specs.Views.{BoardView}
 use Rattle.board_core.specs.Working.{left_out}
-use Rattle.board_core.proofs.Knowing.{left_over}
+use Rattle.board_core.proofs.Knowing.{kept_over}
 use Rattle.board_core.proofs.board.Board.give_back.Goals as goal
 
 pub returns-clause-out : goal.returns-clause-out
@@ -12,4 +12,4 @@ returns-clause-out c =
     let task = job_of c.args.task.now in
     subst (λ (z : BoardView). map job_of c.retain.new.self.items ≡ left_out task (map job_of z.out)) c.self.view_is
     (ap (map job_of) (filter_same _ (λ job. not (same_job (job_of job) task)) _ (λ x b f' k. search rules) _ _ c.retain.ensures.filtered)
-    ∙ left_over task c.self.inside.out.items)
+    ∙ kept_over (λ other. not (same_job other task)) c.self.inside.out.items)

@@ -1,11 +1,13 @@
-use Rattle.std.proofs.Common.{ap, refl, subst, sym}
+use Rattle.std.proofs.Common.{◌∙◌, ap, refl, subst, sym}
 use Rattle.spec_core.specs.Code.{program_of}
 use Rattle.tree_nodes.specs.Rests.{expansion_of}
 use Rattle.tree_nodes.specs.Shapes.{Held, IsNodeOf, IsRight, posted}
 use Rattle.board_core.specs.Boards.{IsWorkAt}
 use Rattle.board_core.specs.Views.{BoardView, program, tree, pieces, windows}
 use Rattle.board_core.specs.contracts.board.Board.{the_view}
+use Rattle.board_core.specs.Working.{KeepsNodes}
 use Rattle.board_core.proofs.Keeping.{posts, stays}
+use Rattle.board_core.proofs.Origins.{post_keeps}
 use Rattle.board_core.proofs.board.Board.post.Goals as goal
 
 pub invariant_of-self : goal.invariant_of-self
@@ -20,3 +22,10 @@ invariant_of-self c =
     (subst (λ (z : BoardView). (n : Held) → IsNodeOf (tree z) g n → IsWorkAt (program z) (windows z) n.source work) (sym c.self.view_is)
     c.requires.work)
     (λ a b. subst (IsRight (program v)) c.post.ensures.posted (c.post.ensures.right a b)) c.self.invariant)
+
+pub returns-clause-nodes : goal.returns-clause-nodes
+returns-clause-nodes c =
+    let same = c.give_back.ensures.nodes in
+    subst (λ (z : BoardView). KeepsNodes z c.give_back.new.self) c.self.view_is
+    (post_keeps (the_view c.self.inside) c.give_back.new.self c.args.generation.0 (expansion_of c.args.work)
+    (same.0 ∙ c.post.ensures.posted) (same.1 ∙ c.post.ensures.next))

@@ -4,6 +4,6 @@ use Rattle.rule_model.specs.Legal.{AllWait}
 use Rattle.rule_model.specs.States.{State}
 
 -- no offer is pending, and some open client hasn't one: nothing comes next, whatever the behaviour may do
-pub record IsIdle (s : State) : Type 0 where
+pub record AwaitsClients (s : State) : Type 0 where
   pub none : s.pending ≡ []
   pub some : AllWait s → ⊥

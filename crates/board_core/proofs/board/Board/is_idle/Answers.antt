@@ -1,7 +1,0 @@
-use Rattle.std.proofs.Common.{rules}
-use Rattle.board_core.specs.Views.{state}
-use Rattle.board_core.proofs.Quiet.{idle_by}
-use Rattle.board_core.proofs.board.Board.is_idle.Goals as goal
-
-pub returns-then-none_pending : goal.returns-then-none_pending
-returns-then-none_pending c = idle_by (state c.args.self.now) c.all_wait.result (search rules) c.all_wait.ensures
