@@ -194,8 +194,8 @@ impl Board {
         }
     }
 
-    // Whether a generation lives; then it has begun.
-    fn lives(&self, generation: Gen) -> bool
+    /// Whether the node of a generation lives; then it has begun. It takes no memory.
+    pub fn lives(&self, generation: Gen) -> bool
         ensures lives { IsTrue result ↔ Lives (tree self.now) generation.0 }
         ensures begun { IsTrue result → generation.0 < self.now.session.tree.next }
     {

@@ -3,4 +3,4 @@
 
 pub mod run;
 mod settling_all;
-mod working;
+pub mod working;
