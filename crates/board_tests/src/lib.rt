@@ -1,0 +1,16 @@
+// Tests of what no command shows of the board of a session: jobs that are handed out, work that comes late, refusals, two clients at once,
+// and actions that are made ready. Worked out by hand from the rules of sessions.
+#![tactic(auto)]
+
+#[cfg(test)]
+mod jobs;
+#[cfg(test)]
+mod late;
+#[cfg(test)]
+mod offers;
+#[cfg(test)]
+mod steps;
+#[cfg(test)]
+mod telling;
+#[cfg(test)]
+mod working;
