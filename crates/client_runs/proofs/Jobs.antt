@@ -1,5 +1,5 @@
 -- What workers bring is what is asked of them.
-use Rattle.std.proofs.Common.{ℕ, ◌≡◌, List, Option, sym, subst}
+use Rattle.std.proofs.Common.{ℕ, ◌≡◌, ◌⊎◌, inl, inr, List, Option, None, Some, refl, sym, subst}
 use Rattle.spec_core.specs.declared.code.Checked.{Checked}
 use Rattle.spec_core.specs.declared.window.Window.{Window}
 use Rattle.spec_core.specs.Code.{program_of}
@@ -14,7 +14,11 @@ use Rattle.tree_nodes.specs.Origins.{Source, meaning}
 use Rattle.tree_nodes.specs.Rests.{Work}
 use Rattle.tree_nodes.specs.Shapes.{Above, Held, IsNodeOf, Stands}
 use Rattle.window_tables.specs.Tables.{windows_in}
+use Rattle.session_rules.specs.declared.stop_reason.StopReason.{StopReason}
+use Rattle.board_core.specs.declared.job.Post.{Post}
+use Rattle.board_core.specs.declared.job.Post.TheVariants.{Posted, Stale}
 use Rattle.board_core.specs.Boards.{IsWorkAt}
+use Rattle.board_core.specs.Working.{first_reason}
 use Rattle.board_core.specs.Views.{BoardView, program, tree, windows}
 
 -- the work of an origin is that of the node that stands for it
@@ -65,3 +69,19 @@ unshown_of_node v checked rows g o budget d stop e f b origin h n is =
     (subst
     (λ z. Stops (program_of z).theory budget (TreeAsks (program_of z) (windows_in rows) unmarked (meaning (program_of z) o) d) Never stop)
     e h)))
+
+-- a reason that is handed in stops the session, or the job's node is gone, or is expanded already
+pub stopped_or_stale : (old new : BoardView) {A B : Type 0} (post : Post) (reason : StopReason) {F : Type 0} →
+    (post ≡ Posted → A × (new.stop ≡ first_reason old.stop reason)) → (post ≡ Stale → (F → ⊥) × B) →
+    (new.stop ≡ None → ⊥) ⊎ (F → ⊥)
+stopped_or_stale old new Posted reason f g = inl (by_stop old.stop (f refl).1)
+  where
+    by_stop : (o : Option StopReason) → new.stop ≡ first_reason o reason → new.stop ≡ None → ⊥
+    by_stop None e k = cc
+    by_stop (Some first) e k = cc
+stopped_or_stale old new Stale reason f g = inr (g refl).0
+
+-- what is handed in is known, or the node is gone, or is expanded already
+pub found_or_stale : {A B F H S : Type 0} (post : Post) → (post ≡ Posted → A × H) → (post ≡ Stale → (F → ⊥) × B) → H ⊎ (S ⊎ (F → ⊥))
+found_or_stale Posted f g = inl (f refl).1
+found_or_stale Stale f g = inr (inr (g refl).0)

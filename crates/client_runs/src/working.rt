@@ -1,9 +1,9 @@
 // Jobs, done at once.
 
-ghost use Rattle.std.specs.Prelude.{◌≡◌, Some};
+ghost use Rattle.std.specs.Prelude.{◌≡◌, ◌⊎◌, None, OnOk, Some};
 ghost use Rattle.spec_core.specs.Lists.{IsOneOf};
 ghost use Rattle.rule_model.specs.Derivations.{derivation_of};
-ghost use Rattle.candidates.specs.Jobs.{to_judge};
+ghost use Rattle.candidates.specs.Jobs.{to_expand, to_judge};
 ghost use Rattle.candidates.specs.Models.{job_of};
 ghost use Rattle.known_shows.specs.Known.{node_part};
 ghost use Rattle.tree_nodes.specs.Origins.{source_of};
@@ -15,6 +15,7 @@ ghost use Rattle.stop_reasons.specs.Reasons.{IsReasonToStop};
 ghost use Rattle.board_core.specs.Views.{needed_at, program, state, tree, SameSession};
 ghost use Rattle.board_core.specs.Working.{IsFree};
 ghost use Rattle.client_runs.specs.Runs.{Continues};
+ghost use Rattle.client_runs.specs.Working.{IsDone};
 
 use board_core::board::Board;
 use board_core::job::Job;
@@ -33,6 +34,7 @@ use tree_nodes::origin::{Gen, Origin};
 fn fail(board: &mut Board, task: &NodeJob, stop: Stop) -> Result<(), Memory>
     requires reason { IsFree (tree board.old) (job_of task.now) → (reason : StopReason) → reason_of stop ≡ Some reason →
         IsReasonToStop (program board.old) board.old.settings (state board.old) reason }
+    ensures done { OnOk result ((board.new.stop ≡ None → ⊥) ⊎ (IsFree (tree board.old) (job_of task.now) → ⊥)) }
     ensures continues { Continues board.old board.new }
     ensures session { SameSession board.old board.new }
 {
@@ -48,6 +50,7 @@ fn fail(board: &mut Board, task: &NodeJob, stop: Stop) -> Result<(), Memory>
 // A node is expanded.
 fn expand(alloc: Global, board: &mut Board, generation: Gen, origin: &Origin) -> Result<(), Memory>
     requires origin { (n : Held) → IsNodeOf (tree board.old) generation.0 n → n.source ≡ source_of origin.now }
+    ensures done { OnOk result (IsDone board.old board.new (to_expand generation.0)) }
     ensures continues { Continues board.old board.new }
     ensures session { SameSession board.old board.new }
 {
@@ -73,6 +76,7 @@ fn judge(
 ) -> Result<(), Memory>
     requires needed { IsOneOf (to_judge (node_part generation.0 (derivation_of rules))) (needed_at board.old) }
     requires origin { (n : Held) → IsNodeOf (tree board.old) generation.0 n → n.source ≡ source_of origin.now }
+    ensures done { OnOk result (IsDone board.old board.new (to_judge (node_part generation.0 (derivation_of rules)))) }
     ensures continues { Continues board.old board.new }
     ensures session { SameSession board.old board.new }
 {
@@ -106,6 +110,7 @@ fn judge(
 pub fn work(alloc: Global, board: &mut Board, job: Job) -> Result<(), Memory>
     requires needed { IsOneOf (job_of job.task) (needed_at board.old) }
     requires origin { (n : Held) → IsNodeOf (tree board.old) (generation_of (job_of job.task)) n → n.source ≡ source_of job.origin }
+    ensures done { OnOk result (IsDone board.old board.new (job_of job.task)) }
     ensures continues { Continues board.old board.new }
     ensures session { SameSession board.old board.new }
 {

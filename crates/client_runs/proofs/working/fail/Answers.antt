@@ -1,4 +1,5 @@
 use Rattle.std.proofs.Common.{◌∙◌, sym}
+use Rattle.client_runs.proofs.Jobs.{stopped_or_stale}
 use Rattle.client_runs.proofs.Running.{failed}
 use Rattle.client_runs.proofs.working.fail.Goals as goal
 
@@ -9,3 +10,7 @@ pub returns-in-Some-clause-continues : goal.returns-in-Some-clause-continues
 returns-in-Some-clause-continues c =
     failed c.args.board.now c.fail.new.self c.fail.ensures.session c.fail.ensures.log c.fail.result c.in-Some.reason
     (λ free. c.requires.reason free c.in-Some.reason (sym c.reason_for.ensures ∙ c.in-Some.is)) c.fail.ensures.posted c.fail.ensures.stale
+
+pub returns-in-Some-clause-done : goal.returns-in-Some-clause-done
+returns-in-Some-clause-done c =
+    stopped_or_stale c.args.board.now c.fail.new.self c.fail.result c.in-Some.reason c.fail.ensures.posted c.fail.ensures.stale

@@ -1,10 +1,10 @@
-use Rattle.std.proofs.Common.{ap, option_map}
+use Rattle.std.proofs.Common.{ap, option_map, refl}
 use Rattle.spec_core.specs.declared.settings.Settings.{Settings}
 use Rattle.rule_model.specs.Derivations.{derivation_of}
 use Rattle.known_shows.specs.Known.{node_part}
 use Rattle.shown_actions.specs.Models.{show_of}
 use Rattle.tree_nodes.specs.Origins.{source_of}
-use Rattle.client_runs.proofs.Jobs.{piece_of_node, unshown_of_node}
+use Rattle.client_runs.proofs.Jobs.{found_or_stale, piece_of_node, unshown_of_node}
 use Rattle.client_runs.proofs.working.judge.Goals as goal
 
 pub judged-requires : goal.judged-requires
@@ -26,3 +26,12 @@ fail-requires c = record {
       c.in-Err.ensures.stop free.node free.is)
       reason q;
 }
+
+pub returns-in_ok-judged-in-Ok-clause-done : goal.returns-in_ok-judged-in-Ok-clause-done
+returns-in_ok-judged-in-Ok-clause-done c =
+    let h = c.in_ok-judged-in-Ok.ensures in
+    found_or_stale c.in_ok-judged-in-Ok.field-0
+    (λ e.
+    let p = h.posted e in
+    (p.0, (record { generation = c.args.generation; rules = c.args.rules; shown = c.in-Ok.shown }, refl, p.1)))
+    h.stale
