@@ -25,7 +25,7 @@ use Rattle.sort_overloads.specs.Listed.{Typed}
 use Rattle.sort_overloads.specs.Refused.{is_sort_known, unknown_sort, unknowns}
 use Rattle.equation_readings.specs.Variables.{variables_of, all_variables, sort_named}
 use Rattle.type_names.specs.DuplicateNames.{names_twice}
-use Rattle.behaviour_readings.specs.Calls.{IsValueRead, sorted, unsorted, AreValuesRead, IsBindingRead, bound, bound_to, AreBindingsRead, variable_of}
+use Rattle.behaviour_readings.specs.Calls.{IsValueRead, sorted, unsorted, IsArgumentRead, fitted, AreValuesRead, IsBindingRead, bound, bound_to, AreBindingsRead, variable_of}
 use Rattle.behaviour_readings.specs.Declarations.{gate_numbers, of_one_sort, numbered_from, declaration_refusals, are_known, declared_variables}
 use Rattle.behaviour_readings.specs.Offers as offers
 use Rattle.behaviour_readings.specs.Offers.{IsExpressionRead, names_of, offered_variables, offered_names, accepting, IsOfferRead, value, variables, numbered_offers, AreOffersRead, IsPredicateRead, any_value, IsExitValueRead, any, AreExitValuesRead}
@@ -114,6 +114,9 @@ module _ (s : Site) where
   value-same sort e d k found rs (sorted w _ x qs h) = sorted w d x qs (expression-same (Some w) e d k x qs h)
   value-same sort e d k found rs (unsorted _) = subst (λ t. IsValueRead s None d None (unknowns s.context (expression t))) (sym k) (unsorted d)
 
+  argument-same : (sort : Option ℕ) (e d : Expr) → AreExpressionsAlike e d → (found : Option TermTree) (rs : List Refusal) → IsArgumentRead s sort e found rs → IsArgumentRead s sort d found rs
+  argument-same sort e d k _ rs (fitted t _ h) = fitted t rs (value-same sort e d k t rs h)
+
   abbrev AreSortedAlike : Option ℕ × Expr → Option ℕ × Expr → Type 0
   AreSortedAlike a b = (a.0 ≡ b.0) × AreExpressionsAlike a.1 b.1
 
@@ -126,7 +129,7 @@ module _ (s : Site) where
 
   pub values-same : (sorts : List (Option ℕ)) (es ds : List Expr) → AreAlike AreExpressionsAlike es ds → (found : Option (List TermTree)) (rs : List Refusal) → AreValuesRead s sorts es found rs → AreValuesRead s sorts ds found rs
   values-same sorts es ds k found rs h =
-      all-read AreSortedAlike (λ e. IsValueRead s e.0 e.1) (λ e. IsValueRead s e.0 e.1) (λ a b r found rs h. value-same b.0 a.1 b.1 r.1 found rs (subst (λ z. IsValueRead s z a.1 found rs) r.0 h))
+      all-read AreSortedAlike (λ e. IsArgumentRead s e.0 e.1) (λ e. IsArgumentRead s e.0 e.1) (λ a b r found rs h. argument-same b.0 a.1 b.1 r.1 found rs (subst (λ z. IsArgumentRead s z a.1 found rs) r.0 h))
       (zip sorts es) (zip sorts ds) (sorted-alike sorts es ds k) found rs h
 
   abbrev AreEnumeratedAlike : ℕ × Binding → ℕ × Binding → Type 0

@@ -1,5 +1,5 @@
 -- Specifications that are alike are judged alike.
-use Rattle.std.proofs.Common.{ℕ, ◌≡◌, ◌+◌, ◌∙◌, refl, sym, subst, List, [], ◌∷◌, ◌++◌, length, map, Option, Some, None, option_map}
+use Rattle.std.proofs.Common.{ℕ, ◌≡◌, ◌+◌, ◌∙◌, refl, sym, ap, subst, List, [], ◌∷◌, ◌++◌, length, map, Option, Some, None, option_map}
 use Rattle.std.specs.List.{range_with_len}
 use Rattle.lotos_ast.specs.declared.refusal.Refusal.{Refusal}
 use Rattle.lotos_ast.specs.declared.spec.Spec.{Spec}
@@ -15,16 +15,16 @@ use Rattle.behaviour_readings.specs.ReadsAll.{before}
 use Rattle.behaviour_readings.specs.Readings.{IsRead}
 use Rattle.call_cycles.specs.AtOnce.{calls_at_once}
 use Rattle.call_cycles.specs.Unguarded.{unguarded_refusals}
-use Rattle.process_table.specs.Headings.{declared, opening_refusals}
+use Rattle.process_table.specs.Headings.{declared, opening_refusals, parameter_sorts}
 use Rattle.process_table.specs.Processes.{Entry, entries}
-use Rattle.static_check.specs.Bodies.{Setting, body_site, ending_refusals, Placed, placed, AreBodiesRead, none_left, one_more, calls_from}
+use Rattle.static_check.specs.Bodies.{Setting, body_site, ending_refusals, unknown_in, Placed, placed, AreBodiesRead, none_left, one_more, calls_from}
 use Rattle.static_check.specs.Compiled.{data_context, setting, start_site, process_node, process_nodes, body_nodes, program_if_read, IsJudged}
 use Rattle.syntax_laws.specs.Alike.{AreAlike}
 use Rattle.alike_types.proofs.Lists.{length-same, map-same}
 use Rattle.alike_constructs.specs.Laws as constructs
 use Rattle.alike_specifications.specs.Alike.{AreEntriesAlike, AreSpecificationsAlike}
 use Rattle.alike_specifications.specs.Laws.{SameIsJudged}
-use Rattle.alike_specifications.proofs.Tables.{AreSettingsAlike, declared-same, functionality-refused-same, all-variables-same, table-refused-same, within-same, site-same, calls-same}
+use Rattle.alike_specifications.proofs.Tables.{AreSettingsAlike, parameter-sorts-same, declared-same, functionality-refused-same, all-variables-same, table-refused-same, within-same, site-same, calls-same}
 
 name-same : (e f : Entry) → AreEntriesAlike e f → e.process.name.text ≡ f.process.name.text
 name-same e f k = let name : e.process.name ≡ f.process.name = k.process.name in λ i. (name i).text
@@ -38,9 +38,11 @@ module _ (all other : Setting) (k : AreSettingsAlike all other) where
       let context : all.context ≡ other.context = k.context in
       let name : e.process.name ≡ f.process.name = l.0.process.name in
       let ends = (λ i. declared (context i) e.process.functionality) ∙ declared-same other.context e.process.functionality f.process.functionality l.0.process.functionality in
+      let unknown = (λ i. unknown_in (length (context i).sorts) (parameter_sorts (context i) e.process.parameters))
+      ∙ ap (unknown_in (length other.context.sorts)) (parameter-sorts-same other.context e.process.parameters f.process.parameters l.0.process.parameters) in
       let read = same_is_read (body_site other number f) from e.process.body f.process.body l.0.process.body x rb
       (subst (λ s. IsRead s from e.process.body x rb) (site-same all other k number e f l.0) h) in
-      subst (λ z. AreBodiesRead other number from end (f ∷ fs) (before (option_map (placed from) x) xs) ((rb ++ z) ++ rest)) (λ i. ending_refusals (sym name i).place (sym ends i) x)
+      subst (λ z. AreBodiesRead other number from end (f ∷ fs) (before (option_map (placed from) x) xs) ((rb ++ z) ++ rest)) (λ i. ending_refusals (sym unknown i) (sym name i).place (sym ends i) x)
       (one_more f fs x xs rb rest read (bodies-same same_is_read (number + 1) (after from x) end es fs l.1 xs rest m))
 
   calls-from-same : (number : ℕ) (es fs : List Entry) → AreAlike AreEntriesAlike es fs → calls_from all number es ≡ calls_from other number fs
@@ -118,7 +120,7 @@ module _ (theory : Theory) (a b : Spec) (k : AreSpecificationsAlike a b) where
             (subst (λ s. IsRead s h.from (behaviour_written a.behaviour) h.start h.start_refusals) start-same h.is_read);
         is_program = h.is_program ∙ program-same h.bodies h.from h.start;
         are_refusals = h.are_refusals ∙ (λ i. opening-same i ++ (table i ++ (h.body_refusals ++ (h.start_refusals
-            ++ (ending_refusals (name i).place (ends i) h.start ++ unguarded_refusals (names i) (calls i))))));
+            ++ (ending_refusals None (name i).place (ends i) h.start ++ unguarded_refusals (names i) (calls i))))));
       }
 
 pub same_is_judged : constructs.SameIsRead → SameIsJudged

@@ -48,7 +48,7 @@ module _ (c : Context) where
       let sort : d.sort ≡ e.sort = k.sort in
       λ i. map (λ (t : Token). known_sort c (sort i)) (names i)
 
-  parameter-sorts-same : (ds es : List Declaration) → AreAlike AreDeclarationsAlike ds es → parameter_sorts c ds ≡ parameter_sorts c es
+  pub parameter-sorts-same : (ds es : List Declaration) → AreAlike AreDeclarationsAlike ds es → parameter_sorts c ds ≡ parameter_sorts c es
   parameter-sorts-same ds es k =
       flat-same AreDeclarationsAlike (λ (d : Declaration). map (λ (t : Token). known_sort c d.sort) d.names.items) (λ (d : Declaration). map (λ (t : Token). known_sort c d.sort) d.names.items) parameter-sorts-of ds es k
 

@@ -1,5 +1,5 @@
 -- What single values are read as.
-use Rattle.std.proofs.Common.{ℕ, ◌≡◌, sym, subst, List, ◌++◌, Option, Some, None, append_assoc, if◌then◌else◌, Bool, true, false, refl, ◌∙◌, ap}
+use Rattle.std.proofs.Common.{ℕ, ◌≡◌, sym, subst, List, [], ◌∷◌, ◌++◌, length, length-append, append-nil, arith, Option, Some, None, append_assoc, if◌then◌else◌, Bool, true, false, refl, ◌∙◌, ap}
 use Rattle.std.specs.Prelude.{option_map}
 use Rattle.lotos_ast.specs.declared.behaviour.ExitValue.{ExitValue}
 use Rattle.lotos_ast.specs.declared.behaviour.ExitValue.TheVariants.{Any}
@@ -15,10 +15,10 @@ use Rattle.sort_overloads.specs.Judged.{Adds}
 use Rattle.sort_overloads.specs.Listed.{Typed}
 use Rattle.sort_overloads.specs.Refused.{unknowns, unknown_sort}
 use Rattle.lotos_ast.specs.declared.behaviour.Binding.{Binding}
-use Rattle.spec_core.specs.Terms.{TermTree}
+use Rattle.spec_core.specs.Terms.{TermTree, variable}
 use Rattle.equation_readings.specs.Variables.{sort_named}
 use Rattle.sort_overloads.specs.Refused.{is_sort_known}
-use Rattle.behaviour_readings.specs.Calls.{IsValueRead, sorted, unsorted, IsBindingRead, bound, bound_to}
+use Rattle.behaviour_readings.specs.Calls.{IsValueRead, sorted, unsorted, fitting, IsArgumentRead, fitted, IsBindingRead, bound, bound_to}
 use Rattle.behaviour_readings.specs.Offers.{IsExpressionRead, IsExitValueRead, any, value}
 use Rattle.behaviour_readings.specs.Sites.{Site, sort_of}
 
@@ -37,6 +37,36 @@ value_unread s sort e old new h = added_as old new (λ rs p. sorted sort e None 
 pub value_read : (s : Site) (sort : Sort) (e : Expr) (x : Typed) (old new : List Refusal) → Adds (IsExpressionRead s (Some sort) e (Some x)) old new
     → Adds (IsValueRead s (Some sort.0) e (Some x.term)) old new
 value_read s sort e x old new h = added_as old new (λ rs p. sorted sort e (Some x) rs p) h
+
+-- for a parameter whose sort isn't known: a variable where nothing was added, and else nothing
+
+no_elements : (rs : List Refusal) → length rs ≡ 0 → rs ≡ []
+no_elements [] e = refl
+no_elements (r ∷ rs) e = absurd (omega (arith, e))
+
+pub argument_open : (s : Site) (e : Expr) (t : Option TermTree) (old new : List Refusal) → Adds (IsValueRead s None e t) old new
+    → length new ≡ length old → Adds (IsArgumentRead s None e (Some (variable 0))) old new
+argument_open s e t old new h same =
+    let l = length-append old h.refusals in
+    let b = ap length h.behind in
+    let n : h.refusals ≡ [] = no_elements h.refusals (omega (arith, l, b, same)) in
+    record {
+      refusals = h.refusals;
+      such = subst (λ u. IsArgumentRead s None e u h.refusals) (ap (λ rs. fitting None rs t) n) (fitted t h.refusals h.such);
+      behind = h.behind;
+    }
+
+pub argument_hindered : (s : Site) (e : Expr) (t : Option TermTree) (old new : List Refusal) → Adds (IsValueRead s None e t) old new
+    → (length new ≡ length old → ⊥) → Adds (IsArgumentRead s None e None) old new
+argument_hindered s e t old new h differ = by_refusals h.refusals h.such h.behind
+  where
+    by_refusals : (rs : List Refusal) → IsValueRead s None e t rs → new ≡ old ++ rs → Adds (IsArgumentRead s None e None) old new
+    by_refusals [] such behind = absurd (differ (ap length (behind ∙ append-nil old)))
+    by_refusals (r ∷ rs) such behind = record { refusals = r ∷ rs; such = fitted t (r ∷ rs) such; behind = behind }
+
+pub argument_known : (s : Site) (sort : Sort) (e : Expr) (t : Option TermTree) (old new : List Refusal) → Adds (IsValueRead s (Some sort.0) e t) old new
+    → Adds (IsArgumentRead s (Some sort.0) e t) old new
+argument_known s sort e t old new h = record { refusals = h.refusals; such = fitted t h.refusals h.such; behind = h.behind }
 
 -- any value of a sort
 any_as : (s : Site) (place : Place) (t : Token) (o : Option ℕ) → o ≡ sort_of s t → (old new : List Refusal) → new ≡ old ++ unknown_sort s.context t

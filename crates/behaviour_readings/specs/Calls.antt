@@ -10,7 +10,7 @@ use Rattle.lotos_ast.specs.ExpressionTrees.{expr_tree}
 use Rattle.spec_core.specs.declared.items.Sort.{Sort}
 use Rattle.spec_core.specs.Code as code
 use Rattle.spec_core.specs.Code.{Node, call}
-use Rattle.spec_core.specs.Terms.{TermTree}
+use Rattle.spec_core.specs.Terms.{TermTree, variable}
 use Rattle.sort_overloads.specs.Expressions.{expression}
 use Rattle.sort_overloads.specs.Listed.{Typed}
 use Rattle.sort_overloads.specs.Readings.{Declared}
@@ -28,9 +28,20 @@ pub data IsValueRead (s : Site) : Option ℕ → Expr → Option TermTree → Li
       IsValueRead s (Some sort.0) e (option_map (λ x. x.term) x) rs
   unsorted : (e : Expr) → IsValueRead s None e None (unknowns s.context (expression (expr_tree e)))
 
--- expressions, each with its sort
+-- What stands for a parameter: the value of the expression. Where the parameter's sort isn't known, each expression fits of which nothing is
+-- refused; a variable stands for it, in code that isn't used, since the text is refused at the sort.
+abbrev pub fitting : Option ℕ → List Refusal → Option TermTree → Option TermTree
+fitting (Some sort) rs t = t
+fitting None [] t = Some (variable 0)
+fitting None (r ∷ rs) t = None
+
+-- an expression for a parameter of this sort, if it is known
+pub data IsArgumentRead (s : Site) (sort : Option ℕ) (e : Expr) : Option TermTree → List Refusal → Type 0 where
+  fitted : (t : Option TermTree) (rs : List Refusal) → IsValueRead s sort e t rs → IsArgumentRead s sort e (fitting sort rs t) rs
+
+-- expressions, each for a parameter of its sort
 abbrev pub AreValuesRead : Site → List (Option ℕ) → List Expr → Option (List TermTree) → List Refusal → Type 0
-AreValuesRead s sorts es = ReadsAll (λ e. IsValueRead s e.0 e.1) (zip sorts es)
+AreValuesRead s sorts es = ReadsAll (λ e. IsArgumentRead s e.0 e.1) (zip sorts es)
 
 -- the call of a process, where its gates and values are there
 abbrev pub called : Heading → Option (List ℕ) → Option (List TermTree) → Option Read

@@ -260,6 +260,13 @@ impl<'a> Site<'a> {
         add_unknown_sort(alloc, &self.scope, sort, refusals)
     }
 
+    /// How many sorts there are. It takes no memory.
+    pub fn sorts(&self) -> usize
+        ensures { result ≡ length self.now.context.sorts }
+    {
+        self.scope.signature.sorts.len()
+    }
+
     /// How many variables are in scope. It takes no memory.
     pub fn variables(&self) -> usize
         ensures count { result ≡ length self.now.context.variables }

@@ -4,7 +4,7 @@ ghost use Rattle.std.specs.Prelude.{◌≡◌, ◌++◌, ◌∷◌, [], IfOk, On
 ghost use Rattle.spec_core.specs.Numbers.{sort_number};
 ghost use Rattle.spec_core.specs.Terms.{term_of};
 ghost use Rattle.sort_overloads.specs.Judged.{Adds};
-ghost use Rattle.behaviour_readings.specs.Calls.{IsValueRead, AreValuesRead};
+ghost use Rattle.behaviour_readings.specs.Calls.{IsArgumentRead, IsValueRead, AreValuesRead};
 ghost use Rattle.behaviour_readings.specs.Offers.{IsExitValueRead, AreExitValuesRead};
 ghost use Rattle.behaviour_readings.specs.ReadsAll.{all_before};
 ghost use Rattle.behaviour_readings.specs.Views.{exit_value_at, sort_if_known};
@@ -102,7 +102,33 @@ pub fn exit_values(
     Ok(all)
 }
 
-/// Expressions, each with its sort.
+// An expression for a parameter; where the parameter's sort isn't known, each expression fits of which nothing is refused.
+#[tactic(auto, using(crate::proofs::Single::argument_open, crate::proofs::Single::argument_hindered, crate::proofs::Single::argument_known))]
+fn argument(
+    alloc: Global,
+    site: &Site<'_>,
+    sort: Option<Sort>,
+    expr: &Expr,
+    refusals: &mut Vec<Refusal>,
+) -> Result<Option<Term>, Memory>
+    ensures { IfOk result (λ found. Adds (IsArgumentRead site.now (sort_if_known sort) expr.now (option_map term_of found))
+        refusals.old.items refusals.new.items) }
+{
+    let before = refusals.len();
+    let found = value(alloc, site, sort, expr, refusals)?;
+    match sort {
+        Some(_) => Ok(found),
+        None => {
+            if refusals.len() == before {
+                Ok(Some(Term::Var(0)))
+            } else {
+                Ok(None)
+            }
+        }
+    }
+}
+
+/// Expressions, each for a parameter of its sort.
 pub fn values(
     alloc: Global,
     site: &Site<'_>,
@@ -116,7 +142,7 @@ pub fn values(
 {
     let mut all = Some(Vec::new(alloc));
     for (i, expr) in from.iter().enumerate() {
-        let found = value(alloc, site, sorts[i], expr, refusals)?;
+        let found = argument(alloc, site, sorts[i], expr, refusals)?;
         all = with_one(all, found)?;
     }
     Ok(all)

@@ -1,5 +1,5 @@
 -- What the rules decide on a board is due.
-use Rattle.std.proofs.Common.{◌≡◌, inl, inr, List, [], ◌∷◌, refl, sym, subst, Option, None, Some}
+use Rattle.std.proofs.Common.{◌≡◌, ◌∙◌, inl, inr, List, [], ◌∷◌, length, refl, sym, ap, subst, Option, None, Some}
 use Rattle.spec_core.specs.Lists.{Each, IsOneOf}
 use Rattle.spec_core.specs.Ready.{IsReady}
 use Rattle.rule_model.specs.declared.action.Action.{Action}
@@ -11,13 +11,15 @@ use Rattle.rule_model.specs.Events.{OfferName}
 use Rattle.rule_model.specs.Legal.{IsAgreed}
 use Rattle.rule_model.specs.States.{PendingOffer}
 use Rattle.ready_lists.proofs.Answers.{exact_answers_exist}
-use Rattle.expand.proofs.Top.{table_windows}
-use Rattle.windowed_trees.specs.Windows.{AreWindows}
+use Rattle.windowed_trees.specs.MarkedTerms.{unmarked}
 use Rattle.composites.specs.Evaluations.{Evaluation, IsExact}
+use Rattle.open_composites.specs.Laws.{composites_of}
+use Rattle.own_plans.proofs.Own.{own_plans_are_those}
 use Rattle.courses.specs.Rules.{Next, takes, deadlocks, is_beyond, is_not_now, goes_on, stalls, nothing, meeting, unseen, next_of}
 use Rattle.asked_trees.specs.Asked.{TestsAsked, TreeQuery}
 use Rattle.asked_trees.specs.Laws.{EntryHolds, lists_of}
 use Rattle.tree_nodes.specs.Generations.{AreApart}
+use Rattle.tree_nodes.specs.Origins.{meaning}
 use Rattle.tree_nodes.specs.Shapes.{stands_for}
 use Rattle.candidates.specs.Laws.{IsKnownTree}
 use Rattle.candidates.proofs.Deciding.{decided_entries_are_next, decided_entries_are_so}
@@ -26,7 +28,7 @@ use Rattle.followed_trees.proofs.Following.{searched_trees_follow}
 use Rattle.followed_trees.proofs.Finding.{found_trees_are_searched}
 use Rattle.needed_jobs.specs.Laws.{FirstTreesSay}
 use Rattle.needed_jobs.proofs.Steps.{first_trees_are_so}
-use Rattle.session_rules.specs.Next.{IsNextOf}
+use Rattle.session_rules.specs.Next.{AreSessionWindows, IsNextOf}
 use Rattle.waiting_offers.specs.Waiting.{waiting_in}
 use Rattle.waiting_offers.proofs.Members.{held}
 use Rattle.waiting_offers.proofs.Sound.{waiting_is_sound}
@@ -36,6 +38,7 @@ use Rattle.board_core.specs.Boards.{IsBoard}
 use Rattle.board_core.specs.Settled.{IsDue, MayBeDone, MayFollow}
 use Rattle.board_core.specs.Views.{BoardView, program, state, tree, windows, pieces, decided_at, first_at, all_at}
 use Rattle.board_core.proofs.Found.{IsFound, decided_is_found}
+use Rattle.board_core.proofs.Tables.{table_of_session}
 
 -- what holds of each element that is one of the list holds of each
 each_of : {A : Type 0} (P : A → Type 0) (xs : List A) → ((x : A) → IsOneOf x xs → P x) → Each P xs
@@ -44,17 +47,19 @@ each_of P (x ∷ xs) h = (h x (inl refl), each_of P xs (λ y k. h y (inr k)))
 
 module _ (v : BoardView) (is : IsBoard v) (ready : IsReady (program v)) (apart : AreApart (tree v))
     (reached : (state v).behaviour ≡ stands_for (program v) (tree v)) where
-  pub sized : AreWindows (program v).theory v.settings.values (windows v)
-  sized = table_windows (program v).theory v.settings.values v.windows is.rows_are is.all_sorts
+  pub of_session : AreSessionWindows (program v) v.settings (windows v)
+  of_session = table_of_session (program v) v.settings v.windows is.rows_are is.all_sorts
 
   pub known_tree : (e : Evaluation) → IsExact (program v) e →
       IsKnownTree (program v) e v.settings.values (windows v) (tree v) (pieces v)
   known_tree e exact = record {
     ready = ready;
     exact = exact;
-    windows = sized;
+    windows = of_session.sized;
     apart = apart;
-    expanded = λ up n s x h. is.expansions up n s x h e exact;
+    expanded = λ up n s x h.
+        ap (composites_of (program v).theory (windows v)) (is.expansions up n s x h e exact)
+        ∙ own_plans_are_those (program v).theory e (windows v) (length (program v).code) unmarked (meaning (program v) n.source);
     shown = is.shown;
   }
 
@@ -67,13 +72,17 @@ module _ (v : BoardView) (is : IsBoard v) (ready : IsReady (program v)) (apart :
   jobs_give_reasons =
       let exact = exact_answers_exist (program v) ready in
       given.jobs_give_reasons (program v) v.settings exact.0 (windows v) (tree v) (pieces v) (state v)
-      (record { known = known_tree exact.0 exact.1; reached = reached })
+      (record {
+        known = known_tree exact.0 exact.1;
+        own = λ f exact up n s x h. is.expansions up n s x h f exact;
+        reached = reached;
+      })
 
   module _ (entry : Next PendingOffer Derivation) (decided : decided_at v ≡ Some entry) where
     next : IsNextOf (program v) v.settings (state v) entry
     next = record {
       windows = windows v;
-      sized = sized;
+      of_session = of_session;
       next = λ e is_asked exact tests.
           subst (λ b. entry ≡ next_of (lists_of (program v) e (windows v) b is_asked) (waiting_in (state v))) (sym reached)
           (decided_entries_are_next (program v) e v.settings.values (windows v) (tree v) (pieces v) (known_tree e exact)
@@ -120,6 +129,7 @@ module _ (v : BoardView) (is : IsBoard v) (ready : IsReady (program v)) (apart :
   pub decided_is_due : (entry : Next PendingOffer Derivation) → decided_at v ≡ Some entry → IsDue v entry
   decided_is_due entry decided =
       let so = holds entry decided in record {
+        decided = decided;
         next = next entry decided;
         holds = so;
         done =

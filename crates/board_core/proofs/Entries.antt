@@ -1,6 +1,6 @@
 -- How entries are appended.
 use Rattle.std.proofs.Common.{ℕ, zero, suc, ◌≡◌, ◌∙◌, ◌≤◌, List, [], ◌∷◌, ◌++◌, refl, sym, ap, subst, map, Option, Some, None, Bool, true, false}
-use Rattle.std.proofs.Common.{option_map, Contains, nat_lt, if◌then◌else◌}
+use Rattle.std.proofs.Common.{option_map, Contains, nat_lt, if◌then◌else◌, inl, inr}
 use Rattle.std.specs.Prelude.{Result, Ok, Err, OnOk}
 use Rattle.std.specs.List.{slice_get}
 use Rattle.spec_core.specs.Code.{Program}
@@ -35,12 +35,17 @@ use Rattle.waiting_offers.proofs.Members.{held}
 use Rattle.waiting_offers.proofs.Order.{least_is_least}
 use Rattle.waiting_offers.proofs.Stalls.{stalls_name_all}
 use Rattle.board_core.specs.Entries.{entry_of, OfAct}
-use Rattle.board_core.specs.Settled.{AnswersLeast, HasSettled, IsDue, settled_limit, settled_next, settled_stopped}
-use Rattle.board_core.specs.Views.{BoardView, program, events, state, tree, decided_at}
+use Rattle.board_core.specs.Settled.{AnswersLeast, AppendsAlone, HasSettled, HasStepped, IsDue, IsKnownAtLimit, LeavesNodes, settled_limit, settled_next}
+use Rattle.board_core.specs.Settled.{settled_stopped}
+use Rattle.board_core.specs.Views.{BoardView, program, events, state, tree, decided_at, HasOneMore}
 
-pub on_ok : {A E : Type 0} {P Q R : Type 0} (r : Result A E) → (P → Q → R) → OnOk r P → OnOk r Q → OnOk r R
-on_ok (Ok x) f p q = f p q
-on_ok (Err e) f p q = tt
+pub on_ok : {A E : Type 0} {P Q O R : Type 0} (r : Result A E) → (P → Q → O → R) → OnOk r P → OnOk r Q → OnOk r O → OnOk r R
+on_ok (Ok x) f p q o = f p q o
+on_ok (Err e) f p q o = tt
+
+pub on_ok_both : {A E : Type 0} {P Q R : Type 0} (r : Result A E) → (P → Q → R) → OnOk r P → OnOk r Q → OnOk r R
+on_ok_both (Ok x) f p q = f p q
+on_ok_both (Err e) f p q = tt
 
 pub on_ok_alone : {A E : Type 0} {P R : Type 0} (r : Result A E) → (P → R) → OnOk r P → OnOk r R
 on_ok_alone (Ok x) f p = f p
@@ -67,19 +72,21 @@ module _ (old new : BoardView) (entry : Next PendingOffer Derivation) (due : IsD
     (running : old.stop ≡ None) (same : new.stop ≡ old.stop) where
   -- what comes next by the rules is appended
   pub by_rules : (event : Event) → IsEventOf (program old) old.settings (state old) entry event → events new ≡ events old ++ event ∷ [] →
-      IsPossible (program old) (state old) event (state new) → HasSettled old new
-  by_rules event is log possible = record {
+      IsPossible (program old) (state old) event (state new) → HasOneMore old new → LeavesNodes old new event → HasSettled old new
+  by_rules event is log possible one_more leaves = record {
     event = event;
     log = log;
+    one_more = one_more;
     possible = possible;
-    why = settled_next running (same ∙ running) (next_by_rules entry rules due.next is);
+    why = settled_next running (same ∙ running) (next_by_rules entry rules due.next is) (inr (entry, due.decided, is));
+    leaves = leaves;
   }
 
   -- an action is
   pub acts : (d : Derivation) (by : Option OfferName) → ((a : Action) → IsEventOf (program old) old.settings (state old) entry (acted a d by)) →
-      HasActed old.session new.session d by → HasSettled old new
-  acts d by is h =
-      by_rules (acted h.action d by) (is h.action) h.log (stands_for (program old) (tree new), h.derives, h.agreed, h.state)
+      HasActed old.session new.session d by → HasStepped old new d → HasSettled old new
+  acts d by is h stepped =
+      by_rules (acted h.action d by) (is h.action) h.log (stands_for (program old) (tree new), h.derives, h.agreed, h.state) h.one_more stepped
 
 -- all pending offers may be stalled
 pub may_stall : (program : Program) (clients : ℕ) (log : List Event) (s : State) → IsSession program clients log s →
@@ -131,14 +138,15 @@ module _ (old new : BoardView) where
   -- the answer was given to it
   pub answers : (answer : Answer) (name : OfferName) → option_map name_of (first (by_client (state old).pending)) ≡ Some name →
       events new ≡ events old ++ replied name.0 name.1 answer ∷ [] →
-      IsPossible (program old) (state old) (replied name.0 name.1 answer) (state new) → AnswersLeast old new answer
-  answers answer name e log possible =
+      IsPossible (program old) (state old) (replied name.0 name.1 answer) (state new) → AppendsAlone old new → AnswersLeast old new answer
+  answers answer name e log possible alone =
       let l = least_is (state old) name e in
       let same = same_reply name (name_of l.offer) answer answer l.same refl in (
         l.offer,
         l.least,
         subst (λ (x : Event). events new ≡ events old ++ x ∷ []) same log,
         subst (λ (x : Event). IsPossible (program old) (state old) x (state new)) same possible,
+        alone,
       )
 
   -- the reason that has stopped the session
@@ -148,16 +156,20 @@ module _ (old new : BoardView) where
     event = replied h.0.client h.0.number answer;
     log = h.2;
     possible = h.3;
+    one_more = h.4.0;
+    leaves = (h.4.1, h.4.2);
     why = settled_stopped reason e (same ∙ e) (h.0, h.1, ap (replied h.0.client h.0.number) is);
   }
 
   -- the limit
-  pub told_limit : old.stop ≡ None → new.stop ≡ Some (Limit Steps) → IsAtLimit (program old) old.settings (state old) →
+  pub told_limit : old.stop ≡ None → new.stop ≡ Some (Limit Steps) → IsKnownAtLimit old →
       AnswersLeast old new (limit (state old).actions Steps) → HasSettled old new
   told_limit e f at h = record {
     event = replied h.0.client h.0.number (limit (state old).actions Steps);
     log = h.2;
     possible = h.3;
+    one_more = h.4.0;
+    leaves = (h.4.1, h.4.2);
     why = settled_limit e f at (h.0, h.1, refl);
   }
 
@@ -168,7 +180,10 @@ module _ (old new : BoardView) where
     event = replied h.0.client h.0.number (ended at);
     log = h.2;
     possible = h.3;
-    why = settled_next e (same ∙ e) (next_ended h.0 end h.1 (ap (λ (n : ℕ). replied h.0.client h.0.number (ended n)) is));
+    one_more = h.4.0;
+    leaves = (h.4.1, h.4.2);
+    why = settled_next e (same ∙ e) (next_ended h.0 end h.1 (ap (λ (n : ℕ). replied h.0.client h.0.number (ended n)) is))
+        (inl end);
   }
 
   -- a deadlock
@@ -176,7 +191,7 @@ module _ (old new : BoardView) where
       at ≡ (state old).actions → AnswersLeast old new (deadlock at) → HasSettled old new
   told_deadlock e same rules due at is h =
       by_rules old new deadlocks due rules e same (replied h.0.client h.0.number (deadlock at))
-      (h.0, h.1, ap (λ (n : ℕ). replied h.0.client h.0.number (deadlock n)) is) h.2 h.3
+      (h.0, h.1, ap (λ (n : ℕ). replied h.0.client h.0.number (deadlock n)) is) h.2 h.3 h.4.0 (h.4.1, h.4.2)
 
 -- the same number is drawn
 pub same_draw : (n s t a b k l : ℕ) → n ≡ drawn s a k → s ≡ t → a ≡ b → k ≡ l → n ≡ drawn t b l
@@ -186,10 +201,13 @@ same_draw n s t a b k l is same_seed same_actions same_count =
 -- an action that the rules decide, where there were as many as are allowed, is at the limit
 module _ (v : BoardView) (due : (entry : Next PendingOffer Derivation) → decided_at v ≡ Some entry → IsDue v entry)
     (rules : GoesByRules (state v)) (limit : v.settings.steps ≤ (state v).actions) where
-  is_at_limit : (entry : Next PendingOffer Derivation) → IsAct (program v) v.settings entry → Some entry ≡ decided_at v → IsAtLimit (program v) v.settings (state v)
-  is_at_limit entry act e = record { entry = entry; by_rules = rules; next = (due entry (sym e)).next; act = act; limit = limit }
+  is_at_limit : (entry : Next PendingOffer Derivation) → IsAct (program v) v.settings entry → Some entry ≡ decided_at v → IsKnownAtLimit v
+  is_at_limit entry act e = record {
+    at = record { entry = entry; by_rules = rules; next = (due entry (sym e)).next; act = act; limit = limit };
+    decided = sym e;
+  }
 
-  pub at_limit : (settled : Settled Rules) → OfAct settled → entry_of v settled ≡ decided_at v → IsAtLimit (program v) v.settings (state v)
+  pub at_limit : (settled : Settled Rules) → OfAct settled → entry_of v settled ≡ decided_at v → IsKnownAtLimit v
   at_limit (Takes number d) act e = is_at_limit (takes (offer_at (state v).pending number) (derivation_of d)) tt e
   at_limit (GoesOn trees) act e = is_at_limit (goes_on (map derivation_of trees.items)) tt e
   at_limit Unknown act e = absurd act

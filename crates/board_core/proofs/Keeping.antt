@@ -83,7 +83,7 @@ module _ (program : Program) (size : ℕ) (rows : List Window) where
     all_sorts = h.all_sorts;
     right = right (λ n of. (is n of).ways) h.right;
     complete = (completeness_stays program).expanded g work t (λ n of. (is n of).complete) h.complete;
-    expansions = (expansions_stay program (windows_in rows)).expanded g work t (λ n of. (is n of).expansion.composites) h.expansions;
+    expansions = (expansions_stay program (windows_in rows)).expanded g work t (λ n of. (is n of).expansion.plans) h.expansions;
     shown = (pieces_stay_so program (windows_in rows) pieces pieces t).posted g work h.shown;
     none_from = h.none_from;
   }

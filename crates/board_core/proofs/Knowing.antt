@@ -31,6 +31,7 @@ use Rattle.candidates.specs.KnownTrees.{offer_in, first_in, all_in, is_out_in, j
 use Rattle.candidates.specs.Listed.{first_tree}
 use Rattle.candidates.specs.Models.{job_of}
 use Rattle.needed_jobs.specs.Needed.{entry_decided, generation_of, jobs_needed}
+use Rattle.stop_reasons.specs.Reasons.{LooksForTrees}
 use Rattle.waiting_offers.specs.Offers.{offer_at}
 use Rattle.waiting_offers.specs.Waiting.{waiting_in}
 use Rattle.board_core.specs.declared.job.Job.{Job}
@@ -64,14 +65,16 @@ free_is_needed out (other ∷ jobs) job e = by_test (not (out other)) e (free_is
 pub handed_out : (old new : BoardView) (task again : declared.NodeJob) (job : Job) →
     job.task ≡ task → job_of again ≡ job_of task → first_free old ≡ Some (job_of task) → new.out ≡ old.out ++ again ∷ [] →
     Lives (tree old) (generation_of (job_of task)) →
-    ((n : Held) → IsNodeOf (tree old) (generation_of (job_of task)) n → n.source ≡ source_of job.origin) → IsHandedOut old new job
-handed_out old new task again job same copied first out lives origin = record {
+    ((n : Held) → IsNodeOf (tree old) (generation_of (job_of task)) n → n.source ≡ source_of job.origin) → LooksForTrees (state old) →
+    IsHandedOut old new job
+handed_out old new task again job same copied first out lives origin looks = record {
   first = first ∙ ap (λ t. Some (job_of t)) (sym same);
   out =
       ap (map job_of) out ∙ map-append job_of old.out (again ∷ [])
       ∙ ap (λ j. map job_of old.out ++ j ∷ []) (copied ∙ ap job_of (sym same));
   lives = subst (λ t. Lives (tree old) (generation_of (job_of t))) (sym same) lives;
   origin = subst (λ t. (n : Held) → IsNodeOf (tree old) (generation_of (job_of t)) n → n.source ≡ source_of job.origin) (sym same) origin;
+  looks = looks;
 }
 
 -- what is known of the tree is what the board knows

@@ -5,3 +5,4 @@ pub mod Keeping
 pub mod Knowing
 pub mod Origins
 pub mod Quiet
+pub mod Tables

@@ -5,20 +5,21 @@ use Rattle.spec_core.specs.Code.{Program}
 use Rattle.rule_model.specs.Derivations.{Derivation}
 use Rattle.rule_model.specs.Legal.{AllWait}
 use Rattle.rule_model.specs.States.{PendingOffer, State}
-use Rattle.windowed_trees.specs.Windows.{Windows, AreWindows}
+use Rattle.windowed_trees.specs.Windows.{Windows}
 use Rattle.courses.specs.Lazy.{first}
 use Rattle.courses.specs.Rules.{Next, any, any_beyond, nothing, if_there, next_of}
 use Rattle.asked_trees.specs.Asked.{TreeQuery}
 use Rattle.asked_trees.specs.Laws.{lists_of}
-use Rattle.expand.proofs.Top.{table_windows}
 use Rattle.session_rules.specs.declared.stop_reason.StopReason.{StopReason}
-use Rattle.session_rules.specs.Next.{GoesByRules, IsNextOf}
+use Rattle.session_rules.specs.Next.{AreSessionWindows, GoesByRules, IsNextOf}
+use Rattle.stop_reasons.specs.Reasons.{LooksForTrees}
 use Rattle.waiting_offers.specs.Waiting.{by_client, only_asks, waiting_in}
 use Rattle.waiting_offers.proofs.AllWait.{all_wait_is_decided}
 use Rattle.board_core.specs.Boards.{IsBoard}
 use Rattle.board_core.specs.Awaiting.{AwaitsClients}
 use Rattle.board_core.specs.Settled.{IsQuiet, quiet_nothing, quiet_stopped, quiet_undecided}
 use Rattle.board_core.specs.Views.{BoardView, program, state, windows, decided_at}
+use Rattle.board_core.proofs.Tables.{table_of_session}
 
 abbrev by_trees : (o p : Option Derivation) → Next PendingOffer Derivation
 by_trees o p = if_there o (λ a. nothing) (if_there p (λ a. nothing) nothing)
@@ -59,14 +60,22 @@ asked_awaiting s awaits =
     }) awaits.none
     ∙ ap (λ (b : Bool). record { pending = []; asks = []; by_client = by_client s.pending; all_wait = b }) waits
 
-pub next_awaiting : (program : Program) (settings : Settings) (w : Windows) (s : State) → AreWindows program.theory settings.values w →
+pub next_awaiting : (program : Program) (settings : Settings) (w : Windows) (s : State) → AreSessionWindows program settings w →
     AwaitsClients s → IsNextOf program settings s nothing
-next_awaiting program settings w s sized awaits = record {
+next_awaiting program settings w s of_session awaits = record {
   windows = w;
-  sized = sized;
+  of_session = of_session;
   next = λ e is_asked exact tests.
       nothing_waits (lists_of program e w s.behaviour is_asked) (by_client s.pending)
       ∙ ap (next_of (lists_of program e w s.behaviour is_asked)) (sym (asked_awaiting s awaits));
+}
+
+-- a session that goes on by its rules, and doesn't wait for its clients, looks for trees
+pub looks_by : (s : State) (b : Bool) → GoesByRules s → (IsTrue b ↔ AwaitsClients s) → IsTrue (not b) → LooksForTrees s
+looks_by s true goes waits h = let no : ⊥ = cc in absurd no
+looks_by s false goes waits h = record {
+  goes = goes;
+  busy = λ none some. let e : IsTrue false = waits.1 (record { none = none; some = some }) in let no : ⊥ = cc in no;
 }
 
 -- the session has stopped, and no offer is pending
@@ -75,33 +84,36 @@ quiet_by_reason v some none = by_stop v.stop refl some
   where
     by_stop : (o : Option StopReason) → v.stop ≡ o → is_some o ≡ true → IsQuiet v v
     by_stop None e f = absurd (let never : ⊥ = cc in never)
-    by_stop (Some reason) e f = record { log = (refl, refl); nodes = (refl, refl, refl); why = quiet_stopped reason e e none }
+    by_stop (Some reason) e f = record { log = (refl, refl, refl); nodes = (refl, refl, refl); out = refl; why = quiet_stopped reason e e none }
 
 module _ (v : BoardView) (running : v.stop ≡ None) (rules : GoesByRules (state v)) where
   -- the session waits for its clients
   pub quiet_by_clients : IsBoard v → AwaitsClients (state v) → IsQuiet v v
   quiet_by_clients is awaits = record {
-    log = (refl, refl);
+    log = (refl, refl, refl);
     nodes = (refl, refl, refl);
+    out = refl;
     why =
         quiet_nothing running running rules
         (next_awaiting (program v) v.settings (windows v) (state v)
-        (table_windows (program v).theory v.settings.values v.windows is.rows_are is.all_sorts) awaits)
+        (table_of_session (program v) v.settings v.windows is.rows_are is.all_sorts) awaits)
         (inl awaits);
   }
 
   -- what is known decides that nothing comes next
   pub quiet_by_rules : IsNextOf (program v) v.settings (state v) nothing → decided_at v ≡ Some nothing → IsQuiet v v
   quiet_by_rules next decided = record {
-    log = (refl, refl);
+    log = (refl, refl, refl);
     nodes = (refl, refl, refl);
+    out = refl;
     why = quiet_nothing running running rules next (inr decided);
   }
 
   -- what is known doesn't decide what comes next
   pub quiet_so_far : (AwaitsClients (state v) → ⊥) → decided_at v ≡ None → IsQuiet v v
   quiet_so_far busy undecided = record {
-    log = (refl, refl);
+    log = (refl, refl, refl);
     nodes = (refl, refl, refl);
+    out = refl;
     why = quiet_undecided running running rules busy undecided;
   }

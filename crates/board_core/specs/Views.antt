@@ -83,6 +83,10 @@ SameSession old new = SameSetting old new × ((state new).open_clients ≡ (stat
 abbrev pub SameLog : BoardView → BoardView → Type 0
 SameLog old new = records.SameLog old.session new.session
 
+-- the log goes on with one more entry
+abbrev pub HasOneMore : BoardView → BoardView → Type 0
+HasOneMore old new = records.HasOneMore old.session new.session
+
 -- one tree, of which the same is known
 abbrev pub SameNodes : BoardView → BoardView → Type 0
 SameNodes old new = (tree new ≡ tree old) × (new.session.tree.next ≡ old.session.tree.next) × (new.pieces ≡ old.pieces)

@@ -14,6 +14,7 @@ use Rattle.rule_model.specs.declared.reply.LimitKind.TheVariants.{Offers}
 use Rattle.offer_counts.specs.Counts.{offers_limit, offers_of_tree}
 use Rattle.session_rules.specs.declared.stop_reason.StopReason.{StopReason}
 use Rattle.session_rules.specs.declared.stop_reason.StopReason.TheVariants.{Limit}
+use Rattle.stop_reasons.specs.Reasons.{LooksForTrees}
 use Rattle.board_core.specs.Awaiting.{AwaitsClients}
 use Rattle.board_core.specs.Views.{BoardView, needed_at, program, state, tree, windows}
 
@@ -21,12 +22,13 @@ use Rattle.board_core.specs.Views.{BoardView, needed_at, program, state, tree, w
 abbrev pub first_free : BoardView → Option NodeJob
 first_free v = first_not_out (is_out (map job_of v.out)) (needed_at v)
 
--- the job is the first that is needed and wasn't out, it is out now, and its origin is that of its node
+-- the job is the first that is needed and wasn't out, it is out now, and its origin is that of its node; the rules look for trees
 pub record IsHandedOut (old new : BoardView) (job : Job) : Type 0 where
   pub first : first_free old ≡ Some (job_of job.task)
   pub out : map job_of new.out ≡ map job_of old.out ++ job_of job.task ∷ []
   pub lives : Lives (tree old) (generation_of (job_of job.task))
   pub origin : (n : Held) → IsNodeOf (tree old) (generation_of (job_of job.task)) n → n.source ≡ source_of job.origin
+  pub looks : LooksForTrees (state old)
 
 -- why no job is handed out: the session has stopped, or ended with an offer pending, or waits for its clients; or no further job is needed
 pub data NoneFree (v : BoardView) : Type 0 where
@@ -44,6 +46,7 @@ IsVerdict (to_judge p) = Unit {0}
 -- every participant is expanded: this stops the session.
 pub record IsTooMany (old new : BoardView) : Type 0 where
   pub running : old.stop ≡ None
+  pub looks : LooksForTrees (state old)
   pub job : NodeJob
   pub first : first_free old ≡ Some job
   pub verdict : IsVerdict job

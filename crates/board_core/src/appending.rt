@@ -16,14 +16,14 @@ ghost use Rattle.courses.specs.Lazy.{first};
 ghost use Rattle.std.specs.List.{slice_get};
 ghost use Rattle.known_shows.specs.Stored.{without};
 ghost use Rattle.session_record.specs.Views.{HasActed, IsActReserved};
-ghost use Rattle.session_rules.specs.Next.{HasEnded, IsAtLimit, GoesByRules};
+ghost use Rattle.session_rules.specs.Next.{HasEnded, GoesByRules};
 ghost use Rattle.session_states.specs.Possible.{MayStall};
 ghost use Rattle.session_states.specs.Views.{pending_of};
 ghost use Rattle.waiting_offers.specs.Offers.{offer_at};
 ghost use Rattle.waiting_offers.specs.Waiting.{by_client};
 ghost use Rattle.board_core.specs.Entries.{entry_of, OfAct};
 ghost use Rattle.board_core.specs.Awaiting.{AwaitsClients};
-ghost use Rattle.board_core.specs.Settled.{AnswersLeast, HasSettled, IsDue, IsQuiet, MayFollow};
+ghost use Rattle.board_core.specs.Settled.{AnswersLeast, AppendsAlone, HasSettled, HasStepped, IsDue, IsKnownAtLimit, IsQuiet, IsUnchanged, MayFollow};
 ghost use Rattle.board_core.specs.Working.{KeepsNodes, jobs_left};
 ghost use Rattle.board_core.specs.Views.{program, events, state, tree, pieces, decided_at, SameLog, SameSession, SameNodes};
 
@@ -143,9 +143,10 @@ impl Board {
         requires pending { IsPending (state self.old) name }
         requires at { IsReplyAt (answer_of reply) (state self.old).actions }
         ensures log { OnOk result (events self.new ≡ events self.old ++ replied name.0 name.1 (answer_of reply) ∷ []) }
+        ensures alone { OnOk result (AppendsAlone self.old self.new) }
         ensures possible { OnOk result
             (IsPossible (program self.old) (state self.old) (replied name.0 name.1 (answer_of reply)) (state self.new)) }
-        ensures same { OnErr result (SameLog self.old self.new) }
+        ensures same { OnErr result (IsUnchanged self.old self.new) }
         ensures session { SameSession self.old self.new }
         ensures nodes { SameNodes self.old self.new }
         ensures stop { self.new.stop ≡ self.old.stop }
@@ -157,9 +158,10 @@ impl Board {
     fn stall(&mut self, alloc: Global) -> Result<(), Memory>
         requires may { MayStall (state self.old) (map name_of (by_client (state self.old).pending)) }
         ensures log { OnOk result (events self.new ≡ events self.old ++ stalled (map name_of (by_client (state self.old).pending)) ∷ []) }
+        ensures alone { OnOk result (AppendsAlone self.old self.new) }
         ensures possible { OnOk result (IsPossible (program self.old) (state self.old)
             (stalled (map name_of (by_client (state self.old).pending))) (state self.new)) }
-        ensures same { OnErr result (SameLog self.old self.new) }
+        ensures same { OnErr result (IsUnchanged self.old self.new) }
         ensures session { SameSession self.old self.new }
         ensures nodes { SameNodes self.old self.new }
         ensures stop { self.new.stop ≡ self.old.stop }
@@ -217,7 +219,8 @@ impl Board {
         requires rules { GoesByRules (state self.old) }
         requires below { (state self.old).actions < self.old.settings.steps }
         ensures acted { OnOk result (HasActed self.old.session self.new.session (derivation_of rules.now) by) }
-        ensures same { OnErr result (SameLog self.old self.new) }
+        ensures stepped { OnOk result (HasStepped self.old self.new (derivation_of rules.now)) }
+        ensures same { OnErr result (IsUnchanged self.old self.new) }
         ensures nodes { KeepsNodes self.old self.new }
         ensures session { SameSession self.old self.new }
         ensures stop { self.new.stop ≡ self.old.stop }
@@ -232,7 +235,7 @@ impl Board {
         requires some { (state self.old).pending ≡ [] → ⊥ }
         requires at { IsReplyAt (answer_of reply) (state self.old).actions }
         ensures told { OnOk result (AnswersLeast self.old self.new (answer_of reply)) }
-        ensures same { OnErr result (SameLog self.old self.new) }
+        ensures same { OnErr result (IsUnchanged self.old self.new) }
         ensures session { SameSession self.old self.new }
         ensures nodes { SameNodes self.old self.new }
         ensures stop { self.new.stop ≡ self.old.stop }
@@ -248,7 +251,7 @@ impl Board {
         requires stopped { IsSome self.old.stop }
         requires some { (state self.old).pending ≡ [] → ⊥ }
         ensures settled { OnOk result (HasSettled self.old self.new) }
-        ensures same { OnErr result (SameLog self.old self.new × (self.new.stop ≡ self.old.stop)) }
+        ensures same { OnErr result (IsUnchanged self.old self.new) }
         ensures nodes { KeepsNodes self.old self.new }
         ensures session { SameSession self.old self.new }
     {
@@ -267,7 +270,7 @@ impl Board {
         requires stopped { IsSome self.old.stop }
         ensures settled { IfOk result (λ told. IsTrue told → HasSettled self.old self.new) }
         ensures none { IfOk result (λ told. told ≡ false → IsQuiet self.old self.new) }
-        ensures same { OnErr result (SameLog self.old self.new × (self.new.stop ≡ self.old.stop)) }
+        ensures same { OnErr result (IsUnchanged self.old self.new) }
         ensures nodes { KeepsNodes self.old self.new }
         ensures session { SameSession self.old self.new }
     {
@@ -282,7 +285,7 @@ impl Board {
     fn tell_limit(&mut self, alloc: Global) -> Result<(), Memory>
         requires some { (state self.old).pending ≡ [] → ⊥ }
         ensures told { OnOk result (AnswersLeast self.old self.new (limit (state self.old).actions LimitKind.Steps)) }
-        ensures same { OnErr result (SameLog self.old self.new) }
+        ensures same { OnErr result (IsUnchanged self.old self.new) }
         ensures session { SameSession self.old self.new }
         ensures nodes { SameNodes self.old self.new }
         ensures stop { self.new.stop ≡ self.old.stop }
@@ -294,11 +297,11 @@ impl Board {
 
     // An action would come next, but there were as many as are allowed: this stops the session.
     fn stop_at_limit(&mut self, alloc: Global) -> Result<bool, Memory>
-        requires limit { IsAtLimit (program self.old) self.old.settings (state self.old) }
+        requires limit { IsKnownAtLimit self.old }
         requires stop { self.old.stop ≡ None }
         ensures settled { IfOk result (λ told. IsTrue told → HasSettled self.old self.new) }
         ensures none { IfOk result (λ told. told ≡ false → IsQuiet self.old self.new) }
-        ensures same { OnErr result (SameLog self.old self.new × (self.new.stop ≡ self.old.stop)) }
+        ensures same { OnErr result (IsUnchanged self.old self.new) }
         ensures nodes { KeepsNodes self.old self.new }
         ensures session { SameSession self.old self.new }
     {
@@ -317,7 +320,7 @@ impl Board {
         requires some { (state self.old).pending ≡ [] → ⊥ }
         requires stop { self.old.stop ≡ None }
         ensures settled { OnOk result (HasSettled self.old self.new) }
-        ensures same { OnErr result (SameLog self.old self.new × (self.new.stop ≡ self.old.stop)) }
+        ensures same { OnErr result (IsUnchanged self.old self.new) }
         ensures nodes { KeepsNodes self.old self.new }
         ensures session { SameSession self.old self.new }
     {
@@ -332,7 +335,7 @@ impl Board {
         requires rules { GoesByRules (state self.old) }
         requires stop { self.old.stop ≡ None }
         ensures settled { OnOk result (HasSettled self.old self.new) }
-        ensures same { OnErr result (SameLog self.old self.new × (self.new.stop ≡ self.old.stop)) }
+        ensures same { OnErr result (IsUnchanged self.old self.new) }
         ensures nodes { KeepsNodes self.old self.new }
         ensures session { SameSession self.old self.new }
     {
@@ -347,7 +350,7 @@ impl Board {
         requires rules { GoesByRules (state self.old) }
         requires stop { self.old.stop ≡ None }
         ensures settled { OnOk result (HasSettled self.old self.new) }
-        ensures same { OnErr result (SameLog self.old self.new × (self.new.stop ≡ self.old.stop)) }
+        ensures same { OnErr result (IsUnchanged self.old self.new) }
         ensures nodes { KeepsNodes self.old self.new }
         ensures session { SameSession self.old self.new }
     {
@@ -370,7 +373,7 @@ impl Board {
         requires rules { GoesByRules (state self.old) }
         requires stop { self.old.stop ≡ None }
         ensures settled { OnOk result (HasSettled self.old self.new) }
-        ensures same { OnErr result (SameLog self.old self.new × (self.new.stop ≡ self.old.stop)) }
+        ensures same { OnErr result (IsUnchanged self.old self.new) }
         ensures nodes { KeepsNodes self.old self.new }
         ensures session { SameSession self.old self.new }
     {
@@ -385,7 +388,7 @@ impl Board {
         requires rules { GoesByRules (state self.old) }
         requires stop { self.old.stop ≡ None }
         ensures settled { OnOk result (HasSettled self.old self.new) }
-        ensures same { OnErr result (SameLog self.old self.new × (self.new.stop ≡ self.old.stop)) }
+        ensures same { OnErr result (IsUnchanged self.old self.new) }
         ensures nodes { KeepsNodes self.old self.new }
         ensures session { SameSession self.old self.new }
     {
@@ -400,7 +403,7 @@ impl Board {
         requires rules { GoesByRules (state self.old) }
         requires stop { self.old.stop ≡ None }
         ensures settled { OnOk result (HasSettled self.old self.new) }
-        ensures same { OnErr result (SameLog self.old self.new × (self.new.stop ≡ self.old.stop)) }
+        ensures same { OnErr result (IsUnchanged self.old self.new) }
         ensures nodes { KeepsNodes self.old self.new }
         ensures session { SameSession self.old self.new }
     {
@@ -414,7 +417,7 @@ impl Board {
         requires rules { GoesByRules (state self.old) }
         requires stop { self.old.stop ≡ None }
         ensures settled { OnOk result (HasSettled self.old self.new) }
-        ensures same { OnErr result (SameLog self.old self.new × (self.new.stop ≡ self.old.stop)) }
+        ensures same { OnErr result (IsUnchanged self.old self.new) }
         ensures nodes { KeepsNodes self.old self.new }
         ensures session { SameSession self.old self.new }
     {
@@ -431,7 +434,7 @@ impl Board {
         requires stop { self.old.stop ≡ None }
         ensures settled { IfOk result (λ told. IsTrue told → HasSettled self.old self.new) }
         ensures none { IfOk result (λ told. told ≡ false → IsQuiet self.old self.new) }
-        ensures same { OnErr result (SameLog self.old self.new × (self.new.stop ≡ self.old.stop)) }
+        ensures same { OnErr result (IsUnchanged self.old self.new) }
         ensures nodes { KeepsNodes self.old self.new }
         ensures session { SameSession self.old self.new }
     {
@@ -470,7 +473,7 @@ impl Board {
     fn settle_once(&mut self, alloc: Global) -> Result<bool, Memory>
         ensures settled { IfOk result (λ told. IsTrue told → HasSettled self.old self.new) }
         ensures none { IfOk result (λ told. told ≡ false → IsQuiet self.old self.new) }
-        ensures same { OnErr result (SameLog self.old self.new × (self.new.stop ≡ self.old.stop)) }
+        ensures same { OnErr result (IsUnchanged self.old self.new) }
         ensures nodes { KeepsNodes self.old self.new }
         ensures session { SameSession self.old self.new }
     {
@@ -494,7 +497,7 @@ impl Board {
     pub fn settle(&mut self, alloc: Global) -> Result<Option<u64>, Memory>
         ensures settled { IfOk result (λ o. IfSome o (λ n. HasSettled self.old self.new × (n ≡ length (events self.old)))) }
         ensures none { IfOk result (λ o. IfNone o (IsQuiet self.old self.new)) }
-        ensures same { OnErr result (SameLog self.old self.new × (self.new.stop ≡ self.old.stop)) }
+        ensures same { OnErr result (IsUnchanged self.old self.new) }
         ensures nodes { KeepsNodes self.old self.new }
         ensures session { SameSession self.old self.new }
     {

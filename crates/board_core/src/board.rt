@@ -17,7 +17,7 @@ ghost use Rattle.session_states.specs.Views.{state_of};
 ghost use Rattle.tree_nodes.specs.Generations.{AreApart, AreBelow};
 ghost use Rattle.tree_nodes.specs.Shapes.{AllWait, stands_for};
 ghost use Rattle.board_core.specs.Views as views;
-ghost use Rattle.board_core.specs.Views.{program, events, pieces, state, tree, SameSetting, SameLog, SameNodes};
+ghost use Rattle.board_core.specs.Views.{program, events, pieces, state, tree, HasOneMore, SameSetting, SameLog, SameNodes};
 
 use candidates::job::NodeJob;
 use known_shows::pieces::Pieces;
@@ -147,7 +147,8 @@ impl Board {
 
     /// What happened, in order. It takes no memory.
     pub fn log(&self) -> &[Entry]
-        ensures { map event_of result.now ≡ events self.now }
+        ensures entries { result.now ≡ self.now.session.entries }
+        ensures events { map event_of result.now ≡ events self.now }
     {
         self.record.log()
     }
@@ -190,6 +191,7 @@ impl Board {
     ) -> Result<u64, PendFault>
         ensures may { IfOk result (λ n. MayOffer (length (program self.old).gates) (state self.old) client n offer.now) }
         ensures log { IfOk result (λ n. events self.new ≡ events self.old ++ pended client n offer.now ask ∷ []) }
+        ensures one_more { OnOk result (HasOneMore self.old self.new) }
         ensures state { IfOk result (λ n. state self.new ≡ after_offer (state self.old) client n offer.now ask) }
         ensures same { OnErr result (SameLog self.old self.new) }
         ensures fault { IfErr result (ExplainsPend (program self.old) (state self.old) client offer.now) }
@@ -205,6 +207,7 @@ impl Board {
     pub fn leave(&mut self, alloc: Global, client: u32) -> Result<(), LeaveFault>
         ensures may { OnOk result (MayLeave (state self.old) client) }
         ensures log { OnOk result (events self.new ≡ events self.old ++ left client ∷ []) }
+        ensures one_more { OnOk result (HasOneMore self.old self.new) }
         ensures state { OnOk result (state self.new ≡ after_leave (state self.old) client) }
         ensures same { OnErr result (SameLog self.old self.new) }
         ensures fault { IfErr result (ExplainsLeave (state self.old) client) }

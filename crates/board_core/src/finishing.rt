@@ -6,7 +6,7 @@ ghost use Rattle.rule_model.specs.Logs.{events_of};
 ghost use Rattle.candidates.specs.KnownTrees.{HasItsParts, first_in};
 ghost use Rattle.courses.specs.Rules.{any, any_beyond};
 ghost use Rattle.needed_jobs.specs.Laws.{FirstTreesSay};
-ghost use Rattle.windowed_trees.specs.Windows.{AreWindows};
+ghost use Rattle.session_rules.specs.Next.{AreSessionWindows};
 ghost use Rattle.board_core.specs.Ends as ends;
 ghost use Rattle.board_core.specs.Ends.{end_found, ending_at};
 ghost use Rattle.board_core.specs.Views.{events, first_at, pieces, program, state, tree, windows};
@@ -65,10 +65,10 @@ impl Board {
         }
     }
 
-    /// What searches for any tree find says what is so of the steps of the behaviour that is reached.
+    /// What searches for any tree find says which trees the behaviour that is reached has, with the windows of the session.
     pub fn first_trees_say(&self)
         ensures say { FirstTreesSay (program self.now) (windows self.now) (tree self.now) (pieces self.now) }
-        ensures sized { AreWindows (program self.now).theory self.now.settings.values (windows self.now) }
+        ensures of_session { AreSessionWindows (program self.now) self.now.settings (windows self.now) }
     {
         self.record.log_is_a_derivation();
         self.record.tree().generations_are_sound();

@@ -12,7 +12,7 @@ ghost use Rattle.rule_model.specs.Derivations.{Derivation, derivation_of};
 ghost use Rattle.session_rules.specs.Next.{GoesByRules};
 ghost use Rattle.sort_windows.specs.Found.{AreBySorts};
 ghost use Rattle.stop_reasons.specs.Laws.{GiveReasons};
-ghost use Rattle.stop_reasons.specs.Reasons.{IsReasonToStop};
+ghost use Rattle.stop_reasons.specs.Reasons.{IsReasonToStop, LooksForTrees};
 ghost use Rattle.tree_nodes.specs.Origins.{source_of};
 ghost use Rattle.tree_nodes.specs.Rests.{expansion_of};
 ghost use Rattle.tree_nodes.specs.Shapes.{Held, IsNodeOf, Lives, posted};
@@ -49,6 +49,7 @@ impl Board {
     // Whether a job may be needed: the session goes on by its rules.
     fn goes_on(&self) -> bool
         ensures goes_on { IsTrue result → (self.now.stop ≡ None) × GoesByRules (state self.now) }
+        ensures looks { IsTrue result → LooksForTrees (state self.now) }
         ensures none { result ≡ false → NoneFree self.now }
     {
         if self.stop.is_some() {
@@ -117,6 +118,7 @@ impl Board {
     fn hand_out(&mut self, alloc: Global, task: NodeJob) -> Result<Job, Memory>
         requires first { first_free self.old ≡ Some (job_of task) }
         requires lives { Lives (tree self.old) (generation_of (job_of task)) }
+        requires looks { LooksForTrees (state self.old) }
         ensures job { IfOk result (IsHandedOut self.old self.new) }
         ensures kept { OnErr result (self.new.out ≡ self.old.out) }
         ensures log { SameLog self.old self.new }

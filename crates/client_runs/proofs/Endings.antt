@@ -1,20 +1,20 @@
 -- How sessions end.
-use Rattle.std.proofs.Common.{◌≡◌, List, [], refl, sym, subst, Option, Some, None, Bool}
+use Rattle.std.proofs.Common.{◌≡◌, ◌⊎◌, inl, inr, List, [], refl, sym, subst, Option, Some, None, Bool}
 use Rattle.rule_model.specs.declared.action.Action.{Action}
 use Rattle.rule_model.specs.declared.action.Action.TheVariants.{Inner, Exit, At}
 use Rattle.rule_model.specs.Derivations.{Derivation}
-use Rattle.rule_model.specs.Derives.{NoStep, SomeStep}
 use Rattle.rule_model.specs.Events.{Ending, exits, deadlocked, waiting, ends_beyond}
 use Rattle.rule_model.specs.States.{PendingOffer}
+use Rattle.rule_model.specs.Actions.{Kind}
+use Rattle.windowed_trees.specs.Laws.{NoTree}
 use Rattle.windowed_trees.specs.Trees.{IsWindowed, IsBeyond}
-use Rattle.windowed_trees.specs.Windows.{AreWindows}
 use Rattle.courses.specs.Known.{where_known}
 use Rattle.courses.specs.Rules.{Next, Query, Waiting, any, any_beyond, if_there, nothing}
 use Rattle.settling.specs.Rules.{asked_decided, dead_decided, next_decided}
 use Rattle.tree_nodes.specs.Shapes.{stands_for}
 use Rattle.needed_jobs.specs.Laws.{FirstTreesSay}
 use Rattle.session_rules.specs.declared.stop_reason.StopReason.{StopReason}
-use Rattle.session_rules.specs.Next.{HasEnded}
+use Rattle.session_rules.specs.Next.{AreSessionWindows, HasEnded}
 use Rattle.session_rules.specs.Stopping.{ending_by}
 use Rattle.waiting_offers.specs.Waiting.{waiting_in}
 use Rattle.client_sessions.specs.Ends.{IsEndingOf, IsEndOfTrees, ends_by_reason, ends_by_exit, ends_by_trees}
@@ -62,21 +62,30 @@ module _ (v : BoardView) where
       no.1
 
   module _ (say : FirstTreesSay (program v) (windows v) (tree v) (pieces v))
-      (sized : AreWindows (program v).theory v.settings.values (windows v))
+      (of_session : AreSessionWindows (program v) v.settings (windows v))
       (reached : (state v).behaviour ≡ stands_for (program v) (tree v)) where
+    no_tree : first_at v any ≡ Some None → first_at v any_beyond ≡ Some None → (k : Kind) →
+        NoTree (program v) (windows v) (stands_for (program v) (tree v)) None k
+    no_tree e f k d (inl is) = say.no_windowed e d k is
+    no_tree e f k d (inr is) = say.no_beyond f d k is
+
     by_trees : (a b : Option (Option Derivation)) → first_at v any ≡ a → first_at v any_beyond ≡ b → (ending : Ending) →
         end_found a b ≡ Some ending → IsEndOfTrees (program v) v.settings (state v) ending
     by_trees None b e f ending h = absurd (let never : ⊥ = cc in never)
     by_trees (Some None) None e f ending h = absurd (let never : ⊥ = cc in never)
     by_trees (Some None) (Some None) e f ending h =
         let same : deadlocked ≡ ending = cc in
-        subst (IsEndOfTrees (program v) v.settings (state v)) same (subst (NoStep (program v)) (sym reached) (say.no_step e f))
+        subst (IsEndOfTrees (program v) v.settings (state v)) same (record {
+          windows = windows v;
+          of_session = of_session;
+          none = subst (λ b. (k : Kind) → NoTree (program v) (windows v) b None k) (sym reached) (no_tree e f);
+        })
     by_trees (Some None) (Some (Some d)) e f ending h =
         let same : ends_beyond ≡ ending = cc in
         let marked = say.is_beyond d f in
         subst (IsEndOfTrees (program v) v.settings (state v)) same (record {
           windows = windows v;
-          sized = sized;
+          of_session = of_session;
           none = λ t k is. say.no_windowed e t k (subst (λ b. IsWindowed (program v) (windows v) b None t k) reached is);
           tree = d;
           kind = marked.0;
@@ -84,7 +93,14 @@ module _ (v : BoardView) where
         })
     by_trees (Some (Some d)) b e f ending h =
         let same : waiting ≡ ending = cc in
-        subst (IsEndOfTrees (program v) v.settings (state v)) same (subst (SomeStep (program v)) (sym reached) (say.steps d e))
+        let windowed = say.is_windowed d e in
+        subst (IsEndOfTrees (program v) v.settings (state v)) same (record {
+          windows = windows v;
+          of_session = of_session;
+          tree = d;
+          kind = windowed.0;
+          windowed = subst (λ b. IsWindowed (program v) (windows v) b None d windowed.0) (sym reached) windowed.1;
+        })
 
     abbrev Ends : Ending → Type 0
     Ends ending = IsEndingOf (program v) v.settings (state v) v.stop ending

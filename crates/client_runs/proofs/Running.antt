@@ -16,16 +16,20 @@ use Rattle.session_states.specs.Clients.{numbers_from}
 use Rattle.session_states.specs.Possible.{MayLeave, MayOffer}
 use Rattle.session_rules.specs.declared.stop_reason.StopReason.{StopReason}
 use Rattle.session_rules.specs.declared.stop_reason.StopReason.TheVariants.{Limit}
-use Rattle.stop_reasons.specs.Laws.{OffersGiveReasons}
-use Rattle.stop_reasons.specs.Reasons.{IsReasonToStop}
+use Rattle.spec_core.specs.Lists.{IsOneOf}
+use Rattle.candidates.specs.Jobs.{NodeJob, to_expand, to_judge, is_out}
+use Rattle.candidates.specs.Models.{job_of}
+use Rattle.stop_reasons.specs.Laws.{GiveReasons}
+use Rattle.stop_reasons.specs.Reasons.{AsksForTree, IsAskedByRules, IsReasonToStop}
 use Rattle.client_sessions.specs.Ends.{IsEndingOf}
 use Rattle.client_sessions.specs.Runs.{IsClientRun, IsRun, IsSettledAt, clients_for, run_begins, run_goes_on, run_leaves, run_offers, run_stops, run_tells}
 use Rattle.board_core.specs.declared.job.Post.{Post}
 use Rattle.board_core.specs.declared.job.Post.TheVariants.{Posted, Stale}
 use Rattle.board_core.specs.Settled.{HasSettled, IsQuiet, IsSettled, WhyQuiet, settled_next, settled_stopped, settled_limit, quiet_stopped}
 use Rattle.board_core.specs.Settled.{quiet_undecided, quiet_nothing, quiet_limit}
-use Rattle.board_core.specs.Views.{BoardView, program, events, pieces, state, tree, windows, SameLog, SameSession, SameSetting}
-use Rattle.board_core.specs.Working.{WhyNone, first_reason}
+use Rattle.board_core.specs.Views.{BoardView, program, events, needed_at, pieces, state, tree, windows, SameLog, SameSession, SameSetting}
+use Rattle.board_core.specs.Working.{IsVerdict, WhyNone, first_reason}
+use Rattle.board_core.proofs.Knowing.{free_is_needed}
 use Rattle.client_runs.specs.Runs.{Continues, HasBegun, IsEndedRun, IsRunOn, IsSettledOn}
 
 -- a run of the old board's specification and settings is one of the new one's
@@ -58,7 +62,7 @@ module _ (old new : BoardView) (same : SameSession old new) where
   settled h start wishes run = moved start new.stop wishes (events new) (state new) (by_why h.why)
     where
       by_why : IsSettled old new h.event → IsRun (program old) old.settings start new.stop wishes (events new) (state new)
-      by_why (settled_next e f next) =
+      by_why (settled_next e f next known) =
           run_goes_on (events old) h.event (state old) f h.log
           (for_stop start wishes (events old) (state old) old.stop new.stop (e ∙ sym f) run) next h.possible
       by_why (settled_stopped reason e f told) =
@@ -66,7 +70,7 @@ module _ (old new : BoardView) (same : SameSession old new) where
           (for_stop start wishes (events old) (state old) old.stop new.stop (e ∙ sym f) run) told h.possible
       by_why (settled_limit e f limit told) =
           run_tells (Limit Steps) (events old) h.event (state old) f h.log
-          (run_stops (Limit Steps) f (for_stop start wishes (events old) (state old) old.stop None e run) limit) told h.possible
+          (run_stops (Limit Steps) f (for_stop start wishes (events old) (state old) old.stop None e run) limit.at tt) told h.possible
 
   -- where it settles nothing, the run stays, or is stopped
   pub quiet : IsQuiet old new → Continues old new
@@ -77,7 +81,7 @@ module _ (old new : BoardView) (same : SameSession old new) where
       by_why (quiet_undecided e f rules busy undecided) = for_stop start wishes (events old) (state old) old.stop new.stop (e ∙ sym f) run
       by_why (quiet_nothing e f rules next known) = for_stop start wishes (events old) (state old) old.stop new.stop (e ∙ sym f) run
       by_why (quiet_limit e f limit none) =
-          run_stops (Limit Steps) f (for_stop start wishes (events old) (state old) old.stop None e run) limit
+          run_stops (Limit Steps) f (for_stop start wishes (events old) (state old) old.stop None e run) limit tt
 
   -- nothing has happened
   pub same_run : SameLog old new → new.stop ≡ old.stop → Continues old new
@@ -85,17 +89,17 @@ module _ (old new : BoardView) (same : SameSession old new) where
       moved start new.stop wishes (events new) (state new)
       (kept log start new.stop wishes (for_stop start wishes (events old) (state old) old.stop new.stop (sym stop) run))
 
-  -- a reason that is so stops the run, unless another has
+  -- a reason that is so, where the rules have something left to ask, stops the run, unless another has
   pub stopped : SameLog old new → (reason : StopReason) → IsReasonToStop (program old) old.settings (state old) reason →
-      new.stop ≡ first_reason old.stop reason → Continues old new
-  stopped log reason is_so stop start wishes run =
+      IsAskedByRules (program old) old.settings (state old) reason → new.stop ≡ first_reason old.stop reason → Continues old new
+  stopped log reason is_so asked stop start wishes run =
       moved start new.stop wishes (events new) (state new)
       (kept log start new.stop wishes (by_stop old.stop stop run))
     where
       by_stop : (o : Option StopReason) → new.stop ≡ first_reason o reason →
           IsRun (program old) old.settings start o wishes (events old) (state old) →
           IsRun (program old) old.settings start new.stop wishes (events old) (state old)
-      by_stop None e r = run_stops reason e r is_so
+      by_stop None e r = run_stops reason e r is_so asked
       by_stop (Some first) e r = for_stop start wishes (events old) (state old) (Some first) new.stop (sym e) r
 
 pub onward : (a b c : BoardView) → Continues a b → Continues b c → Continues a c
@@ -103,17 +107,24 @@ onward a b c f g start wishes run = g start wishes (f start wishes run)
 
 -- a job that has no answer
 pub failed : (old new : BoardView) → SameSession old new → SameLog old new → {A B : Type 0} (post : Post) (reason : StopReason) →
-    (A → IsReasonToStop (program old) old.settings (state old) reason) →
+    (A → IsReasonToStop (program old) old.settings (state old) reason) → IsAskedByRules (program old) old.settings (state old) reason →
     (post ≡ Posted → A × (new.stop ≡ first_reason old.stop reason)) → (post ≡ Stale → B × (new.stop ≡ old.stop)) → Continues old new
-failed old new same log Posted reason is_so f g = let h = f refl in stopped old new same log reason (is_so h.0) h.1
-failed old new same log Stale reason is_so f g = same_run old new same log (g refl).1
+failed old new same log Posted reason is_so asked f g = let h = f refl in stopped old new same log reason (is_so h.0) asked h.1
+failed old new same log Stale reason is_so asked f g = same_run old new same log (g refl).1
+
+-- where a verdict is needed, the rules may ask for a tree
+asked_at : (v : BoardView) → GiveReasons (program v) v.settings (windows v) (tree v) (pieces v) (state v) → (job : NodeJob) →
+    IsVerdict job → IsOneOf job (needed_at v) → AsksForTree (program v) v.settings (state v)
+asked_at v give (to_expand g) verdict needed = absurd verdict
+asked_at v give (to_judge part) verdict needed = give.asked part needed
 
 -- where no job is handed out
 pub none_taken : (old new : BoardView) → SameSession old new → SameLog old new →
-    OffersGiveReasons (program old) old.settings (windows old) (tree old) (pieces old) (state old) → WhyNone old new → Continues old new
-none_taken old new same log gives (inl none) = same_run old new same log none.1
-none_taken old new same log gives (inr many) =
-    stopped old new same log (Limit Offers) (gives many.many)
+    GiveReasons (program old) old.settings (windows old) (tree old) (pieces old) (state old) → WhyNone old new → Continues old new
+none_taken old new same log give (inl none) = same_run old new same log none.1
+none_taken old new same log give (inr many) =
+    stopped old new same log (Limit Offers) (give.offers many.many)
+    (many.looks, asked_at old give many.job many.verdict (free_is_needed (is_out (map job_of old.out)) (needed_at old) many.job many.first))
     (many.stop ∙ sym (ap (λ (o : Option StopReason). first_reason o (Limit Offers)) many.running))
 
 -- after what it settles, if anything

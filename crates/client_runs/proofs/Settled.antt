@@ -69,7 +69,7 @@ like_twice a b c x y = record {
     ((y.session.0.0.0 ∙ x.session.0.0.0, y.session.0.0.1 ∙ x.session.0.0.1), y.session.0.1 ∙ x.session.0.1, y.session.0.2 ∙ x.session.0.2),
     y.session.1 ∙ x.session.1,
   );
-  log = (y.log.0 ∙ x.log.0, y.log.1 ∙ x.log.1);
+  log = (y.log.0 ∙ x.log.0, y.log.1 ∙ x.log.1, y.log.2 ∙ x.log.2);
   nodes = (y.nodes.0 ∙ x.nodes.0, y.nodes.1 ∙ x.nodes.1, y.nodes.2 ∙ x.nodes.2);
 }
 

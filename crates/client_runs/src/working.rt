@@ -11,7 +11,7 @@ ghost use Rattle.tree_nodes.specs.Shapes.{Held, IsNodeOf};
 ghost use Rattle.needed_jobs.specs.Needed.{generation_of};
 ghost use Rattle.session_rules.specs.declared.stop_reason.StopReason.{StopReason};
 ghost use Rattle.stop_reasons.specs.Given.{reason_of};
-ghost use Rattle.stop_reasons.specs.Reasons.{IsReasonToStop};
+ghost use Rattle.stop_reasons.specs.Reasons.{IsReasonToStop, LooksForTrees};
 ghost use Rattle.board_core.specs.Views.{needed_at, program, state, tree, SameSession};
 ghost use Rattle.board_core.specs.Working.{IsFree};
 ghost use Rattle.client_runs.specs.Runs.{Continues};
@@ -34,6 +34,7 @@ use tree_nodes::origin::{Gen, Origin};
 fn fail(board: &mut Board, task: &NodeJob, stop: Stop) -> Result<(), Memory>
     requires reason { IsFree (tree board.old) (job_of task.now) → (reason : StopReason) → reason_of stop ≡ Some reason →
         IsReasonToStop (program board.old) board.old.settings (state board.old) reason }
+    requires looks { LooksForTrees (state board.old) }
     ensures done { OnOk result ((board.new.stop ≡ None → ⊥) ⊎ (IsFree (tree board.old) (job_of task.now) → ⊥)) }
     ensures continues { Continues board.old board.new }
     ensures session { SameSession board.old board.new }
@@ -50,6 +51,7 @@ fn fail(board: &mut Board, task: &NodeJob, stop: Stop) -> Result<(), Memory>
 // A node is expanded.
 fn expand(alloc: Global, board: &mut Board, generation: Gen, origin: &Origin) -> Result<(), Memory>
     requires origin { (n : Held) → IsNodeOf (tree board.old) generation.0 n → n.source ≡ source_of origin.now }
+    requires looks { LooksForTrees (state board.old) }
     ensures done { OnOk result (IsDone board.old board.new (to_expand generation.0)) }
     ensures continues { Continues board.old board.new }
     ensures session { SameSession board.old board.new }
@@ -76,6 +78,7 @@ fn judge(
 ) -> Result<(), Memory>
     requires needed { IsOneOf (to_judge (node_part generation.0 (derivation_of rules))) (needed_at board.old) }
     requires origin { (n : Held) → IsNodeOf (tree board.old) generation.0 n → n.source ≡ source_of origin.now }
+    requires looks { LooksForTrees (state board.old) }
     ensures done { OnOk result (IsDone board.old board.new (to_judge (node_part generation.0 (derivation_of rules)))) }
     ensures continues { Continues board.old board.new }
     ensures session { SameSession board.old board.new }
@@ -110,6 +113,7 @@ fn judge(
 pub fn work(alloc: Global, board: &mut Board, job: Job) -> Result<(), Memory>
     requires needed { IsOneOf (job_of job.task) (needed_at board.old) }
     requires origin { (n : Held) → IsNodeOf (tree board.old) (generation_of (job_of job.task)) n → n.source ≡ source_of job.origin }
+    requires looks { LooksForTrees (state board.old) }
     ensures done { OnOk result (IsDone board.old board.new (job_of job.task)) }
     ensures continues { Continues board.old board.new }
     ensures session { SameSession board.old board.new }

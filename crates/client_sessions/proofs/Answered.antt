@@ -207,7 +207,7 @@ module _ (program : Program) (settings : Settings) where
     told stop wishes log s (run_goes_on before event m a e run next possible) =
         subst (λ z. IsTold wishes z s) (sym e)
         (tells wishes before m (told stop wishes before m run) program event s (next_tells m event next) possible)
-    told stop wishes log s (run_stops reason a run is_so) = told None wishes log s run
+    told stop wishes log s (run_stops reason a run is_so asked) = told None wishes log s run
     told stop wishes log s (run_tells reason before event m a e run (p, least, is) possible) =
         subst (λ z. IsTold wishes z s) (sym e)
         (tells wishes before m (told stop wishes before m run) program event s (subst (Tells m) (sym is) tt) possible)

@@ -26,7 +26,7 @@ module _ (program : Program) (settings : Settings) (start : State) where
       one_more log before (left 1) m s e (derives stop wishes before m run) possible
   derives stop wishes log s (run_goes_on before event m a e run next possible) =
       one_more log before event m s e (derives stop wishes before m run) possible
-  derives stop wishes log s (run_stops reason a run is_so) = derives None wishes log s run
+  derives stop wishes log s (run_stops reason a run is_so asked) = derives None wishes log s run
   derives stop wishes log s (run_tells reason before event m a e run told possible) =
       one_more log before event m s e (derives stop wishes before m run) possible
 

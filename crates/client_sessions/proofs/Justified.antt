@@ -75,7 +75,7 @@ module _ (program : Program) (settings : Settings) where
   reason_justifies s stop client number (TooLarge term) h = (TooLarge term, h, refl)
   reason_justifies s stop client number (Limit kind) h = (Limit kind, h, refl)
 
-  stop_justifies : (s : State) (stop : Option StopReason) (reason : StopReason) (event : Event) → stop ≡ Some reason →
+  pub stop_justifies : (s : State) (stop : Option StopReason) (reason : StopReason) (event : Event) → stop ≡ Some reason →
       IsStopReply s reason event → IsJustified program settings s stop event
   stop_justifies s stop reason event h (p, least, e) =
       subst (IsJustified program settings s stop) (sym e) (reason_justifies s stop p.client p.number reason h)
@@ -96,13 +96,13 @@ module _ (program : Program) (settings : Settings) where
         let test = asked_can_be_tested program answers.0 next.windows answers.1 s.behaviour in
         subst (EntryHolds program next.windows s.behaviour (waiting_in s)) (sym (next.next answers.0 test.0 answers.1 test.1))
         (next_entries_hold program answers.0 settings.values next.windows s.behaviour test.0
-        (record { ready = ready; exact = answers.1; windows = next.sized; tests = test.1 }) (waiting_in s) (waiting_is_sound s))
+        (record { ready = ready; exact = answers.1; windows = next.of_session.sized; tests = test.1 }) (waiting_in s) (waiting_is_sound s))
 
-    next_justifies : (s : State) (stop : Option StopReason) (event : Event) → IsNextEvent program settings s event →
+    pub next_justifies : (s : State) (stop : Option StopReason) (event : Event) → IsNextEvent program settings s event →
         IsJustified program settings s stop event
     next_justifies s stop event (next_ended p ended least e) = subst (IsJustified program settings s stop) (sym e) ended
     next_justifies s stop event (next_by_rules entry goes next comes) =
-        entry_justifies s stop next.windows next.sized entry event comes (entry_holds s entry next)
+        entry_justifies s stop next.windows next.of_session.sized entry event comes (entry_holds s entry next)
 
     module _ (start : State) (final : Option StopReason) where
       one_more : (log before : List Event) (event : Event) (m s : State) → log ≡ before ++ event ∷ [] →
@@ -124,7 +124,7 @@ module _ (program : Program) (settings : Settings) where
           one_more log before (left 1) m s e (run_justified stop wishes before m stays run) possible tt
       run_justified stop wishes log s stays (run_goes_on before event m a e run next possible) =
           one_more log before event m s e (run_justified stop wishes before m stays run) possible (next_justifies m final event next)
-      run_justified stop wishes log s stays (run_stops reason a run is_so) =
+      run_justified stop wishes log s stays (run_stops reason a run is_so asked) =
           run_justified None wishes log s (λ r e. let no : ⊥ = cc in absurd no) run
       run_justified stop wishes log s stays (run_tells reason before event m a e run told possible) =
           one_more log before event m s e (run_justified stop wishes before m stays run) possible
@@ -136,7 +136,7 @@ next_events_hold program settings s event ready (next_by_rules entry goes next c
   goes = goes;
   entry = entry;
   windows = next.windows;
-  sized = next.sized;
+  sized = next.of_session.sized;
   comes = comes;
   holds = entry_holds program settings ready s entry next;
 })

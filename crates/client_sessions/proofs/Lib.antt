@@ -1,5 +1,12 @@
 pub mod Answered
 pub mod Clients
 pub mod Derivations
+pub mod Ends
 pub mod Justified
+pub mod Moves
+pub mod OneEnd
+pub mod OneNext
+pub mod OnePoint
+pub mod OneRun
+pub mod OneWindow
 pub mod Stopped

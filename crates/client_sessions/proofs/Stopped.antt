@@ -11,7 +11,7 @@ use Rattle.session_states.specs.Clients.{numbers_from}
 use Rattle.session_rules.specs.declared.stop_reason.StopReason.{StopReason}
 use Rattle.session_rules.specs.Next.{IsStopReply}
 use Rattle.session_rules.specs.Stopping.{answer_by}
-use Rattle.stop_reasons.specs.Reasons.{IsReasonToStop}
+use Rattle.stop_reasons.specs.Reasons.{IsAskedByRules, IsReasonToStop}
 use Rattle.client_sessions.specs.Ends.{IsEndingOf, IsEndOfTrees, ends_by_reason, ends_by_exit, ends_by_trees}
 use Rattle.client_sessions.specs.Justified.{ComesAfterStop, StopsFor, IsUnstopped}
 use Rattle.client_sessions.specs.Laws.{RunsStopForReasons, ClientRunsAreComplete}
@@ -47,6 +47,7 @@ module _ (program : Program) (settings : Settings) (start : State) (reason : Sto
     middle = h.middle;
     leads = h.leads;
     is_so = h.is_so;
+    asked = h.asked;
     comes = each_behind (ComesAfterStop reason) h.after event h.comes comes;
   }
 
@@ -58,7 +59,7 @@ module _ (program : Program) (settings : Settings) (start : State) (reason : Sto
   stopped stop wishes log s q (run_leaves before m e run settled possible) =
       one_more log before (left 1) e tt (stopped stop wishes before m q run)
   stopped stop wishes log s q (run_goes_on before event m a e run next possible) = let never : ⊥ = cc in absurd never
-  stopped stop wishes log s q (run_stops other a run is_so) =
+  stopped stop wishes log s q (run_stops other a run is_so asked) =
       let same : other ≡ reason = cc in
       record {
         before = log;
@@ -67,6 +68,7 @@ module _ (program : Program) (settings : Settings) (start : State) (reason : Sto
         middle = s;
         leads = derives program settings start None wishes log s run;
         is_so = subst (IsReasonToStop program settings s) same is_so;
+        asked = subst (IsAskedByRules program settings s) same asked;
         comes = tt;
       }
   stopped stop wishes log s q (run_tells other before event m a e run told possible) =

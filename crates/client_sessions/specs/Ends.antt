@@ -4,29 +4,44 @@ use Rattle.spec_core.specs.declared.settings.Settings.{Settings}
 use Rattle.spec_core.specs.Code.{Program}
 use Rattle.rule_model.specs.Actions.{Kind}
 use Rattle.rule_model.specs.Derivations.{Derivation}
-use Rattle.rule_model.specs.Derives.{NoStep, SomeStep}
 use Rattle.rule_model.specs.Events.{Ending, exits, deadlocked, waiting, ends_beyond, ends_spent, ends_too_large, ends_at_limit}
 use Rattle.rule_model.specs.States.{State}
+use Rattle.windowed_trees.specs.Laws.{NoTree}
 use Rattle.windowed_trees.specs.Trees.{IsWindowed, IsBeyond}
-use Rattle.windowed_trees.specs.Windows.{Windows, AreWindows}
-use Rattle.session_rules.specs.Next.{HasEnded}
+use Rattle.windowed_trees.specs.Windows.{Windows}
+use Rattle.session_rules.specs.Next.{AreSessionWindows, HasEnded}
 use Rattle.session_rules.specs.declared.stop_reason.StopReason.{StopReason}
 use Rattle.session_rules.specs.Stopping.{ending_by}
 
 module _ (program : Program) (settings : Settings) (s : State) where
-  -- no tree is windowed, and one has marks
+  -- no tree is windowed, and none is beyond
+  pub record IsDeadEnd : Type 0 where
+    pub windows : Windows
+    pub of_session : AreSessionWindows program settings windows
+    pub none : (k : Kind) → NoTree program windows s.behaviour None k
+
+  -- a tree is windowed
+  pub record IsWaitingEnd : Type 0 where
+    pub windows : Windows
+    pub of_session : AreSessionWindows program settings windows
+    pub tree : Derivation
+    pub kind : Kind
+    pub windowed : IsWindowed program windows s.behaviour None tree kind
+
+  -- no tree is windowed, and one is beyond
   pub record IsBeyondEnd : Type 0 where
     pub windows : Windows
-    pub sized : AreWindows program.theory settings.values windows
+    pub of_session : AreSessionWindows program settings windows
     pub none : (d : Derivation) (k : Kind) → IsWindowed program windows s.behaviour None d k → ⊥
     pub tree : Derivation
     pub kind : Kind
     pub marked : IsBeyond program windows s.behaviour None tree kind
 
-  -- By the trees: a deadlock, where no rule gives a step; waiting, where one does; beyond, where only values beyond the windows may.
+  -- By the trees, with the windows of the session: a deadlock, where none is windowed or beyond; waiting, where one is windowed; beyond,
+  -- where none is windowed, and one is beyond.
   abbrev pub IsEndOfTrees : Ending → Type 0
-  IsEndOfTrees deadlocked = NoStep program s.behaviour
-  IsEndOfTrees waiting = SomeStep program s.behaviour
+  IsEndOfTrees deadlocked = IsDeadEnd
+  IsEndOfTrees waiting = IsWaitingEnd
   IsEndOfTrees ends_beyond = IsBeyondEnd
   IsEndOfTrees exits = ⊥
   IsEndOfTrees (ends_spent term) = ⊥

@@ -23,7 +23,7 @@ use Rattle.session_states.specs.Clients.{numbers_from}
 use Rattle.session_rules.specs.declared.stop_reason.StopReason.{StopReason}
 use Rattle.session_rules.specs.Next.{HasEnded, GoesByRules, IsEventOf, IsLeast}
 use Rattle.session_rules.specs.Stopping.{answer_by}
-use Rattle.stop_reasons.specs.Reasons.{IsReasonToStop}
+use Rattle.stop_reasons.specs.Reasons.{IsAskedByRules, IsReasonToStop}
 use Rattle.client_sessions.specs.Ends.{IsEndingOf}
 use Rattle.client_sessions.specs.Runs.{clients_for}
 
@@ -101,8 +101,8 @@ ComesAfterStop reason (replied client number answer) = (at : ℕ) × (answer ≡
 ComesAfterStop reason (stalled names) = ⊥
 ComesAfterStop reason (left client) = Unit {0}
 
--- On the way the session stops for this reason: the log leads to a state in which the reason is so, and from there on nothing comes but what
--- comes of it.
+-- On the way the session stops for this reason: the log leads to a state in which the reason is so, where the rules have something left to ask,
+-- and from there on nothing comes but what comes of it.
 pub record StopsFor (program : Program) (settings : Settings) (log : List Event) (s : State) (reason : StopReason) : Type 0 where
   pub before : List Event
   pub after : List Event
@@ -110,6 +110,7 @@ pub record StopsFor (program : Program) (settings : Settings) (log : List Event)
   pub middle : State
   pub leads : IsDerivation program before s middle
   pub is_so : IsReasonToStop program settings middle reason
+  pub asked : IsAskedByRules program settings middle reason
   pub comes : Each (ComesAfterStop reason) after
 
 -- The session of a client with these wishes is legal: from the specification's behaviour on, each entry is possible and justified; what

@@ -6,15 +6,18 @@ use Rattle.spec_core.specs.Ready.{IsReady}
 use Rattle.rule_model.specs.Answering.{AnswersEach}
 use Rattle.rule_model.specs.Behaviours.{Behaviour}
 use Rattle.rule_model.specs.Code.{IsStart}
-use Rattle.rule_model.specs.Events.{Event, Ending}
+use Rattle.rule_model.specs.Derives.{NoStep, SomeStep}
+use Rattle.rule_model.specs.Events.{Event, Ending, exits, deadlocked, waiting, ends_beyond, ends_spent, ends_too_large, ends_at_limit}
 use Rattle.rule_model.specs.Legal.{IsDerivation}
 use Rattle.rule_model.specs.Wishes.{Wish}
 use Rattle.rule_model.specs.States.{State, start_state}
 use Rattle.session_states.specs.Clients.{numbers_from}
 use Rattle.session_rules.specs.declared.stop_reason.StopReason.{StopReason}
 use Rattle.session_rules.specs.Next.{IsNextEvent}
+use Rattle.client_sessions.specs.Ends.{IsEndingOf}
 use Rattle.client_sessions.specs.Justified.{IsEndedReply, HoldsByRules, IsJustifiedLog, StopsFor, IsLegalSession, NeverStops}
 use Rattle.client_sessions.specs.Justified.{IsUnstopped}
+use Rattle.client_sessions.specs.OneRun.{IsUnstoppedButBySteps, OnlyStepsStop}
 use Rattle.client_sessions.specs.Runs.{IsRun, IsClientRun, clients_for}
 
 -- each run is a derivation by the inference rules
@@ -104,3 +107,43 @@ ClientRunsAreComplete =
     IsClientRun program settings wishes log ending →
     NeverStops program settings wishes log →
     IsUnstopped ending
+
+-- what an end says of the steps of a behaviour: a deadlock, that no rule gives one; waiting, that some rule does
+abbrev pub SaysOfSteps : Program → Behaviour → Ending → Type 0
+SaysOfSteps program b deadlocked = NoStep program b
+SaysOfSteps program b waiting = SomeStep program b
+SaysOfSteps program b exits = Unit {0}
+SaysOfSteps program b ends_beyond = Unit {0}
+SaysOfSteps program b (ends_spent term) = Unit {0}
+SaysOfSteps program b (ends_too_large term) = Unit {0}
+SaysOfSteps program b (ends_at_limit kind) = Unit {0}
+
+-- what the end of a session of a specification that is ready says is so of the behaviour that is reached
+abbrev pub EndsSayWhatIsSo : Type 0
+EndsSayWhatIsSo =
+    (program : Program) (settings : Settings) (s : State) (stop : Option StopReason) (ending : Ending) →
+    IsReady program →
+    IsEndingOf program settings s stop ending →
+    SaysOfSteps program s.behaviour ending
+
+-- Two sessions of a specification that is ready, of a client with the same wishes and with the same settings, are one, where neither was
+-- stopped, or only because there were as many actions as are allowed.
+abbrev pub SessionsAreOne : Type 0
+SessionsAreOne =
+    (program : Program) (settings : Settings) (wishes : List Wish) (log other_log : List Event) (ending other_ending : Ending) →
+    IsReady program →
+    IsClientRun program settings wishes log ending →
+    IsUnstoppedButBySteps ending →
+    IsClientRun program settings wishes other_log other_ending →
+    IsUnstoppedButBySteps other_ending →
+    (other_log ≡ log) × (other_ending ≡ ending)
+
+-- Where on the way of one session no reason to stop is so, but that there were as many actions as are allowed, there is no other.
+abbrev pub NoOtherSession : Type 0
+NoOtherSession =
+    (program : Program) (settings : Settings) (wishes : List Wish) (log other_log : List Event) (ending other_ending : Ending) →
+    IsReady program →
+    IsClientRun program settings wishes log ending →
+    OnlyStepsStop program settings wishes log →
+    IsClientRun program settings wishes other_log other_ending →
+    (other_log ≡ log) × (other_ending ≡ ending)

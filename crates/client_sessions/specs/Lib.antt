@@ -1,4 +1,5 @@
 pub mod Ends
 pub mod Justified
 pub mod Laws
+pub mod OneRun
 pub mod Runs

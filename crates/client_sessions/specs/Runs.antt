@@ -12,7 +12,7 @@ use Rattle.courses.specs.Rules.{nothing}
 use Rattle.session_rules.specs.Next.{GoesByRules, IsNextEvent, IsNextOf, IsStopReply}
 use Rattle.session_states.specs.Clients.{numbers_from}
 use Rattle.session_rules.specs.declared.stop_reason.StopReason.{StopReason}
-use Rattle.stop_reasons.specs.Reasons.{IsReasonToStop}
+use Rattle.stop_reasons.specs.Reasons.{IsAskedByRules, IsReasonToStop}
 use Rattle.client_sessions.specs.Ends.{IsEndingOf}
 
 module _ (program : Program) (settings : Settings) where
@@ -22,8 +22,8 @@ module _ (program : Program) (settings : Settings) where
     none_next : stop ≡ None → GoesByRules s → IsNextOf program settings s nothing → IsSettledAt stop s
 
   -- A run from a state on, of a client that makes these offers in order, each where nothing else is left to be done, and may leave then.
-  -- What comes next by the rules is appended. It may stop in each state for a reason that is so there, and from then on nothing is appended
-  -- but what comes of it: each offer is answered by the reason.
+  -- What comes next by the rules is appended. It may stop in each state for a reason that is so there, where the rules have something left to
+  -- ask, and from then on nothing is appended but what comes of it: each offer is answered by the reason.
   pub data IsRun (start : State) : Option StopReason → List Wish → List Event → State → Type 0 where
     run_begins : {stop : Option StopReason} {wishes : List Wish} {log : List Event} {s : State} → stop ≡ None → wishes ≡ [] → log ≡ [] →
         s ≡ start → IsRun start stop wishes log s
@@ -38,7 +38,8 @@ module _ (program : Program) (settings : Settings) where
         (m : State) → stop ≡ None → log ≡ before ++ event ∷ [] → IsRun start stop wishes before m → IsNextEvent program settings m event →
         IsPossible program m event s → IsRun start stop wishes log s
     run_stops : {stop : Option StopReason} {wishes : List Wish} {log : List Event} {s : State} (reason : StopReason) → stop ≡ Some reason →
-        IsRun start None wishes log s → IsReasonToStop program settings s reason → IsRun start stop wishes log s
+        IsRun start None wishes log s → IsReasonToStop program settings s reason → IsAskedByRules program settings s reason →
+        IsRun start stop wishes log s
     run_tells : {stop : Option StopReason} {wishes : List Wish} {log : List Event} {s : State} (reason : StopReason) (before : List Event)
         (event : Event) (m : State) → stop ≡ Some reason → log ≡ before ++ event ∷ [] → IsRun start stop wishes before m →
         IsStopReply m reason event → IsPossible program m event s → IsRun start stop wishes log s

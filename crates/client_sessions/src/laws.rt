@@ -2,7 +2,7 @@
 
 ghost use Rattle.client_sessions.specs.Laws.{RunsAreDerivations, RunsAnswerEach, ClientRunsAreDerivations, ClientRunsAnswerEach};
 ghost use Rattle.client_sessions.specs.Laws.{NextEventsHold, RunsStopForReasons, RunsAreJustified, JustifiedLogsAreDerivations, ClientRunsAreLegal};
-ghost use Rattle.client_sessions.specs.Laws.{ClientRunsAreComplete};
+ghost use Rattle.client_sessions.specs.Laws.{ClientRunsAreComplete, EndsSayWhatIsSo, SessionsAreOne, NoOtherSession};
 
 /// Each run is a derivation by the inference rules.
 pub fn runs_are_derivations()
@@ -53,4 +53,21 @@ pub fn client_runs_are_legal()
 /// Where no reason to stop is so on the way, the session isn't stopped.
 pub fn client_runs_are_complete()
     ensures { ClientRunsAreComplete }
+{}
+
+/// What the end of a session says of the steps of the behaviour that is reached is so: where it is a deadlock, no rule gives a step; where it
+/// is waiting, some rule gives one.
+pub fn ends_say_what_is_so()
+    ensures { EndsSayWhatIsSo }
+{}
+
+/// Two sessions of a client with the same wishes are one, where neither was stopped, or only because there were as many actions as are
+/// allowed. Without this premise they needn't be: of two terms that are too dear, as in `g !E; stop [] h !F; stop`, either may stop one.
+pub fn sessions_are_one()
+    ensures { SessionsAreOne }
+{}
+
+/// Where on the way of one session no other reason to stop is so, there is no other session.
+pub fn no_other_session()
+    ensures { NoOtherSession }
 {}

@@ -27,7 +27,7 @@ use Rattle.equation_readings.proofs.Uniqueness.{condition-one}
 use Rattle.type_names.specs.DuplicateNames.{names_twice}
 use Rattle.constructs.specs.Constructs.{Construct}
 use Rattle.behaviour_readings.specs.Calls as read_calls
-use Rattle.behaviour_readings.specs.Calls.{IsValueRead, sorted, unsorted, AreValuesRead, called, IsCallRead, unknown, miscounted, counted}
+use Rattle.behaviour_readings.specs.Calls.{IsValueRead, sorted, unsorted, fitting, IsArgumentRead, fitted, AreValuesRead, called, IsCallRead, unknown, miscounted, counted}
 use Rattle.behaviour_readings.specs.Calls.{IsBindingRead, bound_to, variable_of}
 use Rattle.behaviour_readings.specs.Declarations.{unknown_gate, unknown_gates, gate_numbers, declaration_refusals, declared_variables}
 use Rattle.behaviour_readings.specs.Joins.{after, around, either, joined, disagreement}
@@ -101,13 +101,18 @@ module _ (s : Site) where
   value-one : (o : Option ℕ) (e : Expr) → IsOne (IsValueRead s o e)
   value-one o e f g rs ss h k = value-one-at e refl h k
 
+  argument-one : (o : Option ℕ) (e : Expr) → IsOne (IsArgumentRead s o e)
+  argument-one o e _ _ _ _ (fitted t rs h) (fitted u ss k) =
+      let one = value-one o e t u rs ss h k in
+      (of-one (λ t rs. fitting o rs t) one, one.1)
+
   call-one : (name : Token) (gates : List Token) (es : List Expr) (o : Option Heading) → IsOne (IsCallRead s name gates es o)
   call-one name gates es o _ _ _ _ unknown unknown = (refl, refl)
   call-one name gates es o _ _ _ _ (miscounted p e) (miscounted _ d) = (refl, refl)
   call-one name gates es o _ _ _ _ (miscounted p e) (counted _ values rs d h) = absurd (let z = sym e ∙ d in cc)
   call-one name gates es o _ _ _ _ (counted p values rs e h) (miscounted _ d) = absurd (let z = sym e ∙ d in cc)
   call-one name gates es o _ _ _ _ (counted p values rs e h) (counted _ others ss d k) =
-      let one = reads-one _ (λ v. value-one v.0 v.1) _ values others rs ss h k in
+      let one = reads-one _ (λ v. argument-one v.0 v.1) _ values others rs ss h k in
       (ap (called p (gate_numbers s gates)) one.0, ap (λ l. unknown_gates s gates ++ l) one.1)
 
   binding-one : (b : ℕ × Binding) → IsOne (IsBindingRead s b)

@@ -19,7 +19,7 @@ use Rattle.spec_core.specs.Theories.{Theory}
 use Rattle.sort_overloads.specs.Expressions.{expression}
 use Rattle.sort_overloads.specs.Refused.{is_sort_known}
 use Rattle.equation_readings.specs.Variables.{sort_named}
-use Rattle.behaviour_readings.specs.Calls.{IsValueRead, sorted, unsorted, AreValuesRead, IsBindingRead, bound, bound_to}
+use Rattle.behaviour_readings.specs.Calls.{IsValueRead, sorted, unsorted, IsArgumentRead, fitted, AreValuesRead, IsBindingRead, bound, bound_to}
 use Rattle.behaviour_readings.specs.Calls.{variable_of}
 use Rattle.behaviour_readings.specs.Declarations.{numbered_from}
 use Rattle.behaviour_readings.specs.Offers.{IsExitValueRead, any, value, AreExitValuesRead}
@@ -68,6 +68,10 @@ module _ (theory : Theory) (s : Site) (vars : ℕ → Option ℕ) (agrees : Agre
       (λ y j. (y.sort, ap Some j.0, j.1)))
   value-fits o e found rs (unsorted e') = tt
 
+  argument-fits : (sort : ℕ) (e : Expr) (found : Option TermTree) (rs : List Refusal) → IsArgumentRead s (Some sort) e found rs →
+      IfSome found (λ t. (n : ℕ) × (Some sort ≡ Some n) × HasSort theory vars t n)
+  argument-fits sort e _ rs (fitted t _ h) = value-fits (Some sort) e t rs h
+
   values-before : (x : Variable) (xs : List Variable) (y : Option TermTree) (ys : Option (List TermTree)) →
       IfSome y (λ t. (sort : ℕ) × (Some x.sort ≡ Some sort) × HasSort theory vars t sort) → IfSome ys (λ ts. ValuesFit theory vars ts xs) →
       IfSome (before y ys) (λ ts. ValuesFit theory vars ts (x ∷ xs))
@@ -82,7 +86,7 @@ module _ (theory : Theory) (s : Site) (vars : ℕ → Option ℕ) (agrees : Agre
   values-fit [] (x ∷ xs) found rs e h = absurd (omega (arith, e))
   values-fit (e ∷ es) [] found rs q h = absurd (omega (arith, q))
   values-fit (e ∷ es) (x ∷ xs) found rs q (further p others y ys r refusals h d) =
-      values-before x xs y ys (value-fits (Some x.sort) e y r h) (values-fit es xs ys refusals (omega (arith, q)) d)
+      values-before x xs y ys (argument-fits x.sort e y r h) (values-fit es xs ys refusals (omega (arith, q)) d)
 
   -- the bindings of a `let`
   binding-fits : (n : ℕ) (b : Binding) (found : Option code.Binding) (rs : List Refusal) → IsBindingRead s (n, b) found rs →

@@ -1,19 +1,16 @@
 -- What exact answers say of what was found, and of what wasn't.
-use Rattle.std.proofs.Common.{◌≡◌, List, [], ◌∷◌, map, flat_map, refl, sym, ap, ◌∙◌, Option, Some, None, Bool, true, false}
+use Rattle.std.proofs.Common.{◌≡◌, List, [], ◌∷◌, refl, sym, ap, ◌∙◌, Option, Some, None, Bool, true, false}
 use Rattle.std.proofs.Common.{option_map, option_and_then}
 use Rattle.spec_core.specs.Terms.{TermTree}
 use Rattle.spec_core.specs.Theories.{Premise, premise}
 use Rattle.spec_core.specs.Code.{Program, Variable, Binding, ExitValue, exit_given, exit_any, ActionField, give, accept}
-use Rattle.rule_model.specs.declared.rules.Slot.{Slot}
 use Rattle.windowed_trees.specs.MarkedTerms.{MarkedTerm, plain, mark, MarkedAssignment, with_marked, marked_instance, MayHaveValue}
 use Rattle.windowed_trees.specs.MarkedTerms.{MayBeEqual, PremiseMayHold}
 use Rattle.windowed_trees.specs.MarkedFields.{BindingsMayHave, ArgumentsMayHave}
 use Rattle.composites.specs.Evaluations.{Evaluation, IsExact, marked_value, may_be_equal, premise_may_hold, with_bindings, with_arguments}
-use Rattle.composites.specs.OpenFields.{OpenField, blank, open_by, open_fields, open_exit, slots_of, exit_slots_of}
+use Rattle.composites.specs.OpenFields.{OpenField, blank, open_by, open_fields, open_exit}
 use Rattle.composites.proofs.Exact.{value_is}
-use Rattle.open_composites.specs.Plans.{taken_slots}
 use Rattle.marked_values.specs.Found.{FieldsOpen, ExitOpen}
-use Rattle.expand.specs.Taking.{takes_value, takes_any}
 
 pub none_of : {A : Type 0} (o : Option A) → ((a : A) → o ≡ Some a → ⊥) → o ≡ None
 none_of None h = refl
@@ -139,22 +136,3 @@ module _ (program : Program) (e : Evaluation) (exact : IsExact program e) where
   pub exit_isnt : (m : MarkedAssignment) (fields : List ExitValue) →
       ((cs : List OpenField) → ExitOpen program.theory m fields cs → ⊥) → open_exit program.theory e m fields ≡ None
   exit_isnt m fields none = none_of (open_exit program.theory e m fields) (λ cs h. none cs (exit_back m fields cs h))
-
--- the slots of an action, and of an exit, by which of the fields take a value
-pub slots_taken : (fields : List ActionField) (choices : List (List Slot)) →
-    taken_slots (map takes_value fields) choices ≡ slots_of fields choices
-slots_taken [] choices = refl
-slots_taken (give t ∷ fields) [] = refl
-slots_taken (accept x ∷ fields) [] = refl
-slots_taken (give t ∷ fields) (c ∷ choices) = slots_taken fields choices
-slots_taken (accept x ∷ fields) (c ∷ choices) =
-    ap (λ others. flat_map (λ slot. map (λ slots. slot ∷ slots) others) c) (slots_taken fields choices)
-
-pub exit_slots_taken : (fields : List ExitValue) (choices : List (List Slot)) →
-    taken_slots (map takes_any fields) choices ≡ exit_slots_of fields choices
-exit_slots_taken [] choices = refl
-exit_slots_taken (exit_given t ∷ fields) [] = refl
-exit_slots_taken (exit_any sort ∷ fields) [] = refl
-exit_slots_taken (exit_given t ∷ fields) (c ∷ choices) = exit_slots_taken fields choices
-exit_slots_taken (exit_any sort ∷ fields) (c ∷ choices) =
-    ap (λ others. flat_map (λ slot. map (λ slots. slot ∷ slots) others) c) (exit_slots_taken fields choices)

@@ -10,19 +10,17 @@ use Rattle.spec_core.specs.Ready.{IsReady}
 use Rattle.rule_model.specs.Actions.{pairs_of}
 use Rattle.rule_model.specs.Behaviours.{Behaviour, call}
 use Rattle.rule_model.specs.Code.{IsDefinition}
-use Rattle.rule_model.specs.Derivations.{calling}
 use Rattle.code_behaviours.specs.Parts.{behaviour_at}
 use Rattle.code_behaviours.proofs.Standing.{behaviours_stand}
 use Rattle.windowed_trees.specs.Windows.{Windows}
 use Rattle.windowed_trees.specs.MarkedTerms.{MarkedAssignment, unmarked}
 use Rattle.windowed_trees.specs.MarkedFields.{ArgumentsMayHave}
 use Rattle.composites.specs.Evaluations.{Definition, Evaluation, IsExact, with_arguments}
-use Rattle.composites.specs.Composites.{Composite, from_option, under, of_relabel, below_calls}
+use Rattle.composites.specs.Composites.{from_option}
 use Rattle.composites.proofs.Exact.{arguments_are}
 use Rattle.open_composites.specs.declared.scheme.Row.TheVariants.{Call}
 use Rattle.open_composites.specs.OpenPlans.{OpenPlan, under_row, under_relabelling}
-use Rattle.open_composites.specs.Laws.{composites_of}
-use Rattle.open_composites.proofs.Made.{plans_make_composites}
+use Rattle.own_plans.specs.OwnPlans.{own_plans_below}
 use Rattle.reached_terms.specs.Reached.{ArgumentAsks, ReachesBelow}
 use Rattle.reached_terms.specs.Spread.{number_of, spread_below}
 use Rattle.marked_values.specs.declared.stop.Stop.{Stop}
@@ -46,20 +44,20 @@ is_definition program ready p formal xs body here = record {
 }
 
 module _ (program : Program) (w : Windows) (budget : ℕ) where
-  -- the composites below a call, and their spread
+  -- the plans below a call, and their spread
   record IsBelow (n : ℕ) (l : MarkedAssignment) (b : Behaviour) (ps : List OpenPlan) (k : ℕ) : Type 0 where
-    composites : (e : Evaluation) → IsExact program e → composites_of program.theory w ps ≡ below_calls program.theory e w n l b
+    plans : (e : Evaluation) → IsExact program e → ps ≡ own_plans_below program.theory e w n l b
     spread : (e : Evaluation) → IsExact program e → k ≡ spread_below program.theory e w n l b
     asked : Each (AsksReached program (ReachesBelow program w [] n l b) l b) ps
 
   is_below : (n : ℕ) (l : MarkedAssignment) (b : Behaviour) (x : Expanded) → BelowOutcome program w n budget l b (Ok x) →
       IsBelow n l b (plans_in x) x.spread
   is_below zero l b x h = record {
-    composites = λ e q. ap (composites_of program.theory w) h.0;
+    plans = λ e q. h.0;
     spread = λ e q. h.1;
     asked = subst (λ z. Each (AsksReached program (ReachesBelow program w [] zero l b) l b) z) (sym h.0) tt;
   }
-  is_below (suc n) l b x h = record { composites = h.composites; spread = h.spread; asked = h.asked }
+  is_below (suc n) l b x h = record { plans = h.plans; spread = h.spread; asked = h.asked }
 
   below_stops : (n : ℕ) (l : MarkedAssignment) (b : Behaviour) (s : Stop) → BelowOutcome program w n budget l b (Err s) →
       Stops program.theory budget (ReachesBelow program w [] n l b)
@@ -86,9 +84,10 @@ module _ (program : Program) (w : Windows) (budget : ℕ) where
     abbrev found : Definition
     found = record { gates = formal; variables = xs; body = body }
 
-    abbrev made_by : Evaluation → Definition → Option MarkedAssignment → List Composite
+    abbrev made_by : Evaluation → Definition → Option MarkedAssignment → List OpenPlan
     made_by e d o =
-        from_option o (λ j. map (under calling) (of_relabel (pairs_of d.gates actual) (below_calls program.theory e w n j d.body)))
+        from_option o
+        (λ j. map (under_row Call) (map (under_relabelling (pairs_of d.gates actual)) (own_plans_below program.theory e w n j d.body)))
 
     abbrev counted_by : Evaluation → Definition → Option MarkedAssignment → ℕ
     counted_by e d o = number_of o (λ j. 1 + spread_below program.theory e w n j d.body)
@@ -107,12 +106,8 @@ module _ (program : Program) (w : Windows) (budget : ℕ) where
     comes_of ps k (Ok y) r below h turns =
         sized_comes program w n budget m (call p actual terms) (map (under_row Call) (plans_in y)) (1 + y.spread) r turns
         (record {
-          composites = λ e q.
-              ap (λ z. composites_of program.theory w (map (under_row Call) z)) h.0
-              ∙ (plans_make_composites program.theory w).rows Call (map (under_relabelling (pairs_of formal actual)) ps)
-              ∙ ap (map (under calling))
-              ((plans_make_composites program.theory w).relabel (pairs_of formal actual) ps
-              ∙ ap (of_relabel (pairs_of formal actual)) (below.composites e q))
+          plans = λ e q.
+              ap (map (under_row Call)) (h.0 ∙ ap (map (under_relabelling (pairs_of formal actual))) (below.plans e q))
               ∙ sym (ap (λ z. from_option z (λ d. made_by e d (with_arguments program.theory e m unmarked d.variables terms)))
               ((q.definition p found).0 definition)
               ∙ ap (made_by e found) (arguments_are program e q m unmarked l xs terms has));
@@ -159,12 +154,12 @@ module _ (program : Program) (w : Windows) (budget : ℕ) where
       let d : Definition = record { gates = formal; variables = xs; body = body } in
       sized_comes program w n budget m (call p actual terms) [] 1 r h
       (record {
-        composites = λ e q.
+        plans = λ e q.
             sym (ap (λ z. from_option z (λ d. from_option (with_arguments program.theory e m unmarked d.variables terms)
-            (λ j. map (under calling) (of_relabel (pairs_of d.gates actual) (below_calls program.theory e w n j d.body)))))
+            (λ j. map (under_row Call) (map (under_relabelling (pairs_of d.gates actual)) (own_plans_below program.theory e w n j d.body)))))
             ((q.definition p d).0 definition)
             ∙ ap (λ z. from_option z
-            (λ j. map (under calling) (of_relabel (pairs_of formal actual) (below_calls program.theory e w n j body))))
+            (λ j. map (under_row Call) (map (under_relabelling (pairs_of formal actual)) (own_plans_below program.theory e w n j body))))
             (arguments_arent program e q m unmarked xs terms none));
         spread = λ e q.
             sym (ap (λ z. 1 + number_of z (λ d. number_of (with_arguments program.theory e m unmarked d.variables terms)
@@ -194,9 +189,10 @@ module _ (program : Program) (w : Windows) (budget : ℕ) where
       none d.gates d.variables is.part is.defines) in
       sized_comes program w n budget m (call p actual terms) [] 1 r h
       (record {
-        composites = λ e q.
+        plans = λ e q.
             sym (ap (λ z. from_option z (λ d. from_option (with_arguments program.theory e m unmarked d.variables terms)
-            (λ j. map (under calling) (of_relabel (pairs_of d.gates actual) (below_calls program.theory e w n j d.body))))) (gone e q));
+            (λ j. map (under_row Call) (map (under_relabelling (pairs_of d.gates actual)) (own_plans_below program.theory e w n j d.body)))))
+            (gone e q));
         spread = λ e q.
             sym (ap (λ z. 1 + number_of z (λ d. number_of (with_arguments program.theory e m unmarked d.variables terms)
             (λ j. 1 + spread_below program.theory e w n j d.body))) (gone e q));

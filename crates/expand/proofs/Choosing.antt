@@ -6,24 +6,21 @@ use Rattle.std.proofs.lemmas.List.Sums.{sum_by-append}
 use Rattle.spec_core.specs.Code.{Program, Variable}
 use Rattle.rule_model.specs.declared.rules.Slot.{Slot}
 use Rattle.rule_model.specs.Behaviours.{Behaviour, value_choice}
-use Rattle.rule_model.specs.Derivations.{val}
 use Rattle.windowed_trees.specs.Windows.{Windows}
 use Rattle.windowed_trees.specs.MarkedTerms.{MarkedTerm, MarkedAssignment, with_marked}
 use Rattle.windowed_trees.specs.MarkedFields.{Chooses}
 use Rattle.composites.specs.Evaluations.{Evaluation, IsExact}
 use Rattle.composites.specs.OpenFields.{window_slots}
-use Rattle.composites.specs.Composites.{from_option, under}
+use Rattle.composites.specs.Composites.{from_option}
 use Rattle.composites.proofs.Exact.{chosen_is}
 use Rattle.open_composites.specs.declared.scheme.Row.TheVariants.{Val}
-use Rattle.open_composites.specs.OpenPlans.{OpenPlan, composite_of, under_row}
-use Rattle.open_composites.specs.Laws.{composites_of}
-use Rattle.open_composites.proofs.Made.{map_append, plans_make_composites}
+use Rattle.open_composites.specs.OpenPlans.{OpenPlan, under_row}
 use Rattle.reached_terms.specs.Spread.{number_of}
 use Rattle.marked_values.specs.declared.stop.Stop.{Stop}
 use Rattle.expand.specs.declared.outcome.Expanded.{Expanded}
-use Rattle.expand.specs.Outcomes.{plans_in, AsksReached, composites_with, spread_with, Expands, IsReached, Stopped, Outcome}
+use Rattle.expand.specs.Outcomes.{plans_in, AsksReached, plans_with, spread_with, Expands, IsReached, Stopped, Outcome}
 use Rattle.expand.specs.Joins.{Adds}
-use Rattle.expand.specs.Choosing.{composites_at, spread_at, ExpandsEach, IsChoice, IsPrefix, Added}
+use Rattle.expand.specs.Choosing.{plans_at, spread_at, ExpandsEach, IsChoice, IsPrefix, Added}
 use Rattle.expand.proofs.Asking.{each_append, asked_chosen}
 use Rattle.expand.proofs.Rows.{wide_above, part_stops}
 
@@ -39,21 +36,19 @@ module _ (program : Program) (w : Windows) (n budget : ℕ) (m : MarkedAssignmen
   Spread e slot = spread_at program w n m x b e slot
 
   pub begins : EachSlot [] [] 1
-  begins = record { composites = λ e q. refl; spread = λ e q. refl; asked = tt }
+  begins = record { plans = λ e q. refl; spread = λ e q. refl; asked = tt }
 
   -- with one more slot
   more : (slots : List Slot) (slot : Slot) (k : MarkedTerm) (ps qs : List OpenPlan) (j i : ℕ) → EachSlot slots ps j →
       IsChoice program.theory w x.sort slot k → Expands program w n (with_marked x k m) b qs i →
       EachSlot (slots ++ slot ∷ []) (ps ++ map (under_row (Val slot)) qs) (j + i)
   more slots slot k ps qs j i all choice part = record {
-    composites = λ e q.
-        let f = composites_at program w n m x b e in
-        map_append (composite_of program.theory w) ps (map (under_row (Val slot)) qs)
-        ∙ ap (λ z. z ++ composites_of program.theory w (map (under_row (Val slot)) qs)) (all.composites e q)
+    plans = λ e q.
+        let f = plans_at program w n m x b e in
+        ap (λ z. z ++ map (under_row (Val slot)) qs) (all.plans e q)
         ∙ ap (λ z. flat_map f slots ++ z)
-        ((plans_make_composites program.theory w).rows (Val slot) qs
-        ∙ ap (map (under (val slot))) (part.composites e q)
-        ∙ sym (ap (λ z. from_option z (λ t. map (under (val slot)) (composites_with program w n e (with_marked x t m) b)))
+        (ap (map (under_row (Val slot))) (part.plans e q)
+        ∙ sym (ap (λ z. from_option z (λ t. map (under_row (Val slot)) (plans_with program w n e (with_marked x t m) b)))
         (chosen_is program e q w slot x.sort k choice.chooses)))
         ∙ sym (flat_more f slots slot);
     spread = λ e q.
@@ -116,5 +111,5 @@ module _ (program : Program) (w : Windows) (n budget : ℕ) (m : MarkedAssignmen
       Added program w n budget m x b slots r → Outcome program w n budget m (value_choice x b) r
   all_chosen slots (Ok y) is h =
       let k = subst (λ z. EachSlot z (plans_in y) y.spread) is h in
-      record { composites = k.composites; spread = k.spread; asked = k.asked }
+      record { plans = k.plans; spread = k.spread; asked = k.asked }
   all_chosen slots (Err s) is h = h

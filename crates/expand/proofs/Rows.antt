@@ -9,21 +9,18 @@ use Rattle.spec_core.specs.Code.{Program, Variable, Binding, Relabelling, ExitVa
 use Rattle.rule_model.specs.Actions.{inside, ends, at_gate}
 use Rattle.rule_model.specs.Behaviours.{Behaviour, stop, exit, inner, action, choice, guarded, bound, gate_choice, parallel}
 use Rattle.rule_model.specs.Behaviours.{hide, enable, disable, relabel}
-use Rattle.rule_model.specs.Derivations.{pre, exiting, guard, letting}
 use Rattle.windowed_trees.specs.Windows.{Windows}
 use Rattle.windowed_trees.specs.MarkedTerms.{MarkedAssignment, PremiseMayHold}
 use Rattle.windowed_trees.specs.MarkedFields.{BindingsMayHave}
 use Rattle.composites.specs.Evaluations.{Evaluation, IsExact}
-use Rattle.composites.specs.OpenFields.{OpenField, slots_of, exit_slots_of}
-use Rattle.composites.specs.Composites.{Composite, from_option, under, by_hiding, by_enabling, of_choice, of_parallel, of_disable}
-use Rattle.composites.specs.Composites.{of_relabel, of_gates}
+use Rattle.composites.specs.OpenFields.{OpenField}
+use Rattle.composites.specs.Composites.{from_option}
 use Rattle.composites.proofs.Exact.{premise_is, bindings_are}
 use Rattle.open_composites.specs.declared.scheme.Row.TheVariants.{Guard, Let}
 use Rattle.open_composites.specs.Plans.{prefix, internal, termination}
 use Rattle.open_composites.specs.OpenPlans.{OpenPlan, under_row, under_relabelling, plan_by_hiding, plan_by_enabling, plans_of_choice}
 use Rattle.open_composites.specs.OpenPlans.{plans_of_parallel, plans_of_disable, plans_of_gates}
-use Rattle.open_composites.specs.Laws.{composites_of}
-use Rattle.open_composites.proofs.Made.{plans_make_composites}
+use Rattle.own_plans.specs.OwnPlans.{takes_value, takes_any}
 use Rattle.reached_terms.specs.Reached.{PremiseAsks, FieldAsks, ExitAsks, BindingAsks}
 use Rattle.reached_terms.specs.Spread.{number_of}
 use Rattle.marked_values.specs.declared.stop.Stop.{Stop}
@@ -32,25 +29,21 @@ use Rattle.marked_values.specs.Stops.{Stops, Never}
 use Rattle.marked_values.specs.Found.{FieldsOpen, ExitOpen}
 use Rattle.marked_values.proofs.Stopping.{stops_on}
 use Rattle.expand.specs.declared.outcome.Expanded.{Expanded}
-use Rattle.expand.specs.Outcomes.{plans_in, AsksReached, composites_with, spread_with, Expands, IsReached, IsTooWide, Stopped, Outcome}
+use Rattle.expand.specs.Outcomes.{plans_in, AsksReached, plans_with, spread_with, Expands, IsReached, IsTooWide, Stopped, Outcome}
 use Rattle.expand.specs.Joins.{OnlyWide, Sized, HandedOn, Turns, Joins}
-use Rattle.expand.specs.Taking.{takes_value, takes_any}
 use Rattle.expand.proofs.Asking.{asked_inner, asked_action, asked_exit, asked_choice, asked_parallel, asked_disable, asked_hide}
 use Rattle.expand.proofs.Asking.{asked_enable, asked_relabel, asked_gates, asked_guarded, asked_bound}
-use Rattle.expand.proofs.Answers.{premise_isnt, bindings_arent, fields_are, fields_arent, exit_is, exit_isnt, slots_taken, exit_slots_taken}
+use Rattle.expand.proofs.Answers.{premise_isnt, bindings_arent, fields_are, fields_arent, exit_is, exit_isnt}
 
 module _ (program : Program) (w : Windows) (n : ℕ) (budget : ℕ) where
-  abbrev Of : Evaluation → MarkedAssignment → Behaviour → List Composite
-  Of e m b = composites_with program w n e m b
+  abbrev Of : Evaluation → MarkedAssignment → Behaviour → List OpenPlan
+  Of e m b = plans_with program w n e m b
 
   abbrev Count : Evaluation → MarkedAssignment → Behaviour → ℕ
   Count e m b = spread_with program w n e m b
 
   abbrev Is : MarkedAssignment → Behaviour → List OpenPlan → ℕ → Type 0
   Is m b ps k = Expands program w n m b ps k
-
-  abbrev Made : List OpenPlan → List Composite
-  Made ps = composites_of program.theory w ps
 
   abbrev Comes : MarkedAssignment → Behaviour → Result Expanded Stop → Type 0
   Comes m b r = Outcome program w n budget m b r
@@ -81,7 +74,7 @@ module _ (program : Program) (w : Windows) (n : ℕ) (budget : ℕ) where
       Is m b ps k → Comes m b r
   sized_comes m b ps k (Ok x) h is =
       record {
-        composites = λ e q. ap (composites_of program.theory w) h.0 ∙ is.composites e q;
+        plans = λ e q. h.0 ∙ is.plans e q;
         spread = λ e q. h.1 ∙ is.spread e q;
         asked = subst (λ z. Each (AsksReached program (IsReached program w n m b) m b) z) (sym h.0) is.asked;
       }
@@ -127,14 +120,14 @@ module _ (program : Program) (w : Windows) (n : ℕ) (budget : ℕ) where
       handed_comes m c s r h (part_stops m x m c s reach_left wider_left a)
 
   pub ended_comes : (m : MarkedAssignment) (r : Result Expanded Stop) → Sized [] 0 r → Comes m stop r
-  ended_comes m r h = sized_comes m stop [] 0 r h (record { composites = λ e q. refl; spread = λ e q. refl; asked = tt })
+  ended_comes m r h = sized_comes m stop [] 0 r h (record { plans = λ e q. refl; spread = λ e q. refl; asked = tt })
 
   pub inner_comes : (m : MarkedAssignment) (b : Behaviour) (r : Result Expanded Stop) →
       Sized (record { kind = inside; fields = []; plan = internal } ∷ []) 1 r → Comes m (inner b) r
   inner_comes m b r h =
       sized_comes m (inner b) (record { kind = inside; fields = []; plan = internal } ∷ []) 1 r h
       (record {
-        composites = λ e q. refl;
+        plans = λ e q. refl;
         spread = λ e q. refl;
         asked = (
           asked_inner program w n m (inner b) (record { kind = inside; fields = []; plan = internal }) (λ s t k. k),
@@ -148,10 +141,8 @@ module _ (program : Program) (w : Windows) (n : ℕ) (budget : ℕ) where
   action_comes m g fields p b fs r opened h =
       sized_comes m (action g fields p b) (record { kind = at_gate g; fields = fs; plan = prefix (map takes_value fields) } ∷ []) 1 r h
       (record {
-        composites = λ e q.
-            ap (λ z. record { kind = at_gate g; fields = fs; trees = z } ∷ []) (λ i slots. map pre (slots_taken fields slots i))
-            ∙ sym (ap (λ z. from_option z
-            (λ cs. record { kind = at_gate g; fields = cs; trees = λ slots. map pre (slots_of fields slots) } ∷ []))
+        plans = λ e q.
+            sym (ap (λ z. from_option z (λ cs. record { kind = at_gate g; fields = cs; plan = prefix (map takes_value fields) } ∷ []))
             (fields_are program e q m fields fs opened));
         spread = λ e q. refl;
         asked = (
@@ -167,9 +158,8 @@ module _ (program : Program) (w : Windows) (n : ℕ) (budget : ℕ) where
   no_action_comes m g fields p b r none h =
       sized_comes m (action g fields p b) [] 1 r h
       (record {
-        composites = λ e q.
-            sym (ap (λ z. from_option z
-            (λ cs. record { kind = at_gate g; fields = cs; trees = λ slots. map pre (slots_of fields slots) } ∷ []))
+        plans = λ e q.
+            sym (ap (λ z. from_option z (λ cs. record { kind = at_gate g; fields = cs; plan = prefix (map takes_value fields) } ∷ []))
             (fields_arent program e q m fields none));
         spread = λ e q. refl;
         asked = tt;
@@ -189,10 +179,8 @@ module _ (program : Program) (w : Windows) (n : ℕ) (budget : ℕ) where
   exit_comes m fields fs r opened h =
       sized_comes m (exit fields) (record { kind = ends; fields = fs; plan = termination (map takes_any fields) } ∷ []) 1 r h
       (record {
-        composites = λ e q.
-            ap (λ z. record { kind = ends; fields = fs; trees = z } ∷ []) (λ i slots. map exiting (exit_slots_taken fields slots i))
-            ∙ sym (ap (λ z. from_option z
-            (λ cs. record { kind = ends; fields = cs; trees = λ slots. map exiting (exit_slots_of fields slots) } ∷ []))
+        plans = λ e q.
+            sym (ap (λ z. from_option z (λ cs. record { kind = ends; fields = cs; plan = termination (map takes_any fields) } ∷ []))
             (exit_is program e q m fields fs opened));
         spread = λ e q. refl;
         asked = (
@@ -207,9 +195,8 @@ module _ (program : Program) (w : Windows) (n : ℕ) (budget : ℕ) where
   no_exit_comes m fields r none h =
       sized_comes m (exit fields) [] 1 r h
       (record {
-        composites = λ e q.
-            sym (ap (λ z. from_option z
-            (λ cs. record { kind = ends; fields = cs; trees = λ slots. map exiting (exit_slots_of fields slots) } ∷ []))
+        plans = λ e q.
+            sym (ap (λ z. from_option z (λ cs. record { kind = ends; fields = cs; plan = termination (map takes_any fields) } ∷ []))
             (exit_isnt program e q m fields none));
         spread = λ e q. refl;
         asked = tt;
@@ -227,10 +214,7 @@ module _ (program : Program) (w : Windows) (n : ℕ) (budget : ℕ) where
   choice_comes m x y left right r h a b =
       joined m x y (choice x y) plans_of_choice left right r h a b
       (λ ps qs j k u v. record {
-        composites = λ e q.
-            (plans_make_composites program.theory w).choice ps qs
-            ∙ ap (λ z. of_choice z (Made qs)) (u.composites e q)
-            ∙ ap (of_choice (Of e m x)) (v.composites e q);
+        plans = λ e q i. plans_of_choice (u.plans e q i) (v.plans e q i);
         spread = λ e q. ap (λ z. 1 + (z + k)) (u.spread e q) ∙ ap (λ z. 1 + (Count e m x + z)) (v.spread e q);
         asked = asked_choice program w n m x y ps qs u.asked v.asked;
       })
@@ -241,10 +225,7 @@ module _ (program : Program) (w : Windows) (n : ℕ) (budget : ℕ) where
   parallel_comes m gates x y left right r h a b =
       joined m x y (parallel gates x y) (plans_of_parallel program.theory gates) left right r h a b
       (λ ps qs j k u v. record {
-        composites = λ e q.
-            (plans_make_composites program.theory w).parallel gates ps qs
-            ∙ ap (λ z. of_parallel program.theory gates z (Made qs)) (u.composites e q)
-            ∙ ap (of_parallel program.theory gates (Of e m x)) (v.composites e q);
+        plans = λ e q i. plans_of_parallel program.theory gates (u.plans e q i) (v.plans e q i);
         spread = λ e q. ap (λ z. 1 + (z + k)) (u.spread e q) ∙ ap (λ z. 1 + (Count e m x + z)) (v.spread e q);
         asked = asked_parallel program w n m gates x y ps qs u.asked v.asked;
       })
@@ -255,10 +236,7 @@ module _ (program : Program) (w : Windows) (n : ℕ) (budget : ℕ) where
   disable_comes m x y left right r h a b =
       joined m x y (disable x y) plans_of_disable left right r h a b
       (λ ps qs j k u v. record {
-        composites = λ e q.
-            (plans_make_composites program.theory w).disable ps qs
-            ∙ ap (λ z. of_disable z (Made qs)) (u.composites e q)
-            ∙ ap (of_disable (Of e m x)) (v.composites e q);
+        plans = λ e q i. plans_of_disable (u.plans e q i) (v.plans e q i);
         spread = λ e q. ap (λ z. 1 + (z + k)) (u.spread e q) ∙ ap (λ z. 1 + (Count e m x + z)) (v.spread e q);
         asked = asked_disable program w n m x y ps qs u.asked v.asked;
       })
@@ -269,8 +247,7 @@ module _ (program : Program) (w : Windows) (n : ℕ) (budget : ℕ) where
   hide_comes m gates b part r h a =
       turned m b m (hide gates b) (map (plan_by_hiding gates)) (λ k. 1 + k) part r h a
       (λ ps k u. record {
-        composites = λ e q.
-            (plans_make_composites program.theory w).hide gates ps ∙ ap (map (by_hiding program.theory w gates)) (u.composites e q);
+        plans = λ e q. ap (map (plan_by_hiding gates)) (u.plans e q);
         spread = λ e q. ap (λ z. 1 + z) (u.spread e q);
         asked = asked_hide program w n m gates b ps u.asked;
       })
@@ -281,8 +258,7 @@ module _ (program : Program) (w : Windows) (n : ℕ) (budget : ℕ) where
   enable_comes m b xs c part r h a =
       turned m b m (enable b xs c) (map plan_by_enabling) (λ k. 1 + k) part r h a
       (λ ps k u. record {
-        composites = λ e q.
-            (plans_make_composites program.theory w).enable ps ∙ ap (map (by_enabling program.theory w)) (u.composites e q);
+        plans = λ e q. ap (map plan_by_enabling) (u.plans e q);
         spread = λ e q. ap (λ z. 1 + z) (u.spread e q);
         asked = asked_enable program w n m b xs c ps u.asked;
       })
@@ -293,7 +269,7 @@ module _ (program : Program) (w : Windows) (n : ℕ) (budget : ℕ) where
   relabel_comes m pairs b part r h a =
       turned m b m (relabel pairs b) (map (under_relabelling pairs)) (λ k. 1 + k) part r h a
       (λ ps k u. record {
-        composites = λ e q. (plans_make_composites program.theory w).relabel pairs ps ∙ ap (of_relabel pairs) (u.composites e q);
+        plans = λ e q. ap (map (under_relabelling pairs)) (u.plans e q);
         spread = λ e q. ap (λ z. 1 + z) (u.spread e q);
         asked = asked_relabel program w n m pairs b ps u.asked;
       })
@@ -305,8 +281,7 @@ module _ (program : Program) (w : Windows) (n : ℕ) (budget : ℕ) where
   gates_come m g h gates b part r made a =
       turned m b m (gate_choice g (h ∷ gates) b) (plans_of_gates g 1 (h ∷ gates)) (λ k. 1 + length (h ∷ gates) * (1 + k)) part r made a
       (λ ps k u. record {
-        composites = λ e q.
-            (plans_make_composites program.theory w).gates g 1 (h ∷ gates) ps ∙ ap (of_gates g 1 (h ∷ gates)) (u.composites e q);
+        plans = λ e q. ap (plans_of_gates g 1 (h ∷ gates)) (u.plans e q);
         spread = λ e q. ap (λ z. 1 + length (h ∷ gates) * (1 + z)) (u.spread e q);
         asked = asked_gates program w n m g (h ∷ gates) b (λ none. let never : ⊥ = cc in never) 1 (h ∷ gates) ps u.asked;
       })
@@ -315,17 +290,16 @@ module _ (program : Program) (w : Windows) (n : ℕ) (budget : ℕ) where
   pub no_gates_come : (m : MarkedAssignment) (g : ℕ) (b : Behaviour) (r : Result Expanded Stop) → Sized [] 1 r →
       Comes m (gate_choice g [] b) r
   no_gates_come m g b r h =
-      sized_comes m (gate_choice g [] b) [] 1 r h (record { composites = λ e q. refl; spread = λ e q. omega arith; asked = tt })
+      sized_comes m (gate_choice g [] b) [] 1 r h (record { plans = λ e q. refl; spread = λ e q. omega arith; asked = tt })
 
   pub guarded_comes : (m : MarkedAssignment) (p : Premise) (b : Behaviour) (part r : Result Expanded Stop) →
       PremiseMayHold program.theory m p → Turns (map (under_row Guard)) (λ k. 1 + k) part r → Comes m b part → Comes m (guarded p b) r
   guarded_comes m p b part r holds h a =
       turned m b m (guarded p b) (map (under_row Guard)) (λ k. 1 + k) part r h a
       (λ ps k u. record {
-        composites = λ e q.
-            (plans_make_composites program.theory w).rows Guard ps
-            ∙ ap (map (under guard)) (u.composites e q)
-            ∙ sym (ap (λ z. if z then map (under guard) (Of e m b) else []) (premise_is program e q m p holds));
+        plans = λ e q.
+            ap (map (under_row Guard)) (u.plans e q)
+            ∙ sym (ap (λ z. if z then map (under_row Guard) (Of e m b) else []) (premise_is program e q m p holds));
         spread = λ e q.
             ap (λ z. 1 + z) (u.spread e q) ∙ sym (ap (λ z. 1 + (if z then Count e m b else 0)) (premise_is program e q m p holds));
         asked = asked_guarded program w n m p b ps holds u.asked;
@@ -338,7 +312,7 @@ module _ (program : Program) (w : Windows) (n : ℕ) (budget : ℕ) where
   failing_comes m p b r fails h =
       sized_comes m (guarded p b) [] 1 r h
       (record {
-        composites = λ e q. sym (ap (λ z. if z then map (under guard) (Of e m b) else []) (premise_isnt program e q m p fails));
+        plans = λ e q. sym (ap (λ z. if z then map (under_row Guard) (Of e m b) else []) (premise_isnt program e q m p fails));
         spread = λ e q. sym (ap (λ z. 1 + (if z then Count e m b else 0)) (premise_isnt program e q m p fails));
         asked = tt;
       })
@@ -355,10 +329,9 @@ module _ (program : Program) (w : Windows) (n : ℕ) (budget : ℕ) where
   bound_comes executable m l bindings b part r has h a =
       turned l b m (bound bindings b) (map (under_row Let)) (λ k. 1 + k) part r h a
       (λ ps k u. record {
-        composites = λ e q.
-            (plans_make_composites program.theory w).rows Let ps
-            ∙ ap (map (under letting)) (u.composites e q)
-            ∙ sym (ap (λ z. from_option z (λ j. map (under letting) (Of e j b))) (bindings_are program e q m m l bindings has));
+        plans = λ e q.
+            ap (map (under_row Let)) (u.plans e q)
+            ∙ sym (ap (λ z. from_option z (λ j. map (under_row Let) (Of e j b))) (bindings_are program e q m m l bindings has));
         spread = λ e q.
             ap (λ z. 1 + z) (u.spread e q)
             ∙ sym (ap (λ z. 1 + number_of z (λ j. Count e j b)) (bindings_are program e q m m l bindings has));
@@ -373,8 +346,8 @@ module _ (program : Program) (w : Windows) (n : ℕ) (budget : ℕ) where
   unbound_comes m bindings b r none h =
       sized_comes m (bound bindings b) [] 1 r h
       (record {
-        composites = λ e q.
-            sym (ap (λ z. from_option z (λ j. map (under letting) (Of e j b))) (bindings_arent program e q m m bindings none));
+        plans = λ e q.
+            sym (ap (λ z. from_option z (λ j. map (under_row Let) (Of e j b))) (bindings_arent program e q m m bindings none));
         spread = λ e q. sym (ap (λ z. 1 + number_of z (λ j. Count e j b)) (bindings_arent program e q m m bindings none));
         asked = tt;
       })

@@ -18,8 +18,8 @@ use Rattle.code_behaviours.proofs.Reading.{values_close}
 use Rattle.windowed_trees.specs.Windows.{Windows, AreWindows}
 use Rattle.windowed_trees.specs.MarkedTerms.{MarkedAssignment, plain, unmarked}
 use Rattle.composites.specs.Evaluations.{Evaluation}
-use Rattle.composites.specs.Composites.{composites}
-use Rattle.composites.proofs.Origins.{composites_of_origins}
+use Rattle.own_plans.specs.OwnPlans.{own_plans}
+use Rattle.own_plans.proofs.Origins.{own_plans_of_origins}
 use Rattle.open_composites.specs.OpenPlans.{OpenPlan, open_plan_of}
 use Rattle.reached_terms.specs.Asking.{PlanAsks}
 use Rattle.reached_terms.specs.Reached.{Reaches, ReachesIn, ReachesBelow}
@@ -60,10 +60,10 @@ module _ (program : Program) (w : Windows) (values : List (ℕ × List ℕ)) (b 
   pub is_expansion : (ps : List OpenPlan) (j : ℕ) → j ≤ 65536 → Expands program w (length program.code) m b ps j →
       IsExpansion program w closed ps
   is_expansion ps j few h = record {
-    composites = λ e q.
-        h.composites e q
-        ∙ ap (λ z. composites program.theory e w (length program.code) z b) same
-        ∙ sym (composites_of_origins program.theory e w (length program.code) (assignment program.theory values)
+    plans = λ e q.
+        h.plans e q
+        ∙ ap (λ z. own_plans program.theory e w (length program.code) z b) same
+        ∙ sym (own_plans_of_origins program.theory e w (length program.code) (assignment program.theory values)
         (values_close program.theory values) b);
     narrow = λ e q. subst (λ z. z ≤ 65536) (h.spread e q ∙ spread_same e) few;
   }

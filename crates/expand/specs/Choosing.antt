@@ -5,34 +5,32 @@ use Rattle.spec_core.specs.Theories.{Theory}
 use Rattle.spec_core.specs.Code.{Program, Variable}
 use Rattle.rule_model.specs.declared.rules.Slot.{Slot}
 use Rattle.rule_model.specs.Behaviours.{Behaviour, value_choice}
-use Rattle.rule_model.specs.Derivations.{val}
 use Rattle.windowed_trees.specs.Windows.{Windows}
 use Rattle.windowed_trees.specs.MarkedTerms.{MarkedTerm, MarkedAssignment, with_marked}
 use Rattle.windowed_trees.specs.MarkedFields.{chosen_by, IsWithin, Chooses}
 use Rattle.composites.specs.Evaluations.{Evaluation, IsExact, chosen_term}
-use Rattle.composites.specs.Composites.{Composite, from_option, under}
+use Rattle.composites.specs.Composites.{from_option}
 use Rattle.composites.specs.OpenFields.{window_slots}
-use Rattle.open_composites.specs.OpenPlans.{OpenPlan}
-use Rattle.open_composites.specs.Laws.{composites_of}
+use Rattle.open_composites.specs.declared.scheme.Row.TheVariants.{Val}
+use Rattle.open_composites.specs.OpenPlans.{OpenPlan, under_row}
 use Rattle.reached_terms.specs.Spread.{number_of}
 use Rattle.marked_values.specs.declared.stop.Stop.{Stop}
 use Rattle.expand.specs.declared.outcome.Expanded.{Expanded}
-use Rattle.expand.specs.Outcomes.{plans_in, AsksReached, composites_with, spread_with, IsReached, Stopped}
+use Rattle.expand.specs.Outcomes.{plans_in, AsksReached, plans_with, spread_with, IsReached, Stopped}
 
 module _ (program : Program) (w : Windows) (n : ℕ) (m : MarkedAssignment) (x : Variable) (b : Behaviour) where
-  -- the composites of the body with what a slot chooses for the variable, and their spread
-  abbrev pub composites_at : Evaluation → Slot → List Composite
-  composites_at e slot =
+  -- the plans of the body with what a slot chooses for the variable, and their spread
+  abbrev pub plans_at : Evaluation → Slot → List OpenPlan
+  plans_at e slot =
       from_option (chosen_term program.theory e w slot x.sort)
-      (λ k. map (under (val slot)) (composites_with program w n e (with_marked x k m) b))
+      (λ k. map (under_row (Val slot)) (plans_with program w n e (with_marked x k m) b))
 
   abbrev pub spread_at : Evaluation → Slot → ℕ
   spread_at e slot = number_of (chosen_term program.theory e w slot x.sort) (λ k. spread_with program w n e (with_marked x k m) b)
 
   -- the same of the body with each of these slots, with one more in the spread
   pub record ExpandsEach (slots : List Slot) (ps : List OpenPlan) (k : ℕ) : Type 0 where
-    pub composites : (e : Evaluation) → IsExact program e →
-        composites_of program.theory w ps ≡ flat_map (composites_at e) slots
+    pub plans : (e : Evaluation) → IsExact program e → ps ≡ flat_map (plans_at e) slots
     pub spread : (e : Evaluation) → IsExact program e → k ≡ 1 + sum_by (spread_at e) slots
     pub asked : Each (AsksReached program (IsReached program w n m (value_choice x b)) m (value_choice x b)) ps
 

@@ -8,9 +8,8 @@ use Rattle.rule_model.specs.Substitution.{Assignment}
 use Rattle.windowed_trees.specs.Windows.{Windows, AreWindows}
 use Rattle.windowed_trees.specs.MarkedTerms.{unmarked}
 use Rattle.composites.specs.Evaluations.{Evaluation, IsExact}
-use Rattle.composites.specs.Composites.{composites}
 use Rattle.open_composites.specs.OpenPlans.{OpenPlan}
-use Rattle.open_composites.specs.Laws.{composites_of}
+use Rattle.own_plans.specs.OwnPlans.{own_plans}
 use Rattle.reached_terms.specs.Asking.{PlanAsks}
 use Rattle.reached_terms.specs.Reached.{Reaches}
 use Rattle.reached_terms.specs.Spread.{spread}
@@ -18,11 +17,10 @@ use Rattle.marked_values.specs.declared.stop.Stop.{Stop}
 use Rattle.marked_values.specs.Stops.{Stops}
 
 module _ (program : Program) (w : Windows) (b : Behaviour) where
-  -- The plans are those of the closed behaviour's composites, in order, whichever exact answers about data and code they are made with. The
-  -- spread is no more than what is looked at.
+  -- The plans are those that the closed behaviour's constructs make, in order, whichever exact answers about data and code they are made
+  -- with. The spread is no more than what is looked at.
   pub record IsExpansion (ps : List OpenPlan) : Type 0 where
-    pub composites : (e : Evaluation) → IsExact program e →
-        composites_of program.theory w ps ≡ composites program.theory e w (length program.code) unmarked b
+    pub plans : (e : Evaluation) → IsExact program e → ps ≡ own_plans program.theory e w (length program.code) unmarked b
     pub narrow : (e : Evaluation) → IsExact program e → spread program.theory e w (length program.code) unmarked b ≤ 65536
 
   -- the number is above what is looked at, and the spread is no less

@@ -8,9 +8,8 @@ use Rattle.rule_model.specs.Substitution.{Assignment}
 use Rattle.windowed_trees.specs.Windows.{Windows}
 use Rattle.windowed_trees.specs.MarkedTerms.{MarkedAssignment, AllPlain}
 use Rattle.composites.specs.Evaluations.{Evaluation, IsExact}
-use Rattle.composites.specs.Composites.{Composite, composites_in, below_calls}
 use Rattle.open_composites.specs.OpenPlans.{OpenPlan, open_plan_of}
-use Rattle.open_composites.specs.Laws.{composites_of}
+use Rattle.own_plans.specs.OwnPlans.{own_plans_in, own_plans_below}
 use Rattle.reached_terms.specs.Asking.{PlanAsks}
 use Rattle.reached_terms.specs.Reached.{ReachesIn, ReachesBelow}
 use Rattle.reached_terms.specs.Spread.{spread_in, spread_below}
@@ -27,8 +26,8 @@ AsksReached program R m b p = (s : Assignment) (t : TermTree) → AllPlain m s �
 
 -- In this module no more than n calls are inside one another.
 module _ (program : Program) (w : Windows) (n : ℕ) where
-  abbrev pub composites_with : Evaluation → MarkedAssignment → Behaviour → List Composite
-  composites_with e m b = composites_in program.theory e w (below_calls program.theory e w n) m b
+  abbrev pub plans_with : Evaluation → MarkedAssignment → Behaviour → List OpenPlan
+  plans_with e m b = own_plans_in program.theory e w (own_plans_below program.theory e w n) m b
 
   abbrev pub spread_with : Evaluation → MarkedAssignment → Behaviour → ℕ
   spread_with e m b = spread_in program.theory e w (spread_below program.theory e w n) m b
@@ -36,10 +35,10 @@ module _ (program : Program) (w : Windows) (n : ℕ) where
   abbrev pub IsReached : MarkedAssignment → Behaviour → TermTree → Type 0
   IsReached m b t = ReachesIn program w [] (ReachesBelow program w [] n) m b t
 
-  -- The composites of the behaviour, and its spread, whichever exact answers about data and code they are made with. What is asked along
-  -- the trees of the plans is reached.
+  -- The plans that the behaviour's constructs make, and its spread, whichever exact answers about data and code they are made with. What is
+  -- asked along the trees of the plans is reached.
   pub record Expands (m : MarkedAssignment) (b : Behaviour) (ps : List OpenPlan) (k : ℕ) : Type 0 where
-    pub composites : (e : Evaluation) → IsExact program e → composites_of program.theory w ps ≡ composites_with e m b
+    pub plans : (e : Evaluation) → IsExact program e → ps ≡ plans_with e m b
     pub spread : (e : Evaluation) → IsExact program e → k ≡ spread_with e m b
     pub asked : Each (AsksReached program (IsReached m b) m b) ps
 

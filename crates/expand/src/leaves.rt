@@ -11,7 +11,7 @@ ghost use Rattle.spec_core.specs.Theories.{Premise};
 ghost use Rattle.rule_model.specs.Actions.{inside};
 ghost use Rattle.open_composites.specs.Plans.{internal};
 ghost use Rattle.expand.specs.Joins.{Sized};
-ghost use Rattle.expand.specs.Taking.{takes_value, takes_any};
+ghost use Rattle.own_plans.specs.OwnPlans.{takes_value, takes_any};
 
 use crate::joining::{nothing, single};
 use crate::outcome::Expanded;

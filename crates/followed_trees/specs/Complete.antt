@@ -1,16 +1,16 @@
 -- What is known of the nodes of a tree that are expanded, and trees that searches find.
-use Rattle.std.specs.Prelude.{◌≡◌, List, Some}
+use Rattle.std.specs.Prelude.{◌≡◌, List, length, Some}
 use Rattle.spec_core.specs.Lists.{Each, IsOneOf}
 use Rattle.spec_core.specs.Theories.{Theory}
 use Rattle.spec_core.specs.Code.{Program}
 use Rattle.rule_model.specs.Derivations.{Derivation}
 use Rattle.windowed_trees.specs.Windows.{Windows}
+use Rattle.windowed_trees.specs.MarkedTerms.{unmarked}
 use Rattle.courses.specs.Rules.{meeting, any, unseen, beyond, any_beyond, beyond_or_unseen}
 use Rattle.courses.specs.Gaps.{element}
 use Rattle.composites.specs.Evaluations.{Evaluation, IsExact}
-use Rattle.open_composites.specs.Laws.{composites_of}
+use Rattle.own_plans.specs.OwnPlans.{own_plans}
 use Rattle.asked_trees.specs.Asked.{TreeQuery}
-use Rattle.node_lists.specs.Waiting as lists
 use Rattle.tree_nodes.specs.Origins.{Source, meaning}
 use Rattle.tree_nodes.specs.Rests.{Work}
 use Rattle.tree_nodes.specs.Shapes.{Above, Held, Shape, Stands}
@@ -25,16 +25,16 @@ EachExpanded P t = (up : List Above) (n : Held) → Stands t up n → (x : Work)
 abbrev pub IsComplete : Program → Source → Work → Type 0
 IsComplete program o x = Each (HasWays program (meaning program o) x.ways) x.plans
 
--- the work has the plans of the origin's composites, whichever exact answers these are made with
+-- the work has the plans that the origin's constructs make, whichever exact answers these are made with
 abbrev pub HasItsPlans : Program → Windows → Source → Work → Type 0
 HasItsPlans program w o x =
-    (e : Evaluation) → IsExact program e → composites_of program.theory w x.plans ≡ lists.composites_of program e w o
+    (e : Evaluation) → IsExact program e → x.plans ≡ own_plans program.theory e w (length program.code) unmarked (meaning program o)
 
 -- each node that is expanded has ways for the trees of its plans
 abbrev pub AreComplete : Program → Shape → Type 0
 AreComplete program t = EachExpanded (IsComplete program) t
 
--- each node that is expanded has the plans of its origin's composites
+-- each node that is expanded has the plans that its origin's constructs make
 abbrev pub AreExpansions : Program → Windows → Shape → Type 0
 AreExpansions program w t = EachExpanded (HasItsPlans program w) t
 

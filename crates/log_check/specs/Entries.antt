@@ -6,7 +6,7 @@ use Rattle.spec_core.specs.Terms.{TermTree, term_of, variable}
 use Rattle.rewriter.specs.Answers.{MeetsTooLarge}
 use Rattle.rule_model.specs.Answers.{Answer}
 use Rattle.rule_model.specs.Events.{Event, pended, acted, replied, stalled, left}
-use Rattle.rule_model.specs.Legal.{IsPossible, IsReplyAt}
+use Rattle.rule_model.specs.Legal.{IsAgreed, IsPossible, IsReplyAt}
 use Rattle.rule_model.specs.States.{State}
 use Rattle.rule_walk.specs.Asking.{Asks}
 use Rattle.log_check.specs.declared.fault.CheckFault.{CheckFault}
@@ -20,9 +20,9 @@ abbrev pub Becomes : Program → State → Event → State → Bool → Type 0
 Becomes program s event t true = IsPossible program s event t
 Becomes program s event t false = (next : State) → IsPossible program s event next → ⊥
 
--- the tree of an entry asks the value of a term in the state
+-- the tree of an entry asks the value of a term in the state; it is asked only where those that the entry names take part in the action
 abbrev pub EntryAsks : Program → State → Event → TermTree → Type 0
-EntryAsks program s (acted action d by) x = Asks program variable s.behaviour d x
+EntryAsks program s (acted action d by) x = IsAgreed program s action by × Asks program variable s.behaviour d x
 EntryAsks program s (pended client number offer ask) x = ⊥
 EntryAsks program s (replied client number answer) x = ⊥
 EntryAsks program s (stalled names) x = ⊥

@@ -40,10 +40,13 @@ impl<'a, R: Files + AllocGlobal> FileShelf<'a, R> {
 
 impl<'a, R: Files> Shelf for FileShelf<'a, R> {
     ghost use Rattle.std.specs.Prelude.{None};
+    ghost use Rattle.lotos_outside.specs.Shelf.{NotesAtMost};
 
     ghost files = { λ _. None };
 
     ghost failed = { λ failed. failed };
+
+    ghost fetches = { λ before name after. NotesAtMost before after name };
 
     fn fetch(&mut self, name: &str, most: usize, into: &mut Vec<u8>) -> Result<(), ShelfFault> {
         let length = into.len();

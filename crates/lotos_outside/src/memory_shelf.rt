@@ -66,11 +66,13 @@ fn find<'a>(files: &'a [(String, Vec<u8>)], name: &str) -> Option<&'a Vec<u8>>
 
 impl Shelf for MemoryShelf {
     ghost use Rattle.std.specs.Prelude.{Some};
-    ghost use Rattle.lotos_outside.specs.Shelf.{first_file};
+    ghost use Rattle.lotos_outside.specs.Shelf.{first_file, IsFetchedInMemory};
 
     ghost files = { λ shelf. Some (first_file shelf.files) };
 
     ghost failed = { λ shelf. shelf.failed };
+
+    ghost fetches = { IsFetchedInMemory };
 
     fn fetch(&mut self, name: &str, most: usize, into: &mut Vec<u8>) -> Result<(), ShelfFault>
         ensures ok { OnOk result (IsSomeAnd (first_file self.old.files name.now)

@@ -60,6 +60,9 @@ pub trait Shelf {
     // The names whose fetch failed, in order.
     ghost failed: { Self → List (List ℕ) };
 
+    // What a fetch of this name may make of the shelf, whatever it answers.
+    ghost fetches: { Self → List ℕ → Self → Type 0 };
+
     /// Appends the first `most` bytes of the file with this name to `into`, or all of them where there are fewer.
     ///
     /// After an error `into` is as it was. `Memory` may come at any call.
@@ -72,7 +75,10 @@ pub trait Shelf {
         ensures failed { IsErrOf result ShelfFault.Failed → Notes (failed self.old) (failed self.new) name.now }
         ensures ok_notes_nothing { OnOk result (failed self.new ≡ failed self.old) }
         ensures memory_notes_nothing { IsErrOf result ShelfFault.Memory → failed self.new ≡ failed self.old }
-        ensures same_files { files self.new ≡ files self.old };
+        ensures same_files { files self.new ≡ files self.old }
+
+        // Nothing else is done to the shelf.
+        ensures step { fetches self.old name.now self.new };
 }
 
 // Adds a name behind those that failed.

@@ -1,4 +1,5 @@
 mod Equals
 mod Fetched
+mod Fetches
 mod Final
 mod SecondFiles

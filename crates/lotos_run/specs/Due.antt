@@ -1,5 +1,5 @@
 -- Which status a call ends with, and which text it brings.
-use Rattle.std.specs.Prelude.{ℕ, ◌≡◌, List, Option, Some, None, codes}
+use Rattle.std.specs.Prelude.{ℕ, ◌≡◌, ◌⊎◌, List, Option, Some, None, codes}
 use Rattle.command_words.specs.Commands.{Command, run, check, equal, replay}
 use Rattle.lotos_outside.specs.Sink.{with_more, AppendsPrefix}
 use Rattle.lotos_run.specs.declared.second_file.Second.TheVariants.{Script, Trace}
@@ -32,3 +32,7 @@ IsAnswered known command status =
 abbrev pub IsCutShort : Outside → Option Command → Type 0
 IsCutShort known command = (status : Status) × (text : List ℕ) × IsDue known.shelf command status text
     × AppendsPrefix text known.written_before known.written_after
+
+-- nothing was written, or no more than such a prefix
+abbrev pub IsBrokenOff : Outside → Option Command → Type 0
+IsBrokenOff known command = (known.written_after ≡ known.written_before) ⊎ IsCutShort known command

@@ -3,6 +3,7 @@ pub mod Checks
 pub mod Due
 pub mod EqualTexts
 pub mod Equals
+pub mod Fetches
 pub mod Lines
 pub mod Outside
 pub mod ReplayTexts

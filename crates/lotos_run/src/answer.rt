@@ -35,6 +35,7 @@ pub fn fetch<F: Shelf>(
     ensures failed { IsErrOf result ShelfFault.Failed → Notes (F.failed shelf.old) (F.failed shelf.new) name.now }
     ensures ok_notes_nothing { OnOk result (F.failed shelf.new ≡ F.failed shelf.old) }
     ensures same_files { F.files shelf.new ≡ F.files shelf.old }
+    ensures step { F.fetches shelf.old name.now shelf.new }
 {
     let mut bytes = Vec::new(alloc);
     shelf.fetch(name, most, &mut bytes)?;

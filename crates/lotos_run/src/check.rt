@@ -1,7 +1,8 @@
 // The command `check`.
 
-ghost use Rattle.std.specs.Prelude.{IfOk};
+ghost use Rattle.std.specs.Prelude.{◌∷◌, [], IfOk};
 ghost use Rattle.lotos_run.specs.Checks.{IsCheckDue, IsJudged};
+ghost use Rattle.lotos_run.specs.Fetches.{IsAskedFor};
 ghost use Rattle.lotos_run.specs.Outside.{shelved};
 
 use crate::answer::{Answer, fetch, with_text};
@@ -31,9 +32,11 @@ fn judged(alloc: Global, text: &[u8]) -> Result<Answer, Memory>
 }
 
 /// What is due for the specification in a file: whether it is accepted, and what it has, or its first refusal.
+#[tactic(auto, using(crate::proofs::Fetches::asked_first))]
 pub fn check<F: Shelf>(alloc: Global, shelf: &mut F, specification: &str) -> Result<Answer, Memory>
-    ensures { IfOk result (λ a. IsCheckDue (shelved (F.files shelf.old) (F.failed shelf.old) (F.failed shelf.new)) specification.now
+    ensures due { IfOk result (λ a. IsCheckDue (shelved (F.files shelf.old) (F.failed shelf.old) (F.failed shelf.new)) specification.now
         a.status a.text.items) }
+    ensures asked { IsAskedFor F.fetches (specification.now ∷ []) shelf.old shelf.new }
 {
     match fetch(alloc, shelf, specification, 4_194_305) {
         Err(ShelfFault::Failed) => with_text(alloc, Status::ReadFault, b"read fault\n"),

@@ -3,6 +3,7 @@
 ghost use Rattle.std.specs.Prelude.{IfOk, map, string_bytes};
 ghost use Rattle.command_words.specs.Commands.{command_of};
 ghost use Rattle.lotos_run.specs.Due.{IsDue};
+ghost use Rattle.lotos_run.specs.Fetches.{named_files, IsAskedFor};
 ghost use Rattle.lotos_run.specs.Outside.{shelved};
 
 use crate::answer::{Answer, with_text};
@@ -21,8 +22,9 @@ pub fn due_answer<F: Shelf>(
     words: &[String],
     shelf: &mut F,
 ) -> Result<Answer, Memory>
-    ensures { IfOk result (λ a. IsDue (shelved (F.files shelf.old) (F.failed shelf.old) (F.failed shelf.new))
+    ensures due { IfOk result (λ a. IsDue (shelved (F.files shelf.old) (F.failed shelf.old) (F.failed shelf.new))
         (command_of (map string_bytes words.now)) a.status a.text.items) }
+    ensures asked { IsAskedFor F.fetches (named_files (command_of (map string_bytes words.now))) shelf.old shelf.new }
 {
     match read_command(words) {
         None => with_text(alloc, Status::Usage, b"usage\n"),

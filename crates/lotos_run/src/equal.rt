@@ -1,9 +1,10 @@
 // The command `equal`.
 
-ghost use Rattle.std.specs.Prelude.{IfOk};
+ghost use Rattle.std.specs.Prelude.{◌∷◌, [], IfOk};
 ghost use Rattle.spec_core.specs.Executable.{IsExecutable};
 ghost use Rattle.spec_core.specs.Theories.{theory_of};
 ghost use Rattle.lotos_run.specs.Equals.{IsCompared, IsComparedIn, IsEqualDue};
+ghost use Rattle.lotos_run.specs.Fetches.{IsAskedFor};
 ghost use Rattle.lotos_run.specs.Outside.{shelved};
 
 use crate::answer::{Answer, fetch, with_text};
@@ -61,7 +62,7 @@ fn compared_in(
 
 /// What is due for two terms of the specification in a file: whether they are equal, each with at most `budget` uses of equations, from 1
 /// to 2^32; or why that isn't known; or the specification's first refusal.
-#[tactic(auto, using(crate::proofs::Equals::compared_due))]
+#[tactic(auto, using(crate::proofs::Equals::compared_due, crate::proofs::Fetches::asked_first))]
 pub fn equal<F: Shelf>(
     alloc: Global,
     shelf: &mut F,
@@ -70,8 +71,9 @@ pub fn equal<F: Shelf>(
     second: &str,
     budget: u64,
 ) -> Result<Answer, Memory>
-    ensures { IfOk result (λ a. IsEqualDue (shelved (F.files shelf.old) (F.failed shelf.old) (F.failed shelf.new)) specification.now
+    ensures due { IfOk result (λ a. IsEqualDue (shelved (F.files shelf.old) (F.failed shelf.old) (F.failed shelf.new)) specification.now
         first.now second.now budget a.status a.text.items) }
+    ensures asked { IsAskedFor F.fetches (specification.now ∷ []) shelf.old shelf.new }
 {
     match fetch(alloc, shelf, specification, 4_194_305) {
         Err(ShelfFault::Failed) => with_text(alloc, Status::ReadFault, b"read fault\n"),

@@ -17,7 +17,8 @@ ghost use Rattle.std.specs.Prelude.{◌≡◌, map, string_bytes};
 ghost use Rattle.lotos_outside.specs.Counts.{Rose};
 ghost use Rattle.lotos_outside.specs.Sink.{with_more, AppendsPrefix};
 ghost use Rattle.command_words.specs.Commands.{command_of};
-ghost use Rattle.lotos_run.specs.Due.{IsAnswered, IsCutShort};
+ghost use Rattle.lotos_run.specs.Due.{IsAnswered, IsBrokenOff, IsCutShort};
+ghost use Rattle.lotos_run.specs.Fetches.{named_files, IsAskedFor};
 ghost use Rattle.lotos_run.specs.Outside.{outside};
 ghost use Rattle.lotos_run.specs.Statuses.{IsFinal};
 
@@ -32,7 +33,7 @@ fn write<O: Sink>(out: &mut O, status: Status, text: &[u8]) -> Status
     requires { IsFinal status }
     ensures same { IsFinal result → result ≡ status }
     ensures written { IsFinal result → O.written out.new ≡ with_more text.now (O.written out.old) }
-    ensures prefix { result ≡ Status.WriteFault → AppendsPrefix text.now (O.written out.old) (O.written out.new) }
+    ensures prefix { AppendsPrefix text.now (O.written out.old) (O.written out.new) }
     ensures write_fault { result ≡ Status.WriteFault → Rose (O.faults out.old) (O.faults out.new) }
 {
     match write_all(out, text) {
@@ -45,7 +46,7 @@ fn write<O: Sink>(out: &mut O, status: Status, text: &[u8]) -> Status
 /// Carries out the command that the words name.
 ///
 /// `words` are the words behind the program's name, `shelf` is where files are fetched, and all texts go to `out`. No command reads `input`
-/// yet. Want of memory may come at any time; nothing is said of its cause, nor of what was written then.
+/// yet. Want of memory may come at any time; nothing is said of its cause.
 #[tactic(auto, using(crate::proofs::Final::due_final))]
 pub fn lotos_main<R: AllocGlobal, F: Shelf, I: Source, O: Sink>(
     rt: &R,
@@ -64,6 +65,16 @@ pub fn lotos_main<R: AllocGlobal, F: Shelf, I: Source, O: Sink>(
     ensures prefix { result ≡ Status.WriteFault →
         IsCutShort (outside (F.files shelf.old) (F.failed shelf.old) (F.failed shelf.new) (O.written out.old) (O.written out.new))
         (command_of (map string_bytes words.now)) }
+
+    // Where memory was wanting, nothing was written, or a prefix of a text that was due.
+    ensures memory { result ≡ Status.Memory →
+        IsBrokenOff (outside (F.files shelf.old) (F.failed shelf.old) (F.failed shelf.new) (O.written out.old) (O.written out.new))
+        (command_of (map string_bytes words.now)) }
+
+    // Whatever the status: the shelf was asked for files that the words name and for no other, so it is as it was where the words name no
+    // command; and the input is as it was.
+    ensures asked { IsAskedFor F.fetches (named_files (command_of (map string_bytes words.now))) shelf.old shelf.new }
+    ensures input { input.new ≡ input.old }
 {
     let _ = input;
     match due_answer(rt.alloc(), words, shelf) {

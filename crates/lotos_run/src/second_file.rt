@@ -1,8 +1,9 @@
 // Commands that read a second file over a specification: `run` and `replay`.
 
-ghost use Rattle.std.specs.Prelude.{◌≡◌, IfOk};
+ghost use Rattle.std.specs.Prelude.{◌≡◌, ◌∷◌, [], IfOk};
 ghost use Rattle.spec_core.specs.Code.{program_of};
 ghost use Rattle.spec_core.specs.Ready.{IsReady};
+ghost use Rattle.lotos_run.specs.Fetches.{IsAskedFor};
 ghost use Rattle.lotos_run.specs.Outside.{shelved};
 ghost use Rattle.lotos_run.specs.Replays.{IsReplayed};
 ghost use Rattle.lotos_run.specs.Runs.{IsScripted};
@@ -85,7 +86,7 @@ fn come(alloc: Global, checked: &Checked, text: &[u8], second: Second) -> Result
 }
 
 // What is due for the second file, over an accepted specification.
-#[tactic(auto, using(crate::proofs::SecondFiles::second_due))]
+#[tactic(auto, using(crate::proofs::SecondFiles::second_due, crate::proofs::Fetches::asked_first))]
 fn read_second<F: Shelf>(
     alloc: Global,
     shelf: &mut F,
@@ -94,8 +95,9 @@ fn read_second<F: Shelf>(
     second: Second,
 ) -> Result<Answer, Memory>
     requires ready { IsReady (program_of checked.now) }
-    ensures { IfOk result (λ a. IsDueForSecond (shelved (F.files shelf.old) (F.failed shelf.old) (F.failed shelf.new))
+    ensures due { IfOk result (λ a. IsDueForSecond (shelved (F.files shelf.old) (F.failed shelf.old) (F.failed shelf.new))
         second (program_of checked.now) name.now a.status a.text.items) }
+    ensures asked { IsAskedFor F.fetches (name.now ∷ []) shelf.old shelf.new }
 {
     match fetch(alloc, shelf, name, second.most()) {
         Err(ShelfFault::Failed) => with_text(alloc, Status::ReadFault, b"read fault\n"),
@@ -105,6 +107,7 @@ fn read_second<F: Shelf>(
 }
 
 // What is due for the second file, over a text that is to be a specification.
+#[tactic(auto, using(crate::proofs::Fetches::asked_nothing))]
 fn read_over<F: Shelf>(
     alloc: Global,
     shelf: &mut F,
@@ -112,8 +115,9 @@ fn read_over<F: Shelf>(
     name: &str,
     second: Second,
 ) -> Result<Answer, Memory>
-    ensures { IfOk result (λ a. IsDueForText (shelved (F.files shelf.old) (F.failed shelf.old) (F.failed shelf.new))
+    ensures due { IfOk result (λ a. IsDueForText (shelved (F.files shelf.old) (F.failed shelf.old) (F.failed shelf.new))
         second text.now name.now a.status a.text.items) }
+    ensures asked { IsAskedFor F.fetches (name.now ∷ []) shelf.old shelf.new }
 {
     accepted_is_ready();
     match accept(alloc, text) {
@@ -128,7 +132,7 @@ fn read_over<F: Shelf>(
 
 /// What is due for the specification in the one file and the script or the trace in the other: of a script, the trace of its session; of a
 /// trace, whether its log is a derivation; or why that isn't so; or the specification's first refusal.
-#[tactic(auto, using(crate::proofs::SecondFiles::text_due))]
+#[tactic(auto, using(crate::proofs::SecondFiles::text_due, crate::proofs::Fetches::asked_first, crate::proofs::Fetches::asked_more))]
 pub fn over_specification<F: Shelf>(
     alloc: Global,
     shelf: &mut F,
@@ -136,8 +140,9 @@ pub fn over_specification<F: Shelf>(
     name: &str,
     second: Second,
 ) -> Result<Answer, Memory>
-    ensures { IfOk result (λ a. IsSecondDue (shelved (F.files shelf.old) (F.failed shelf.old) (F.failed shelf.new)) second
+    ensures due { IfOk result (λ a. IsSecondDue (shelved (F.files shelf.old) (F.failed shelf.old) (F.failed shelf.new)) second
         specification.now name.now a.status a.text.items) }
+    ensures asked { IsAskedFor F.fetches (specification.now ∷ name.now ∷ []) shelf.old shelf.new }
 {
     match fetch(alloc, shelf, specification, 4_194_305) {
         Err(ShelfFault::Failed) => with_text(alloc, Status::ReadFault, b"read fault\n"),

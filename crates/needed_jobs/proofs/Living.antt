@@ -28,7 +28,7 @@ use Rattle.candidates.specs.Jobs.{NodeJob, to_expand, to_judge, jobs_of, all_job
 use Rattle.needed_jobs.specs.Needed.{jobs_needed, generation_of, Waits, IsOfRules, IsPartOfTree, IsUndone}
 use Rattle.needed_jobs.specs.Laws.{NeededJobsLive, NeededJobsAreUndone, NeededPartsAreOfTrees}
 use Rattle.needed_jobs.proofs.Elements.{AreElements, elements_listed}
-use Rattle.needed_jobs.proofs.Lists.{each_join, each_flat, each_map, each_listed, at_element}
+use Rattle.needed_jobs.proofs.Lists.{each_join, each_flat, each_map, each_more, each_listed, at_element}
 
 -- P holds of the number of each gap
 abbrev AreGaps : {A : Type 0} → (ℕ → Type 0) → List (OrGap A) → Type 0
@@ -160,24 +160,31 @@ module _ {P J : Type 0} (Q : J → Type 0) (missing every_missing : Query P → 
       search (is_there (query p)) (missing (query p)) [] (first_needed missing every_missing is_there w query ps rest)
       (firsts (query p) k.0) tt (in_turn query ps rest k.1 h)
 
-  unseens : Each Q (unseen_needed missing every_missing is_there w)
-  unseens =
+  unseens : w.asks ≡ [] → w.all_wait ≡ true → Each Q (unseen_needed missing every_missing is_there w)
+  unseens none all =
       search (is_there unseen) (every_missing unseen) [] (first_needed missing every_missing is_there w beyond_or_unseen w.by_client [])
-      (alls unseen tt) tt (in_turn beyond_or_unseen w.by_client [] (each_listed w.by_client) tt)
+      (alls unseen (none, all)) tt
+      (in_turn beyond_or_unseen w.by_client []
+      (each_more (λ p. IsOneOf p w.by_client) (λ p. IsOfRules w (beyond_or_unseen p)) (λ p i. (i, none, all)) w.by_client
+      (each_listed w.by_client)) tt)
 
-  asks : (ps : List P) → Each (λ p. IsOfRules w (beyond p)) ps → Each Q (asked_needed missing every_missing is_there w ps)
-  asks [] k = chosen w.all_wait (unseen_needed missing every_missing is_there w) [] unseens tt
-  asks (p ∷ ps) k = firsts (beyond p) k.0
+  asks : (ps : List P) → w.asks ≡ ps → Each Q (asked_needed missing every_missing is_there w ps)
+  asks [] none = by_wait w.all_wait refl
+    where
+      by_wait : (b : Bool) → w.all_wait ≡ b → Each Q (when b (unseen_needed missing every_missing is_there w) [])
+      by_wait true all = unseens none all
+      by_wait false some = tt
+  asks (p ∷ ps) first = firsts (beyond p) (ps, first)
 
   marked : Each Q (marked_needed missing every_missing is_there w)
   marked =
       search (is_there any_beyond) (missing any_beyond) (asked_needed missing every_missing is_there w w.asks) []
-      (firsts any_beyond tt) (asks w.asks (each_listed w.asks)) tt
+      (firsts any_beyond tt) (asks w.asks refl) tt
 
   unmet : Each Q (unmet_needed missing every_missing is_there w)
   unmet =
       search (is_there any) (missing any) (asked_needed missing every_missing is_there w w.asks)
-      (marked_needed missing every_missing is_there w) (firsts any tt) (asks w.asks (each_listed w.asks)) marked
+      (marked_needed missing every_missing is_there w) (firsts any tt) (asks w.asks refl) marked
 
   each_needed : Each Q (next_needed missing every_missing is_there w)
   each_needed = in_turn meeting w.pending (unmet_needed missing every_missing is_there w) (each_listed w.pending) unmet

@@ -1,16 +1,10 @@
--- What searches for any tree say of the steps.
-use Rattle.std.proofs.Common.{ℕ, ◌≡◌, inl, inr, List, [], ◌∷◌, refl, Some, None, Bool}
+-- What searches for any tree say of all trees.
+use Rattle.std.proofs.Common.{ℕ, ◌≡◌, inl, List, [], ◌∷◌, refl, Some, None, Bool}
 use Rattle.spec_core.specs.Lists.{IsOneOf}
 use Rattle.spec_core.specs.Code.{Program}
-use Rattle.spec_core.specs.Sorts.{FitsData}
-use Rattle.rule_model.specs.Actions.{Kind}
 use Rattle.rule_model.specs.Behaviours.{Behaviour}
 use Rattle.rule_model.specs.Derivations.{Derivation}
-use Rattle.rule_model.specs.Derives.{NoStep, SomeStep}
 use Rattle.windowed_trees.specs.Windows.{Windows}
-use Rattle.windowed_trees.specs.Laws.{NoTree}
-use Rattle.windowed_trees.proofs.Acting.{windowed_trees_act}
-use Rattle.windowed_trees.proofs.Nothing.{no_tree_no_step}
 use Rattle.courses.specs.Lazy.{first}
 use Rattle.courses.specs.Rules.{any, any_beyond}
 use Rattle.composites.specs.Evaluations.{Evaluation}
@@ -46,9 +40,6 @@ module _ (program : Program) (e : Evaluation) (size : ℕ) (w : Windows) (t : Sh
   answered : IsAnswered program e size w b is_asked
   answered = record { ready = k.ready; exact = k.exact; windows = k.windows; tests = tests }
 
-  data_fit : FitsData program.theory
-  data_fit = k.ready.executable.fits
-
   -- a query asks for the first tree that a search finds, and for none, where it finds that there is none
 
   pub is_asked_for : (q : TreeQuery) (d : Derivation) → first_tree program.theory w pieces t q ≡ Some (Some d) → IsAsked program w b q d
@@ -61,26 +52,12 @@ module _ (program : Program) (e : Evaluation) (size : ℕ) (w : Windows) (t : Sh
       empty_has_none d (trees q) (none_first (trees q) (first_trees_are_those program e size w t pieces k q is_asked tests None h))
       ((asked_trees_are_listed program e size w b is_asked answered q d).1 i)
 
-  pub steps : (d : Derivation) → first_tree program.theory w pieces t any ≡ Some (Some d) → SomeStep program b
-  steps d h =
-      let i = is_asked_for any d h in
-      let acts = windowed_trees_act program w data_fit b None d i.0 i.1 in
-      record { tree = d; action = acts.0; rest = acts.1; derives = acts.2 }
-
-  pub no_step : first_tree program.theory w pieces t any ≡ Some None → first_tree program.theory w pieces t any_beyond ≡ Some None →
-      NoStep program b
-  no_step h m = no_tree_no_step program size w data_fit k.windows b none_seen
-    where
-      none_seen : (kind : Kind) → NoTree program w b None kind
-      none_seen kind d (inl i) = none_asked any h d (kind, i)
-      none_seen kind d (inr i) = none_asked any_beyond m d (kind, i)
-
 pub first_trees_are_so : FirstTreesAreSo
 first_trees_are_so program e size w t pieces k =
     let test = asked_can_be_tested program e w k.exact (stands_for program t) in
     record {
-      steps = λ d h. steps program e size w t pieces k test.0 test.1 d h;
-      is_beyond = λ d h. is_asked_for program e size w t pieces k test.0 test.1 any_beyond d h;
+      is_windowed = λ d h. is_asked_for program e size w t pieces k test.0 test.1 any d h;
       no_windowed = λ h d kind i. none_asked program e size w t pieces k test.0 test.1 any h d (kind, i);
-      no_step = λ h m. no_step program e size w t pieces k test.0 test.1 h m;
+      is_beyond = λ d h. is_asked_for program e size w t pieces k test.0 test.1 any_beyond d h;
+      no_beyond = λ h d kind i. none_asked program e size w t pieces k test.0 test.1 any_beyond h d (kind, i);
     }

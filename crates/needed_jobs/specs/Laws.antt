@@ -5,7 +5,6 @@ use Rattle.spec_core.specs.Theories.{Theory}
 use Rattle.spec_core.specs.Code.{Program}
 use Rattle.rule_model.specs.Actions.{Kind}
 use Rattle.rule_model.specs.Derivations.{Derivation}
-use Rattle.rule_model.specs.Derives.{NoStep, SomeStep}
 use Rattle.rule_model.specs.States.{PendingOffer}
 use Rattle.windowed_trees.specs.Windows.{Windows}
 use Rattle.windowed_trees.specs.Trees.{IsWindowed, IsBeyond}
@@ -70,17 +69,17 @@ FirstTreesAreThose =
     first_tree program.theory w pieces t q ≡ Some r →
     r ≡ first (lists_of program e w (stands_for program t) is_asked q)
 
--- What searches for any tree say of the steps of the behaviour that the tree stands for: where they find a windowed tree, there is a step;
--- a beyond tree that they find is one; where they find that no tree is windowed, none is; and where they find that none is beyond either,
--- there is no step.
+-- What searches for any tree say of the trees of the behaviour that the tree stands for: a tree that they find is windowed, or beyond, as it
+-- was searched for; and where they find that there is none, there is none.
 pub record FirstTreesSay (program : Program) (w : Windows) (t : Shape) (pieces : Pieces) : Type 0 where
-  pub steps : (d : Derivation) → first_tree program.theory w pieces t any ≡ Some (Some d) → SomeStep program (stands_for program t)
-  pub is_beyond : (d : Derivation) → first_tree program.theory w pieces t any_beyond ≡ Some (Some d) →
-      (k : Kind) × IsBeyond program w (stands_for program t) None d k
+  pub is_windowed : (d : Derivation) → first_tree program.theory w pieces t any ≡ Some (Some d) →
+      (k : Kind) × IsWindowed program w (stands_for program t) None d k
   pub no_windowed : first_tree program.theory w pieces t any ≡ Some None → (d : Derivation) (k : Kind) →
       IsWindowed program w (stands_for program t) None d k → ⊥
-  pub no_step : first_tree program.theory w pieces t any ≡ Some None → first_tree program.theory w pieces t any_beyond ≡ Some None →
-      NoStep program (stands_for program t)
+  pub is_beyond : (d : Derivation) → first_tree program.theory w pieces t any_beyond ≡ Some (Some d) →
+      (k : Kind) × IsBeyond program w (stands_for program t) None d k
+  pub no_beyond : first_tree program.theory w pieces t any_beyond ≡ Some None → (d : Derivation) (k : Kind) →
+      IsBeyond program w (stands_for program t) None d k → ⊥
 
 abbrev pub FirstTreesAreSo : Type 0
 FirstTreesAreSo =

@@ -1,5 +1,5 @@
 -- What the rules still need of a tree of nodes, and what they decide of it. (This profile.)
-use Rattle.std.specs.Prelude.{ℕ, ◌≡◌, List, Option, None}
+use Rattle.std.specs.Prelude.{ℕ, ◌≡◌, List, [], ◌∷◌, Option, None, true}
 use Rattle.spec_core.specs.Lists.{IsOneOf}
 use Rattle.spec_core.specs.Theories.{Theory}
 use Rattle.rule_model.specs.Derivations.{Derivation}
@@ -42,14 +42,15 @@ abbrev pub IsUndone : Pieces → Shape → NodeJob → Type 0
 IsUndone pieces t (to_expand g) = Waits t g
 IsUndone pieces t (to_judge p) = pieces p.generation p.rules ≡ None
 
--- the rules ask this query where these offers wait: an offer for which it asks is one of them
+-- The rules may come to this query where these offers wait: an offer that is to be met is one of them, and one that is answered beyond since
+-- it only asks is the first of these. They come to what is unseen only where no offer only asks, and each open client waits.
 abbrev pub IsOfRules : {P : Type 0} → Waiting P → Query P → Type 0
 IsOfRules state (meeting p) = IsOneOf p state.pending
 IsOfRules state any = Unit {0}
-IsOfRules state unseen = Unit {0}
-IsOfRules state (beyond p) = IsOneOf p state.asks
+IsOfRules state unseen = (state.asks ≡ []) × (state.all_wait ≡ true)
+IsOfRules {P = P} state (beyond p) = (others : List P) × (state.asks ≡ p ∷ others)
 IsOfRules state any_beyond = Unit {0}
-IsOfRules state (beyond_or_unseen p) = IsOneOf p state.by_client
+IsOfRules state (beyond_or_unseen p) = IsOneOf p state.by_client × (state.asks ≡ []) × (state.all_wait ≡ true)
 
 -- the part is one that is missing of a tree of rules, for which a query of the rules may ask
 pub record IsPartOfTree (theory : Theory) (w : Windows) (t : Shape) (pieces : Pieces) (state : Waiting PendingOffer) (part : NodePart) :

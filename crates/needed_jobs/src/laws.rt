@@ -34,7 +34,7 @@ pub fn first_trees_are_those()
     ensures { FirstTreesAreThose }
 {}
 
-/// Where what is known of a tree is so, searches for any tree say whether the behaviour that it stands for has a step.
+/// Where what is known of a tree is so, searches for any tree say which trees the behaviour that it stands for has.
 pub fn first_trees_are_so()
     ensures { FirstTreesAreSo }
 {}

@@ -1,20 +1,18 @@
 -- How many possible agreements there are. (This profile.)
-use Rattle.std.specs.Prelude.{ℕ, ◌≡◌, ◌+◌, ◌*◌, ◌&&◌, min, not, length, sum_by, List, [], ◌∷◌, Bool, true, false, if◌then◌else◌}
+use Rattle.std.specs.Prelude.{ℕ, ◌+◌, ◌*◌, ◌&&◌, min, not, length, sum_by, List, [], ◌∷◌, Bool, true, false, if◌then◌else◌}
 use Rattle.spec_core.specs.Code.{Program}
 use Rattle.rule_model.specs.Actions.{Kind, inside, ends, at_gate}
 use Rattle.rule_model.specs.Behaviours.{Behaviour}
 use Rattle.windowed_trees.specs.Windows.{Windows}
 use Rattle.windowed_trees.specs.MarkedTerms.{unmarked}
 use Rattle.courses.specs.Gaps.{element, gap}
-use Rattle.composites.specs.Evaluations.{Evaluation, IsExact}
+use Rattle.composites.specs.Evaluations.{Evaluation}
 use Rattle.composites.specs.OpenFields.{OpenField, fixed, blank}
-use Rattle.composites.specs.Composites.{composites}
 use Rattle.open_composites.specs.Plans.{Plan, prefix, internal, termination, below, hidden, handed_on, together}
 use Rattle.open_composites.specs.OpenPlans.{OpenPlan}
-use Rattle.open_composites.specs.Laws.{composites_of}
+use Rattle.own_plans.specs.OwnPlans.{own_plans}
 use Rattle.tree_nodes.specs.Shapes.{Shape, stands_for}
 use Rattle.tree_composites.specs.Known.{PlanOrGap, known_plans}
-use Rattle.offer_counts.specs.OwnPlans.{own_plans}
 use Rattle.offer_counts.specs.Predicates.{has_predicate}
 
 -- the number of possible agreements up to which a session judges candidates
@@ -68,15 +66,7 @@ module _ (program : Program) (w : Windows) (b : Behaviour) where
   offers_of_part (element p) = offers_of_plan p
   offers_of_part (gap g) = 0
 
-  -- So many possible agreements has the closed behaviour: they are those of plans that make its composites, whichever exact answers about
-  -- data and code these are made with.
-  pub record AreOffers (n : ℕ) : Type 0 where
-    pub plans : List OpenPlan
-    pub composites : (e : Evaluation) → IsExact program e →
-        composites_of program.theory w plans ≡ composites program.theory e w (length program.code) unmarked b
-    pub sum : n ≡ offers_of_plans plans
-
--- the same of the plans that its constructs make
+-- So many possible agreements has the closed behaviour: those of the plans that its constructs make.
 abbrev pub offers : Program → Evaluation → Windows → Behaviour → ℕ
 offers program e w b = offers_of_plans program w b (own_plans program.theory e w (length program.code) unmarked b)
 

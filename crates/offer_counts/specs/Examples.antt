@@ -10,7 +10,7 @@ use Rattle.windowed_trees.specs.MarkedTerms.{unmarked}
 use Rattle.windowed_examples.specs.Examples.{x_of, y_of, z_of}
 use Rattle.composites.specs.Evaluations.{Evaluation}
 use Rattle.composites.specs.Examples.{two_constants, constants, once}
-use Rattle.offer_counts.specs.OwnPlans.{own_plans}
+use Rattle.own_plans.specs.OwnPlans.{own_plans}
 use Rattle.offer_counts.specs.Counts.{offers_of_plans}
 
 -- windows of so many values, which aren't complete

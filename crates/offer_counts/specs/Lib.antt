@@ -1,6 +1,5 @@
 pub mod Predicates
 pub mod Places
-pub mod OwnPlans
 pub mod Counts
 pub mod Laws
 pub mod Examples

@@ -16,7 +16,8 @@ use Rattle.data_laws.proofs.Exists.{width_instances}
 use Rattle.value_nodes.specs.declared.node.Node.{Node}
 use Rattle.rewriter.specs.declared.step.Step.{Step}
 use Rattle.rewriter.specs.declared.step.Step.TheVariants.{Put, Call, Decide}
-use Rattle.value_nodes.specs.Nodes.{tree_at, IsNode, IsLonger, AreValues}
+use Rattle.value_nodes.specs.Nodes.{tree_at, IsNode, IsLonger, AreSmall, AreValues}
+use Rattle.value_nodes.specs.Sizes.{IsTooLarge}
 use Rattle.value_nodes.specs.Sizes.{symbols}
 use Rattle.rewriter.specs.Machine.{gives, Trying, Asking, Deciding, Through, put, call, decide, plan, top, Comes, Keeps, Exceeds}
 use Rattle.rewriter.specs.Steps.{IsHeld, no_equation, equation_at, bound_at, put_by, task_of, IsStep, IsMatch}
@@ -144,7 +145,7 @@ module _ (theory : Theory) where
           (Through (Trying theory (drop place theory.equations) f (arguments_of rows k there))
           (λ w. Comes theory (map (task_of theory rows) todo) (w ∷ drop k (map (tree_at rows) there)))) uses →
           Keeps (Pending theory rows from f k todo there) uses (Pending theory rows place f k todo there) uses
-      again q = record { back = q.back; on = q.on; met = q.met }
+      again q = record { back = q.back; on = q.on; met = q.met; large = q.large }
 
   module _ (ex : IsExecutable theory) where
     pub tight_at : (place : ℕ) → place < length theory.equations → HasNoLooseVariables (equation_at theory place)
@@ -192,7 +193,7 @@ module _ (theory : Theory) where
           (Asking theory e.premises e.right (put_by rows bound) (drop (suc place) theory.equations) f vs) uses)
           (sym (split_at theory.equations place no_equation h)) t in
           let q = through (λ w. Comes theory (map (task_of theory rows) todo) (w ∷ drop k (map (tree_at rows) there))) uses uses u in
-          record { back = q.back; on = q.on; met = q.met }
+          record { back = q.back; on = q.on; met = q.met; large = q.large }
 
       -- no equation is left
       pub pending_stuck : (uses budget : ℕ) → length theory.equations ≤ place → (IsConstructor theory f → ⊥) →
@@ -205,20 +206,20 @@ module _ (theory : Theory) where
           (drop_all place theory.equations h) l)
 
       -- a constructor's value
-      pub pending_made : (new : List Node) (after : List ℕ) (uses : ℕ) → place ≡ 0 → IsConstructor theory f → IsLonger rows new →
-          Each (IsStep theory rows) todo →
+      pub pending_made : (new : List Node) (after : List ℕ) (uses : ℕ) → place ≡ 0 → IsConstructor theory f →
+          (IsTooLarge (apply f (arguments_of rows k there)) → ⊥) → IsLonger rows new → Each (IsStep theory rows) todo →
           map (tree_at new) after ≡ apply f (arguments_of rows k there) ∷ drop k (map (tree_at rows) there) →
           Keeps (Pending theory rows place f k todo there) uses (Coming theory new todo after) uses
-      pending_made new after uses z c longer steps e =
+      pending_made new after uses z c small longer steps e =
           let q = made theory ex f (arguments_of rows k there)
-          (λ w. Comes theory (map (task_of theory rows) todo) (w ∷ drop k (map (tree_at rows) there))) uses c in
+          (λ w. Comes theory (map (task_of theory rows) todo) (w ∷ drop k (map (tree_at rows) there))) uses c small in
           subst (λ p. Keeps (Pending theory rows p f k todo there) uses (Coming theory new todo after) uses) (sym z)
           (subst (λ vals. Keeps (Pending theory rows 0 f k todo there) uses (Comes theory (map (task_of theory new) todo) vals) uses)
           (sym e)
           (subst (λ tasks. Keeps (Pending theory rows 0 f k todo there) uses
           (Comes theory tasks (apply f (arguments_of rows k there) ∷ drop k (map (tree_at rows) there))) uses)
           (sym (same_tasks theory rows new longer todo (all_held theory rows todo steps)))
-          (record { back = q.back; on = q.on; met = q.met })))
+          (record { back = q.back; on = q.on; met = q.met; large = q.large })))
 
       pub pending_large : place ≡ 0 → IsConstructor theory f → 65536 < symbols (apply f (arguments_of rows k there)) →
           MeetsLarge (Pending theory rows place f k todo there)
@@ -236,10 +237,14 @@ module _ (theory : Theory) where
       constructed : AreValues theory rows → (x : ℕ) → Occurs x (equation_at theory place).left → IsConstructed theory (put_by rows bound x)
       constructed c x o = c (bound_at bound x) (m.nodes x o)
 
+      small : AreSmall rows → (x : ℕ) → Occurs x (equation_at theory place).left → IsTooLarge (put_by rows bound x) → ⊥
+      small a x o = a (bound_at bound x) (m.nodes x o)
+
       -- a premise is asked
-      pub wanting_asks : (new : List Step) (uses : ℕ) → AreValues theory rows → ArePlanned theory rows bound place next todo new →
+      pub wanting_asks : (new : List Step) (uses : ℕ) → AreValues theory rows → AreSmall rows →
+          ArePlanned theory rows bound place next todo new →
           Keeps (Wanting theory rows bound place next f k todo there) uses (Coming theory rows new there) uses
-      wanting_asks new uses c p =
+      wanting_asks new uses c rs p =
           let e = equation_at theory place in
           let s = put_by rows bound in
           let vals = map (tree_at rows) there in
@@ -251,7 +256,7 @@ module _ (theory : Theory) where
           OccursInPremises x e.premises = λ x o. still_occurs x next e.premises (subst (OccursInPremises x) (sym p.asks) o) in
           let q = asks theory ex e p.left p.right (drop (next + 1) e.premises) s (drop (suc place) theory.equations) f shape.1
           (arguments_of rows k there) (map (task_of theory rows) todo) vals uses hd.0 t.0 m.fits (tight_at place h) inside
-          (constructed c) in
+          (constructed c) (small rs) in
           let r = subst (λ d. Keeps (Through
           (Asking theory (premise p.left p.right ∷ drop (next + 1) e.premises) e.right s (drop (suc place) theory.equations) f
           (arguments_of rows k there)) (λ w. Comes theory (map (task_of theory rows) todo) (w ∷ d))) uses
@@ -268,21 +273,22 @@ module _ (theory : Theory) where
           (Asking theory (drop next e.premises) e.right s (drop (suc place) theory.equations) f (arguments_of rows k there))
           (λ w. Comes theory (map (task_of theory rows) todo) (w ∷ drop k vals))) uses (Comes theory tasks vals) uses)
           (sym p.steps) i in
-          record { back = j.back; on = j.on; met = j.met }
+          record { back = j.back; on = j.on; met = j.met; large = j.large }
 
       -- the equation is used
-      pub wanting_uses : (new : List Step) (after : List ℕ) (uses : ℕ) → AreValues theory rows →
+      pub wanting_uses : (new : List Step) (after : List ℕ) (uses : ℕ) → AreValues theory rows → AreSmall rows →
           length (equation_at theory place).premises ≤ next →
           map (task_of theory rows) new ≡ plan (put_by rows bound) (equation_at theory place).right (map (task_of theory rows) todo) →
           map (tree_at rows) after ≡ drop k (map (tree_at rows) there) →
           Keeps (Wanting theory rows bound place next f k todo there) uses (Coming theory rows new after) (uses + 1)
-      wanting_uses new after uses c n steps vals =
+      wanting_uses new after uses c rs n steps vals =
           let e = equation_at theory place in
           let s = put_by rows bound in
           let rest = λ (w : TermTree). Comes theory (map (task_of theory rows) todo) (w ∷ drop k (map (tree_at rows) there)) in
           let a = through rest uses (uses + 1)
           (used_once theory e.right s (drop (suc place) theory.equations) f (arguments_of rows k there) uses) in
-          let b = planned theory ex s e.right (λ x o. constructed c x ((tight_at place h).right x o)) (map (task_of theory rows) todo)
+          let b = planned theory ex s e.right (λ x o. constructed c x ((tight_at place h).right x o))
+          (λ x o. small rs x ((tight_at place h).right x o)) (map (task_of theory rows) todo)
           (drop k (map (tree_at rows) there)) (uses + 1) in
           let d = keep_on uses (uses + 1) (uses + 1) a b in
           let i = subst (λ ps. Keeps (Through
@@ -295,7 +301,7 @@ module _ (theory : Theory) where
           let l = subst (λ us. Keeps (Through
           (Asking theory (drop next e.premises) e.right s (drop (suc place) theory.equations) f (arguments_of rows k there)) rest)
           uses (Comes theory (map (task_of theory rows) new) us) (uses + 1)) (sym vals) j in
-          record { back = l.back; on = l.on; met = l.met }
+          record { back = l.back; on = l.on; met = l.met; large = l.large }
 
       -- no use is left
       pub wanting_spent : (uses budget : ℕ) → length (equation_at theory place).premises ≤ next → budget ≤ uses → uses ≤ budget →
@@ -329,8 +335,8 @@ module _ (theory : Theory) where
           (decide e (drop next e.premises) (drop (suc place) theory.equations) ∷ map (task_of theory rows) todo) (b ∷ a ∷ vals)) uses
           (Through (Asking theory (drop next e.premises) e.right (put_by rows bound) (drop (suc place) theory.equations) f
           (arguments_of rows k there)) (λ w. Comes theory (map (task_of theory rows) todo) (w ∷ drop i vals))) uses) (sym head.2)
-          (record { back = q.back; on = q.on; met = q.met }) in
-          record { back = r.back; on = r.on; met = r.met }
+          (record { back = q.back; on = q.on; met = q.met; large = q.large }) in
+          record { back = r.back; on = r.on; met = r.met; large = r.large }
 
       -- no match, which can't be
       pub decided_nothing : (uses budget : ℕ) →
@@ -363,8 +369,8 @@ module _ (theory : Theory) where
           (decide e (drop next e.premises) (drop (suc place) theory.equations) ∷ map (task_of theory rows) todo) (b ∷ a ∷ vals)) uses
           (Through (Trying theory (drop (suc place) theory.equations) f (arguments_of rows k there))
           (λ w. Comes theory (map (task_of theory rows) todo) (w ∷ drop i vals))) uses) (sym head.2)
-          (record { back = q.back; on = q.on; met = q.met }) in
-          record { back = r.back; on = r.on; met = r.met }
+          (record { back = q.back; on = q.on; met = q.met; large = q.large }) in
+          record { back = r.back; on = r.on; met = r.met; large = r.large }
 
 pub three_ways : (j p : ℕ) → (j < p) ⊎ (j ≡ p) ⊎ (p < j)
 three_ways zero zero = inr (inl refl)
@@ -400,4 +406,4 @@ pub chosen : (theory : Theory) (rows : List Node) (place next : ℕ) (todo : Lis
 chosen theory rows place next todo there mid rest left right uses e q =
     subst (λ vs. Keeps (Choosing theory rows place next todo vs) uses
     (Decided theory rows place next (tree_at rows left) (tree_at rows right) todo rest) uses) (sym (e ∙ ap (λ vs. right ∷ vs) q))
-    (record { back = λ v n l. (n, l, refl); on = λ v n l. (n, l, refl); met = λ w l. l })
+    (record { back = λ v n l. (n, l, refl); on = λ v n l. (n, l, refl); met = λ w l. l; large = λ w b l. l })

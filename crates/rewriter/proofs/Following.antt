@@ -7,7 +7,8 @@ use Rattle.spec_core.specs.Theories.{Theory}
 use Rattle.spec_core.specs.Values.{IsValue}
 use Rattle.spec_core.proofs.Lists.{all_taken}
 use Rattle.value_nodes.specs.declared.node.Node.{Node}
-use Rattle.value_nodes.specs.Nodes.{tree_at, AreValues, IsNode}
+use Rattle.value_nodes.specs.Nodes.{tree_at, AreSmall, AreValues, IsNode}
+use Rattle.value_nodes.specs.Sizes.{IsTooLarge}
 use Rattle.rewriter.specs.declared.step.Step.{Step}
 use Rattle.rewriter.specs.declared.step.Step.TheVariants.{Put, Call, Decide}
 use Rattle.rewriter.specs.Steps.{IsStep, IsHeld}
@@ -64,6 +65,13 @@ all_held theory rows [] e = tt
 all_held theory rows (Put i ∷ todo) e = (e.0, all_held theory rows todo e.1)
 all_held theory rows (Call op k ∷ todo) e = (tt, all_held theory rows todo e.1)
 all_held theory rows (Decide i k ∷ todo) e = (tt, all_held theory rows todo e.1)
+
+-- where no node stands for what is too large, no copy does
+pub copied_small : (old new : List Node) → ((n : ℕ) → IsNode new n → (i : ℕ) × IsNode old i × (tree_at new n ≡ tree_at old i)) →
+    AreSmall old → AreSmall new
+copied_small old new others small n h big =
+    let k = others n h in
+    small k.0 k.1 (subst IsTooLarge k.2 big)
 
 -- where nodes stand for values, so do their copies
 pub copied_values : (theory : Theory) (old new : List Node) →

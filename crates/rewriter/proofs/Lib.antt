@@ -4,6 +4,7 @@ pub mod Following
 pub mod Links
 pub mod Loop
 pub mod Matches
+pub mod Meets
 pub mod Moves
 pub mod Outcomes
 pub mod Plans

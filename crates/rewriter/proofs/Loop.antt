@@ -36,6 +36,11 @@ module _ (theory : Theory) (t : TermTree) (rows : List Node) (todo : List Step) 
       let x = k.back (tree_at rows n) 0 (refl, refl) in
       (x.0, x.1, omega (arith, x.2, within))
 
+  pub met_none : (n : ℕ) → todo ≡ [] → there ≡ n ∷ [] → MeetsLarge (Evaluating theory t) → ⊥
+  met_none n e q m =
+      let k = subst (λ steps. Keeps (Evaluating theory t) 0 (Coming theory rows steps there) uses) e kept in
+      k.large m.0 m.2 m.1
+
   pub never_ended : (budget : ℕ) → todo ≡ [] → ((n : ℕ) → there ≡ n ∷ [] → ⊥) → IsBeyond theory t budget
   never_ended budget e no_one v n p =
       let k = subst (λ steps. Keeps (Evaluating theory t) 0 (Coming theory rows steps there) uses) e kept in
@@ -68,9 +73,9 @@ pub moved_kept : (P : Outcome → Type 0) (theory : Theory) (rows new : List Nod
     Keeps P a (Coming theory rows todo there) u → Keeps P a (Coming theory new now values) u
 moved_kept P theory rows new todo now there values a u e q k =
     let i = subst (λ tasks. Keeps P a (Comes theory tasks (map (tree_at rows) there)) u) (sym e)
-    (record { back = k.back; on = k.on; met = k.met }) in
+    (record { back = k.back; on = k.on; met = k.met; large = k.large }) in
     let j = subst (λ vals. Keeps P a (Comes theory (map (task_of theory new) now) vals) u) (sym q) i in
-    record { back = j.back; on = j.on; met = j.met }
+    record { back = j.back; on = j.on; met = j.met; large = j.large }
 
 pub if_ok_both : {A E : Type 0} {P Q R : A → Type 0} (r : Result A E) → ((x : A) → P x → Q x → R x) → IfOk r P → IfOk r Q → IfOk r R
 if_ok_both (Ok x) f p q = f x p q

@@ -6,23 +6,26 @@ use Rattle.spec_core.specs.Theories.{Premise, premise, ConditionalEquation, Theo
 use Rattle.spec_core.specs.Constructors.{IsConstructor, IsConstructed}
 use Rattle.spec_core.specs.Orthogonality.{HasNoLooseVariables}
 use Rattle.spec_core.specs.Executable.{IsExecutable}
-use Rattle.spec_core.specs.Evaluation.{Evaluates, Tries, Asks, final, unlike, like, used, holds, fails, EvaluationMeets, AsksMeet}
+use Rattle.spec_core.specs.Evaluation.{Evaluates, Tries, Asks, final, unlike, like, used, holds, fails, EvaluationMeets, AsksMeet, TriesMeet}
 use Rattle.spec_core.specs.Evaluation.{passed_over, asked, in_right, in_left_side, in_right_side, after_equal, after_unequal}
 use Rattle.spec_core.proofs.OneValue.{agree, same_instance}
+use Rattle.value_nodes.specs.Sizes.{IsTooLarge}
 use Rattle.data_laws.proofs.Exists.{Headed, constructor_stays}
 use Rattle.data_laws.proofs.Conditions.{headed_of, bare_of}
 use Rattle.rewriter.specs.Machine.{Outcome, gives, meets, Evaluating, Trying, Asking, Deciding, Through, Task, decide, plan, top, OnCall}
 use Rattle.rewriter.specs.Machine.{Comes, Keeps, Exceeds}
-use Rattle.rewriter.proofs.Plans.{plan_back, plan_on, plan_met}
+use Rattle.rewriter.proofs.Meets.{never_asked}
+use Rattle.rewriter.proofs.Plans.{plan_back, plan_on, plan_met, plan_reaches, plan_meets}
 
 pub same : {P : Outcome → Type 0} (a : ℕ) → Keeps P a P a
-same a = record { back = λ v n p. (n, p, refl); on = λ v n p. (n, p, refl); met = λ w p. p }
+same a = record { back = λ v n p. (n, p, refl); on = λ v n p. (n, p, refl); met = λ w p. p; large = λ w b p. p }
 
 pub keep_on : {P Q R : Outcome → Type 0} (a b c : ℕ) → Keeps P a Q b → Keeps Q b R c → Keeps P a R c
 keep_on a b c h k = record {
   back = λ v n r. let x = k.back v n r in let y = h.back v x.0 x.1 in (y.0, y.1, omega (arith, x.2, y.2));
   on = λ v m p. let x = h.on v m p in let y = k.on v x.0 x.1 in (y.0, y.1, omega (arith, x.2, y.2));
   met = λ w r. h.met w (k.met w r);
+  large = λ w b p. k.large w b (h.large w b p);
 }
 
 pub exceeds_before : {P Q : Outcome → Type 0} (a b budget : ℕ) → Keeps P a Q b → Exceeds Q b budget → Exceeds P a budget
@@ -34,11 +37,16 @@ through {P} {R} Q a b h = record {
   back = λ v n l. let x = h.back l.0 l.1 l.3 in (x.0 + l.2, (l.0, x.0, l.2, x.1, l.4, refl), omega (arith, x.2, l.5));
   on = λ v n l. let x = h.on l.0 l.1 l.3 in (x.0 + l.2, (l.0, x.0, l.2, x.1, l.4, refl), omega (arith, x.2, l.5));
   met = λ u l. after u l;
+  large = λ u b l. before u b l;
 }
   where
     after : (u : TermTree) → Through R Q (meets u) → Through P Q (meets u)
     after u (inl r) = inl (h.met u r)
     after u (inr (w, c, r, l)) = let x = h.back w c r in inr (w, x.0, x.1, l)
+
+    before : (u : TermTree) → IsTooLarge u → Through P Q (meets u) → Through R Q (meets u)
+    before u b (inl p) = inl (h.large u b p)
+    before u b (inr (w, c, p, l)) = let x = h.on w c p in inr (w, x.0, x.1, l)
 
 -- substitutions that agree ask alike
 pub same_asks : {theory : Theory} {ps : List Premise} {r : TermTree} {es : List ConditionalEquation} {f : ℕ} {vs : TermTrees}
@@ -54,7 +62,7 @@ same_asks {theory = theory} z s hr hp (fails {a = a} {b = b} w u n m l p q h c e
     fails w u n m l (subst (λ t. Evaluates theory t w n) (same_instance z s a (λ x o. hp x (inl o))) p)
     (subst (λ t. Evaluates theory t u m) (same_instance z s b (λ x o. hp x (inr (inl o)))) q) h c e
 
-same_meets : {theory : Theory} {ps : List Premise} {r : TermTree} {es : List ConditionalEquation} {f : ℕ} {vs : TermTrees} {u : TermTree}
+pub same_meets : {theory : Theory} {ps : List Premise} {r : TermTree} {es : List ConditionalEquation} {f : ℕ} {vs : TermTrees} {u : TermTree}
     (z s : ℕ → TermTree) → ((x : ℕ) → Occurs x r → z x ≡ s x) → ((x : ℕ) → OccursInPremises x ps → z x ≡ s x) →
     AsksMeet theory ps r z es f vs u → AsksMeet theory ps r s es f vs u
 same_meets {theory = theory} {r = r} {u = u} z s hr hp (in_right a) =
@@ -83,8 +91,13 @@ module _ (theory : Theory) where
     back = λ v n t. (n, unlike no_match t, refl);
     on = λ v n t. (n, rest t, refl);
     met = λ w t. passed_over no_match t;
+    large = λ w b t. others t;
   }
     where
+      others : {w : TermTree} → TriesMeet theory (e ∷ es) f vs w → TriesMeet theory es f vs w
+      others (passed_over h t) = t
+      others (asked s q t) = absurd (no_match s q)
+
       rest : {v : TermTree} {k : ℕ} → Tries theory (e ∷ es) f vs v k → Tries theory es f vs v k
       rest (unlike h t) = t
       rest (like s q a) = absurd (no_match s q)
@@ -97,8 +110,15 @@ module _ (theory : Theory) where
     back = λ v n t. (n, like s q t, refl);
     on = λ v n t. (n, ask t, refl);
     met = λ w t. asked s q t;
+    large = λ w b t. ask_met t;
   }
     where
+      ask_met : {w : TermTree} → TriesMeet theory (e ∷ es) f vs w → AsksMeet theory e.premises e.right s es f vs w
+      ask_met (passed_over h r) = absurd (h s q)
+      ask_met (asked z p a) =
+          let g : instance z e.left ≡ instance s e.left = p ∙ sym q in
+          same_meets z s (λ x o. agree z s e.left g x (tight.right x o)) (λ x o. agree z s e.left g x (tight.premises x o)) a
+
       ask : {v : TermTree} {k : ℕ} → Tries theory (e ∷ es) f vs v k → Asks theory e.premises e.right s es f vs v k
       ask (unlike h r) = absurd (h s q)
       ask (like z p a) =
@@ -112,8 +132,12 @@ module _ (theory : Theory) where
     back = λ v n t. (n + 1, used n t refl, omega arith);
     on = λ v n t. once v n t;
     met = λ w t. in_right t;
+    large = λ w b t. of_right t;
   }
     where
+      of_right : {w : TermTree} → AsksMeet theory [] r s es f vs w → EvaluationMeets theory (instance s r) w
+      of_right (in_right t) = t
+
       once : (v : TermTree) (n : ℕ) → Asks theory [] r s es f vs v n → (m : ℕ) × Evaluates theory (instance s r) v m × (a + n ≡ a + 1 + m)
       once v n (used m t q) = (m, t, omega (arith, q))
 
@@ -143,15 +167,25 @@ module _ (theory : Theory) where
     only_itself (unlike u t) h b = only_itself t h.1 b.1
     only_itself (like {f = f} {vs = vs} s q a) h b = absurd (b.0 (h.0 s f vs q))
 
-    -- a constructor over values is the value
+    -- a constructor over values is the value, which isn't too large
     pub made : (f : ℕ) (vs : TermTrees) (Q : TermTree → Outcome → Type 0) (a : ℕ) → IsConstructor theory f →
-        Keeps (Through (Trying theory theory.equations f vs) Q) a (Q (apply f vs)) a
-    made f vs Q a c = record {
+        (IsTooLarge (apply f vs) → ⊥) → Keeps (Through (Trying theory theory.equations f vs) Q) a (Q (apply f vs)) a
+    made f vs Q a c small = record {
       back = λ v n q. (n, (apply f vs, 0, n, tries_once f vs c, q, omega arith), refl);
       on = λ v n l. go v n l.0 l.1 l.2 l.3 l.4 l.5;
       met = λ u q. inr (apply f vs, 0, tries_once f vs c, inr q);
+      large = λ u b l. rest u b l;
     }
       where
+        rest : (u : TermTree) → IsTooLarge u → Through (Trying theory theory.equations f vs) Q (meets u) → Q (apply f vs) (meets u)
+        rest u b (inl t) = absurd (never_asked theory ex t (headed_of theory ex) (bare_of theory ex f c))
+        rest u b (inr (w, k, t, inl q)) =
+            let o = only_itself t (headed_of theory ex) (bare_of theory ex f c) in
+            absurd (small (subst IsTooLarge (q ∙ o.0) b))
+        rest u b (inr (w, k, t, inr q)) =
+            let o = only_itself t (headed_of theory ex) (bare_of theory ex f c) in
+            subst (λ v. Q v (meets u)) o.0 q
+
         go : (v : TermTree) (n : ℕ) (w : TermTree) (k m : ℕ) → Tries theory theory.equations f vs w k → Q w (gives v m) → n ≡ k + m →
             (i : ℕ) × Q (apply f vs) (gives v i) × (a + n ≡ a + i)
         go v n w k m t q e =
@@ -168,13 +202,14 @@ module _ (theory : Theory) where
         (pats vs : TermTrees) (todo : List Task) (vals : List TermTree) (c : ℕ) →
         e.left ≡ apply f pats → vs ≡ top (width pats) vals no_terms → instance s e.left ≡ apply f vs → HasNoLooseVariables e →
         ((x : ℕ) → OccursInPremises x (premise a b ∷ ps) → OccursInPremises x e.premises) →
-        ((x : ℕ) → Occurs x e.left → IsConstructed theory (s x)) →
+        ((x : ℕ) → Occurs x e.left → IsConstructed theory (s x)) → ((x : ℕ) → Occurs x e.left → IsTooLarge (s x) → ⊥) →
         Keeps (Through (Asking theory (premise a b ∷ ps) e.right s es f vs) (λ w. Comes theory todo (w ∷ drop (width pats) vals))) c
         (Comes theory (plan s a (plan s b (decide e ps es ∷ todo))) vals) c
-    asks e a b ps s es f pats vs todo vals c left over fit tight inside values = record {
+    asks e a b ps s es f pats vs todo vals c left over fit tight inside values small = record {
       back = λ v n l. back v n l;
       on = λ v n l. on v n l.0 l.1 l.2 l.3 l.4 l.5;
       met = λ u l. met u l;
+      large = λ u big l. large u big l;
     }
       where
         ha : (x : ℕ) → Occurs x a → IsConstructed theory (s x)
@@ -246,6 +281,40 @@ module _ (theory : Theory) where
           planned_sides v x y n i j l m p q (closed x y (gives v (l + m)) (w, l, m, inr (d, t), rest, refl)) (omega (arith, r, h)),
           refl,
         )
+
+        sa : (x : ℕ) → Occurs x a → IsTooLarge (s x) → ⊥
+        sa x o = small x (tight.premises x (inside x (inl o)))
+
+        sb : (x : ℕ) → Occurs x b → IsTooLarge (s x) → ⊥
+        sb x o = small x (tight.premises x (inside x (inr (inl o))))
+
+        sides_meet : (u x y : TermTree) (i j : ℕ) → Evaluates theory (instance s a) x i → Evaluates theory (instance s b) y j →
+            Through (Deciding theory e ps es f vs x y) (RestOf theory todo pats vals) (meets u) →
+            Comes theory (plan s a (plan s b (decide e ps es ∷ todo))) vals (meets u)
+        sides_meet u x y i j p q l =
+            plan_reaches theory ex s a ha (plan s b (decide e ps es ∷ todo)) vals x u i p
+            (plan_reaches theory ex s b hb (decide e ps es ∷ todo) (x ∷ vals) y u j q (closed x y (meets u) l))
+
+        asked_large : (u : TermTree) → IsTooLarge u → AsksMeet theory (premise a b ∷ ps) e.right s es f vs u →
+            Comes theory (plan s a (plan s b (decide e ps es ∷ todo))) vals (meets u)
+        asked_large u big (in_left_side m) = plan_meets theory ex s a ha sa (plan s b (decide e ps es ∷ todo)) vals u big m
+        asked_large u big (in_right_side {v = x} {n = i} p m) =
+            plan_reaches theory ex s a ha (plan s b (decide e ps es ∷ todo)) vals x u i p
+            (plan_meets theory ex s b hb sb (decide e ps es ∷ todo) (x ∷ vals) u big m)
+        asked_large u big (after_equal {v = x} {n = i} {m = j} p q t) = sides_meet u x x i j p q (inl (inl (refl, (s, fit, t))))
+        asked_large u big (after_unequal {v = x} {u = y} {n = i} {m = j} p q d t) = sides_meet u x y i j p q (inl (inr (d, t)))
+
+        valued_large : (u w : TermTree) (k : ℕ) → Asks theory (premise a b ∷ ps) e.right s es f vs w k →
+            (u ≡ w) ⊎ RestOf theory todo pats vals w (meets u) →
+            Comes theory (plan s a (plan s b (decide e ps es ∷ todo))) vals (meets u)
+        valued_large u w k (holds x i j l p q t r) rest = sides_meet u x x i j p q (inr (w, l, inl (refl, (s, fit, t)), rest))
+        valued_large u w k (fails x y i j l p q d t r) rest = sides_meet u x y i j p q (inr (w, l, inr (d, t), rest))
+
+        large : (u : TermTree) → IsTooLarge u → Through (Asking theory (premise a b ∷ ps) e.right s es f vs)
+            (RestOf theory todo pats vals) (meets u) →
+            Comes theory (plan s a (plan s b (decide e ps es ∷ todo))) vals (meets u)
+        large u big (inl t) = asked_large u big t
+        large u big (inr (w, k, t, rest)) = valued_large u w k t rest
 
         met : (u : TermTree) → Comes theory (plan s a (plan s b (decide e ps es ∷ todo))) vals (meets u) →
             Through (Asking theory (premise a b ∷ ps) e.right s es f vs) (RestOf theory todo pats vals) (meets u)

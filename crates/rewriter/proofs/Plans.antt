@@ -10,6 +10,8 @@ use Rattle.spec_core.specs.Evaluation.{its_value, in_arguments, in_call, first, 
 use Rattle.spec_core.proofs.OneValue.{one_value}
 use Rattle.spec_core.proofs.Definitions.{values_evaluate_to_themselves}
 use Rattle.data_laws.proofs.Exists.{width_instances, width_values}
+use Rattle.value_nodes.specs.Sizes.{IsTooLarge}
+use Rattle.rewriter.proofs.Meets.{value_meets}
 use Rattle.rewriter.specs.Machine.{gives, meets, Evaluating, Through, Task, call, plan, plan_all, top, Comes, Keeps}
 
 -- values put on the stack from the left
@@ -176,15 +178,81 @@ module _ (theory : Theory) (ex : IsExecutable theory) (s : ℕ → TermTree) whe
         after (inl m) rest = inl (first m)
         after (inr (w, k, e, l)) rest = last w k e (rest w l)
 
-  -- a term's tasks come to what its evaluation, and then the rest, come to
-  pub planned : (t : TermTree) → ((x : ℕ) → Occurs x t → IsConstructed theory (s x)) → (todo : List Task) (vals : List TermTree) (a : ℕ) →
+  -- a call over these values gives this value, and the call's task meets it, and what comes after it
+  at_value : (f : ℕ) (ts : TermTrees) (todo : List Task) (vals : List TermTree) (vs : TermTrees) (w u : TermTree) (i j : ℕ) →
+      EvaluatesAll theory (instances s ts) vs i → Tries theory theory.equations f vs w j →
+      (u ≡ w) ⊎ Comes theory todo (w ∷ vals) (meets u) → Comes theory (call f (width ts) ∷ todo) (onto vs vals) (meets u)
+  at_value f ts todo vals vs w u i j a t l =
+      let g = wide ts vs i a in inr (
+        w,
+        j,
+        subst (λ us. Tries theory theory.equations f us w j) (sym (taken vs ts vals g)) t,
+        subst (λ us. (u ≡ w) ⊎ Comes theory todo (w ∷ us) (meets u)) (sym (dropped vs ts vals g)) l,
+      )
+
+  mutual
+    -- what comes after the evaluation's value, the tasks meet
+    pub plan_reaches : (t : TermTree) → ((x : ℕ) → Occurs x t → IsConstructed theory (s x)) →
+        (todo : List Task) (vals : List TermTree) (w u : TermTree) (k : ℕ) → Evaluates theory (instance s t) w k →
+        Comes theory todo (w ∷ vals) (meets u) → Comes theory (plan s t todo) vals (meets u)
+    plan_reaches (variable x) h todo vals w u k e l =
+        let o = one_value theory ex.orthogonal.closed (own x (h x refl)) e in
+        subst (λ y. Comes theory todo (y ∷ vals) (meets u)) (sym o.0) l
+    plan_reaches (apply f ts) h todo vals w u k (called vs i j a t p) l =
+        plan_all_reaches ts h (call f (width ts) ∷ todo) vals vs u i a (at_value f ts todo vals vs w u i j a t (inr l))
+
+    plan_all_reaches : (ts : TermTrees) → ((x : ℕ) → OccursInAny x ts → IsConstructed theory (s x)) →
+        (todo : List Task) (vals : List TermTree) (ws : TermTrees) (u : TermTree) (k : ℕ) → EvaluatesAll theory (instances s ts) ws k →
+        Comes theory todo (onto ws vals) (meets u) → Comes theory (plan_all s ts todo) vals (meets u)
+    plan_all_reaches no_terms h todo vals ws u k (none e) l = l
+    plan_all_reaches (and_term t ts) h todo vals ws u k (more {v = w} {vs = us} i j a b e) l =
+        plan_reaches t (λ x o. h x (inl o)) (plan_all s ts todo) vals w u i a
+        (plan_all_reaches ts (λ x o. h x (inr o)) todo (w ∷ vals) us u j b l)
+
+  mutual
+    -- what the evaluation meets and is too large, the tasks meet, where no variable stands for what is too large
+    pub plan_meets : (t : TermTree) → ((x : ℕ) → Occurs x t → IsConstructed theory (s x)) →
+        ((x : ℕ) → Occurs x t → IsTooLarge (s x) → ⊥) → (todo : List Task) (vals : List TermTree) (u : TermTree) → IsTooLarge u →
+        EvaluationMeets theory (instance s t) u → Comes theory (plan s t todo) vals (meets u)
+    plan_meets (variable x) h small todo vals u big m =
+        let n = value_meets theory ex (s x) (h x refl) u m in
+        absurd (small x refl (omega (arith, n, big)))
+    plan_meets (apply f ts) h small todo vals u big (its_value (called vs i j a t p)) =
+        plan_all_reaches ts h (call f (width ts) ∷ todo) vals vs u i a (at_value f ts todo vals vs u u i j a t (inl refl))
+    plan_meets (apply f ts) h small todo vals u big (in_arguments m) =
+        plan_all_meets ts h small (call f (width ts) ∷ todo) vals u big m
+    plan_meets (apply f ts) h small todo vals u big (in_call {vs = vs} {n = i} a m) =
+        plan_all_reaches ts h (call f (width ts) ∷ todo) vals vs u i a
+        (inl (subst (λ us. TriesMeet theory theory.equations f us u) (sym (taken vs ts vals (wide ts vs i a))) m))
+
+    plan_all_meets : (ts : TermTrees) → ((x : ℕ) → OccursInAny x ts → IsConstructed theory (s x)) →
+        ((x : ℕ) → OccursInAny x ts → IsTooLarge (s x) → ⊥) → (todo : List Task) (vals : List TermTree) (u : TermTree) → IsTooLarge u →
+        ArgumentsMeet theory (instances s ts) u → Comes theory (plan_all s ts todo) vals (meets u)
+    plan_all_meets no_terms h small todo vals u big m = elim m [ ]
+    plan_all_meets (and_term t ts) h small todo vals u big (first m) =
+        plan_meets t (λ x o. h x (inl o)) (λ x o. small x (inl o)) (plan_all s ts todo) vals u big m
+    plan_all_meets (and_term t ts) h small todo vals u big (later {v = w} {n = k} e m) =
+        plan_reaches t (λ x o. h x (inl o)) (plan_all s ts todo) vals w u k e
+        (plan_all_meets ts (λ x o. h x (inr o)) (λ x o. small x (inr o)) todo (w ∷ vals) u big m)
+
+  -- a term's tasks come to what its evaluation, and then the rest, come to, where no variable stands for what is too large
+  pub planned : (t : TermTree) → ((x : ℕ) → Occurs x t → IsConstructed theory (s x)) → ((x : ℕ) → Occurs x t → IsTooLarge (s x) → ⊥) →
+      (todo : List Task) (vals : List TermTree) (a : ℕ) →
       Keeps (Through (Evaluating theory (instance s t)) (λ w. Comes theory todo (w ∷ vals))) a (Comes theory (plan s t todo) vals) a
-  planned t h todo vals a = record {
+  planned t h small todo vals a = record {
     back = λ v n l. (n, plan_on t h todo vals v n l, refl);
     on = λ v m p. (m, plan_back t h todo vals p.0 v p.1 p.2 m p.3 p.4 p.5, refl);
     met = λ u l. after u (plan_met t h todo vals u l);
+    large = λ u big l. before u big l;
   }
     where
+      before : (u : TermTree) → IsTooLarge u → Through (Evaluating theory (instance s t)) (λ w. Comes theory todo (w ∷ vals)) (meets u) →
+          Comes theory (plan s t todo) vals (meets u)
+      before u big (inl m) = plan_meets t h small todo vals u big m
+      before u big (inr (w, k, e, inl q)) =
+          plan_meets t h small todo vals u big (subst (EvaluationMeets theory (instance s t)) (sym q) (its_value e))
+      before u big (inr (w, k, e, inr l)) = plan_reaches t h todo vals w u k e l
+
       after : (u : TermTree) → EvaluationMeets theory (instance s t) u ⊎
           ((w : TermTree) × (k : ℕ) × Evaluates theory (instance s t) w k × Comes theory todo (w ∷ vals) (meets u)) →
           Through (Evaluating theory (instance s t)) (λ w. Comes theory todo (w ∷ vals)) (meets u)

@@ -5,12 +5,12 @@ use Rattle.spec_core.specs.Terms.{OccursInAny, IsGround, AreGround}
 use Rattle.spec_core.specs.Theories.{Premise, ConditionalEquation, Theory, OccursInPremises}
 use Rattle.spec_core.specs.Orthogonality.{HasNoLooseVariables}
 use Rattle.spec_core.specs.Executable.{IsExecutable}
-use Rattle.spec_core.specs.Evaluation.{Evaluates, Tries, Asks, EvaluationMeets, its_value}
+use Rattle.spec_core.specs.Evaluation.{Evaluates, Tries, Asks, EvaluationMeets, TriesMeet, AsksMeet, its_value}
 use Rattle.spec_core.proofs.OneValue.{agree}
 use Rattle.rewriter.specs.Machine.{Outcome, gives, meets, Evaluating, Trying, Asking, Deciding, Through, Task, decide, plan, top, OnCall}
 use Rattle.rewriter.specs.Machine.{Comes, Keeps}
 use Rattle.rewriter.proofs.Plans.{planned}
-use Rattle.rewriter.proofs.Moves.{keep_on, through, same_asks, RestOf}
+use Rattle.rewriter.proofs.Moves.{keep_on, through, same_asks, same_meets, RestOf}
 
 module _ (theory : Theory) (e : ConditionalEquation) (ps : List Premise) (es : List ConditionalEquation) (f : ℕ) (pats vs : TermTrees)
     (todo : List Task) (vals : List TermTree) (a b : TermTree) (left : e.left ≡ apply f pats)
@@ -34,6 +34,7 @@ module _ (theory : Theory) (e : ConditionalEquation) (ps : List Premise) (es : L
     back = λ v n l. (n, closed (gives v n) l, refl);
     on = λ v n l. (n, opened (gives v n) l, refl);
     met = λ w l. closed (meets w) l;
+    large = λ w b l. opened (meets w) l;
   }
 
   -- equal sides: the next premises, by the substitution of any match
@@ -49,11 +50,18 @@ module _ (theory : Theory) (e : ConditionalEquation) (ps : List Premise) (es : L
           same_asks z s (λ x o. agree z s e.left h x (tight.right x o)) (λ x o. agree z s e.left h x (tight.premises x (inside x o))) t
       goes_on (inr (d, t)) = absurd (d alike)
 
+      still_met : {w : TermTree} → Deciding theory e ps es f vs a b (meets w) → AsksMeet theory ps e.right s es f vs w
+      still_met (inl (q, (z, g, t))) =
+          let h : instance z e.left ≡ instance s e.left = g ∙ sym fit in
+          same_meets z s (λ x o. agree z s e.left h x (tight.right x o)) (λ x o. agree z s e.left h x (tight.premises x (inside x o))) t
+      still_met (inr (d, t)) = absurd (d alike)
+
       by_case : Keeps (Deciding theory e ps es f vs a b) c (Asking theory ps e.right s es f vs) c
       by_case = record {
         back = λ v n t. (n, inl (alike, (s, fit, t)), refl);
         on = λ v n t. (n, goes_on t, refl);
         met = λ w t. inl (alike, (s, fit, t));
+        large = λ w big t. still_met t;
       }
 
   -- unequal sides: the next equations
@@ -65,11 +73,16 @@ module _ (theory : Theory) (e : ConditionalEquation) (ps : List Premise) (es : L
       goes_on (inl (q, rest)) = absurd (differ q)
       goes_on (inr (d, t)) = t
 
+      still_met : {w : TermTree} → Deciding theory e ps es f vs a b (meets w) → TriesMeet theory es f vs w
+      still_met (inl (q, rest)) = absurd (differ q)
+      still_met (inr (d, t)) = t
+
       by_case : Keeps (Deciding theory e ps es f vs a b) c (Trying theory es f vs) c
       by_case = record {
         back = λ v n t. (n, inr (differ, t), refl);
         on = λ v n t. (n, goes_on t, refl);
         met = λ w t. inr (differ, t);
+        large = λ w big t. still_met t;
       }
 
 mutual
@@ -103,6 +116,7 @@ module _ (theory : Theory) (ex : IsExecutable theory) (t : TermTree) (ground : I
     back = λ v n l. (n, last v n l.0 l.1 l.2 l.3 l.4 l.5, refl);
     on = λ v m p. (m, (v, m, 0, p, (refl, refl), omega arith), refl);
     met = λ u l. seen u l;
+    large = λ u b m. inl m;
   }
     where
       last : (v : TermTree) (n : ℕ) (w : TermTree) (c m : ℕ) → Evaluates theory t w c → (w ∷ [] ≡ v ∷ []) × (m ≡ 0) → n ≡ c + m →
@@ -121,4 +135,4 @@ module _ (theory : Theory) (ex : IsExecutable theory) (t : TermTree) (ground : I
       keep_on 0 0 0 alone
       (subst (λ u. Keeps (Through (Evaluating theory u) (λ w. Comes theory [] (w ∷ []))) 0 (Comes theory (plan s t []) []) 0)
       (ground_instance s t ground)
-      (planned theory ex s t (λ x o. absurd (no_variable t ground x o)) [] [] 0))
+      (planned theory ex s t (λ x o. absurd (no_variable t ground x o)) (λ x o. absurd (no_variable t ground x o)) [] [] 0))

@@ -8,7 +8,12 @@ use Rattle.rewriter.specs.declared.fault.Side.TheVariants.{Left, Right}
 use Rattle.spec_core.specs.Evaluation.{Evaluates, EvaluationMeets}
 use Rattle.value_nodes.specs.Sizes.{IsTooLarge}
 
--- the list of operations spells the term's value, to which the term evaluates within so many uses of equations
+-- the evaluation of the term meets a value that is too large
+abbrev pub MeetsTooLarge : Theory → TermTree → Type 0
+MeetsTooLarge theory t = (w : TermTree) × EvaluationMeets theory t w × IsTooLarge w
+
+-- the list of operations spells the term's value, to which the term evaluates within so many uses of equations, and its evaluation meets
+-- none that is too large
 pub record SpellsValue (theory : Theory) (t : TermTree) (budget : ℕ) (ops : List ℕ) : Type 0 where
   pub value : TermTree
   pub spelled : ops ≡ preorder value
@@ -16,10 +21,7 @@ pub record SpellsValue (theory : Theory) (t : TermTree) (budget : ℕ) (ops : Li
   pub uses : ℕ
   pub evaluates : Evaluates theory t value uses
   pub within : uses ≤ budget
-
--- the evaluation of the term meets a value that is too large
-abbrev pub MeetsTooLarge : Theory → TermTree → Type 0
-MeetsTooLarge theory t = (w : TermTree) × EvaluationMeets theory t w × IsTooLarge w
+  pub small : MeetsTooLarge theory t → ⊥
 
 -- the term has a value within so many uses of equations, and its evaluation meets none that is too large
 pub record IsWithin (theory : Theory) (t : TermTree) (budget : ℕ) : Type 0 where
@@ -28,6 +30,10 @@ pub record IsWithin (theory : Theory) (t : TermTree) (budget : ℕ) : Type 0 whe
   pub evaluates : Evaluates theory t value uses
   pub enough : uses ≤ budget
   pub small : MeetsTooLarge theory t → ⊥
+
+-- each of the two terms has
+abbrev pub AreWithin : Theory → TermTree → TermTree → ℕ → Type 0
+AreWithin theory left right budget = IsWithin theory left budget × IsWithin theory right budget
 
 -- the term at a side
 abbrev pub at_side : Side → TermTree → TermTree → TermTree

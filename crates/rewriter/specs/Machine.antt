@@ -3,6 +3,7 @@ use Rattle.std.specs.Prelude.{ℕ, zero, suc, ◌≡◌, ◌⊎◌, ◌<◌, ◌
 use Rattle.spec_core.specs.Terms.{TermTree, TermTrees, variable, apply, no_terms, and_term, width, instance}
 use Rattle.spec_core.specs.Theories.{Premise, ConditionalEquation, Theory}
 use Rattle.spec_core.specs.Evaluation.{Evaluates, Tries, Asks, EvaluationMeets, TriesMeet, AsksMeet}
+use Rattle.value_nodes.specs.Sizes.{IsTooLarge}
 
 -- what an evaluation comes to: a value after so many uses of equations; or, on its way, a value that it meets
 pub data Outcome : Type 0 where
@@ -80,11 +81,13 @@ Comes theory (decide e ps es ∷ todo) (b ∷ a ∷ vals) o =
     OnCall e.left (λ f pats.
     Through (Deciding theory e ps es f (top (width pats) vals no_terms) a b) (λ w. Comes theory todo (w ∷ drop (width pats) vals)) o)
 
--- a uses and what the one comes to are b uses and what the other comes to; and what the other meets, the one meets
+-- a uses and what the one comes to are b uses and what the other comes to; what the other meets, the one meets; and of what the one meets,
+-- the other meets all that is too large
 pub record Keeps (P : Outcome → Type 0) (a : ℕ) (Q : Outcome → Type 0) (b : ℕ) : Type 0 where
   pub back : (v : TermTree) (n : ℕ) → Q (gives v n) → (m : ℕ) × P (gives v m) × (a + m ≡ b + n)
   pub on : (v : TermTree) (m : ℕ) → P (gives v m) → (n : ℕ) × Q (gives v n) × (a + m ≡ b + n)
   pub met : (w : TermTree) → Q (meets w) → P (meets w)
+  pub large : (w : TermTree) → IsTooLarge w → P (meets w) → Q (meets w)
 
 -- whatever comes of it after a uses takes more uses than the budget
 abbrev pub Exceeds : (Outcome → Type 0) → ℕ → ℕ → Type 0

@@ -1,13 +1,13 @@
 // Calls of operations: their equations in order, the equations' premises, and their uses.
 
-ghost use Rattle.std.specs.Prelude.{ℕ, ◌≡◌, ◌<◌, ◌≤◌, ◌∷◌, List, IfOk, IfErr, IsTrue, IsFalse, OnOk, length, map, drop};
+ghost use Rattle.std.specs.Prelude.{ℕ, ◌≡◌, ◌<◌, ◌≤◌, ◌∷◌, List, IfOk, IfErr, OnOk, IsTrue, IsFalse, length, map, drop};
 ghost use Rattle.spec_core.specs.Constructors.{IsConstructor};
 ghost use Rattle.spec_core.specs.Executable.{IsExecutable};
 ghost use Rattle.spec_core.specs.Lists.{Each};
 ghost use Rattle.spec_core.specs.Terms.{TermTree, instance, apply};
 ghost use Rattle.spec_core.specs.Theories.{Heads, theory_of};
 ghost use Rattle.value_nodes.specs.declared.node.Node.{Node};
-ghost use Rattle.value_nodes.specs.Nodes.{tree_at, IsNode, IsLonger, AreValues};
+ghost use Rattle.value_nodes.specs.Nodes.{tree_at, IsNode, IsLonger, AreSmall, AreValues};
 ghost use Rattle.value_nodes.specs.Sizes.{IsTooLarge};
 ghost use Rattle.rewriter.specs.Calls.{arguments_of, Pending, Wanting, HasRoom, AreNodes, ArePlanned, Decided, Choosing};
 ghost use Rattle.rewriter.specs.Index.{IsIndex};
@@ -215,9 +215,11 @@ fn build(
     ensures longer { IfOk result (λ u. IsLonger nodes.old nodes.new) }
     ensures values { IfOk result (λ u. Each (IsNode nodes.new) values.new) }
     ensures constructed { IfOk result (λ u. AreValues (theory_of algebra.now) nodes.new) }
+    ensures all_small { OnOk result (AreSmall nodes.new) }
     ensures built { IfOk result (λ u.
         map (tree_at nodes.new) values.new ≡
         apply op.0 (arguments_of nodes.old count values.old) ∷ drop count (map (tree_at nodes.old) values.old)) }
+    ensures small { OnOk result (IsTooLarge (apply op.0 (arguments_of nodes.old count values.old)) → ⊥) }
     ensures large { IfErr result (λ e. e ≡ Eval.TooLarge → IsTooLarge (apply op.0 (arguments_of nodes.old count values.old))) }
     ensures unspent { IfErr result (λ e. e ≡ Eval.Spent → ⊥) }
 {

@@ -1,13 +1,13 @@
 // The value of a term, and whether two terms have one value.
 
-ghost use Rattle.std.specs.Prelude.{◌≡◌, ◌⊎◌, ◌↔◌, IfOk, IfErr, IsTrue};
+ghost use Rattle.std.specs.Prelude.{◌≡◌, ◌⊎◌, ◌↔◌, IfOk, IfErr, OnOk, IsTrue};
 ghost use Rattle.spec_core.specs.Budgets.{IsBeyond};
 ghost use Rattle.spec_core.specs.Equality.{Equal};
 ghost use Rattle.spec_core.specs.Executable.{IsExecutable};
 ghost use Rattle.spec_core.specs.Sorts.{FitsGround};
 ghost use Rattle.spec_core.specs.Terms.{term_of};
 ghost use Rattle.spec_core.specs.Theories.{theory_of};
-ghost use Rattle.rewriter.specs.Answers.{SpellsValue, MeetsTooLarge, IsWithin, at_side};
+ghost use Rattle.rewriter.specs.Answers.{SpellsValue, MeetsTooLarge, IsWithin, AreWithin, at_side};
 
 use crate::equations::most_variables;
 use crate::fault::{Eval, Side, SideFault};
@@ -38,6 +38,7 @@ pub fn value(alloc: Global, algebra: &DataSpec, term: &Term, budget: u64) -> Res
 
 /// Whether two ground terms are equal: whether they have one value, each with at most `budget` uses of equations. The left one is evaluated
 /// first, and the first that has no value is answered, with its cause.
+#[tactic(auto, using(crate::proofs::Sides::within_of))]
 pub fn compare(
     alloc: Global,
     algebra: &DataSpec,
@@ -49,10 +50,12 @@ pub fn compare(
     requires left { FitsGround (theory_of algebra.now) (term_of left.now) }
     requires right { FitsGround (theory_of algebra.now) (term_of right.now) }
     ensures decides { IfOk result (λ same. IsTrue same ↔ Equal (theory_of algebra.now) (term_of left.now) (term_of right.now)) }
+    ensures within { OnOk result (AreWithin (theory_of algebra.now) (term_of left.now) (term_of right.now) budget) }
     ensures spent { IfErr result (λ e. e.cause ≡ Eval.Spent →
         IsBeyond (theory_of algebra.now) (at_side e.side (term_of left.now) (term_of right.now)) budget) }
     ensures too_large { IfErr result (λ e. e.cause ≡ Eval.TooLarge →
         MeetsTooLarge (theory_of algebra.now) (at_side e.side (term_of left.now) (term_of right.now))) }
+    ensures left_first { IfErr result (λ e. e.side ≡ Side.Right → IsWithin (theory_of algebra.now) (term_of left.now) budget) }
     ensures complete { IsWithin (theory_of algebra.now) (term_of left.now) budget →
         IsWithin (theory_of algebra.now) (term_of right.now) budget →
         IfErr result (λ e. e.cause ≡ Eval.Memory) }
@@ -85,6 +88,7 @@ pub fn judge(
     requires left { FitsGround (theory_of algebra.now) (term_of left.now) }
     requires right { FitsGround (theory_of algebra.now) (term_of right.now) }
     ensures decides { IfOk result (λ same. IsTrue same ↔ Equal (theory_of algebra.now) (term_of left.now) (term_of right.now)) }
+    ensures within { OnOk result (AreWithin (theory_of algebra.now) (term_of left.now) (term_of right.now) budget) }
     ensures spent { IfErr result (λ e.
         e ≡ Eval.Spent →
         IsBeyond (theory_of algebra.now) (term_of left.now) budget ⊎ IsBeyond (theory_of algebra.now) (term_of right.now) budget) }

@@ -1,6 +1,6 @@
 // The main loop.
 
-ghost use Rattle.std.specs.Prelude.{ℕ, ◌≡◌, ◌≤◌, ◌∷◌, [], IfOk, IfErr, length};
+ghost use Rattle.std.specs.Prelude.{ℕ, ◌≡◌, ◌≤◌, ◌∷◌, [], IfOk, IfErr, OnOk, length};
 ghost use Rattle.spec_core.specs.Budgets.{IsBeyond};
 ghost use Rattle.spec_core.specs.Evaluation.{Evaluates};
 ghost use Rattle.spec_core.specs.Executable.{IsExecutable};
@@ -121,6 +121,7 @@ pub fn run(
     ensures there { IfOk result (λ n. IsNode nodes.new n) }
     ensures value { IfOk result (λ n.
         (k : ℕ) × Evaluates (theory_of algebra.now) (term_of term.now) (tree_at nodes.new n) k × (k ≤ budget)) }
+    ensures small { OnOk result (MeetsTooLarge (theory_of algebra.now) (term_of term.now) → ⊥) }
     ensures spent { IfErr result (λ e. e ≡ Eval.Spent → IsBeyond (theory_of algebra.now) (term_of term.now) budget) }
     ensures large { IfErr result (λ e. e ≡ Eval.TooLarge → MeetsTooLarge (theory_of algebra.now) (term_of term.now)) }
 {

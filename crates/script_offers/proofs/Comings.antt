@@ -32,7 +32,7 @@ valued_give theory t budget v s = (s.value, record { value = s.has; spelled = s.
 
 pub valued_within : (theory : Theory) (t : TermTree) (budget : ℕ) (v : List ℕ) → SpellsValue theory t budget v →
     IsValuedWithin theory budget t
-valued_within theory t budget v s = record { value = s.value; uses = s.uses; evaluates = s.evaluates; within = s.within }
+valued_within theory t budget v s = record { value = s.value; uses = s.uses; evaluates = s.evaluates; enough = s.within; small = s.small }
 
 -- a term without one
 pub fault_of_term : (theory : Theory) (budget : ℕ) (t : TermTree) (fault : WishFault) → HasNoValue theory budget t fault →

@@ -1,10 +1,10 @@
 -- The terms that clients give, in the order in which they are evaluated.
-use Rattle.std.specs.Prelude.{ℕ, ◌≡◌, ◌≤◌, List, [], ◌∷◌, ◌++◌}
+use Rattle.std.specs.Prelude.{ℕ, ◌≡◌, List, [], ◌∷◌, ◌++◌}
 use Rattle.std.specs.List.{flat_map}
-use Rattle.spec_core.specs.Evaluation.{Evaluates}
 use Rattle.spec_core.specs.Lists.{Each}
 use Rattle.spec_core.specs.Terms.{TermTree}
 use Rattle.spec_core.specs.Theories.{Theory}
+use Rattle.rewriter.specs.Answers.{IsWithin}
 use Rattle.script_text.specs.Wishes.{WishedField, gives, takes, Wished}
 
 -- the term that a field gives, if it gives one
@@ -24,14 +24,11 @@ all_given wishes = flat_map (λ w. given_by w.fields) wishes
 abbrev pub script_given : List (List Wished) → List TermTree
 script_given clients = flat_map all_given clients
 
--- the term has a value within so many uses of equations
-pub record IsValuedWithin (theory : Theory) (budget : ℕ) (t : TermTree) : Type 0 where
-  pub value : TermTree
-  pub uses : ℕ
-  pub evaluates : Evaluates theory t value uses
-  pub within : uses ≤ budget
+-- the term has a value within so many uses of equations, and its evaluation meets none that is too large
+abbrev pub IsValuedWithin : Theory → ℕ → TermTree → Type 0
+IsValuedWithin theory budget t = IsWithin theory t budget
 
--- the term is one of these, and those before it have values within the budget
+-- the term is one of these, and those before it have such values within the budget
 pub record IsFirstWithout (theory : Theory) (budget : ℕ) (terms : List TermTree) (t : TermTree) : Type 0 where
   pub before : List TermTree
   pub behind : List TermTree

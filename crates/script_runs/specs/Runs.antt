@@ -2,6 +2,7 @@
 use Rattle.std.specs.Prelude.{ℕ, ◌≡◌, ◌<◌, List, [], ◌∷◌, length, Option, Some, None}
 use Rattle.spec_core.specs.Budgets.{IsBeyond}
 use Rattle.spec_core.specs.Code.{Program}
+use Rattle.spec_core.specs.Lists.{Each}
 use Rattle.spec_core.specs.Terms.{term_of}
 use Rattle.spec_core.specs.declared.settings.Settings.{Settings}
 use Rattle.rewriter.specs.Answers.{MeetsTooLarge}
@@ -10,7 +11,7 @@ use Rattle.rule_model.specs.Logs.{events_of}
 use Rattle.rule_model.specs.Wishes.{Wish}
 use Rattle.script_text.specs.Scripts.{SpellsScript, IsScriptFault}
 use Rattle.script_text.specs.Wishes.{Wished}
-use Rattle.script_offers.specs.Given.{all_given, IsFirstWithout}
+use Rattle.script_offers.specs.Given.{all_given, IsValuedWithin, IsFirstWithout}
 use Rattle.script_offers.specs.Valued.{AreValued}
 use Rattle.client_sessions.specs.Runs.{IsClientRun}
 use Rattle.script_runs.specs.declared.answer.Answer.{Answer}
@@ -23,8 +24,10 @@ wishes_of_one (wishes ∷ []) = Some wishes
 wishes_of_one (wishes ∷ others ∷ more) = None
 
 module _ (program : Program) (settings : Settings) where
-  -- a session of a client that makes these wishes, with the values of their terms, in order
+  -- a session of a client that makes these wishes, with the values of their terms, in order; each term has its value within the budget, and
+  -- meets none that is too large
   pub record IsSessionOf (wishes : List Wished) (log : List Event) (ending : Ending) : Type 0 where
+    pub within : Each (IsValuedWithin program.theory settings.budget) (all_given wishes)
     pub offers : List Wish
     pub valued : AreValued program.theory wishes offers
     pub run : IsClientRun program settings offers log ending

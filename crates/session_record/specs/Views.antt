@@ -43,7 +43,11 @@ SameSetting old new = (new.checked ≡ old.checked) × (new.clients ≡ old.clie
 
 -- one log and one state
 abbrev pub SameLog : RecordView → RecordView → Type 0
-SameLog old new = (events new ≡ events old) × (state new ≡ state old)
+SameLog old new = (events new ≡ events old) × (state new ≡ state old) × (new.entries ≡ old.entries)
+
+-- the log goes on with one more entry
+abbrev pub HasOneMore : RecordView → RecordView → Type 0
+HasOneMore old new = (entry : Entry) × (new.entries ≡ old.entries ++ entry ∷ [])
 
 -- one tree, but for what stands ready
 abbrev pub SameTree : RecordView → RecordView → Type 0
@@ -63,4 +67,5 @@ pub record HasActed (old new : RecordView) (d : Derivation) (by : Option OfferNa
   pub derives : Derives (program old) (state old).behaviour d action (stands_for (program old) (shape new.tree))
   pub agreed : IsAgreed (program old) (state old) action by
   pub log : events new ≡ events old ++ acted action d by ∷ []
+  pub one_more : HasOneMore old new
   pub state : state new ≡ after_action (state old) action by (stands_for (program old) (shape new.tree))

@@ -72,8 +72,8 @@ fn reply_if_taken(
     }
 }
 
-// The reply that an entry gives to the offer of this name.
-fn reply_in(at: u64, entry: &Entry, name: (u32, u64)) -> Option<Answered<'_>>
+/// The reply that an entry gives to the offer of this name, before which there were so many actions. It takes no memory.
+pub fn reply_in(at: u64, entry: &Entry, name: (u32, u64)) -> Option<Answered<'_>>
     ensures { option_map answered_of result ≡ answers.reply_in at (event_of entry.now) name }
 {
     match entry {
@@ -97,8 +97,8 @@ fn reply_in(at: u64, entry: &Entry, name: (u32, u64)) -> Option<Answered<'_>>
     }
 }
 
-// How many actions there are with the entry.
-fn actions_with(at: u64, entry: &Entry) -> u64
+/// How many actions there are with the entry, before which there were so many. It takes no memory.
+pub fn actions_with(at: u64, entry: &Entry) -> u64
     requires small { at < 18446744073709551615 }
     ensures { result ≡ answers.actions_with at (event_of entry.now) }
 {

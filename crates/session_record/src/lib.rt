@@ -6,5 +6,5 @@ mod faults;
 mod ready_act;
 pub mod record;
 
-pub use answered::Answered;
+pub use answered::{Answered, actions_with, reply_in};
 pub use faults::{LeaveFault, PendFault};

@@ -16,7 +16,7 @@ ghost use Rattle.rule_model.specs.Logs.{events_of};
 ghost use Rattle.session_record.specs.Answered.{answered_of, reply_to};
 ghost use Rattle.session_record.specs.Faults.{ExplainsLeave, ExplainsPend};
 ghost use Rattle.session_record.specs.Records.{IsSession, MayAct};
-ghost use Rattle.session_record.specs.Views.{events, program, state, HasActed, IsActReserved, SameLog, SameSetting, SameTree};
+ghost use Rattle.session_record.specs.Views.{events, program, state, HasActed, HasOneMore, IsActReserved, SameLog, SameSetting, SameTree};
 ghost use Rattle.session_states.specs.Possible.{MayLeave, MayOffer, MayStall};
 ghost use Rattle.session_states.specs.Views.{state_of};
 ghost use Rattle.tree_nodes.specs.Rests.{expansion_of};
@@ -156,7 +156,8 @@ impl Record {
 
     /// What happened, in order. It takes no memory.
     pub fn log(&self) -> &[Entry]
-        ensures { map event_of result.now ≡ events self.now }
+        ensures entries { result.now ≡ self.now.entries }
+        ensures events { map event_of result.now ≡ events self.now }
     {
         &self.entries
     }
@@ -202,6 +203,7 @@ impl Record {
         requires gate { offer.now.gate.0 < length (program self.old).gates }
         ensures may { IfOk result (λ n. MayOffer (length (program self.old).gates) (state self.old) client n offer.now) }
         ensures log { IfOk result (λ n. events self.new ≡ events self.old ++ pended client n offer.now ask ∷ []) }
+        ensures one_more { OnOk result (HasOneMore self.old self.new) }
         ensures state { IfOk result (λ n. state self.new ≡ after_offer (state self.old) client n offer.now ask) }
         ensures same { OnErr result (SameLog self.old self.new) }
         ensures setting { SameSetting self.old self.new }
@@ -228,6 +230,7 @@ impl Record {
     ) -> Result<u64, PendFault>
         ensures may { IfOk result (λ n. MayOffer (length (program self.old).gates) (state self.old) client n offer.now) }
         ensures log { IfOk result (λ n. events self.new ≡ events self.old ++ pended client n offer.now ask ∷ []) }
+        ensures one_more { OnOk result (HasOneMore self.old self.new) }
         ensures state { IfOk result (λ n. state self.new ≡ after_offer (state self.old) client n offer.now ask) }
         ensures fault { IfErr result (ExplainsPend (program self.old) (state self.old) client offer.now) }
         ensures same { OnErr result (SameLog self.old self.new) }
@@ -253,6 +256,7 @@ impl Record {
     fn put_leave(&mut self, alloc: Global, client: u32) -> Result<(), Memory>
         requires may { MayLeave (state self.old) client }
         ensures log { OnOk result (events self.new ≡ events self.old ++ left client ∷ []) }
+        ensures one_more { OnOk result (HasOneMore self.old self.new) }
         ensures state { OnOk result (state self.new ≡ after_leave (state self.old) client) }
         ensures same { OnErr result (SameLog self.old self.new) }
         ensures setting { SameSetting self.old self.new }
@@ -268,6 +272,7 @@ impl Record {
     pub fn leave(&mut self, alloc: Global, client: u32) -> Result<(), LeaveFault>
         ensures may { OnOk result (MayLeave (state self.old) client) }
         ensures log { OnOk result (events self.new ≡ events self.old ++ left client ∷ []) }
+        ensures one_more { OnOk result (HasOneMore self.old self.new) }
         ensures state { OnOk result (state self.new ≡ after_leave (state self.old) client) }
         ensures fault { IfErr result (ExplainsLeave (state self.old) client) }
         ensures same { OnErr result (SameLog self.old self.new) }
@@ -297,6 +302,7 @@ impl Record {
         requires pending { IsPending (state self.old) (client, number) }
         requires at { IsReplyAt (answer_of reply) (state self.old).actions }
         ensures log { OnOk result (events self.new ≡ events self.old ++ replied client number (answer_of reply) ∷ []) }
+        ensures one_more { OnOk result (HasOneMore self.old self.new) }
         ensures state { OnOk result (state self.new ≡ after_reply (state self.old) (client, number)) }
         ensures same { OnErr result (SameLog self.old self.new) }
         ensures setting { SameSetting self.old self.new }
@@ -312,6 +318,7 @@ impl Record {
     pub fn stall(&mut self, alloc: Global, names: Vec<(u32, u64)>) -> Result<(), Memory>
         requires may { MayStall (state self.old) names.items }
         ensures log { OnOk result (events self.new ≡ events self.old ++ stalled names.items ∷ []) }
+        ensures one_more { OnOk result (HasOneMore self.old self.new) }
         ensures state { OnOk result (state self.new ≡ after_stall (state self.old)) }
         ensures same { OnErr result (SameLog self.old self.new) }
         ensures setting { SameSetting self.old self.new }

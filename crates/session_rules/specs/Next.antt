@@ -1,8 +1,9 @@
 -- What comes next in a session, by its rules, over the whole lists of trees of the behaviour that is reached. (This profile.)
-use Rattle.std.specs.Prelude.{ℕ, ◌≡◌, ◌<◌, ◌≤◌, List, [], ◌∷◌, map, length, Option, Some, None, Bool}
+use Rattle.std.specs.Prelude.{ℕ, ◌≡◌, ◌<◌, ◌≤◌, List, [], ◌∷◌, map, length, Option, Some, None, Bool, true}
 use Rattle.std.specs.List.{slice_get}
 use Rattle.spec_core.specs.declared.settings.Settings.{Settings}
 use Rattle.spec_core.specs.Code.{Program}
+use Rattle.spec_core.specs.Sorts.{IsDeclaredSort}
 use Rattle.rule_model.specs.declared.action.Action.{Action}
 use Rattle.rule_model.specs.declared.action.Action.TheVariants.{Inner, Exit, At}
 use Rattle.rule_model.specs.Answers.{deadlock, beyond, not_now, ended}
@@ -41,11 +42,16 @@ IsStopReply s reason event =
     (p : PendingOffer) × IsLeast s p × (event ≡ replied p.client p.number (answer_by s.actions reason))
 
 module _ (program : Program) (settings : Settings) where
-  -- The entry of the first rule that applies over the lists of trees, for windows of so many values as are set. It is the same whichever
-  -- exact answers about data and code, and whichever test of the trees that are asked for, the lists are made with.
+  -- the windows of a session: of each sort of the specification the first values, as many as are set; another sort has none
+  pub record AreSessionWindows (w : Windows) : Type 0 where
+    pub sized : AreWindows program.theory settings.values w
+    pub others : (sort : ℕ) → (IsDeclaredSort program.theory sort → ⊥) → (w.values sort ≡ []) × (w.complete sort ≡ true)
+
+  -- The entry of the first rule that applies over the lists of trees, with the windows of the session. It is the same whichever exact
+  -- answers about data and code, and whichever test of the trees that are asked for, the lists are made with.
   pub record IsNextOf (s : State) (entry : Next PendingOffer Derivation) : Type 0 where
     pub windows : Windows
-    pub sized : AreWindows program.theory settings.values windows
+    pub of_session : AreSessionWindows windows
     pub next : (e : Evaluation) (is_asked : TreeQuery → Derivation → Bool) → IsExact program e →
         TestsAsked program windows s.behaviour is_asked →
         entry ≡ next_of (lists_of program e windows s.behaviour is_asked) (waiting_in s)

@@ -1,8 +1,8 @@
 -- A compiled specification is put together of constructs that are read.
-use Rattle.std.proofs.Common.{ℕ, zero, suc, ◌≡◌, ◌+◌, List, [], ◌∷◌, ◌++◌, length, refl, sym, ap, subst, ◌∙◌, arith, inl, inr}
-use Rattle.std.specs.Prelude.{◌⊎◌, Option, Some, None, option_map, IfSome, Bool, true, false}
+use Rattle.std.proofs.Common.{ℕ, zero, suc, ◌≡◌, ◌+◌, List, [], ◌∷◌, ◌++◌, length, map, refl, sym, ap, subst, ◌∙◌, arith, inl, inr}
+use Rattle.std.specs.Prelude.{◌⊎◌, Option, Some, None, option_map, is_some, IfSome, Bool, true, false, if◌then◌else◌}
 use Rattle.std.specs.Cmp.Lexicographic.{same_text}
-use Rattle.std.specs.List.{slice_get, range_with_len, filter_map, cons_option}
+use Rattle.std.specs.List.{list_all, slice_get, range_with_len, filter_map, cons_option}
 use Rattle.std.proofs.lemmas.List.{length-map}
 use Rattle.std.proofs.lemmas.List.FromFn.{length-range_with_len}
 use Rattle.std.proofs.lemmas.Option.{same_Some}
@@ -10,21 +10,23 @@ use Rattle.lotos_ast.specs.declared.place.Place.{Place}
 use Rattle.lotos_ast.specs.declared.refusal.RefusalKind.TheVariants.{WrongFunctionality}
 use Rattle.lotos_ast.specs.declared.spec.Spec.{Spec}
 use Rattle.constructs.specs.Written.{gates_in, behaviour_written}
-use Rattle.spec_core.specs.Code.{Program}
+use Rattle.spec_core.specs.Code.{Program, Variable}
 use Rattle.spec_core.specs.Functionality.{Functionality, noexit, exits}
 use Rattle.spec_core.specs.Lists.{Each}
 use Rattle.spec_core.specs.Theories.{Theory}
 use Rattle.sort_overloads.specs.Readings.{Context}
 use Rattle.sort_overloads.specs.Refused.{refused}
+use Rattle.equation_readings.specs.Variables.{all_variables}
+use Rattle.behaviour_readings.specs.Declarations.{numbered_from}
 use Rattle.type_names.specs.DuplicateNames.{names_twice}
 use Rattle.behaviour_readings.specs.Joins.{Read, root}
 use Rattle.behaviour_readings.specs.Readings.{IsRead}
-use Rattle.process_table.specs.Headings.{heading, headings_from, heading_refusals, parameter_refusals, functionality_refusals, declared}
+use Rattle.process_table.specs.Headings.{heading, headings_from, heading_refusals, parameter_refusals, functionality_refusals, declared, parameter_sorts}
 use Rattle.process_table.specs.Processes.{Entry, entries, visible_in}
 use Rattle.call_cycles.proofs.Acyclic.{not_empty, both_empty}
 use Rattle.compiled_laws.specs.Assembled.{Definition, body_nodes, HeadingFits, SiteFits, DefinitionFits, IsAssembled, behind_bodies}
 use Rattle.compiled_laws.specs.Assembled as laws
-use Rattle.static_check.specs.Bodies.{Setting, Placed, headings_within, may_end, refused_unless, ending_refusals}
+use Rattle.static_check.specs.Bodies.{Setting, Placed, headings_within, may_end, refused_unless, ending_refusals, body_ending_refusals, unknown_in}
 use Rattle.static_check.specs.Compiled as compiled
 use Rattle.static_check.specs.Compiled.{data_context, setting, start_site, assembled}
 use Rattle.specification_laws.proofs.Bodies.{definition, definitions, IsDefined, AreDefined}
@@ -43,10 +45,19 @@ not_refused : (b : Bool) (place : Place) → refused_unless b place ≡ [] → b
 not_refused true place e = refl
 not_refused false place e = absurd (not_empty (refused WrongFunctionality place []) [] e)
 
-ends-so : (f g : Functionality) → may_end f g ≡ true → (f ≡ g) ⊎ (f ≡ noexit)
+ends-so : (f g : Functionality) → may_end None f g ≡ true → (f ≡ g) ⊎ (f ≡ noexit)
 ends-so noexit g e = inr refl
 ends-so (exits sorts) noexit e = absurd (cc)
 ends-so (exits sorts) (exits others) e = inl (ap exits (same_text sorts others (sym e)))
+
+-- no sort of parameters stands for one that isn't known
+all-there : (xs : List Variable) → list_all is_some (map (λ (x : Variable). Some x.sort) xs) ≡ true
+all-there [] = refl
+all-there (x ∷ xs) = all-there xs
+
+none-unknown : (known : ℕ) (sorts : List (Option ℕ)) (xs : List Variable) → sorts ≡ map (λ (x : Variable). Some x.sort) xs →
+    unknown_in known sorts ≡ None
+none-unknown known sorts xs e = ap (λ b. if b then None else Some known) (ap (list_all is_some) e ∙ all-there xs)
 
 -- what holds of all that there is holds of those that are there
 put-first : {B : Type 0} (P : B → Type 0) (o : Option B) (ys : List B) → IfSome o P → Each P ys → Each P (cons_option o ys)
@@ -134,12 +145,17 @@ module _ (theory : Theory) (spec : Spec) (bs : List Placed) (r : Read) (from : �
       (visible_in (entries spec) around)
 
   may-end-so : (k : ℕ) (e : Entry) → slice_get (entries spec) k ≡ Some e → (b : Read) →
-      ending_refusals e.process.name.place (declared (data_context theory) e.process.functionality) (Some b) ≡ [] →
+      body_ending_refusals (data_context theory) e.process (Some b) ≡ [] →
       (b.functionality ≡ ends_as theory spec k) ⊎ (b.functionality ≡ noexit)
   may-end-so k e at b none =
       ends-so b.functionality (ends_as theory spec k)
-      (not_refused (may_end b.functionality (ends_as theory spec k)) e.process.name.place
-      (subst (λ o. ending_refusals e.process.name.place o (Some b) ≡ []) (declared-so k e at) none))
+      (not_refused (may_end None b.functionality (ends_as theory spec k)) e.process.name.place
+      (subst (λ u. ending_refusals u e.process.name.place (Some (ends_as theory spec k)) (Some b) ≡ [])
+      (none-unknown (length theory.sorts) (parameter_sorts (data_context theory) e.process.parameters)
+      (numbered_from 0 (all_variables theory.sorts e.process.parameters))
+      (parameters-sorted (data_context theory) e.process.parameters (of-parameters e (headings k e at))))
+      (subst (λ o. ending_refusals (unknown_in (length theory.sorts) (parameter_sorts (data_context theory) e.process.parameters))
+      e.process.name.place o (Some b) ≡ []) (declared-so k e at) none)))
 
   one-fits : (k : ℕ) (e : Entry) → slice_get (entries spec) k ≡ Some e → (found : IsDefined all ds 0 k e) →
       DefinitionFits program (ends_as theory spec) ds k (definition all (0 + k) e found.read)

@@ -15,7 +15,7 @@ use Rattle.call_cycles.specs.AtOnce.{calls_at_once}
 use Rattle.call_cycles.proofs.Acyclic.{both_empty}
 use Rattle.compiled_laws.specs.Assembled.{Definition, process_nodes, body_nodes, AreBodiesRead, calls_of}
 use Rattle.static_check.specs.Bodies as checked
-use Rattle.static_check.specs.Bodies.{Setting, Placed, body_site, ending_refusals, placed, none_left, one_more, calls_from}
+use Rattle.static_check.specs.Bodies.{Setting, Placed, body_site, body_ending_refusals, placed, none_left, one_more, calls_from}
 use Rattle.static_check.specs.Compiled as compiled
 
 -- the definition of a process, and those of processes of which the first has this number
@@ -35,7 +35,7 @@ definitions all number _ _ = []
 pub record IsDefined (all : Setting) (ds : List Definition) (number k : ℕ) (e : Entry) : Type 0 where
   pub read : Read
   pub at : slice_get ds k ≡ Some (definition all (number + k) e read)
-  pub ends : ending_refusals e.process.name.place (declared all.context e.process.functionality) (Some read) ≡ []
+  pub ends : body_ending_refusals all.context e.process (Some read) ≡ []
 
 -- the bodies of these processes are the bodies of their definitions
 pub record AreDefined (all : Setting) (number from end : ℕ) (es : List Entry) (bs : List Placed) : Type 0 where
@@ -63,7 +63,7 @@ begun from (Some r) (Some bs) whole e = record { read = r; others = bs; first = 
 
 module _ (all : Setting) where
   abbrev ending : Entry → Option Read → List Refusal
-  ending e x = ending_refusals e.process.name.place (declared all.context e.process.functionality) x
+  ending e x = body_ending_refusals all.context e.process x
 
   one-defined : (number from end : ℕ) (e : Entry) (es : List Entry) (r : Read) (bs : List Placed) →
       IsRead (body_site all number e) from e.process.body (Some r) [] →

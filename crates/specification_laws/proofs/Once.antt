@@ -1,5 +1,5 @@
 -- A specification over its data is judged in one way only.
-use Rattle.std.proofs.Common.{ℕ, ◌≡◌, ◌+◌, List, [], ◌++◌, map, refl, sym, ap, subst, ◌∙◌}
+use Rattle.std.proofs.Common.{ℕ, ◌≡◌, ◌+◌, List, [], ◌++◌, map, refl, sym, ap, subst, ◌∙◌, None}
 use Rattle.std.specs.Prelude.{Option, Some, option_map}
 use Rattle.std.proofs.lemmas.Option.{none-some, same_Some}
 use Rattle.lotos_ast.specs.declared.refusal.Refusal.{Refusal}
@@ -15,7 +15,7 @@ use Rattle.process_table.specs.Headings.{declared, table_refusals, opening_refus
 use Rattle.process_table.specs.Processes.{Entry, entries}
 use Rattle.call_cycles.specs.Unguarded.{unguarded_refusals}
 use Rattle.compiled_laws.proofs.Once.{of-two, construct-one}
-use Rattle.static_check.specs.Bodies.{Setting, Placed, placed, body_site, ending_refusals, AreBodiesRead, none_left, one_more, calls_from}
+use Rattle.static_check.specs.Bodies.{Setting, Placed, placed, body_site, ending_refusals, body_ending_refusals, AreBodiesRead, none_left, one_more, calls_from}
 use Rattle.static_check.specs.Compiled.{data_context, setting, start_site, program_if_read, IsCompiled, IsFirstRefusal}
 use Rattle.specification_laws.specs.Laws.{SpecificationsAreOne, AnswersAreOne}
 
@@ -28,7 +28,7 @@ bodies-one {all} {number} {from} {end} {stop} (one_more e es x xs rb rs h k) (on
       left.0,
       (
         of-two (λ x _ xs _. before (option_map (placed from) x) xs) first left.1,
-        of-two (λ x rb _ rs. (rb ++ ending_refusals e.process.name.place (declared all.context e.process.functionality) x) ++ rs) first left.1,
+        of-two (λ x rb _ rs. (rb ++ body_ending_refusals all.context e.process x) ++ rs) first left.1,
       ),
     )
 
@@ -44,7 +44,7 @@ specifications_one theory spec f g rs ss h k =
       h.are_refusals
           ∙ of-two (λ _ bodies start refusals. opening_refusals (data_context theory) spec ++ (table_refusals (data_context theory) (entries spec)
           ++ (bodies ++ (refusals
-          ++ (ending_refusals spec.name.place (declared (data_context theory) spec.functionality) start ++ cycles))))) bodies.1 start
+          ++ (ending_refusals None spec.name.place (declared (data_context theory) spec.functionality) start ++ cycles))))) bodies.1 start
           ∙ sym k.are_refusals,
     )
 

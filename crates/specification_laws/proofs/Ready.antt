@@ -86,7 +86,7 @@ pub compiled_ready : CompiledIsReady
 compiled_ready theory spec program c executable named gates =
     let names : List (List ℕ) = map (λ (e : Entry). e.process.name.text) (entries spec) in
     let cycles : List Refusal = unguarded_refusals names (calls_from (setting theory spec) 0 (entries spec)) in
-    let ending : List Refusal = ending_refusals spec.name.place (declared (data_context theory) spec.functionality) c.start in
+    let ending : List Refusal = ending_refusals None spec.name.place (declared (data_context theory) spec.functionality) c.start in
     let opening = both_empty (opening_refusals (data_context theory) spec)
     (table_refusals (data_context theory) (entries spec) ++ (c.body_refusals ++ (c.start_refusals ++ (ending ++ cycles)))) (sym c.are_refusals) in
     let table = both_empty (table_refusals (data_context theory) (entries spec)) (c.body_refusals ++ (c.start_refusals ++ (ending ++ cycles))) opening.1 in

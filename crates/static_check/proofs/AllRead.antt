@@ -23,7 +23,7 @@ use Rattle.process_table.specs.Headings.{parameter_refusals, heading_refusals, t
 use Rattle.process_table.specs.Processes.{Entry, entries, visible_in}
 use Rattle.call_cycles.specs.Unguarded.{unguarded_refusals}
 use Rattle.type_names.specs.DuplicateNames.{names_twice}
-use Rattle.static_check.specs.Bodies.{Setting, Placed, placed, body_site, headings_within, ending_refusals, AreBodiesRead, none_left, one_more, calls_from}
+use Rattle.static_check.specs.Bodies.{Setting, Placed, placed, body_site, headings_within, ending_refusals, body_ending_refusals, AreBodiesRead, none_left, one_more, calls_from}
 use Rattle.static_check.specs.Compiled.{data_context, setting, start_site, program_if_read, IsJudged}
 use Rattle.static_check.specs.Laws.{UnrefusedIsCompiled}
 use Rattle.static_check.proofs.Unrefused.{untrue, first_empty, second_empty, some_map, some_before, some_if, sort_known, are_all_some, IsKnown, are_all_known, construct_read}
@@ -100,7 +100,7 @@ bodies_read : (all : Setting) (number from end : ℕ) (es : List Entry) (xs : Op
     → are_all_known (headings_from all.context 0 all.table) → AreBodiesRead all number from end es xs rs → rs ≡ [] → IsSome xs
 bodies_read all number from _ _ _ _ known none_left h = refl
 bodies_read all number from end _ _ _ known (one_more e es x xs rb rs b more) h =
-    let ending = ending_refusals e.process.name.place (declared all.context e.process.functionality) x in
+    let ending = body_ending_refusals all.context e.process x in
     some_before (option_map (placed from) x) xs
     (some_map (placed from) x (construct_read (body_site all number e) from e.process.body x rb (within_known all (number ∷ e.around) known) b
     (first_empty rb ending (first_empty (rb ++ ending) rs h))))
@@ -118,7 +118,7 @@ unrefused_is_compiled theory spec program j =
     let all = setting theory spec in
     let opening = opening_refusals c spec in
     let table = table_refusals c (entries spec) in
-    let ending = ending_refusals spec.name.place (declared c spec.functionality) j.start in
+    let ending = ending_refusals None spec.name.place (declared c spec.functionality) j.start in
     let cycles = unguarded_refusals (map (λ e. e.process.name.text) (entries spec)) (calls_from all 0 (entries spec)) in
     let h1 = second_empty opening (table ++ (j.body_refusals ++ (j.start_refusals ++ (ending ++ cycles)))) (sym j.are_refusals) in
     let h2 = second_empty table (j.body_refusals ++ (j.start_refusals ++ (ending ++ cycles))) h1 in

@@ -44,11 +44,11 @@ pub judged : (theory : Theory) (spec : Spec) (first bodies last : Output) (nodes
     → first.refusals ≡ opening_refusals (data_context theory) spec ++ table_refusals (data_context theory) (entries spec)
     → AreReadSoFar (setting theory spec) (entries spec) first bodies nodes
     → IsStartRead (start_site (setting theory spec) spec) (behaviour_written spec.behaviour) bodies last
-    (ending_refusals spec.name.place (declared (data_context theory) spec.functionality)) start
+    (ending_refusals None spec.name.place (declared (data_context theory) spec.functionality)) start
     → refusals ≡ last.refusals ++ unguarded_refusals (map (λ e. e.process.name.text) (entries spec)) (calls_from (setting theory spec) 0 (entries spec))
     → processes ≡ length (entries spec) → program ≡ program_with_if theory spec processes nodes last.code start → IsJudged theory spec program refusals
 judged theory spec first bodies last nodes start processes program refusals places opening h s cycles many made =
-    let end = ending_refusals spec.name.place (declared (data_context theory) spec.functionality) s.read in
+    let end = ending_refusals None spec.name.place (declared (data_context theory) spec.functionality) s.read in
     record {
       bodies = h.bodies;
       body_refusals = h.refusals;
@@ -75,7 +75,7 @@ pub judged_by : (theory : Theory) (spec : Spec) (c d e : Context) (g : ℕ) (t :
     → c ≡ data_context theory → d ≡ data_context theory → e ≡ data_context theory → g ≡ length (gates_in spec.gates) → t ≡ entries spec
     → length first.code ≡ length t → first.refusals ≡ opening_refusals c spec ++ table_refusals c t
     → AreReadSoFar (record { context = d; gates = g; table = t }) t first bodies nodes → f ≡ declared c spec.functionality
-    → IsStartRead (start_site (record { context = e; gates = g; table = t }) spec) (behaviour_written spec.behaviour) bodies last (ending_refusals spec.name.place f) start
+    → IsStartRead (start_site (record { context = e; gates = g; table = t }) spec) (behaviour_written spec.behaviour) bodies last (ending_refusals None spec.name.place f) start
     → calls ≡ calls_from (record { context = d; gates = g; table = t }) 0 t
     → refusals ≡ last.refusals ++ unguarded_refusals (map (λ e. e.process.name.text) t) calls
     → processes ≡ length t → program ≡ program_with_if theory spec processes nodes last.code start → IsJudged theory spec program refusals
@@ -88,9 +88,9 @@ judged_by theory spec c d e g t first bodies last nodes start processes program 
     judged theory spec first bodies last nodes start processes program refusals (places ∙ ap length tis)
     (opening ∙ ap (λ z. opening_refusals z spec ++ table_refusals z t) cis ∙ ap (λ es. opening_refusals (data_context theory) spec ++ table_refusals (data_context theory) es) tis)
     (subst (λ es. AreReadSoFar (setting theory spec) es first bodies nodes) tis (subst (λ a. AreReadSoFar a t first bodies nodes) (whole d dis) h))
-    (subst (λ m. IsStartRead (start_site (setting theory spec) spec) (behaviour_written spec.behaviour) bodies last (ending_refusals spec.name.place m) start)
+    (subst (λ m. IsStartRead (start_site (setting theory spec) spec) (behaviour_written spec.behaviour) bodies last (ending_refusals None spec.name.place m) start)
     (fis ∙ ap (λ z. declared z spec.functionality) cis)
-    (subst (λ a. IsStartRead (start_site a spec) (behaviour_written spec.behaviour) bodies last (ending_refusals spec.name.place f) start) (whole e eis) s))
+    (subst (λ a. IsStartRead (start_site a spec) (behaviour_written spec.behaviour) bodies last (ending_refusals None spec.name.place f) start) (whole e eis) s))
     (cycles ∙ ap (λ z. last.refusals ++ unguarded_refusals (names t) z) (made ∙ ap (λ a. calls_from a 0 t) (whole d dis))
     ∙ ap (λ es. last.refusals ++ unguarded_refusals (names es) (calls_from (setting theory spec) 0 es)) tis)
     (many ∙ ap length tis) put

@@ -20,13 +20,13 @@ use Rattle.behaviour_readings.specs.Sites.{Site}
 use Rattle.behaviour_readings.specs.declared.heading.Heading.{Heading}
 use Rattle.behaviour_readings.specs.Views.{heading_of, functionality_of}
 use Rattle.behaviour_readings.proofs.Together.{alone, first_alone, joined_before}
-use Rattle.process_table.specs.Headings.{headings_from, heading, declared}
+use Rattle.process_table.specs.Headings.{headings_from, heading, declared, parameter_sorts}
 use Rattle.process_table.specs.Processes.{Entry}
 use Rattle.process_table.specs.declared.entry.Entry as code
 use Rattle.process_table.specs.Views.{entry_of}
 use Rattle.call_cycles.specs.AtOnce.{calls_at_once}
 use Rattle.call_cycles.specs.declared.call.Call.{Call}
-use Rattle.static_check.specs.Bodies.{Setting, Placed, placed, body_site, ending_refusals, AreBodiesRead, none_left, one_more, calls_from}
+use Rattle.static_check.specs.Bodies.{Setting, Placed, placed, body_site, body_ending_refusals, AreBodiesRead, none_left, one_more, calls_from}
 use Rattle.static_check.specs.Compiled.{process_node, process_nodes, body_nodes}
 use Rattle.static_check.specs.Steps.{node_over, IsBodyRead, AreReadSoFar, IsStartRead}
 
@@ -54,15 +54,25 @@ pub heading_within : (c : Context) (hs : List Heading) (table : List code.Entry)
 heading_within c hs table number are within =
     omega (arith, within, length-map hs heading_of, ap length are, length_headings c 0 (map entry_of table), length-map table entry_of)
 
-pub declared_at : (c : Context) (hs : List Heading) (table : List code.Entry) (number : ℕ) (h : Heading) (e : code.Entry)
+heading_at : (c : Context) (hs : List Heading) (table : List code.Entry) (number : ℕ) (h : Heading) (e : code.Entry)
     → map heading_of hs ≡ headings_from c 0 (map entry_of table) → number < length table → h ≡ get_or hs number h → e ≡ get_or table number e
-    → option_map functionality_of h.functionality ≡ declared c (entry_of e).process.functionality
-declared_at c hs table number h e are within at there =
+    → heading_of h ≡ heading c (0 + number) (entry_of e).process
+heading_at c hs table number h e are within at there =
     let here : Some (heading_of h) ≡ Some (heading c (0 + number) (entry_of e).process) =
     sym (slice_get-map heading_of hs number ∙ ap (option_map heading_of) (got hs number h (heading_within c hs table number are within) at))
     ∙ ap (λ all. slice_get all number) are ∙ headings_at c 0 (map entry_of table) number
     ∙ ap (option_map (λ e. heading c (0 + number) e.process)) (slice_get-map entry_of table number ∙ ap (option_map entry_of) (got table number e within there)) in
-    ap (λ z. z.functionality) (inside (heading_of h) (heading c (0 + number) (entry_of e).process) here)
+    inside (heading_of h) (heading c (0 + number) (entry_of e).process) here
+
+pub declared_at : (c : Context) (hs : List Heading) (table : List code.Entry) (number : ℕ) (h : Heading) (e : code.Entry)
+    → map heading_of hs ≡ headings_from c 0 (map entry_of table) → number < length table → h ≡ get_or hs number h → e ≡ get_or table number e
+    → option_map functionality_of h.functionality ≡ declared c (entry_of e).process.functionality
+declared_at c hs table number h e are within at there = ap (λ z. z.functionality) (heading_at c hs table number h e are within at there)
+
+pub sorts_at : (c : Context) (hs : List Heading) (table : List code.Entry) (number : ℕ) (h : Heading) (e : code.Entry)
+    → map heading_of hs ≡ headings_from c 0 (map entry_of table) → number < length table → h ≡ get_or hs number h → e ≡ get_or table number e
+    → (heading_of h).sorts ≡ parameter_sorts c (entry_of e).process.parameters
+sorts_at c hs table number h e are within at there = ap (λ z. z.sorts) (heading_at c hs table number h e are within at there)
 
 -- one body
 
@@ -70,10 +80,10 @@ pub body_read : (all : Setting) (number : ℕ) (e : Entry) (old read now : Outpu
     → s ≡ body_site all number e → HasRead (λ from. IsRead s from e.process.body) old read found
     → node ≡ option_map (λ _. node_over all e s.context.variables (pred (length read.code))) found → now.code ≡ read.code
     → ((x : Option Read) → found ≡ option_map (λ r. r.functionality) x
-    → now.refusals ≡ read.refusals ++ ending_refusals e.process.name.place (declared all.context e.process.functionality) x)
+    → now.refusals ≡ read.refusals ++ body_ending_refusals all.context e.process x)
     → IsBodyRead all number e old now node
 body_read all number e old read now found node s stands r made same ended =
-    let end = ending_refusals e.process.name.place (declared all.context e.process.functionality) r.read in
+    let end = body_ending_refusals all.context e.process r.read in
     record {
       read = r.read;
       refusals = r.refusals;
@@ -97,16 +107,16 @@ body_read all number e old read now found node s stands r made same ended =
 body_behind : (all : Setting) {number from mid : ℕ} {es : List Entry} {xs : Option (List Placed)} {rs : List Refusal} (e : Entry) (x : Option Read) (rb : List Refusal)
     → AreBodiesRead all number from mid es xs rs → IsRead (body_site all (number + length es) e) mid e.process.body x rb
     → AreBodiesRead all number from (after mid x) (es ++ e ∷ []) (all_before xs (alone (option_map (placed mid) x)))
-    (rs ++ (rb ++ ending_refusals e.process.name.place (declared all.context e.process.functionality) x))
+    (rs ++ (rb ++ body_ending_refusals all.context e.process x))
 body_behind all {number = number} {mid = mid} e x rb none_left h =
-    let end = ending_refusals e.process.name.place (declared all.context e.process.functionality) x in
+    let end = body_ending_refusals all.context e.process x in
     let sums : number + 0 ≡ number = omega arith in
     subst (λ z. AreBodiesRead all number mid (after mid x) (e ∷ []) z (rb ++ end)) (first_alone (option_map (placed mid) x))
     (subst (λ z. AreBodiesRead all number mid (after mid x) (e ∷ []) (before (option_map (placed mid) x) (Some [])) z) (append-nil (rb ++ end))
     (one_more e [] x (Some []) rb [] (subst (λ k. IsRead (body_site all k e) mid e.process.body x rb) sums h) none_left))
 body_behind all {number = number} {from = from} {mid = mid} e x rb (one_more w ws v vs q qs h more) k =
-    let end = ending_refusals e.process.name.place (declared all.context e.process.functionality) x in
-    let first = q ++ ending_refusals w.process.name.place (declared all.context w.process.functionality) v in
+    let end = body_ending_refusals all.context e.process x in
+    let first = q ++ body_ending_refusals all.context w.process v in
     let sums : number + suc (length ws) ≡ (number + 1) + length ws = omega arith in
     let rest = body_behind all e x rb more (subst (λ n. IsRead (body_site all n e) mid e.process.body x rb) sums k) in
     subst (λ z. AreBodiesRead all number from (after mid x) (w ∷ (ws ++ e ∷ [])) z ((first ++ qs) ++ (rb ++ end)))
@@ -169,7 +179,7 @@ none_read all out = record {
 pub one_read : (all : Setting) (es : List Entry) (e : Entry) (old mid now : Output) (nodes more : Option (List Node)) (node : Option Node) (number : ℕ) → number ≡ length es
     → AreReadSoFar all es old mid nodes → IsBodyRead all number e mid now node → more ≡ all_before nodes (alone node) → AreReadSoFar all (es ++ e ∷ []) old now more
 one_read all es e old mid now nodes more node number counts h b is =
-    let end = ending_refusals e.process.name.place (declared all.context e.process.functionality) b.read in
+    let end = body_ending_refusals all.context e.process b.read in
     record {
       bodies = all_before h.bodies (alone (option_map (placed (length mid.code)) b.read));
       refusals = h.refusals ++ (b.refusals ++ end);

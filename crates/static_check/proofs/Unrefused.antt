@@ -31,7 +31,7 @@ use Rattle.equation_readings.specs.Premisses.{IsTruthJudged, by_truth, without, 
 use Rattle.equation_readings.specs.Variables.{all_variables}
 use Rattle.constructs.specs.Constructs.{Construct}
 use Rattle.behaviour_readings.specs.Calls as read_calls
-use Rattle.behaviour_readings.specs.Calls.{IsValueRead, sorted, unsorted, AreValuesRead, called, IsCallRead, miscounted, counted}
+use Rattle.behaviour_readings.specs.Calls.{IsValueRead, sorted, unsorted, IsArgumentRead, fitted, AreValuesRead, called, IsCallRead, miscounted, counted}
 use Rattle.behaviour_readings.specs.Calls.{IsBindingRead, bound_to, variable_of}
 use Rattle.behaviour_readings.specs.Declarations.{declared_names, refused_unless, unknown_gate, unknown_gates, gate_numbers, declaration_refusals, declared_variables, are_known}
 use Rattle.behaviour_readings.specs.Joins.{Read, after, around, over, either, both, joined, disagreement, refused_if_none}
@@ -171,6 +171,10 @@ module _ (s : Site) where
   value_read e _ _ known (sorted sort _ x rs j) h = some_map (λ (x : Typed). x.term) x (expression_read x rs j h)
   value_read e _ _ known (unsorted _) h = absurd (untrue known)
 
+  argument_read : {o : Option ℕ} (e : Expr) (x : Option TermTree) (rs : List Refusal) → IsSome o → IsArgumentRead s o e x rs → rs ≡ [] → IsSome x
+  argument_read {o = Some sort} e _ _ known (fitted t rs j) h = value_read e t rs known j h
+  argument_read {o = None} e _ _ known (fitted t rs j) h = absurd (untrue known)
+
   binding_read : (b : ℕ × Binding) (x : Option code.Binding) (rs : List Refusal) → IsBindingRead s b x rs → rs ≡ [] → IsSome x
   binding_read b _ _ (read_calls.bound {n = n} c t rs j) h =
       some_map (bound_to s n c) t
@@ -205,7 +209,7 @@ values_read : (s : Site) (sorts : List (Option ℕ)) (es : List Expr) (x : Optio
 values_read s [] es _ _ known none h = refl
 values_read s (o ∷ os) [] _ _ known none h = refl
 values_read s (o ∷ os) (e ∷ es) _ _ known (further _ _ y ys rs refusals p q) h =
-    some_before y ys (value_read s e y rs known.0 p (first_empty rs refusals h)) (values_read s os es ys refusals known.1 q (second_empty rs refusals h))
+    some_before y ys (argument_read s e y rs known.0 p (first_empty rs refusals h)) (values_read s os es ys refusals known.1 q (second_empty rs refusals h))
 
 call_known : (p : Heading) (gates : Option (List ℕ)) (values : Option (List TermTree)) → IsKnown p → IsSome gates → IsSome values → IsSome (called p gates values)
 call_known p (Some gates) (Some values) known h k = some_map _ p.functionality known.functionality

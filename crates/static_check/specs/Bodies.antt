@@ -1,7 +1,8 @@
 -- The bodies of processes, read one after another where each stands (ISO 8807, static semantics of process definitions).
-use Rattle.std.specs.Prelude.{ℕ, ◌+◌, List, [], ◌∷◌, ◌++◌, map, Option, Some, option_map, Bool, true, false, nat_eq}
+use Rattle.std.specs.Prelude.{ℕ, ◌+◌, List, [], ◌∷◌, ◌++◌, map, length, Option, Some, None, option_map, is_some, Bool, true, false, nat_eq, ◌||◌}
+use Rattle.std.specs.Prelude.{if◌then◌else◌}
 use Rattle.std.specs.Cmp.Lexicographic.{pointwise}
-use Rattle.std.specs.List.{filter_map, slice_get}
+use Rattle.std.specs.List.{filter_map, list_all, slice_get}
 use Rattle.lotos_ast.specs.declared.place.Place.{Place}
 use Rattle.lotos_ast.specs.declared.refusal.Refusal.{Refusal}
 use Rattle.lotos_ast.specs.declared.refusal.RefusalKind.TheVariants.{WrongFunctionality}
@@ -13,8 +14,8 @@ use Rattle.behaviour_readings.specs.Joins.{Read, after}
 use Rattle.behaviour_readings.specs.ReadsAll.{before}
 use Rattle.behaviour_readings.specs.Readings.{IsRead}
 use Rattle.behaviour_readings.specs.Sites.{Site, Heading}
-use Rattle.process_table.specs.Headings.{headings_from, declared}
-use Rattle.process_table.specs.Processes.{Entry, visible_in}
+use Rattle.process_table.specs.Headings.{headings_from, declared, parameter_sorts}
+use Rattle.process_table.specs.Processes.{Defined, Entry, visible_in}
 use Rattle.call_cycles.specs.declared.call.Call.{Call}
 use Rattle.call_cycles.specs.AtOnce.{calls_at_once}
 
@@ -42,21 +43,35 @@ body_site all number e = record {
   processes = headings_within all (number ∷ e.around);
 }
 
+-- the number that stands for the sorts of parameters that aren't known, where there are such; those that are known have smaller numbers
+abbrev pub unknown_in : ℕ → List (Option ℕ) → Option ℕ
+unknown_in known sorts = if list_all is_some sorts then None else Some known
+
+-- a sort in which a behaviour ends is the one that is declared; one that isn't known may be any
+abbrev pub fits_sort : Option ℕ → ℕ → ℕ → Bool
+fits_sort None sort other = nat_eq sort other
+fits_sort (Some unknown) sort other = nat_eq sort unknown || nat_eq sort other
+
 -- a behaviour may end as it is declared to, or never
 
-abbrev pub may_end : Functionality → Functionality → Bool
-may_end noexit declared = true
-may_end (exits sorts) noexit = false
-may_end (exits sorts) (exits others) = pointwise nat_eq sorts others
+abbrev pub may_end : Option ℕ → Functionality → Functionality → Bool
+may_end unknown noexit declared = true
+may_end unknown (exits sorts) noexit = false
+may_end unknown (exits sorts) (exits others) = pointwise (fits_sort unknown) sorts others
 
 abbrev pub refused_unless : Bool → Place → List Refusal
 refused_unless true place = []
 refused_unless false place = refused WrongFunctionality place [] ∷ []
 
 -- where it is read, and what is declared is known, it is refused at the name that is declared if it may end otherwise
-abbrev pub ending_refusals : Place → Option Functionality → Option Read → List Refusal
-ending_refusals place (Some declared) (Some r) = refused_unless (may_end r.functionality declared) place
-ending_refusals place _ _ = []
+abbrev pub ending_refusals : Option ℕ → Place → Option Functionality → Option Read → List Refusal
+ending_refusals unknown place (Some declared) (Some r) = refused_unless (may_end unknown r.functionality declared) place
+ending_refusals unknown place _ _ = []
+
+-- the same of the body of a process
+abbrev pub body_ending_refusals : Context → Defined → Option Read → List Refusal
+body_ending_refusals c p x =
+    ending_refusals (unknown_in (length c.sorts) (parameter_sorts c p.parameters)) p.name.place (declared c p.functionality) x
 
 -- a body, with the number at which its nodes begin
 pub record Placed : Type 0 where
@@ -73,7 +88,7 @@ pub data AreBodiesRead (all : Setting) : ℕ → ℕ → ℕ → List Entry → 
       IsRead (body_site all number e) from e.process.body x rb →
       AreBodiesRead all (number + 1) (after from x) end es xs rs →
       AreBodiesRead all number from end (e ∷ es) (before (option_map (placed from) x) xs)
-      ((rb ++ ending_refusals e.process.name.place (declared all.context e.process.functionality) x) ++ rs)
+      ((rb ++ body_ending_refusals all.context e.process x) ++ rs)
 
 -- the calls that each of these processes makes at once
 abbrev pub calls_from : Setting → ℕ → List Entry → List (List Call)

@@ -77,7 +77,7 @@ pub record IsJudged (theory : Theory) (spec : Spec) (program : Option Program) (
       ++ (table_refusals (data_context theory) (entries spec)
       ++ (body_refusals
       ++ (start_refusals
-      ++ (ending_refusals spec.name.place (declared (data_context theory) spec.functionality) start
+      ++ (ending_refusals None spec.name.place (declared (data_context theory) spec.functionality) start
       ++ unguarded_refusals (map (λ e. e.process.name.text) (entries spec)) (calls_from (setting theory spec) 0 (entries spec))))))
 
 -- a specification that is accepted is compiled to this program

@@ -16,7 +16,7 @@ use Rattle.constructs.specs.Constructs.{Construct}
 use Rattle.constructs.specs.Written.{gates_in}
 use Rattle.process_table.specs.Headings.{declared, headings_from}
 use Rattle.process_table.specs.Processes.{Entry}
-use Rattle.static_check.specs.Bodies.{Setting, Placed, placed, body_site, ending_refusals, AreBodiesRead}
+use Rattle.static_check.specs.Bodies.{Setting, Placed, placed, body_site, body_ending_refusals, AreBodiesRead}
 use Rattle.static_check.specs.Compiled.{process_node, process_nodes, body_nodes}
 use Rattle.static_check.specs.declared.setting.Setting as code
 
@@ -35,7 +35,7 @@ pub record IsBodyRead (all : Setting) (number : ℕ) (e : Entry) (old now : Outp
   pub such : IsRead (body_site all number e) (length old.code) e.process.body read refusals
   pub code : now.code ≡ old.code ++ nodes_of read
   pub refused : now.refusals
-      ≡ old.refusals ++ (refusals ++ ending_refusals e.process.name.place (declared all.context e.process.functionality) read)
+      ≡ old.refusals ++ (refusals ++ body_ending_refusals all.context e.process read)
   pub made : node ≡ option_map (λ r. process_node all e (placed (length old.code) r)) read
 
 -- the bodies of these processes are read: with their nodes, if nothing hinders it, and their refusals; and there are the nodes of the

@@ -1,12 +1,15 @@
 // The bodies of processes, read one after another.
 
-ghost use Rattle.std.specs.Prelude.{◌≡◌, ◌<◌, ◌++◌, Option, IfOk, OnOk, map, length, pred, get_or, option_map};
+ghost use Rattle.std.specs.List.{list_all};
+ghost use Rattle.std.specs.Prelude.{◌≡◌, ◌<◌, ◌++◌, Option, IfOk, OnOk, map, length, pred, get_or, is_some, option_map};
 ghost use Rattle.behaviour_readings.specs.Joins.{Read};
-ghost use Rattle.behaviour_readings.specs.Views.{functionality_of, output_of};
+ghost use Rattle.behaviour_readings.specs.Views.{functionality_of, heading_of, output_of};
 ghost use Rattle.call_cycles.specs.AtOnce.{calls_at_once};
 ghost use Rattle.constructs.specs.Views.{construct_of};
 ghost use Rattle.process_table.specs.Views.{entry_of};
 ghost use Rattle.spec_core.specs.Code.{node_of};
+ghost use Rattle.spec_core.specs.Numbers.{sort_number};
+ghost use Rattle.static_check.specs.Bodies as bodies;
 ghost use Rattle.static_check.specs.Bodies.{body_site, ending_refusals, calls_from};
 ghost use Rattle.static_check.specs.Steps as steps;
 ghost use Rattle.static_check.specs.Steps.{HasHeadings, IsBodyRead, AreReadSoFar};
@@ -28,6 +31,7 @@ use constructs::written::behaviour;
 use process_table::entry::Entry;
 use process_table::heading::gates_in;
 use spec_core::code::{CodeNode, Part};
+use spec_core::items::Sort;
 use spec_core::memory::Memory;
 use std::alloc::Global;
 
@@ -103,9 +107,34 @@ fn heading_at(headings: &[Heading], number: usize) -> &Heading
     &headings[number]
 }
 
+// Whether all of these sorts are known.
+fn all_known(sorts: &[Option<Sort>]) -> bool
+    ensures { result ≡ list_all is_some (map (λ sort. option_map sort_number sort) sorts.now) }
+{
+    match sorts {
+        [] => true,
+        [first, rest @ ..] => match first {
+            None => false,
+            Some(_) => all_known(rest),
+        },
+    }
+}
+
+// The number that stands for the sorts of parameters that aren't known, where there are such, with so many that are.
+fn unknown_in(known: usize, heading: &Heading) -> Option<usize>
+    ensures { result ≡ bodies.unknown_in known (heading_of heading.now).sorts }
+{
+    if all_known(&heading.sorts) {
+        None
+    } else {
+        Some(known)
+    }
+}
+
 // Refuses the body of a process that may end otherwise than it is declared to, at the name of the process.
 fn add_body_ending(
     alloc: Global,
+    known: usize,
     entry: &Entry<'_>,
     heading: &Heading,
     found: &Option<Functionality>,
@@ -114,10 +143,12 @@ fn add_body_ending(
     ensures code { OnOk result ((output_of out.new).code ≡ (output_of out.old).code) }
     ensures refusals { OnOk result ((x : Option Read) → option_map functionality_of found.now ≡ option_map (λ r. r.functionality) x →
         (output_of out.new).refusals ≡ (output_of out.old).refusals
-        ++ ending_refusals (entry_of entry.now).process.name.place (option_map functionality_of heading.now.functionality) x) }
+        ++ ending_refusals (bodies.unknown_in known (heading_of heading.now).sorts) (entry_of entry.now).process.name.place
+        (option_map functionality_of heading.now.functionality) x) }
 {
     add_ending(
         alloc,
+        unknown_in(known, heading),
         entry.process.name.place,
         &heading.functionality,
         found,
@@ -150,7 +181,7 @@ fn read_body<'a>(
     let found = read(alloc, site, &construct, out)?;
     let node = process_node_if(alloc, setting, entry, site, &found, out)?;
     let heading = heading_at(setting.headings, number);
-    add_body_ending(alloc, entry, heading, &found, out)?;
+    add_body_ending(alloc, site.sorts(), entry, heading, &found, out)?;
     Ok(Body { node, calls })
 }
 

@@ -1,6 +1,6 @@
 // The behaviour of the specification.
 
-ghost use Rattle.std.specs.Prelude.{◌≡◌, IfOk, OnOk, length, pred, option_map};
+ghost use Rattle.std.specs.Prelude.{◌≡◌, IfOk, OnOk, None, length, pred, option_map};
 ghost use Rattle.behaviour_readings.specs.Views.{functionality_of, output_of};
 ghost use Rattle.constructs.specs.Written.{behaviour_written};
 ghost use Rattle.static_check.specs.Bodies.{ending_refusals};
@@ -61,12 +61,12 @@ pub fn read_start<'a>(
     requires headings { HasHeadings (setting_of site.old.context setting.now) setting.now }
     ensures { IfOk result (λ start. IsStartRead (start_site (setting_of site.old.context setting.now) spec.now)
         (behaviour_written spec.now.behaviour) (output_of out.old) (output_of out.new)
-        (ending_refusals spec.now.name.place (option_map functionality_of declared.now)) (option_map (λ p. p.0) start)) }
+        (ending_refusals None spec.now.name.place (option_map functionality_of declared.now)) (option_map (λ p. p.0) start)) }
 {
     enter(alloc, setting, spec, site)?;
     let construct = behaviour(alloc, &spec.behaviour)?;
     let found = read(alloc, site, &construct, out)?;
     let start = last_if(&found, out)?;
-    add_ending(alloc, spec.name.place, declared, &found, out)?;
+    add_ending(alloc, None, spec.name.place, declared, &found, out)?;
     Ok(start)
 }

@@ -1,5 +1,5 @@
 -- Why a job has no answer that a session needs is a reason to stop in its state.
-use Rattle.std.proofs.Common.{ℕ, ◌≡◌, ◌<◌, ◌⊎◌, inr, List, [], refl, sym, subst, Some, length, arith}
+use Rattle.std.proofs.Common.{ℕ, ◌≡◌, ◌∙◌, ◌<◌, inl, inr, [], sym, subst, Some, length, arith}
 use Rattle.spec_core.specs.declared.settings.Settings.{Settings}
 use Rattle.spec_core.specs.Code.{Program}
 use Rattle.spec_core.specs.Lists.{IsOneOf}
@@ -8,7 +8,6 @@ use Rattle.rule_model.specs.declared.reply.LimitKind.TheVariants.{Spread}
 use Rattle.rule_model.specs.Behaviours.{Behaviour}
 use Rattle.rule_model.specs.States.{State}
 use Rattle.windowed_trees.specs.Windows.{Windows}
-use Rattle.windowed_trees.specs.MarkedFields.{chosen, IsWithin}
 use Rattle.windowed_trees.specs.MarkedTerms.{unmarked}
 use Rattle.composites.specs.Composites.{composites}
 use Rattle.composites.specs.Evaluations.{Evaluation}
@@ -19,38 +18,36 @@ use Rattle.reached_terms.specs.Reached.{Reaches}
 use Rattle.reached_terms.specs.Spread.{spread}
 use Rattle.expand.specs.Expansions.{IsTooWideFor}
 use Rattle.judging.specs.Asking.{TreeAsks}
-use Rattle.judging.specs.Laws.{chosen_values}
-use Rattle.judging.proofs.Asked.{asked_terms_are_reached}
 use Rattle.tree_nodes.specs.Origins.{meaning}
-use Rattle.tree_nodes.specs.Shapes.{Held, Shape, IsNodeOf}
-use Rattle.known_shows.specs.Known.{Pieces, missing_parts}
-use Rattle.needed_jobs.proofs.Lists.{at_element, each_more}
+use Rattle.tree_nodes.specs.Shapes.{Held, Shape, IsNodeOf, stands_for}
+use Rattle.known_shows.specs.Known.{NodePart, Pieces}
+use Rattle.needed_jobs.specs.Needed.{IsPartOfTree}
 use Rattle.needed_jobs.proofs.Living.{needed_parts_are_of_trees}
-use Rattle.offer_counts.specs.Counts.{AreOffers}
+use Rattle.offer_counts.specs.Counts.{offers, offers_limit, offers_of_tree}
 use Rattle.offer_counts.proofs.Below.{trees_have_no_more_offers}
 use Rattle.waiting_offers.specs.Waiting.{waiting_in}
 use Rattle.session_rules.specs.declared.stop_reason.StopReason.{StopReason}
 use Rattle.session_rules.specs.declared.stop_reason.StopReason.TheVariants.{Spent, TooLarge, Limit}
 use Rattle.stop_reasons.specs.Given.{reason_of}
-use Rattle.stop_reasons.specs.Laws.{IsKnownState, ExpansionsGiveReasons, VerdictsGiveReasons, OffersGiveReasons, JobsGiveReasons}
-use Rattle.stop_reasons.specs.Reasons.{IsAskedNext, IsCandidate, IsReasonToStop, IsTooWide, MayBeChosen, chosen_along, none_chosen}
+use Rattle.stop_reasons.specs.Laws.{IsKnownState, ExpansionsGiveReasons, VerdictsGiveReasons, VerdictsAreOfTrees, OffersGiveReasons}
+use Rattle.stop_reasons.specs.Laws.{JobsGiveReasons}
+use Rattle.stop_reasons.specs.Participants.{ActsIn}
+use Rattle.stop_reasons.specs.Reasons.{IsAskedByRules, IsAskedNext, IsCandidate, IsReasonToStop, IsTooWide, LooksForTrees}
 use Rattle.stop_reasons.proofs.Below.{reached_in_tree, wide_in_tree}
-use Rattle.stop_reasons.proofs.Parts.{ChoosesOf, missing_choose_of}
+use Rattle.stop_reasons.proofs.Parts.{missing_are_by_nodes}
 use Rattle.stop_reasons.proofs.Plans.{listed_of_composite}
 
 module _ (program : Program) (settings : Settings) (e : Evaluation) (w : Windows) (t : Shape) (pieces : Pieces) (s : State)
     (k : IsKnownState program settings e w t pieces s) where
   -- what is reached of a node is asked next
-  asked_next : (n : Held) (g : ℕ) → IsNodeOf t g n → (values : List (List ℕ)) → MayBeChosen program settings s w values →
-      (x : TermTree) → Reaches program w values unmarked (meaning program n.source) x → IsAskedNext program settings s x
-  asked_next n g i values may x r = record {
+  asked_next : (n : Held) (g : ℕ) → IsNodeOf t g n → (x : TermTree) → Reaches program w [] unmarked (meaning program n.source) x →
+      IsAskedNext program settings s x
+  asked_next n g i x r = record {
     windows = w;
     sized = k.known.windows;
-    values = values;
-    chosen = may;
-    reached =
-        subst (λ (b : Behaviour). Reaches program w values unmarked b x) (sym k.reached)
-        (reached_in_tree program w values t i.up n i.stands x r);
+    asked =
+        inl (subst (λ (b : Behaviour). Reaches program w [] unmarked b x) (sym k.reached)
+        (reached_in_tree program w [] t i.up n i.stands x r));
   }
 
   too_wide : (n : Held) (g : ℕ) → IsNodeOf t g n → (m : ℕ) → IsTooWideFor program w (meaning program n.source) m →
@@ -83,15 +80,13 @@ module _ (program : Program) (settings : Settings) (e : Evaluation) (w : Windows
   expansions_give : ExpansionsGiveReasons program settings w t pieces s
   expansions_give g n i stop h reason q =
       given (λ x. Reaches program w [] unmarked (meaning program n.source) x) (IsTooWideFor program w (meaning program n.source))
-      (λ x r. asked_next n g i [] (none_chosen refl) x r) (λ m r. too_wide n g i m r) stop h reason q
+      (λ x r. asked_next n g i x r) (λ m r. too_wide n g i m r) stop h reason q
 
-  verdicts_give : VerdictsGiveReasons program settings w t pieces s
-  verdicts_give part n i node stop h reason q =
-      let from = needed_parts_are_of_trees program.theory w t pieces (waiting_in s) part i in
-      let c = listed_of_composite program e w from.query t k.known.expanded from.tree from.listed in
-      let of = at_element (ChoosesOf (chosen_values from.tree)) part (missing_parts pieces t from.tree)
-      (missing_choose_of pieces t from.tree) from.missing in
-      let candidate : IsCandidate program settings s w from.tree = record {
+  -- a part that is to be judged is one of a candidate
+  candidate_of : (part : NodePart) (from : IsPartOfTree program.theory w t pieces (waiting_in s) part) →
+      IsCandidate program settings s w from.tree
+  candidate_of part from =
+      let c = listed_of_composite program e w from.query t (k.own e k.known.exact) from.tree from.listed in record {
         evaluation = e;
         exact = k.known.exact;
         query = from.query;
@@ -101,28 +96,62 @@ module _ (program : Program) (settings : Settings) (e : Evaluation) (w : Windows
             subst (λ (b : Behaviour). IsOneOf c.composite (composites program.theory e w (length program.code) unmarked b)) (sym k.reached)
             c.among;
         tree = c.tree;
-      } in
+      }
+
+  verdicts_asked : VerdictsAreOfTrees program settings w t pieces s
+  verdicts_asked part i =
+      let from = needed_parts_are_of_trees program.theory w t pieces (waiting_in s) part i in
+      (w, k.known.windows, from.tree, candidate_of part from)
+
+  verdicts_give : VerdictsGiveReasons program settings w t pieces s
+  verdicts_give part n i node stop h reason q =
+      let from = needed_parts_are_of_trees program.theory w t pieces (waiting_in s) part i in
+      let of = missing_are_by_nodes program pieces t from.tree part from.missing in
+      let same = k.known.apart of.up node.up of.node n of.stands node.stands (of.same ∙ sym node.same) in
       given (TreeAsks program w unmarked (meaning program n.source) part.rules) Never
-      (λ x r. asked_next n part.generation node (chosen_values from.tree) (chosen_along from.tree candidate refl) x
-      (asked_terms_are_reached program w (chosen_values from.tree) unmarked (meaning program n.source) part.rules x
-      (each_more (λ v. IsOneOf v (chosen_values from.tree)) (λ v. IsWithin program.theory w (chosen v) ⊎ IsOneOf v (chosen_values from.tree))
-      (λ v j. inr j) (chosen_values part.rules) of) r))
+      (λ x r. record {
+        windows = w;
+        sized = k.known.windows;
+        asked =
+            inr (record {
+              tree = from.tree;
+              candidate = candidate_of part from;
+              part = meaning program n.source;
+              rules = part.rules;
+              acts =
+                  subst (λ (b : Behaviour). ActsIn (meaning program n.source) part.rules b from.tree) (sym k.reached)
+                  (subst (λ (m : Held). ActsIn (meaning program m.source) part.rules (stands_for program t) from.tree) same.1 of.acts);
+              asks = r;
+            });
+      })
       (λ m r. absurd r) stop h reason q
 
   offers_give : OffersGiveReasons program settings w t pieces s
-  offers_give h =
-      let m = trees_have_no_more_offers program e w t k.known.exact k.known.expanded in
-      record {
-        windows = w;
-        sized = k.known.windows;
-        number = m.whole;
-        are = subst (λ (b : Behaviour). AreOffers program w b m.whole) (sym k.reached) m.are;
-        above = let below = m.no_more in omega (arith, h, below);
-      }
+  offers_give h = record {
+    windows = w;
+    sized = k.known.windows;
+    above = λ f exact.
+        subst (λ (b : Behaviour). offers_limit < offers program f w b) (sym k.reached)
+        (let above : offers_limit < offers_of_tree program w t = h in
+        let below = trees_have_no_more_offers program f w t (k.own f exact) in
+        omega (arith, above, below));
+  }
+
+-- where the rules look for trees, they ask for what gives the reason for which a job has no answer
+pub asked_by_rules : (program : Program) (settings : Settings) (s : State) → LooksForTrees s → (stop : Stop) (reason : StopReason) →
+    reason_of stop ≡ Some reason → IsAskedByRules program settings s reason
+asked_by_rules program settings s looks (causes.Spent term) reason q =
+    let same : Spent term ≡ reason = cc in subst (IsAskedByRules program settings s) same looks
+asked_by_rules program settings s looks (causes.TooLarge term) reason q =
+    let same : TooLarge term ≡ reason = cc in subst (IsAskedByRules program settings s) same looks
+asked_by_rules program settings s looks (causes.Wide m) reason q =
+    let same : Limit Spread ≡ reason = cc in subst (IsAskedByRules program settings s) same looks
+asked_by_rules program settings s looks causes.Memory reason q = let never : ⊥ = cc in absurd never
 
 pub jobs_give_reasons : JobsGiveReasons
 jobs_give_reasons program settings e w t pieces s k = record {
   expansions = expansions_give program settings e w t pieces s k;
   verdicts = verdicts_give program settings e w t pieces s k;
+  asked = verdicts_asked program settings e w t pieces s k;
   offers = offers_give program settings e w t pieces s k;
 }

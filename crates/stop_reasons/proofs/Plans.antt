@@ -1,5 +1,5 @@
 -- A tree that searches among what is expanded look at is one of a composite of what the tree of nodes stands for.
-use Rattle.std.proofs.Common.{ℕ, inl, inr, ◌⊎◌, List, [], ◌∷◌, ◌++◌, map, flat_map, subst, Option, Some, None, Bool}
+use Rattle.std.proofs.Common.{ℕ, inl, inr, ◌⊎◌, List, [], ◌∷◌, ◌++◌, map, flat_map, ap, ◌∙◌, subst, Option, Some, None, Bool}
 use Rattle.std.proofs.Common.{true, false, length, if◌then◌else◌}
 use Rattle.spec_core.specs.Code.{Program, Synchronised}
 use Rattle.spec_core.specs.Lists.{Each, IsOneOf}
@@ -14,6 +14,7 @@ use Rattle.composites.specs.Kinds.{is_joint}
 use Rattle.open_composites.specs.declared.scheme.Row.TheVariants.{Chl, Chr, Parl, Parr, Distake}
 use Rattle.open_composites.specs.OpenPlans.{OpenPlan, composite_of, under_row, plans_alone, plans_joint, plan_by_disabling}
 use Rattle.open_composites.specs.OpenPlans.{plans_of_parallel}
+use Rattle.open_composites.specs.Laws.{composites_of}
 use Rattle.asked_trees.specs.Asked.{TreeQuery}
 use Rattle.node_lists.specs.Waiting.{trees_asked}
 use Rattle.asked_lists.specs.Searches.{for_offer, asked_from}
@@ -26,21 +27,13 @@ use Rattle.candidates.specs.Listed.{known_trees}
 use Rattle.needed_jobs.proofs.Elements.{AreElements}
 use Rattle.needed_jobs.proofs.Lists.{each_more, each_listed}
 use Rattle.waiting_offers.proofs.Members.{mapped}
-use Rattle.offer_counts.specs.Laws.{AreOriginsOwn}
+use Rattle.offer_counts.specs.Laws.{AreOwnPlans}
 use Rattle.offer_counts.proofs.Sums.{plans_or, all_over_two, all_plans}
-use Rattle.offer_counts.proofs.Below.{own, whole_plans}
-use Rattle.stop_reasons.proofs.Parts.{one_left, one_right}
+use Rattle.offer_counts.proofs.Below.{own, whole_own}
+use Rattle.own_plans.proofs.Own.{own_plans_are_those}
+use Rattle.stop_reasons.proofs.Parts.{one_left, one_right, one_part}
 
 -- elements of lists that are made of others
-
-of_parts : {A : Type 0} (x : A) (xs ys : List A) → IsOneOf x (xs ++ ys) → IsOneOf x xs ⊎ IsOneOf x ys
-of_parts x [] ys i = inr i
-of_parts x (y ∷ xs) ys (inl e) = inl (inl e)
-of_parts x (y ∷ xs) ys (inr i) = by_part (of_parts x xs ys i)
-  where
-    by_part : IsOneOf x xs ⊎ IsOneOf x ys → IsOneOf x (y ∷ xs) ⊎ IsOneOf x ys
-    by_part (inl j) = inl (inr j)
-    by_part (inr j) = inr j
 
 in_flat : {A B : Type 0} (f : A → List B) (x : A) (xs : List A) → IsOneOf x xs → (y : B) → IsOneOf y (f x) → IsOneOf y (flat_map f xs)
 in_flat f x [] i y j = absurd i
@@ -173,7 +166,7 @@ module _ (theory : Theory) (w : Windows) (q : TreeQuery) where
   of_plans R (gap g ∷ ps) h d (inl e) = let never : ⊥ = cc in absurd never
   of_plans R (gap g ∷ ps) h d (inr i) = of_plans R ps h d i
   of_plans R (element p ∷ ps) h d i =
-      by_part (of_parts (element d) (map element (looked_at p)) (flat_map (in_its_place (λ p. map element (looked_at p))) ps) i)
+      by_part (one_part (element d) (map element (looked_at p)) (flat_map (in_its_place (λ p. map element (looked_at p))) ps) i)
       (λ j. of_plans R ps h.1 d j)
     where
       by_part : IsOneOf (element d) (map element (looked_at p)) ⊎
@@ -188,7 +181,7 @@ pub record IsOfComposite (program : Program) (e : Evaluation) (w : Windows) (q :
   pub among : IsOneOf composite (composites program.theory e w (length program.code) unmarked (stands_for program t))
   pub tree : IsOneOf d (trees_asked program.theory w q composite)
 
-pub listed_of_composite : (program : Program) (e : Evaluation) (w : Windows) (q : TreeQuery) (t : Shape) → AreOriginsOwn program e w t →
+pub listed_of_composite : (program : Program) (e : Evaluation) (w : Windows) (q : TreeQuery) (t : Shape) → AreOwnPlans program e w t →
     (d : Derivation) → IsOneOf (element d) (known_trees program.theory w t q) → IsOfComposite program e w q t d
 listed_of_composite program e w q t origins d i =
     let all = all_plans program.theory (own program e w) t in
@@ -196,7 +189,9 @@ listed_of_composite program e w q t origins d i =
     record {
       composite = composite_of program.theory w x.plan;
       among =
-          subst (λ (cs : List Composite). IsOneOf (composite_of program.theory w x.plan) cs) (whole_plans program e w t origins)
+          subst (λ (cs : List Composite). IsOneOf (composite_of program.theory w x.plan) cs)
+          (ap (composites_of program.theory w) (whole_own program e w t origins)
+          ∙ own_plans_are_those program.theory e w (length program.code) unmarked (stands_for program t))
           (mapped (composite_of program.theory w) all x.plan x.holds);
       tree = subst (λ (ds : List Derivation). IsOneOf d ds) (searches_find_all program.theory w q x.plan) x.tree;
     }

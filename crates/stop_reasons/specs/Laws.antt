@@ -7,7 +7,7 @@ use Rattle.rule_model.specs.States.{State}
 use Rattle.rule_model.specs.declared.reply.LimitKind.TheVariants.{Offers}
 use Rattle.windowed_trees.specs.Windows.{Windows}
 use Rattle.windowed_trees.specs.MarkedTerms.{unmarked}
-use Rattle.composites.specs.Evaluations.{Evaluation}
+use Rattle.composites.specs.Evaluations.{Evaluation, IsExact}
 use Rattle.marked_values.specs.declared.stop.Stop.{Stop}
 use Rattle.marked_values.specs.Stops.{Stops, Never}
 use Rattle.expand.specs.Expansions.{IsStop}
@@ -19,16 +19,19 @@ use Rattle.candidates.specs.Jobs.{to_judge}
 use Rattle.candidates.specs.Laws.{IsKnownTree}
 use Rattle.needed_jobs.specs.Needed.{jobs_needed}
 use Rattle.offer_counts.specs.Counts.{offers_limit, offers_of_tree}
+use Rattle.offer_counts.specs.Laws.{AreOwnPlans}
 use Rattle.waiting_offers.specs.Waiting.{waiting_in}
 use Rattle.session_rules.specs.declared.stop_reason.StopReason.{StopReason}
 use Rattle.session_rules.specs.declared.stop_reason.StopReason.TheVariants.{Limit}
 use Rattle.stop_reasons.specs.Given.{reason_of}
-use Rattle.stop_reasons.specs.Reasons.{IsReasonToStop}
+use Rattle.stop_reasons.specs.Reasons.{AsksForTree, IsReasonToStop}
 
--- The state is reached whose behaviour the tree stands for, and what is known of the tree is so.
+-- The state is reached whose behaviour the tree stands for, what is known of the tree is so, and the plans of its nodes are those that their
+-- origins' constructs make.
 pub record IsKnownState (program : Program) (settings : Settings) (e : Evaluation) (w : Windows) (t : Shape) (pieces : Pieces) (s : State) :
     Type 0 where
   pub known : IsKnownTree program e settings.values w t pieces
+  pub own : (f : Evaluation) → IsExact program f → AreOwnPlans program f w t
   pub reached : s.behaviour ≡ stands_for program t
 
 module _ (program : Program) (settings : Settings) (w : Windows) (t : Shape) (pieces : Pieces) (s : State) where
@@ -55,6 +58,11 @@ module _ (program : Program) (settings : Settings) (w : Windows) (t : Shape) (pi
       reason_of stop ≡ Some reason →
       IsReasonToStop program settings s reason
 
+  -- where they need it, a query of theirs may ask for a tree
+  abbrev pub VerdictsAreOfTrees : Type 0
+  VerdictsAreOfTrees =
+      (part : NodePart) → IsOneOf (to_judge part) (jobs_needed program.theory w t pieces (waiting_in s)) → AsksForTree program settings s
+
   -- and so is that of the tree there are more possible agreements than are looked at
   abbrev pub OffersGiveReasons : Type 0
   OffersGiveReasons = offers_limit < offers_of_tree program w t → IsReasonToStop program settings s (Limit Offers)
@@ -62,6 +70,7 @@ module _ (program : Program) (settings : Settings) (w : Windows) (t : Shape) (pi
   pub record GiveReasons : Type 0 where
     pub expansions : ExpansionsGiveReasons
     pub verdicts : VerdictsGiveReasons
+    pub asked : VerdictsAreOfTrees
     pub offers : OffersGiveReasons
 
 -- why a job has no answer that a session needs is a reason to stop in its state

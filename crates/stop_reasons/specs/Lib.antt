@@ -1,3 +1,4 @@
 pub mod Given
+pub mod Participants
 pub mod Reasons
 pub mod Laws

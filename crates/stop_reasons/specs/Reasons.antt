@@ -1,5 +1,5 @@
 -- Which reasons to stop a session are so in a state. (This profile.)
-use Rattle.std.specs.Prelude.{ℕ, ◌≡◌, ◌<◌, List, [], length}
+use Rattle.std.specs.Prelude.{◌≡◌, ◌<◌, ◌⊎◌, [], length}
 use Rattle.spec_core.specs.declared.settings.Settings.{Settings}
 use Rattle.spec_core.specs.Budgets.{IsBeyond}
 use Rattle.spec_core.specs.Code.{Program}
@@ -7,7 +7,9 @@ use Rattle.spec_core.specs.Lists.{IsOneOf}
 use Rattle.spec_core.specs.Terms.{TermTree, term_of}
 use Rattle.rewriter.specs.Answers.{MeetsTooLarge}
 use Rattle.rule_model.specs.declared.reply.LimitKind.TheVariants.{Steps, Spread, Offers}
+use Rattle.rule_model.specs.Behaviours.{Behaviour}
 use Rattle.rule_model.specs.Derivations.{Derivation}
+use Rattle.rule_model.specs.Legal.{AllWait}
 use Rattle.rule_model.specs.States.{State}
 use Rattle.windowed_trees.specs.Windows.{Windows, AreWindows}
 use Rattle.windowed_trees.specs.MarkedTerms.{unmarked}
@@ -17,13 +19,20 @@ use Rattle.reached_terms.specs.Reached.{Reaches}
 use Rattle.reached_terms.specs.Spread.{spread}
 use Rattle.asked_trees.specs.Asked.{TreeQuery}
 use Rattle.node_lists.specs.Waiting.{trees_asked}
-use Rattle.judging.specs.Laws.{chosen_values}
+use Rattle.judging.specs.Asking.{TreeAsks}
 use Rattle.needed_jobs.specs.Needed.{IsOfRules}
-use Rattle.offer_counts.specs.Counts.{AreOffers, offers_limit}
+use Rattle.offer_counts.specs.Counts.{offers, offers_limit}
 use Rattle.waiting_offers.specs.Waiting.{waiting_in}
 use Rattle.session_rules.specs.declared.stop_reason.StopReason.{StopReason}
 use Rattle.session_rules.specs.declared.stop_reason.StopReason.TheVariants.{Spent, TooLarge, Limit}
-use Rattle.session_rules.specs.Next.{IsAtLimit}
+use Rattle.session_rules.specs.Next.{GoesByRules, IsAtLimit}
+use Rattle.stop_reasons.specs.Participants.{ActsIn}
+
+-- The rules look for trees in this state: the session goes on by them, and doesn't wait for its clients, as it does where nothing is pending
+-- and some open client has no offer.
+pub record LooksForTrees (s : State) : Type 0 where
+  pub goes : GoesByRules s
+  pub busy : s.pending ≡ [] → (AllWait s → ⊥) → ⊥
 
 module _ (program : Program) (settings : Settings) (s : State) where
   -- A query of the rules may ask for this tree of the behaviour that is reached: each value that it chooses lies in the window of its sort,
@@ -37,18 +46,22 @@ module _ (program : Program) (settings : Settings) (s : State) where
     pub among : IsOneOf composite (composites program.theory evaluation w (length program.code) unmarked s.behaviour)
     pub tree : IsOneOf d (trees_asked program.theory w query composite)
 
-  -- values that may be chosen at a `?`, besides those of the windows: those that such a tree chooses, or none
-  pub data MayBeChosen (w : Windows) (values : List (List ℕ)) : Type 0 where
-    chosen_along : (d : Derivation) → IsCandidate w d → values ≡ chosen_values d → MayBeChosen w values
-    none_chosen : values ≡ [] → MayBeChosen w values
+  -- The term is asked along such a tree, with the values that it chooses in their places: by a part of the behaviour that acts by it, whatever
+  -- the other parts that act do.
+  pub record IsAskedAlong (w : Windows) (t : TermTree) : Type 0 where
+    pub tree : Derivation
+    pub candidate : IsCandidate w tree
+    pub part : Behaviour
+    pub rules : Derivation
+    pub acts : ActsIn part rules s.behaviour tree
+    pub asks : TreeAsks program w unmarked part rules t
 
-  -- the term is asked of the behaviour that is reached before its next action, with windows of so many values as are set
+  -- The term is asked of the behaviour that is reached before its next action, with windows of so many values as are set: where no value is
+  -- chosen but those that the windows show, or along a tree for which the rules may ask.
   pub record IsAskedNext (t : TermTree) : Type 0 where
     pub windows : Windows
     pub sized : AreWindows program.theory settings.values windows
-    pub values : List (List ℕ)
-    pub chosen : MayBeChosen windows values
-    pub reached : Reaches program windows values unmarked s.behaviour t
+    pub asked : Reaches program windows [] unmarked s.behaviour t ⊎ IsAskedAlong windows t
 
   -- the behaviour that is reached has more operators and actions, before its next action, than are looked at
   pub record IsTooWide : Type 0 where
@@ -60,9 +73,7 @@ module _ (program : Program) (settings : Settings) (s : State) where
   pub record HasTooManyOffers : Type 0 where
     pub windows : Windows
     pub sized : AreWindows program.theory settings.values windows
-    pub number : ℕ
-    pub are : AreOffers program windows s.behaviour number
-    pub above : offers_limit < number
+    pub above : (e : Evaluation) → IsExact program e → offers_limit < offers program e windows s.behaviour
 
   -- The reason is so in the state.
   --   spent, too large: the term is asked before the next action, and has no value within the budget, or meets a value that is too large;
@@ -73,3 +84,16 @@ module _ (program : Program) (settings : Settings) (s : State) where
   IsReasonToStop (Limit Steps) = IsAtLimit program settings s
   IsReasonToStop (Limit Spread) = IsTooWide
   IsReasonToStop (Limit Offers) = HasTooManyOffers
+
+  -- with windows of so many values as are set, a query of the rules may ask for a tree
+  abbrev pub AsksForTree : Type 0
+  AsksForTree = (w : Windows) × AreWindows program.theory settings.values w × (d : Derivation) × IsCandidate w d
+
+  -- The rules have something left to ask where the reason comes: they look for trees; and where there are too many agreements, a query of
+  -- theirs may ask for one. What comes next, the limit of steps says itself.
+  abbrev pub IsAskedByRules : StopReason → Type 0
+  IsAskedByRules (Limit Steps) = Unit {0}
+  IsAskedByRules (Limit Offers) = LooksForTrees s × AsksForTree
+  IsAskedByRules (Limit Spread) = LooksForTrees s
+  IsAskedByRules (Spent term) = LooksForTrees s
+  IsAskedByRules (TooLarge term) = LooksForTrees s

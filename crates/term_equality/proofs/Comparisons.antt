@@ -16,7 +16,7 @@ use Rattle.script_text.specs.declared.fault.ScriptFault.{ScriptFault}
 use Rattle.script_text.specs.declared.fault.ScriptFault.TheVariants as faults
 use Rattle.term_equality.specs.declared.answer.Answer.{Answer}
 use Rattle.term_equality.specs.declared.answer.Answer.TheVariants.{Equal, Unequal, Spent, TooLarge, Refused}
-use Rattle.term_equality.specs.Comparisons.{AnswersCause, AnswersFault, TermsCome, Comes, IsEither, IsRefused, of_first, of_second, of_two_sorts}
+use Rattle.term_equality.specs.Comparisons.{AnswersCause, AnswersFault, TermsCome, Comes, IsEvaluated, IsRefused, of_first, of_second, of_two_sorts}
 
 pub terms_come : (theory : Theory) (first second : List ℕ) (t u : TermTree) (sort : ℕ) (budget : ℕ) (a : Answer) →
     SpellsTerm theory first t sort → SpellsTerm theory second u sort → TermsCome theory t u budget a → Comes theory first second budget a
@@ -27,7 +27,7 @@ terms_come theory first second t u sort budget (TooLarge x) s r h = (t, u, recor
 terms_come theory first second t u sort budget (Refused line kind) s r h = absurd h
 
 -- a term that has no value, of either side
-pub cause_comes : (theory : Theory) (x : Term) (t u : TermTree) (cause : Eval) (budget : ℕ) (a : Answer) → IsEither (term_of x) t u →
+pub cause_comes : (theory : Theory) (x : Term) (t u : TermTree) (cause : Eval) (budget : ℕ) (a : Answer) → IsEvaluated theory t u budget (term_of x) →
     (cause ≡ causes.Spent → IsBeyond theory (term_of x) budget) → (cause ≡ causes.TooLarge → MeetsTooLarge theory (term_of x)) →
     AnswersCause x cause a → TermsCome theory t u budget a
 cause_comes theory x t u causes.Spent budget a i spent large h = subst (TermsCome theory t u budget) (sym h) (i, spent refl)
@@ -36,7 +36,7 @@ cause_comes theory x t u causes.Memory budget a i spent large h = absurd h
 
 -- the same of the side that a fault tells
 pub side_comes : (theory : Theory) (x : Term) (t u : TermTree) (e : SideFault) (side : Side) (cause : Eval) (budget : ℕ) (a : Answer) →
-    e.side ≡ side → e.cause ≡ cause → term_of x ≡ at_side side t u → IsEither (term_of x) t u →
+    e.side ≡ side → e.cause ≡ cause → term_of x ≡ at_side side t u → IsEvaluated theory t u budget (term_of x) →
     (e.cause ≡ causes.Spent → IsBeyond theory (at_side e.side t u) budget) →
     (e.cause ≡ causes.TooLarge → MeetsTooLarge theory (at_side e.side t u)) → AnswersCause x cause a → TermsCome theory t u budget a
 side_comes theory x t u e side cause budget a at because is i spent large h =

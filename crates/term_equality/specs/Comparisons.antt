@@ -7,7 +7,7 @@ use Rattle.spec_core.specs.Equality.{Equal}
 use Rattle.spec_core.specs.Terms.{TermTree, term_of}
 use Rattle.spec_core.specs.Theories.{Theory}
 use Rattle.spec_core.specs.declared.term.Term.{Term}
-use Rattle.rewriter.specs.Answers.{MeetsTooLarge}
+use Rattle.rewriter.specs.Answers.{MeetsTooLarge, IsWithin, AreWithin}
 use Rattle.rewriter.specs.declared.fault.Eval.{Eval}
 use Rattle.rewriter.specs.declared.fault.Eval.TheVariants as causes
 use Rattle.script_text.specs.declared.fault.ScriptFault.{ScriptFault}
@@ -22,9 +22,9 @@ pub record AreSpelled (theory : Theory) (first second : List ℕ) (t u : TermTre
   pub first_spelled : SpellsTerm theory first t sort
   pub second_spelled : SpellsTerm theory second u sort
 
--- the term is one of these
-abbrev pub IsEither : TermTree → TermTree → TermTree → Type 0
-IsEither x t u = (x ≡ t) ⊎ (x ≡ u)
+-- the term is the first one; or it is the second one, and the first has a value within the budget and meets none that is too large
+abbrev pub IsEvaluated : Theory → TermTree → TermTree → ℕ → TermTree → Type 0
+IsEvaluated theory t u budget x = (x ≡ t) ⊎ (x ≡ u) × IsWithin theory t budget
 
 -- why the texts spell no terms of one sort, in this order: the first is no term; it is, and the second is none; they are of two sorts
 pub data IsRefused (theory : Theory) (first second : List ℕ) : ℕ → TextKind → Type 0 where
@@ -36,15 +36,15 @@ pub data IsRefused (theory : Theory) (first second : List ℕ) : ℕ → TextKin
       IsRefused theory first second 2 Sort
 
 -- What comes of two terms, with so many uses of equations for each.
---   equal: they are equal by the equations;
---   unequal: they aren't;
---   spent: one of them takes more uses;
---   too large: the evaluation of one of them meets a value that is too large.
+--   equal: they are equal by the equations, and each has a value within so many uses and meets none that is too large;
+--   unequal: they aren't, and each has;
+--   spent: the first of them that has no such value takes more uses;
+--   too large: its evaluation meets a value that is too large.
 abbrev pub TermsCome : Theory → TermTree → TermTree → ℕ → Answer → Type 0
-TermsCome theory t u budget answers.Equal = Equal theory t u
-TermsCome theory t u budget answers.Unequal = Equal theory t u → ⊥
-TermsCome theory t u budget (answers.Spent x) = IsEither (term_of x) t u × IsBeyond theory (term_of x) budget
-TermsCome theory t u budget (answers.TooLarge x) = IsEither (term_of x) t u × MeetsTooLarge theory (term_of x)
+TermsCome theory t u budget answers.Equal = Equal theory t u × AreWithin theory t u budget
+TermsCome theory t u budget answers.Unequal = (Equal theory t u → ⊥) × AreWithin theory t u budget
+TermsCome theory t u budget (answers.Spent x) = IsEvaluated theory t u budget (term_of x) × IsBeyond theory (term_of x) budget
+TermsCome theory t u budget (answers.TooLarge x) = IsEvaluated theory t u budget (term_of x) × MeetsTooLarge theory (term_of x)
 TermsCome theory t u budget (answers.Refused line kind) = ⊥
 
 -- what comes of two texts: of the terms of one sort that they spell, or why they spell none

@@ -9,7 +9,7 @@ use Rattle.spec_core.specs.Lists.{Each}
 use Rattle.spec_core.specs.Terms.{TermTree, TermTrees, variable, apply, no_terms, and_term, preorder, preorders}
 use Rattle.value_nodes.specs.Sizes.{symbols}
 use Rattle.value_nodes.specs.Nodes.{arguments, tree_in, node_tree, trees_after, trees_of, tree_at, IsMade, AreMade, IsSeen, IsNode}
-use Rattle.value_nodes.specs.Nodes.{IsLonger, AreValues}
+use Rattle.value_nodes.specs.Nodes.{IsLonger, AreSmall, AreValues}
 
 pub in_front : (ts us : List TermTree) (i : ℕ) → i < length ts → tree_in (ts ++ us) i ≡ tree_in ts i
 in_front [] us i h = absurd (omega arith)
@@ -214,3 +214,20 @@ one_more_node old new n count last i h = by_place (less_or_not i (length old))
 
 pub within : (rows : List Node) (i : ℕ) → i < length (trees_of rows) → IsNode rows i
 within rows i h = let l = trees-length [] rows in omega (arith, l, h)
+
+own_default : {A : Type 0} (xs : List A) (i : ℕ) (d : A) → i < length xs → get_or xs i d ≡ get_or xs i (get_or xs i d)
+own_default [] i d h = absurd (omega arith)
+own_default (x ∷ xs) zero d h = refl
+own_default (x ∷ xs) (suc i) d h = own_default xs i d (omega arith)
+
+small_seen : (ts : List TermTree) (i : ℕ) (r : Node) → IsSeen ts i r → symbols (tree_in ts i) ≤ 65536
+small_seen ts i (Constant op) s = let e : symbols (tree_in ts i) ≡ 1 = ap symbols s in omega (arith, e)
+small_seen ts i (One op size arg) s = omega (arith, s.2, s.3)
+small_seen ts i (More op size arg rest) s = omega (arith, s.3, s.4)
+
+-- no node of a table stands for what is too large
+pub all_small : (rows : List Node) → AreMade [] rows → AreSmall rows
+all_small rows m i h big =
+    let d : Node = Constant (record { 0 = 0 }) in
+    let s = small_seen (trees_of rows) i (get_or rows i d) (read rows i (get_or rows i d) m h (own_default rows i d h)) in
+    omega (arith, s, big)

@@ -6,7 +6,7 @@ use Rattle.spec_core.specs.Theories.{Theory}
 use Rattle.spec_core.specs.Values.{IsValue}
 use Rattle.value_nodes.specs.declared.node.Node.{Node}
 use Rattle.value_nodes.specs.declared.node.Node.TheVariants.{Constant, One, More}
-use Rattle.value_nodes.specs.Sizes.{symbols}
+use Rattle.value_nodes.specs.Sizes.{symbols, IsTooLarge}
 
 -- the arguments of a term
 abbrev pub arguments : TermTree → TermTrees
@@ -84,6 +84,10 @@ IsSeen ts i (More op size arg rest) =
 pub record IsLonger (old new : List Node) : Type 0 where
   pub at_least : length old ≤ length new
   pub same : (i : ℕ) → IsNode old i → tree_at new i ≡ tree_at old i
+
+-- no node stands for a term with more than 65,536 symbols
+abbrev pub AreSmall : List Node → Type 0
+AreSmall rows = (i : ℕ) → IsNode rows i → IsTooLarge (tree_at rows i) → ⊥
 
 -- each node stands for a value
 abbrev pub AreValues : Theory → List Node → Type 0

@@ -1,12 +1,12 @@
 // Tables of nodes.
 
-ghost use Rattle.std.specs.Prelude.{ℕ, ◌≡◌, ◌≤◌, ◌+◌, ◌⊎◌, [], IfOk, IfErr, length, map};
+ghost use Rattle.std.specs.Prelude.{ℕ, ◌≡◌, ◌≤◌, ◌+◌, ◌⊎◌, [], IfOk, IfErr, OnOk, length, map};
 ghost use Rattle.spec_core.specs.Constructors.{IsConstructor};
 ghost use Rattle.spec_core.specs.Lists.{Each};
 ghost use Rattle.spec_core.specs.Terms.{apply, and_term, no_terms, terms};
 ghost use Rattle.spec_core.specs.Theories.{Theory};
 ghost use Rattle.value_nodes.specs.Nodes.{arguments, node_tree, trees_of, tree_at, IsMade, IsSeen, IsNode, IsLonger, AreValues};
-ghost use Rattle.value_nodes.specs.Nodes.{IsOver, IsWhole, HasArguments};
+ghost use Rattle.value_nodes.specs.Nodes.{AreSmall, IsOver, IsWhole, HasArguments};
 ghost use Rattle.value_nodes.specs.Sizes.{symbols, IsTooLarge};
 
 use crate::fault::NodeFault;
@@ -114,6 +114,7 @@ impl Nodes {
         ensures there { IfOk result (λ n. IsNode self.new n) }
         ensures tree { IfOk result (λ n. tree_at self.new n ≡ node_tree (trees_of self.old) row) }
         ensures others { IfOk result (λ n. (i : ℕ) → IsNode self.new i → IsNode self.old i ⊎ (i ≡ n)) }
+        ensures small { OnOk result (AreSmall self.new) }
     {
         let place = self.rows.len();
         if place >= u32::MAX as usize {
@@ -130,6 +131,7 @@ impl Nodes {
         ensures there { IfOk result (λ n. IsNode self.new n) }
         ensures tree { IfOk result (λ n. tree_at self.new n ≡ apply op.0 (and_term (tree_at self.old arg) no_terms)) }
         ensures others { IfOk result (λ n. (i : ℕ) → IsNode self.new i → IsNode self.old i ⊎ (i ≡ n)) }
+        ensures small { OnOk result (AreSmall self.new) }
         ensures large { IfErr result (λ e.
             e ≡ NodeFault.TooLarge → IsTooLarge (apply op.0 (and_term (tree_at self.old arg) no_terms))) }
     {
@@ -151,6 +153,7 @@ impl Nodes {
         ensures tree { IfOk result (λ n.
             tree_at self.new n ≡ apply op.0 (and_term (tree_at self.old arg) (arguments (tree_at self.old rest)))) }
         ensures others { IfOk result (λ n. (i : ℕ) → IsNode self.new i → IsNode self.old i ⊎ (i ≡ n)) }
+        ensures small { OnOk result (AreSmall self.new) }
         ensures large { IfErr result (λ e.
             e ≡ NodeFault.TooLarge →
             IsTooLarge (apply op.0 (and_term (tree_at self.old arg) (arguments (tree_at self.old rest))))) }
@@ -176,6 +179,7 @@ impl Nodes {
         ensures tree { IfOk result (λ n. tree_at self.new n ≡ apply op.0 (terms (map (tree_at self.old) values.now))) }
         ensures values { IfOk result (λ n.
             (theory : Theory) → IsConstructor theory op.0 → AreValues theory self.old → AreValues theory self.new) }
+        ensures small { OnOk result (AreSmall self.new) }
         ensures large { IfErr result (λ e.
             e ≡ NodeFault.TooLarge → IsTooLarge (apply op.0 (terms (map (tree_at self.old) values.now)))) }
     {

@@ -123,3 +123,25 @@ module _ (program : Program) (fits : FitsData program.theory) (named : AreNamed 
       let no : ends_value rest ≡ false = ap ends_value (sym e) ∙ wrong in
       let yes : true ≡ false = sym ends ∙ no in
       cc
+
+  -- what is behind the value, too, is what is read so
+  pub only_read : (text w behind : List ℕ) → Some w ≡ read_in program.theory text → text ≡ value_text program.theory w ++ behind →
+      (v rest : List ℕ) → IsGroundList program.theory v → ends_value rest ≡ true → text ≡ value_text program.theory v ++ rest →
+      (v ≡ w) × (rest ≡ behind)
+  only_read text w behind h whole v rest k ends same =
+      let o = one_read text w h v rest k ends same in (
+        sym o,
+        append_cancel_left (value_text program.theory w) rest behind
+            (ap (λ z. value_text program.theory z ++ rest) o ∙ sym same ∙ whole),
+      )
+
+  pub printed_is_read : (v rest : List ℕ) → IsGroundList program.theory v → ends_value rest ≡ true →
+      read_in program.theory (value_text program.theory v ++ rest) ≡ Some v
+  printed_is_read v rest k ends = read_so (value_text program.theory v ++ rest) v rest k ends refl
+
+  pub one_text : (v w : List ℕ) → IsGroundList program.theory v → IsGroundList program.theory w →
+      value_text program.theory v ≡ value_text program.theory w → v ≡ w
+  one_text v w k l same =
+      let e : Some v ≡ Some w =
+      sym (printed_is_read v [] k refl) ∙ ap (λ t. read_in program.theory (t ++ [])) same ∙ printed_is_read w [] l refl in
+      cc

@@ -2,6 +2,7 @@
 #![tactic(auto)]
 
 mod extent;
+pub mod laws;
 mod piece;
 mod reading;
 mod value;

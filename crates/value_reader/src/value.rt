@@ -103,6 +103,8 @@ pub fn read_value<'a>(
     ensures ground { IfOk result (λ found. IfSome found (λ r. IsGroundList (theory_in vocabulary.now) r.0)) }
     ensures spelled { IfOk result (λ found. IfSome found (λ r. text.now ≡ value_text (theory_in vocabulary.now) r.0 ++ r.1.now)) }
     ensures ends { IfOk result (λ found. IfSome found (λ r. ends_value r.1.now ≡ true)) }
+    ensures only { IfOk result (λ found. IfSome found (λ r. (value rest : List ℕ) → IsGroundList (theory_in vocabulary.now) value →
+        ends_value rest ≡ true → text.now ≡ value_text (theory_in vocabulary.now) value ++ rest → (value ≡ r.0) × (rest ≡ r.1.now))) }
     ensures none { IfOk result (λ found. IfNone found ((value rest : List ℕ) → IsGroundList (theory_in vocabulary.now) value →
         ends_value rest ≡ true → text.now ≡ value_text (theory_in vocabulary.now) value ++ rest → ⊥)) }
 {

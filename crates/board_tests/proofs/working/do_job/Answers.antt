@@ -3,6 +3,7 @@ use Rattle.spec_core.specs.Lists.{IsOneOf}
 use Rattle.candidates.specs.Jobs.{is_out}
 use Rattle.candidates.specs.Models.{job_of}
 use Rattle.needed_jobs.specs.Needed.{generation_of}
+use Rattle.stop_reasons.specs.Reasons.{LooksForTrees}
 use Rattle.tree_nodes.specs.Origins.{source_of}
 use Rattle.tree_nodes.specs.Shapes.{Held, IsNodeOf, Shape}
 use Rattle.board_core.specs.Views.{needed_at}
@@ -26,4 +27,5 @@ work-requires c =
       origin =
           subst (λ (t : Shape). (n : Held) → IsNodeOf t (generation_of (job_of job.task)) n → n.source ≡ source_of job.origin)
           (sym like.nodes.0) out.0.origin;
+      looks = subst LooksForTrees (sym t.log.1) out.0.looks;
     }

@@ -20,5 +20,5 @@ returns c =
     let known = sym c.in_ok-log.ensures.end ∙ ap (option_map ending_of) c.in-Some.is in
     ended_by c.args.board m h.session h.settled c.requires.closed h.continues (events_of c.in_ok-log.log) c.in_ok-log.ensures.log
     (ending_of c.in-Some.end)
-    (end_is_so m c.first_trees_say.ensures.say c.first_trees_say.ensures.sized c.log_is_a_derivation.ensures.reached (ending_of c.in-Some.end)
+    (end_is_so m c.first_trees_say.ensures.say c.first_trees_say.ensures.of_session c.log_is_a_derivation.ensures.reached (ending_of c.in-Some.end)
     known)

@@ -1,5 +1,6 @@
 use Rattle.std.proofs.Common.{◌≡◌, ◌∙◌, IfSome, IfNone, false, is_some, length, map, rules, subst, sym}
 use Rattle.board_core.specs.Settled.{IsQuiet}
+use Rattle.stop_reasons.specs.Reasons.{LooksForTrees}
 use Rattle.spec_core.specs.Lists.{IsOneOf}
 use Rattle.board_core.specs.Views.{events, needed_at}
 use Rattle.board_core.proofs.Knowing.{free_is_needed}
@@ -34,6 +35,7 @@ work-requires c =
       origin =
           subst (λ (t : Shape). (n : Held) → IsNodeOf t (generation_of (job_of job.task)) n → n.source ≡ source_of job.origin)
           (search rules) out.0.origin;
+      looks = subst LooksForTrees (sym t.log.1) out.0.looks;
     }
 
 pub returns-in-None-clause-continues : goal.returns-in-None-clause-continues
@@ -45,7 +47,7 @@ returns-in-None-clause-continues c =
     let t = c.in_ok-take_job.ensures in
     onward a b c.take_job.new.self (after_settling a b h.session c.in_ok-settle.field-0 (length (events a)) h.settled h.none)
     (onward b c.give_back_all.new.self c.take_job.new.self (same_run b c.give_back_all.new.self g.session g.log g.stop)
-    (none_taken c.give_back_all.new.self c.take_job.new.self t.session t.log c.jobs_give_reasons.ensures.offers
+    (none_taken c.give_back_all.new.self c.take_job.new.self t.session t.log c.jobs_give_reasons.ensures
     (subst (λ o. IfNone o (WhyNone c.give_back_all.new.self c.take_job.new.self)) c.in-None.is t.none)))
 
 pub returns-in-None-clause-settled : goal.returns-in-None-clause-settled

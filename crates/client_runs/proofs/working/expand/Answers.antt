@@ -33,4 +33,5 @@ fail-requires c = record {
       c.settings-budget.result.budget c.in-Err.stop c.checked.ensures c.windows.ensures.windows
       (ap (λ (k : Settings). k.budget) c.settings-budget.ensures) c.requires.origin c.in-Err.ensures.stop free.node free.is)
       reason q;
+  looks = c.requires.looks;
 }

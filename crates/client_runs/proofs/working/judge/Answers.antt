@@ -25,6 +25,7 @@ fail-requires c = record {
       (ap (λ (k : Settings). k.budget) c.settings-budget.ensures) c.requires.origin
       c.in-Err.ensures.stop free.node free.is)
       reason q;
+  looks = c.requires.looks;
 }
 
 pub returns-in_ok-judged-in-Ok-clause-done : goal.returns-in_ok-judged-in-Ok-clause-done

@@ -13,6 +13,7 @@ expand-requires c = record {
   origin =
       subst (λ (t : NodeJob). (n : Held) → IsNodeOf (tree c.args.board.now) (generation_of (job_of t)) n →
       n.source ≡ source_of c.args.job.origin) c.in-Expand.is c.requires.origin;
+  looks = c.requires.looks;
 }
 
 pub judge-requires : goal.judge-requires
@@ -21,4 +22,5 @@ judge-requires c = record {
   origin =
       subst (λ (t : NodeJob). (n : Held) → IsNodeOf (tree c.args.board.now) (generation_of (job_of t)) n →
       n.source ≡ source_of c.args.job.origin) c.in-Judge.is c.requires.origin;
+  looks = c.requires.looks;
 }

@@ -5,8 +5,8 @@ use Rattle.lotos_run.proofs.Equals.{compared_due}
 use Rattle.lotos_run.proofs.Fetched.{ok_implied}
 use Rattle.lotos_run.proofs.equal.equal.Goals as goal
 
-pub returns-in-Ok : goal.returns-in-Ok
-returns-in-Ok g c =
+pub returns-in-Ok-clause-due : goal.returns-in-Ok-clause-due
+returns-in-Ok-clause-due g c =
     ok_implied c.compared_in.result
     (λ a h. compared_due (shelved (g.F.Shelf.files c.args.shelf.now) (g.F.Shelf.failed c.args.shelf.now) (g.F.Shelf.failed c.fetch.new.shelf))
     c.args.specification.now c.args.first.now c.args.second.now c.deref.result.now c.args.budget a.text.items

@@ -14,7 +14,7 @@ pub returns-then-next-len-clause-kept : goal.returns-then-next-len-clause-kept
 returns-then-next-len-clause-kept c =
     wanting_asks (theory_of c.args.algebra.now) c.requires.executable c.args.nodes.now c.args.bound.now c.args.place c.args.next
     c.args.op.0 c.args.count c.args.todo.now c.args.values.now c.requires.there c.requires.fit c.push_premise.new.todo c.args.uses
-    c.requires.ready.constructed (c.in_ok-push_premise.ensures.planned c.args.nodes.now)
+    c.requires.ready.constructed c.requires.ready.small (c.in_ok-push_premise.ensures.planned c.args.nodes.now)
 
 pub returns-then-uses-budget-clause-spent : goal.returns-then-uses-budget-clause-spent
 returns-then-uses-budget-clause-spent c =
@@ -38,6 +38,7 @@ returns-clause-ready c =
       values = subst (Each (IsNode c.args.nodes.now)) (sym c.forget.ensures.dropped)
           (each_under (IsNode c.args.nodes.now) c.args.count c.args.values.now c.requires.ready.values);
       constructed = c.requires.ready.constructed;
+      small = c.requires.ready.small;
     }
 
 pub returns-clause-kept : goal.returns-clause-kept
@@ -49,7 +50,7 @@ returns-clause-kept c =
     omega (arith, few, size, length-map c.numbered-equation.result.now.premises.items premise_of) in
     wanting_uses t c.requires.executable c.args.nodes.now c.args.bound.now c.args.place c.args.next c.args.op.0 c.args.count
     c.args.todo.now c.args.values.now c.requires.there c.requires.fit c.push_instance.new.todo c.forget.new.self c.args.uses
-    c.requires.ready.constructed last
+    c.requires.ready.constructed c.requires.ready.small last
     (c.in_ok-push_instance.ensures.planned t c.args.nodes.now ∙ ap
     (λ r. plan (put_by c.args.nodes.now c.args.bound.now) r (map (task_of t c.args.nodes.now) c.args.todo.now))
     (ap (λ d. d.right) c.numbered-equation.ensures.same))

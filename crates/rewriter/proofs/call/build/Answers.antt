@@ -39,3 +39,11 @@ returns-clause-built c =
     ∙ ap (λ vs. apply c.args.op.0 (arguments_of c.args.nodes.now c.args.count c.args.values.now) ∷ vs)
     (s ∙ ap (map (tree_at c.args.nodes.now)) c.forget.ensures.dropped ∙ drop_map
     (tree_at c.args.nodes.now) c.args.count c.args.values.now)
+
+pub returns-clause-small : goal.returns-clause-small
+returns-clause-small c =
+    let a : arguments_of c.args.nodes.now c.args.count c.args.values.now ≡ terms (map (tree_at c.args.nodes.now) c.top.result.now) =
+    top_terms (tree_at c.args.nodes.now) c.args.count c.args.values.now ∙ ap (λ us. terms (map (tree_at c.args.nodes.now) us))
+    (sym c.top.ensures.seen) in
+    λ big. c.in_ok-node.ensures.small c.in_ok-node.node c.in_ok-node.ensures.there
+    (subst IsTooLarge (ap (λ us. apply c.args.op.0 us) a ∙ sym c.in_ok-node.ensures.tree) big)

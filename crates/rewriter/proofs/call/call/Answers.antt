@@ -48,6 +48,7 @@ returns-clause-ready c = record {
       c.requires.ready.steps;
   values = c.in_ok-build.ensures.values;
   constructed = c.in_ok-build.ensures.constructed;
+  small = c.in_ok-build.ensures.all_small;
 }
 
 pub returns-clause-kept : goal.returns-clause-kept
@@ -57,4 +58,4 @@ returns-clause-kept c =
     let out : length (theory_of c.args.algebra.now).equations ≤ c.first-place.result = omega (arith, past, counted c.args.algebra.now) in
     let k = is_constructor t c.requires.executable c.args.op.0 (λ j m hd. c.first-place.ensures.skipped j (omega (arith, m, out)) m hd) in
     pending_made t c.requires.executable c.args.nodes.now 0 c.args.op.0 c.args.count c.args.todo.now c.args.values.now c.build.new.nodes
-    c.build.new.values c.args.uses refl k c.in_ok-build.ensures.longer c.requires.ready.steps c.in_ok-build.ensures.built
+    c.build.new.values c.args.uses refl k c.in_ok-build.ensures.small c.in_ok-build.ensures.longer c.requires.ready.steps c.in_ok-build.ensures.built

@@ -1,7 +1,7 @@
 use Rattle.std.proofs.Common.{◌∙◌}
 use Rattle.spec_core.specs.Theories.{theory_of}
 use Rattle.value_nodes.proofs.Nodes.{same_trees, still_nodes}
-use Rattle.rewriter.proofs.Following.{copied_values}
+use Rattle.rewriter.proofs.Following.{copied_small, copied_values}
 use Rattle.rewriter.proofs.compaction.compact.Goals as goal
 
 pub returns-clause-ready : goal.returns-clause-ready
@@ -13,6 +13,7 @@ returns-clause-ready c =
           c.in_ok-follow.ensures.there;
       constructed = copied_values t c.args.nodes.now c.follow-2.new.into c.in_ok-follow-2.ensures.copies.no_other
           c.requires.ready.constructed;
+      small = copied_small c.args.nodes.now c.follow-2.new.into c.in_ok-follow-2.ensures.copies.no_other c.requires.ready.small;
     }
 
 pub returns-clause-tasks : goal.returns-clause-tasks

@@ -25,6 +25,7 @@ run-requires-clause-ready c =
           (subst (Each (IsStep t c.new-nodes.result)) (sym c.new-todo.ensures.none) tt);
       values = subst (Each (IsNode c.new-nodes.result)) (sym c.new-values.ensures.none) tt;
       constructed = λ i h. absurd (let e = ap length c.new-nodes.ensures.none in omega (arith, h, e));
+      small = λ i h. absurd (let e = ap length c.new-nodes.ensures.none in omega (arith, h, e));
     }
 
 pub run-requires-clause-begun : goal.run-requires-clause-begun
@@ -39,7 +40,7 @@ run-requires-clause-begun c =
     let k = begin t c.requires.executable term g s in
     let i = subst (λ tasks. Keeps (Evaluating t term) 0 (Comes t tasks []) 0) (sym p) k in
     let j = subst (λ vals. Keeps (Evaluating t term) 0 (Comes t (map (task_of t rows) c.push_instance.new.todo) vals) 0) (sym v) i in
-    record { back = j.back; on = j.on; met = j.met }
+    record { back = j.back; on = j.on; met = j.met; large = j.large }
 
 pub returns-clause-value : goal.returns-clause-value
 returns-clause-value c =
@@ -52,4 +53,5 @@ returns-clause-value c =
       uses = r.0;
       evaluates = r.1;
       within = r.2;
+      small = c.in_ok-node.ensures.small;
     }

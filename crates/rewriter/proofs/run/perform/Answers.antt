@@ -17,7 +17,7 @@ returns-in-Call-clause-kept c =
     if_ok_one c.call.result
     (λ u k. subst (λ s. Keeps (Coming (theory_of c.args.algebra.now) c.args.nodes.now (s ∷ c.args.todo.now) c.args.values.now) c.args.uses
     (Coming (theory_of c.args.algebra.now) c.call.new.nodes c.call.new.todo c.call.new.values) u) (sym c.in-Call.is)
-    (record { back = k.back; on = k.on; met = k.met }))
+    (record { back = k.back; on = k.on; met = k.met; large = k.large }))
     c.call.ensures.kept
 
 pub returns-in-Call-clause-spent : goal.returns-in-Call-clause-spent
@@ -39,7 +39,7 @@ returns-in-Decide-clause-kept c =
     if_ok_one c.decide.result
     (λ u k. subst (λ s. Keeps (Coming (theory_of c.args.algebra.now) c.args.nodes.now (s ∷ c.args.todo.now) c.args.values.now) c.args.uses
     (Coming (theory_of c.args.algebra.now) c.args.nodes.now c.decide.new.todo c.decide.new.values) u) (sym c.in-Decide.is)
-    (record { back = k.back; on = k.on; met = k.met }))
+    (record { back = k.back; on = k.on; met = k.met; large = k.large }))
     c.decide.ensures.kept
 
 pub returns-in-Decide-clause-spent : goal.returns-in-Decide-clause-spent

@@ -4,7 +4,7 @@ use Rattle.spec_core.specs.Terms.{term_of}
 use Rattle.spec_core.specs.Theories.{theory_of}
 use Rattle.rewriter.proofs.Moves.{keep_on}
 use Rattle.rewriter.specs.Machine.{Evaluating}
-use Rattle.rewriter.proofs.Loop.{moved_kept, before_step, ended_at, never_ended, spent_at}
+use Rattle.rewriter.proofs.Loop.{moved_kept, before_step, ended_at, met_none, never_ended, spent_at}
 use Rattle.rewriter.proofs.run.run.Goals as goal
 
 pub returns-in_err-uses-in-Some-clause-spent : goal.returns-in_err-uses-in-Some-clause-spent
@@ -28,6 +28,12 @@ returns-in-None-clause-value c =
     ended_at (theory_of c.args.algebra.now)
     (term_of c.args.term.now) c.loop-turn.nodes c.loop-turn.todo c.loop-turn.values c.loop-turn.uses c.loop-turn.invariant.kept
     c.in_ok-node-in-None.node c.args.budget c.in-None.ensures.popped.0 c.in_ok-node-in-None.ensures.one c.loop-turn.invariant.within
+
+pub returns-in-None-clause-small : goal.returns-in-None-clause-small
+returns-in-None-clause-small c =
+    met_none (theory_of c.args.algebra.now)
+    (term_of c.args.term.now) c.loop-turn.nodes c.loop-turn.todo c.loop-turn.values c.loop-turn.uses c.loop-turn.invariant.kept
+    c.in_ok-node-in-None.node c.in-None.ensures.popped.0 c.in_ok-node-in-None.ensures.one
 
 pub loop-turn-preserved : goal.loop-turn-preserved
 loop-turn-preserved c =

@@ -2,13 +2,14 @@ use Rattle.std.proofs.Common.{◌∙◌, ◌++◌, ap, sym, length, pred}
 use Rattle.std.specs.Prelude.{option_map}
 use Rattle.constructs.specs.Views.{construct_of}
 use Rattle.spec_core.specs.Code.{node_of}
-use Rattle.behaviour_readings.specs.Views.{functionality_of, output_of}
+use Rattle.behaviour_readings.specs.Views.{functionality_of, heading_of, output_of}
 use Rattle.behaviour_reader.proofs.Whole.{read_as}
 use Rattle.process_table.specs.Views.{entry_of}
-use Rattle.static_check.specs.Bodies.{ending_refusals}
+use Rattle.process_table.specs.Headings.{parameter_sorts}
+use Rattle.static_check.specs.Bodies.{ending_refusals, unknown_in}
 use Rattle.static_check.specs.Steps.{node_over}
 use Rattle.static_check.specs.Views.{data_of, setting_of}
-use Rattle.static_check.proofs.OneByOne.{heading_within, declared_at, body_read}
+use Rattle.static_check.proofs.OneByOne.{heading_within, declared_at, sorts_at, body_read}
 use Rattle.static_check.proofs.bodies.read_body.Goals as goal
 
 pub heading_at-heading-requires : goal.heading_at-heading-requires
@@ -26,6 +27,16 @@ returns-clause-read c =
     (c.in_ok-node.ensures ∙ ap (λ z. option_map (λ _. node_over (setting_of z.context c.args.setting.now) e z.context.variables (pred (length read.code)))
     (option_map functionality_of c.in_ok-found.found)) c.in_ok-found.ensures.site)
     c.in_ok-add_body_ending.ensures.code
-    (λ x is. c.in_ok-add_body_ending.ensures.refusals x is ∙ ap (λ d. read.refusals ++ ending_refusals e.process.name.place d x)
-    (declared_at (data_of c.args.site.now.context) c.args.setting.now.headings.now c.args.setting.now.table.now c.args.number c.heading_at-heading.result.now
+    (λ x is.
+    let n = c.sorts.ensures ∙ ap (λ z. length z.context.sorts) (c.in_ok-found.ensures.site ∙ c.in_ok-enter.ensures) in
+    let hs = (heading_of c.heading_at-heading.result.now).sorts in
+    let d = option_map functionality_of c.heading_at-heading.result.now.functionality in
+    let q = data_of c.args.site.now.context in
+    c.in_ok-add_body_ending.ensures.refusals x is
+    ∙ ap (λ k. read.refusals ++ ending_refusals (unknown_in k hs) e.process.name.place d x) n
+    ∙ ap (λ sorts. read.refusals ++ ending_refusals (unknown_in (length q.sorts) sorts) e.process.name.place d x)
+    (sorts_at q c.args.setting.now.headings.now c.args.setting.now.table.now c.args.number c.heading_at-heading.result.now
+    c.args.entry.now c.requires.headings c.requires.within c.heading_at-heading.ensures c.requires.entry)
+    ∙ ap (λ d. read.refusals ++ ending_refusals (unknown_in (length q.sorts) (parameter_sorts q e.process.parameters)) e.process.name.place d x)
+    (declared_at q c.args.setting.now.headings.now c.args.setting.now.table.now c.args.number c.heading_at-heading.result.now
     c.args.entry.now c.requires.headings c.requires.within c.heading_at-heading.ensures c.requires.entry))

@@ -18,6 +18,7 @@ pub returns : goal.returns
 returns c =
     if_ok_implied c.without_value-in-Right.result
     (λ a h. side_comes (theory_of c.args.checked.now.algebra) c.args.second (term_of c.args.first) (term_of c.args.second) c.in-Err.field-0
-    Right c.in-Err.field-0.cause c.args.budget a c.in-Right.is refl refl (inr refl) c.in-Err.ensures.spent
+    Right c.in-Err.field-0.cause c.args.budget a c.in-Right.is refl refl (inr (refl, c.in-Err.ensures.left_first c.in-Right.is))
+    c.in-Err.ensures.spent
     c.in-Err.ensures.too_large h)
     c.without_value-in-Right.ensures

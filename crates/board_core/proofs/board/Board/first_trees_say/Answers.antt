@@ -1,8 +1,8 @@
 use Rattle.std.proofs.Common.{subst}
 use Rattle.board_tree.specs.Views as trees
 use Rattle.needed_jobs.specs.Laws.{FirstTreesSay}
+use Rattle.session_rules.specs.Next.{AreSessionWindows}
 use Rattle.tree_nodes.specs.Generations.{AreApart}
-use Rattle.windowed_trees.specs.Windows.{AreWindows}
 use Rattle.board_core.specs.contracts.board.Board.{the_view}
 use Rattle.board_core.specs.Views.{BoardView, program, tree, pieces, windows}
 use Rattle.board_core.proofs.Due as due
@@ -14,8 +14,8 @@ returns-clause-say c =
     (due.first_trees_say (the_view c.self.inside) c.self.invariant c.log_is_a_derivation.ensures.ready
     (subst (λ t. AreApart (trees.shape t)) c.tree.ensures c.generations_are_sound.ensures.apart) c.log_is_a_derivation.ensures.reached)
 
-pub returns-clause-sized : goal.returns-clause-sized
-returns-clause-sized c =
-    subst (λ (z : BoardView). AreWindows (program z).theory z.settings.values (windows z)) c.self.view_is
-    (due.sized (the_view c.self.inside) c.self.invariant c.log_is_a_derivation.ensures.ready
+pub returns-clause-of_session : goal.returns-clause-of_session
+returns-clause-of_session c =
+    subst (λ (z : BoardView). AreSessionWindows (program z) z.settings (windows z)) c.self.view_is
+    (due.of_session (the_view c.self.inside) c.self.invariant c.log_is_a_derivation.ensures.ready
     (subst (λ t. AreApart (trees.shape t)) c.tree.ensures c.generations_are_sound.ensures.apart) c.log_is_a_derivation.ensures.reached)

@@ -5,7 +5,7 @@ use Rattle.rule_model.specs.Derivations.{derivation_of}
 use Rattle.courses.specs.Rules.{goes_on}
 use Rattle.session_rules.specs.Drawing.{drawn}
 use Rattle.board_core.specs.Views.{BoardView, state}
-use Rattle.board_core.proofs.Entries.{acts, on_ok_alone, same_draw}
+use Rattle.board_core.proofs.Entries.{acts, on_ok_both, same_draw}
 use Rattle.board_core.proofs.board.Board.go_on.Goals as goal
 
 pub returns-clause-settled : goal.returns-clause-settled
@@ -17,7 +17,7 @@ returns-clause-settled c =
     let number : c.drawn-number.result ≡ drawn v.settings.seed (state v).actions (length trees) =
     same_draw c.drawn-number.result _ v.settings.seed _ (state v).actions _ (length trees) c.drawn-number.ensures.drawn
     (ap (λ (z : BoardView). z.settings.seed) c.self.view_is) c.actions.ensures (sym (length-map c.args.those.now derivation_of)) in
-    on_ok_alone c.act.result
+    on_ok_both c.act.result
     (acts v c.act.new.self (goes_on trees) c.requires.due c.requires.rules c.requires.stop c.act.ensures.stop d None
     (λ a. (c.requires.below, d, ap (slice_get trees) (sym number) ∙ there, a, refl)))
-    c.act.ensures.acted
+    c.act.ensures.acted c.act.ensures.stepped

@@ -17,6 +17,11 @@ hand_out-requires-clause-lives c =
     (free_is_needed (is_out (map job_of v.out)) (needed_at v) job
     (sym c.in_ok-next_task.ensures.job ∙ ap (option_map job_of) c.in-Some.is))
 
+pub hand_out-requires-clause-looks : goal.hand_out-requires-clause-looks
+hand_out-requires-clause-looks c =
+    let on : IsTrue c.goes_on.result = search rules in
+    c.goes_on.ensures.looks on
+
 pub returns-then-not-goes_on-clause-none : goal.returns-then-not-goes_on-clause-none
 returns-then-not-goes_on-clause-none c =
     let not_on : c.goes_on.result ≡ false = search rules in
@@ -35,6 +40,7 @@ returns-then-branch-clause-none c =
     let h = c.in_ok-is_too_much-in-Some.ensures.many many in
     inr (record {
       running = (c.goes_on.ensures.goes_on on).0;
+      looks = c.goes_on.ensures.looks on;
       job = job_of c.in-Some.task;
       first = sym c.in_ok-next_task.ensures.job ∙ ap (option_map job_of) c.in-Some.is;
       verdict = h.0;

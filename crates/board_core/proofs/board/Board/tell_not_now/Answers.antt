@@ -22,7 +22,8 @@ returns-clause-settled c =
     let name = c.offer_name-name.result in
     let at = c.actions-at.result in
     on_ok c.reply.result
-    (by_rules c.args.self.now c.reply.new.self (is_not_now p) c.requires.due c.requires.rules c.requires.stop c.reply.ensures.stop
+    (λ log possible alone. by_rules c.args.self.now c.reply.new.self (is_not_now p) c.requires.due c.requires.rules c.requires.stop c.reply.ensures.stop
     (replied name.0 name.1 (not_now at))
-    (same_reply name (name_of p) (not_now at) (not_now s.actions) c.offer_name-name.ensures (ap not_now c.actions-at.ensures)))
-    c.reply.ensures.log c.reply.ensures.possible
+    (same_reply name (name_of p) (not_now at) (not_now s.actions) c.offer_name-name.ensures (ap not_now c.actions-at.ensures))
+    log possible alone.0 (alone.1, alone.2))
+    c.reply.ensures.log c.reply.ensures.possible c.reply.ensures.alone

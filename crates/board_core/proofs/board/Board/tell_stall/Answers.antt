@@ -19,6 +19,7 @@ pub returns-clause-settled : goal.returns-clause-settled
 returns-clause-settled c =
     let v = c.args.self.now in
     on_ok c.stall.result
-    (by_rules v c.stall.new.self stalls c.requires.due c.requires.rules c.requires.stop c.stall.ensures.stop
-    (stalled (map name_of (by_client (state v).pending))) refl)
-    c.stall.ensures.log c.stall.ensures.possible
+    (λ log possible alone. by_rules v c.stall.new.self stalls c.requires.due c.requires.rules c.requires.stop c.stall.ensures.stop
+    (stalled (map name_of (by_client (state v).pending))) refl
+    log possible alone.0 (alone.1, alone.2))
+    c.stall.ensures.log c.stall.ensures.possible c.stall.ensures.alone

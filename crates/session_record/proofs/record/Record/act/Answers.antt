@@ -64,5 +64,6 @@ returns-clause-acted c =
           right follows reserved.tree c.step.ensures.step;
       log =
           events_then p s d c.args.by v.tree.ready r (shape n) readied c.step.ensures.next v.entries.items c.append.new.entries.items (search rules);
+      one_more = (r.entry, search rules);
       state = state_then p s d c.args.by v.tree.ready r (shape n) readied c.step.ensures.next;
     })

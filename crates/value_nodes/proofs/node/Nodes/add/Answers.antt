@@ -1,6 +1,6 @@
 use Rattle.std.proofs.Common.{rules, ◌≡◌, ◌∷◌, ◌++◌, [], subst, sym, length}
-use Rattle.value_nodes.specs.Nodes.{trees_of, tree_at, node_tree, AreMade, IsLonger}
-use Rattle.value_nodes.proofs.Nodes.{pushed, pushed_tree, pushed_longer}
+use Rattle.value_nodes.specs.Nodes.{trees_of, tree_at, node_tree, AreMade, AreSmall, IsLonger}
+use Rattle.value_nodes.proofs.Nodes.{all_small, pushed, pushed_tree, pushed_longer}
 use Rattle.value_nodes.proofs.node.Nodes.add.Goals as goal
 
 pub invariant_of-self-2 : goal.invariant_of-self-2
@@ -8,6 +8,12 @@ invariant_of-self-2 c =
     let e : c.push.new.self.items ≡ c.args.self.now ++ c.args.row ∷ [] = search rules in
     let m : AreMade [] c.args.self.now = search rules in
     subst (AreMade []) (sym e) (pushed c.args.self.now c.args.row m c.requires.made)
+
+pub returns-clause-small : goal.returns-clause-small
+returns-clause-small c =
+    let e : c.push.new.self.items ≡ c.args.self.now ++ c.args.row ∷ [] = search rules in
+    let m : AreMade [] c.args.self.now = search rules in
+    subst AreSmall (sym e) (all_small (c.args.self.now ++ c.args.row ∷ []) (pushed c.args.self.now c.args.row m c.requires.made))
 
 pub returns-clause-longer : goal.returns-clause-longer
 returns-clause-longer c =

@@ -1,9 +1,8 @@
 -- The plans that a behaviour's constructs make are those of its composites.
-use Rattle.std.proofs.Common.{ℕ, zero, suc, ◌≡◌, ◌++◌, ◌∙◌, ◌∷◌, [], List, map, flat_map, refl, sym, ap, subst, length, Bool, true, false}
+use Rattle.std.proofs.Common.{ℕ, zero, suc, ◌≡◌, ◌++◌, ◌∙◌, ◌∷◌, [], List, map, flat_map, refl, ap, Bool, true, false}
 use Rattle.std.proofs.Common.{if◌then◌else◌, Option, Some, None}
-use Rattle.spec_core.specs.Terms.{TermTree}
 use Rattle.spec_core.specs.Theories.{Theory}
-use Rattle.spec_core.specs.Code.{Program, ExitValue, exit_given, exit_any, ActionField, give, accept}
+use Rattle.spec_core.specs.Code.{ExitValue, exit_given, exit_any, ActionField, give, accept}
 use Rattle.rule_model.specs.declared.rules.Slot.{Slot}
 use Rattle.rule_model.specs.Actions.{ends, at_gate, pairs_of}
 use Rattle.rule_model.specs.Behaviours.{Behaviour, stop, exit, inner, action, choice, guarded, bound, value_choice, gate_choice, parallel}
@@ -11,17 +10,17 @@ use Rattle.rule_model.specs.Behaviours.{hide, enable, disable, call, relabel}
 use Rattle.rule_model.specs.Derivations.{pre, exiting, calling, guard, letting, val}
 use Rattle.windowed_trees.specs.Windows.{Windows}
 use Rattle.windowed_trees.specs.MarkedTerms.{MarkedAssignment, unmarked, with_marked}
-use Rattle.composites.specs.Evaluations.{Evaluation, IsExact, premise_may_hold, chosen_term, with_bindings, with_arguments}
+use Rattle.composites.specs.Evaluations.{Evaluation, premise_may_hold, chosen_term, with_bindings, with_arguments}
 use Rattle.composites.specs.OpenFields.{open_fields, open_exit, slots_of, exit_slots_of, window_slots}
-use Rattle.composites.specs.Composites.{Composite, from_option, under, composites_in, below_calls, composites, by_hiding, by_enabling}
+use Rattle.composites.specs.Composites.{Composite, from_option, under, composites_in, below_calls, by_hiding, by_enabling}
 use Rattle.composites.specs.Composites.{of_choice, of_parallel, of_disable, of_relabel, of_gates}
 use Rattle.open_composites.specs.declared.scheme.Row.TheVariants.{Guard, Let, Val, Call}
 use Rattle.open_composites.specs.Plans.{prefix, termination, taken_slots}
 use Rattle.open_composites.specs.OpenPlans.{OpenPlan, composite_of, under_row, under_relabelling}
-use Rattle.open_composites.specs.Laws.{PlansAreOfComposites, composites_of}
+use Rattle.open_composites.specs.Laws.{PlansAreOfComposites}
 use Rattle.open_composites.proofs.Made.{map_append, plans_make_composites}
-use Rattle.offer_counts.specs.OwnPlans.{takes_value, takes_any, own_plans_in, own_plans_below, own_plans}
-use Rattle.offer_counts.specs.Laws.{OwnPlansAreThose, BehavioursHaveOffers}
+use Rattle.own_plans.specs.OwnPlans.{takes_value, takes_any, own_plans_in, own_plans_below}
+use Rattle.own_plans.specs.Laws.{OwnPlansAreThose}
 
 -- the slots of an action, and of an exit, by which of the fields take a value
 slots_taken : (fields : List ActionField) (choices : List (List Slot)) →
@@ -138,52 +137,3 @@ module _ (theory : Theory) (e : Evaluation) (w : Windows) where
 pub own_plans_are_those : OwnPlansAreThose
 own_plans_are_those theory e w n m b =
     own_in theory e w (own_plans_below theory e w n) (below_calls theory e w n) (own_below theory e w n) m b
-
--- all exact answers are the same
-same_option : {A : Type 0} (o p : Option A) → ((a : A) → o ≡ Some a → p ≡ Some a) → ((a : A) → p ≡ Some a → o ≡ Some a) → o ≡ p
-same_option None None h k = refl
-same_option None (Some a) h k = k a refl
-same_option (Some a) p h k = sym (h a refl)
-
-same_test : (b c : Bool) → (b ≡ true → c ≡ true) → (c ≡ true → b ≡ true) → b ≡ c
-same_test false false h k = refl
-same_test false true h k = k refl
-same_test true c h k = sym (h refl)
-
-pub one_evaluation : (program : Program) (e f : Evaluation) → IsExact program e → IsExact program f → e ≡ f
-one_evaluation program e f h k =
-    let values : (t : TermTree) → e.value t ≡ f.value t =
-    λ t. same_option (e.value t) (f.value t) (λ n i. (k.value t n).0 ((h.value t n).1 i)) (λ n i. (h.value t n).0 ((k.value t n).1 i)) in
-    let equals : (a b : TermTree) → e.equal a b ≡ f.equal a b =
-    λ a b. same_test (e.equal a b) (f.equal a b) (λ i. (k.equal a b).0 ((h.equal a b).1 i)) (λ i. (h.equal a b).0 ((k.equal a b).1 i)) in
-    let spelled : (v : List ℕ) (sort : ℕ) → e.spelled v sort ≡ f.spelled v sort =
-    λ v sort. same_option (e.spelled v sort) (f.spelled v sort) (λ n i. (k.spelled v sort n).0 ((h.spelled v sort n).1 i))
-    (λ n i. (h.spelled v sort n).0 ((k.spelled v sort n).1 i)) in
-    let definitions : (p : ℕ) → e.definition p ≡ f.definition p =
-    λ p. same_option (e.definition p) (f.definition p) (λ d i. (k.definition p d).0 ((h.definition p d).1 i))
-    (λ d i. (h.definition p d).0 ((k.definition p d).1 i)) in
-    λ i. record {
-      value = λ t. values t i;
-      equal = λ a b. equals a b i;
-      spelled = λ v sort. spelled v sort i;
-      definition = λ p. definitions p i;
-    }
-
--- what plans come to with one of them they come to with all
-pub for_all : (program : Program) (w : Windows) (b : Behaviour) (ps : List OpenPlan) (e : Evaluation) → IsExact program e →
-    composites_of program.theory w ps ≡ composites program.theory e w (length program.code) unmarked b →
-    (f : Evaluation) → IsExact program f →
-    composites_of program.theory w ps ≡ composites program.theory f w (length program.code) unmarked b
-for_all program w b ps e h i f k =
-    subst (λ z. composites_of program.theory w ps ≡ composites program.theory z w (length program.code) unmarked b)
-    (one_evaluation program e f h k) i
-
-pub behaviours_have_offers : BehavioursHaveOffers
-behaviours_have_offers program e w h b =
-    let n = length program.code in
-    let ps = own_plans program.theory e w n unmarked b in
-    record {
-      plans = ps;
-      composites = for_all program w b ps e h (own_plans_are_those program.theory e w n unmarked b);
-      sum = refl;
-    }

@@ -1,0 +1,3 @@
+pub mod Loosened
+pub mod Laws
+pub mod Examples

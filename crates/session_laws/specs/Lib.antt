@@ -1,0 +1,4 @@
+pub mod Logs
+pub mod Sessions
+pub mod Answers
+pub mod Laws
