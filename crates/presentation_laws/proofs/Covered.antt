@@ -60,7 +60,7 @@ in-numbers-once ks j h = by-same (in-once nat_eq (λ x. eq-eqb x x refl) ks j h)
     by-same (y, i, s) = subst (λ z. IsOneOf z (each_once nat_eq ks)) (sym (eqb-true j y s)) i
 
 -- the parts by rounds
-abbrev parts_within : List TypeDef → ℕ → List (List ℕ)
+abbrev pub parts_within : List TypeDef → ℕ → List (List ℕ)
 parts_within types m = rounds [] (parts_from types) types m
 
 -- one of which it is made, or a part of that

@@ -8,6 +8,7 @@ mod Ordered
 mod Placed
 pub mod Presented
 mod Read
+mod Recursion
 mod Spelled
 mod Typed
 mod Variables

@@ -1,9 +1,13 @@
 -- Laws of data presentations.
-use Rattle.std.specs.Prelude.{◌≡◌, ◌<◌, ◌^◌, List, [], length}
+use Rattle.std.specs.Prelude.{◌≡◌, ◌<◌, ◌^◌, ◌↔◌, List, [], length, map}
+use Rattle.std.specs.List.{zip}
 use Rattle.lotos_ast.specs.declared.types.TypeDef.{TypeDef}
 use Rattle.spec_core.specs.Lists.{Each}
 use Rattle.spec_core.specs.Sorts.{FitsData}
-use Rattle.spec_core.specs.Theories.{Theory}
+use Rattle.spec_core.specs.Theories.{ConditionalEquation, Theory}
+use Rattle.type_contents.specs.Uses.{links}
+use Rattle.type_cycles.specs.MadeFrom.{AreAcyclic}
+use Rattle.equation_copies.specs.Contents.{Equations, made_from, equations}
 use Rattle.flattening.specs.Refusals.{refusals_of}
 use Rattle.data_presentation.specs.Presentations.{IsPresentation}
 use Rattle.presentation_laws.specs.NamedTypes.{IsTypeNamed}
@@ -21,3 +25,10 @@ abbrev pub PresentationsAreNamed : Type 0
 PresentationsAreNamed = (types : List TypeDef) (theory : Theory) → refusals_of types ≡ [] → Each IsTypeNamed types →
     IsPresentation types theory →
     IsDataNamed theory
+
+-- Where no type is made from itself, the equations of types, each with own ones, by rounds are those that the standard gives by recursion:
+-- there is one table in which each type has just what it is made from, the others having what they have in it
+abbrev pub EquationsAreByRecursion : Type 0
+EquationsAreByRecursion = (types : List TypeDef) (own : List (List ConditionalEquation)) → length own ≡ length types →
+    AreAcyclic (map (links types) types) → (table : List Equations) →
+    (map (made_from types table) (zip types own) ≡ table) ↔ (table ≡ equations types own)

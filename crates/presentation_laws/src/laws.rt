@@ -1,6 +1,6 @@
 // Laws of the definitions: a call does nothing, and its contract is the law.
 
-ghost use Rattle.presentation_laws.specs.Laws.{PresentationsFit, PresentationsAreNamed};
+ghost use Rattle.presentation_laws.specs.Laws.{EquationsAreByRecursion, PresentationsFit, PresentationsAreNamed};
 
 use type_names::laws::types_without_a_cycle_are_made_from_each_other;
 
@@ -18,3 +18,9 @@ pub fn presentations_are_named()
 {
     types_without_a_cycle_are_made_from_each_other();
 }
+
+/// Where no type is made from itself, the equations of types are those that recursion on how types are made gives, and no others.
+#[tactic(auto, using(crate::proofs::Recursion::equations_are_by_recursion))]
+pub fn equations_are_by_recursion()
+    ensures { EquationsAreByRecursion }
+{}
