@@ -48,7 +48,7 @@ each_of P (x ∷ xs) h = (h x (inl refl), each_of P xs (λ y k. h y (inr k)))
 module _ (v : BoardView) (is : IsBoard v) (ready : IsReady (program v)) (apart : AreApart (tree v))
     (reached : (state v).behaviour ≡ stands_for (program v) (tree v)) where
   pub of_session : AreSessionWindows (program v) v.settings (windows v)
-  of_session = table_of_session (program v) v.settings v.windows is.rows_are is.all_sorts
+  of_session = table_of_session (program v) v.settings v.windows is.0.rows_are is.0.all_sorts
 
   pub known_tree : (e : Evaluation) → IsExact (program v) e →
       IsKnownTree (program v) e v.settings.values (windows v) (tree v) (pieces v)
@@ -58,9 +58,9 @@ module _ (v : BoardView) (is : IsBoard v) (ready : IsReady (program v)) (apart :
     windows = of_session.sized;
     apart = apart;
     expanded = λ up n s x h.
-        ap (composites_of (program v).theory (windows v)) (is.expansions up n s x h e exact)
+        ap (composites_of (program v).theory (windows v)) (is.0.expansions up n s x h e exact)
         ∙ own_plans_are_those (program v).theory e (windows v) (length (program v).code) unmarked (meaning (program v) n.source);
-    shown = is.shown;
+    shown = is.0.shown;
   }
 
   pub first_trees_say : FirstTreesSay (program v) (windows v) (tree v) (pieces v)
@@ -74,7 +74,7 @@ module _ (v : BoardView) (is : IsBoard v) (ready : IsReady (program v)) (apart :
       given.jobs_give_reasons (program v) v.settings exact.0 (windows v) (tree v) (pieces v) (state v)
       (record {
         known = known_tree exact.0 exact.1;
-        own = λ f exact up n s x h. is.expansions up n s x h f exact;
+        own = λ f exact up n s x h. is.0.expansions up n s x h f exact;
         reached = reached;
       })
 
@@ -102,7 +102,7 @@ module _ (v : BoardView) (is : IsBoard v) (ready : IsReady (program v)) (apart :
   may_follow by q d a c searched derives agreed = record {
     may = record { action = a; rest = c; derives = derives; agreed = agreed };
     follows =
-        searched_trees_follow (program v) (windows v) (tree v) is.complete q d a c searched
+        searched_trees_follow (program v) (windows v) (tree v) is.0.complete q d a c searched
         (subst (λ b. Derives (program v) b d a c) reached derives);
   }
 

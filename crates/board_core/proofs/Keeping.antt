@@ -1,8 +1,7 @@
 -- What is known stays so.
-use Rattle.std.proofs.Common.{ℕ, ◌≡◌, ◌<◌, List, sym, ap, subst, length, Option, None, Some}
+use Rattle.std.proofs.Common.{ℕ, ◌≡◌, ◌<◌, List, sym, subst, length, Option, None, Some}
 use Rattle.spec_core.specs.declared.window.Window.{Window}
-use Rattle.spec_core.specs.declared.settings.Settings.{Settings}
-use Rattle.spec_core.specs.Code.{Program, program_of}
+use Rattle.spec_core.specs.Code.{Program}
 use Rattle.sort_windows.specs.Found.{AreBySorts}
 use Rattle.rule_model.specs.Derivations.{Derivation}
 use Rattle.tree_nodes.specs.declared.origin.Gen.{Gen}
@@ -14,12 +13,11 @@ use Rattle.window_tables.specs.Tables.{windows_in}
 use Rattle.known_shows.specs.declared.pieces.Piece.{Piece}
 use Rattle.known_shows.specs.Known.{Pieces}
 use Rattle.known_shows.specs.Laws.{IsPieceOf}
-use Rattle.known_shows.specs.Stored.{stored, with_piece, without}
+use Rattle.known_shows.specs.Stored.{with_piece, without}
 use Rattle.known_shows.proofs.Staying.{pieces_stay_so}
 use Rattle.known_shows.proofs.Verdicts.{pieces_outlive_steps}
 use Rattle.followed_trees.proofs.Keeping.{completeness_stays, expansions_stay}
-use Rattle.board_core.specs.Boards.{IsBoard, IsKnown, IsWorkAt}
-use Rattle.board_core.specs.Views.{BoardView, program, tree, pieces, SameNodes, SameSetting}
+use Rattle.board_core.specs.Boards.{IsKnown, IsWorkAt}
 
 -- the same, said of other names for the same things
 pub stays : (p q : Program) (k l : ℕ) (rows others : List Window) (t u : Shape) (ps qs : Pieces) (n m : ℕ) → q ≡ p → l ≡ k → others ≡ rows →
@@ -30,13 +28,6 @@ stays p q k l rows others t u ps qs n m a b c d e f h =
     (subst (λ z. IsKnown p k z u qs m) (sym c)
     (subst (λ z. IsKnown p k rows z qs m) (sym d)
     (subst (λ z. IsKnown p k rows t z m) (sym e) (subst (λ z. IsKnown p k rows t ps z) (sym f) h)))))
-
--- a board whose specification, settings, windows, tree and knowledge are those of another
-pub stays_on : (v u : BoardView) → SameSetting v u → SameNodes v u → IsBoard v → IsBoard u
-stays_on v u setting nodes h =
-    stays (program v) (program u) v.settings.values u.settings.values v.windows u.windows (tree v) (tree u) (pieces v) (pieces u)
-    v.session.tree.next u.session.tree.next (ap program_of setting.0.0) (ap (λ (z : Settings). z.values) setting.1) setting.2 nodes.0
-    (ap stored nodes.2) nodes.1 h
 
 nothing : (o : Option (Option Show)) (s : Option Show) → o ≡ None → o ≡ Some s → ⊥
 nothing o s e f = cc

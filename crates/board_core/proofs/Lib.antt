@@ -3,6 +3,7 @@ pub mod Entries
 pub mod Found
 pub mod Keeping
 pub mod Knowing
+pub mod Living
 pub mod Origins
 pub mod Quiet
 pub mod Tables

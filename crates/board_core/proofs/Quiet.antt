@@ -96,7 +96,7 @@ module _ (v : BoardView) (running : v.stop ≡ None) (rules : GoesByRules (state
     why =
         quiet_nothing running running rules
         (next_awaiting (program v) v.settings (windows v) (state v)
-        (table_of_session (program v) v.settings v.windows is.rows_are is.all_sorts) awaits)
+        (table_of_session (program v) v.settings v.windows is.0.rows_are is.0.all_sorts) awaits)
         (inl awaits);
   }
 

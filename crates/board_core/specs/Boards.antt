@@ -1,14 +1,18 @@
 -- What holds of a board.
-use Rattle.std.specs.Prelude.{ℕ, ◌≡◌, List, length}
+use Rattle.std.specs.Prelude.{ℕ, ◌≡◌, List, None, length, map}
 use Rattle.spec_core.specs.declared.window.Window.{Window}
 use Rattle.spec_core.specs.Code.{Program}
 use Rattle.spec_core.specs.Lists.{Each}
 use Rattle.windowed_trees.specs.Windows.{Windows}
+use Rattle.rule_model.specs.Derivations.{Derivation}
+use Rattle.candidates.specs.Jobs.{NodeJob}
+use Rattle.candidates.specs.Models.{job_of}
+use Rattle.needed_jobs.specs.Needed.{generation_of}
 use Rattle.expand.specs.Expansions.{IsExpansion}
 use Rattle.sort_windows.specs.Found.{AreBySorts}
 use Rattle.tree_nodes.specs.Origins.{Source, meaning}
 use Rattle.tree_nodes.specs.Rests.{Work, IsWayOf}
-use Rattle.tree_nodes.specs.Shapes.{Shape, IsRight}
+use Rattle.tree_nodes.specs.Shapes.{Shape, IsRight, Lives}
 use Rattle.window_tables.specs.Tables.{windows_in}
 use Rattle.known_shows.specs.Known.{Pieces}
 use Rattle.known_shows.specs.Laws.{ArePiecesOf, NoneFrom}
@@ -28,8 +32,15 @@ pub record IsKnown (program : Program) (size : ℕ) (rows : List Window) (t : Sh
   pub shown : ArePiecesOf program (windows_in rows) pieces t
   pub none_from : NoneFrom pieces next
 
+-- nothing is known of generations that don't live, and each job that is out is at a node that lives
+pub record AreOfLiving (t : Shape) (pieces : Pieces) (out : List NodeJob) : Type 0 where
+  pub known : (g : ℕ) (d : Derivation) → (Lives t g → ⊥) → pieces g d ≡ None
+  pub jobs : Each (λ job. Lives t (generation_of job)) out
+
 abbrev pub IsBoard : BoardView → Type 0
-IsBoard v = IsKnown (views.program v) v.settings.values v.windows (views.tree v) (views.pieces v) v.session.tree.next
+IsBoard v =
+    IsKnown (views.program v) v.settings.values v.windows (views.tree v) (views.pieces v) v.session.tree.next ×
+    AreOfLiving (views.tree v) (views.pieces v) (map job_of v.out)
 
 -- the work is what the origin can do: it has the plans of its composites, its ways to act, and ways for the trees of its plans
 pub record IsWorkAt (program : Program) (w : Windows) (o : Source) (work : Work) : Type 0 where

@@ -4,6 +4,7 @@ ghost use Rattle.std.specs.Prelude.{ℕ, ◌≡◌, ◌≤◌, ◌∷◌, ◌++�
 ghost use Rattle.spec_core.specs.Code.{program_of};
 ghost use Rattle.spec_core.specs.Ready.{IsReady};
 ghost use Rattle.spec_core.specs.Theories.{theory_of};
+ghost use Rattle.candidates.specs.Models.{job_of};
 ghost use Rattle.rule_model.specs.Answers.{answer_of};
 ghost use Rattle.rule_model.specs.Derivations.{Derivation, derivation_of};
 ghost use Rattle.rule_model.specs.Events.{event_of, left, pended};
@@ -16,6 +17,7 @@ ghost use Rattle.session_states.specs.Possible.{MayLeave, MayOffer};
 ghost use Rattle.session_states.specs.Views.{state_of};
 ghost use Rattle.tree_nodes.specs.Generations.{AreApart, AreBelow};
 ghost use Rattle.tree_nodes.specs.Shapes.{AllWait, stands_for};
+ghost use Rattle.board_core.specs.Boards.{AreOfLiving};
 ghost use Rattle.board_core.specs.Views as views;
 ghost use Rattle.board_core.specs.Views.{program, events, pieces, state, tree, HasOneMore, SameSetting, SameLog, SameNodes};
 
@@ -123,10 +125,12 @@ impl Board {
         self.record.log_is_a_derivation();
     }
 
-    /// No two nodes of the tree have one generation, and each generation is below the next one.
+    /// No two nodes of the tree have one generation, and each generation is below the next one. Nothing is known of generations that don't
+    /// live, and each job that is out is at a node that lives.
     pub fn generations_are_sound(&self)
         ensures apart { AreApart (tree self.now) }
         ensures below { AreBelow (tree self.now) self.now.session.tree.next }
+        ensures living { AreOfLiving (tree self.now) (pieces self.now) (map job_of self.now.out) }
     {
         self.record.tree().generations_are_sound();
     }

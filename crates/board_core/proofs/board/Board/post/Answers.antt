@@ -1,12 +1,14 @@
-use Rattle.std.proofs.Common.{◌∙◌, ap, refl, subst, sym}
+use Rattle.std.proofs.Common.{◌∙◌, ap, map, refl, subst, sym}
 use Rattle.spec_core.specs.Code.{program_of}
 use Rattle.tree_nodes.specs.Rests.{expansion_of}
 use Rattle.tree_nodes.specs.Shapes.{Held, IsNodeOf, IsRight, posted}
-use Rattle.board_core.specs.Boards.{IsWorkAt}
+use Rattle.candidates.specs.Models.{job_of}
+use Rattle.board_core.specs.Boards.{AreOfLiving, IsWorkAt}
 use Rattle.board_core.specs.Views.{BoardView, program, tree, pieces, windows}
 use Rattle.board_core.specs.contracts.board.Board.{the_view}
 use Rattle.board_core.specs.Working.{KeepsNodes}
 use Rattle.board_core.proofs.Keeping.{posts, stays}
+use Rattle.board_core.proofs.Living.{posted_living}
 use Rattle.board_core.proofs.Origins.{post_keeps}
 use Rattle.board_core.proofs.board.Board.post.Goals as goal
 
@@ -15,13 +17,16 @@ invariant_of-self c =
     let v = the_view c.self.inside in
     let u : BoardView = record v { session = c.post.new.self } in
     let g = c.args.generation.0 in
-    let work = expansion_of c.args.work in
-    stays (program v) (program u) v.settings.values v.settings.values v.windows v.windows (posted g work (tree v)) (tree u) (pieces v) (pieces v)
-    v.session.tree.next u.session.tree.next (ap program_of c.post.ensures.setting.0) refl refl c.post.ensures.posted refl c.post.ensures.next
-    (posts (program v) v.settings.values v.windows (tree v) g v.session.tree.next work (pieces v)
-    (subst (λ (z : BoardView). (n : Held) → IsNodeOf (tree z) g n → IsWorkAt (program z) (windows z) n.source work) (sym c.self.view_is)
-    c.requires.work)
-    (λ a b. subst (IsRight (program v)) c.post.ensures.posted (c.post.ensures.right a b)) c.self.invariant)
+    let work = expansion_of c.args.work in (
+      stays (program v) (program u) v.settings.values v.settings.values v.windows v.windows (posted g work (tree v)) (tree u) (pieces v) (pieces v)
+          v.session.tree.next u.session.tree.next (ap program_of c.post.ensures.setting.0) refl refl c.post.ensures.posted refl c.post.ensures.next
+          (posts (program v) v.settings.values v.windows (tree v) g v.session.tree.next work (pieces v)
+          (subst (λ (z : BoardView). (n : Held) → IsNodeOf (tree z) g n → IsWorkAt (program z) (windows z) n.source work) (sym c.self.view_is)
+          c.requires.work)
+          (λ a b. subst (IsRight (program v)) c.post.ensures.posted (c.post.ensures.right a b)) c.self.invariant.0),
+      subst (λ t. AreOfLiving t (pieces v) (map job_of v.out)) (sym c.post.ensures.posted)
+          (posted_living g work (tree v) (pieces v) (map job_of v.out) c.self.invariant.1),
+    )
 
 pub returns-clause-nodes : goal.returns-clause-nodes
 returns-clause-nodes c =
