@@ -1,3 +1,4 @@
+pub mod Bounds
 pub mod Faults
 pub mod Filling
 pub mod Gates
@@ -5,5 +6,7 @@ pub mod Judging
 pub mod Misfits
 pub mod NoStep
 pub mod OnePath
+pub mod PartBounds
 pub mod PartFaults
+pub mod RuleBounds
 pub mod Values

@@ -19,7 +19,7 @@ use Rattle.rule_walk.proofs.NoStep.{second_map, unfit_none}
 
 module _ (program : Program) (executable : IsExecutable program.theory) where
   -- two facts of the first part are of one part
-  first_both : {R : Type 0} (d : Derivation) (b : Behaviour) (s : Assignment) (P Q : Assignment → Behaviour → Derivation → Type 0) →
+  pub first_both : {R : Type 0} (d : Derivation) (b : Behaviour) (s : Assignment) (P Q : Assignment → Behaviour → Derivation → Type 0) →
       ((t : Assignment) (c : Behaviour) (e : Derivation) → P t c e → Q t c e → R) → OnFirst program s b d P → OnFirst program s b d Q → R
   first_both (chl d) (choice left right) s P Q r h k = r s left d h k
   first_both (chr d) (choice left right) s P Q r h k = r s right d h k

@@ -1,4 +1,5 @@
 pub mod Asking
+pub mod Bounds
 pub mod Ends
 pub mod Faults
 pub mod Laws

@@ -8,6 +8,7 @@ ghost use Rattle.rule_model.specs.declared.rules.Slot.TheVariants.{Of};
 ghost use Rattle.rule_model.specs.Fields.{Spells, FieldsHave, ExitHas, BindingsHave, ArgumentsHave, IsHandedOn};
 ghost use Rattle.substitution.specs.Scopes.{terms_of};
 ghost use Rattle.rule_walk.specs.Asking.{FieldsAsk, ExitAsks, BindingsAsk, ArgumentsAsk};
+ghost use Rattle.rule_walk.specs.Bounds.{BoundsEach};
 ghost use Rattle.rule_walk.specs.Faults.{Explains, Here, IsMisfit, HasNoFields, HasNoExit, HasNoBindings, HasNoArguments};
 ghost use Rattle.rule_walk.specs.Faults.{HandsOnNothing};
 
@@ -103,6 +104,8 @@ pub fn fill(
         (Here (HasNoFields (program_of checked.now).theory (terms_of outer.now) (terms_of inner.now) (map action_field_of fields.now)
         slots.now))
         (FieldsAsk (program_of checked.now).theory (terms_of outer.now) (map action_field_of fields.now) slots.now)) }
+    ensures within { BoundsEach (program_of checked.now).theory budget
+        (FieldsAsk (program_of checked.now).theory (terms_of outer.now) (map action_field_of fields.now) slots.now) result }
 {
     match fields {
         [] => match slots {
@@ -147,6 +150,8 @@ pub fn fill_exit(
         (Explains (program_of checked.now).theory budget
         (Here (HasNoExit (program_of checked.now).theory (terms_of scope.now) (map exit_value_of fields.now) slots.now))
         (ExitAsks (program_of checked.now).theory (terms_of scope.now) (map exit_value_of fields.now) slots.now)) }
+    ensures within { BoundsEach (program_of checked.now).theory budget
+        (ExitAsks (program_of checked.now).theory (terms_of scope.now) (map exit_value_of fields.now) slots.now) result }
 {
     match fields {
         [] => match slots {
@@ -188,6 +193,8 @@ pub fn bind(
         (Explains (program_of checked.now).theory budget
         (Here (HasNoBindings (program_of checked.now).theory (terms_of outer.now) (terms_of inner.now) (map binding_of bindings.now)))
         (BindingsAsk (program_of checked.now).theory (terms_of outer.now) (map binding_of bindings.now))) }
+    ensures within { BoundsEach (program_of checked.now).theory budget
+        (BindingsAsk (program_of checked.now).theory (terms_of outer.now) (map binding_of bindings.now)) result }
 {
     match bindings {
         [] => Ok(inner.copy(alloc)?),
@@ -219,6 +226,8 @@ pub fn bind_arguments(
         (Here (HasNoArguments (program_of checked.now).theory (terms_of outer.now) (terms_of inner.now) (map variable_of vars.now)
         (map term_of terms.now)))
         (ArgumentsAsk (program_of checked.now).theory (terms_of outer.now) (map variable_of vars.now) (map term_of terms.now))) }
+    ensures within { BoundsEach (program_of checked.now).theory budget
+        (ArgumentsAsk (program_of checked.now).theory (terms_of outer.now) (map variable_of vars.now) (map term_of terms.now)) result }
 {
     match vars {
         [] => match terms {

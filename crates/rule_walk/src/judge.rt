@@ -7,10 +7,11 @@ ghost use Rattle.spec_core.specs.Sorts.{FitsGround, HasSort, no_variables};
 ghost use Rattle.spec_core.specs.Terms.{TermTree, instance, term_of};
 ghost use Rattle.spec_core.specs.Theories.{premise};
 ghost use Rattle.spec_core.specs.Values.{HasValue};
-ghost use Rattle.rewriter.specs.Answers.{SpellsValue};
+ghost use Rattle.rewriter.specs.Answers.{IsWithin, SpellsValue};
 ghost use Rattle.rule_model.specs.Fields.{GivesValue, GuardHolds, PremiseHolds};
 ghost use Rattle.substitution.specs.Scopes.{terms_of};
 ghost use Rattle.rule_walk.specs.Asking.{GuardAsks, PremiseAsks};
+ghost use Rattle.rule_walk.specs.Bounds.{BoundsEach};
 ghost use Rattle.rule_walk.specs.Faults.{Explains, HasNoValue, Here};
 
 use crate::fault::{FireFault, unfit};
@@ -86,6 +87,7 @@ pub fn operations_of(
         (Explains (program_of checked.now).theory budget
         (Here (HasNoValue (program_of checked.now).theory (instance (terms_of scope.now) (term_of term.now))))
         (λ x. x ≡ instance (terms_of scope.now) (term_of term.now))) }
+    ensures within { BoundsEach (program_of checked.now).theory budget (λ x. x ≡ instance (terms_of scope.now) (term_of term.now)) result }
 {
     match closed(alloc, checked, scope, term)? {
         None => Err(unfit(alloc)),
@@ -108,6 +110,7 @@ pub fn value_of(
         (Explains (program_of checked.now).theory budget
         (Here (HasNoValue (program_of checked.now).theory (instance (terms_of scope.now) (term_of term.now))))
         (λ x. x ≡ instance (terms_of scope.now) (term_of term.now))) }
+    ensures within { BoundsEach (program_of checked.now).theory budget (λ x. x ≡ instance (terms_of scope.now) (term_of term.now)) result }
 {
     match closed(alloc, checked, scope, term)? {
         None => Err(unfit(alloc)),
@@ -125,6 +128,7 @@ fn spelled_value(
     requires executable { IsExecutable (program_of checked.now).theory }
     requires fits { HasSort (program_of checked.now).theory no_variables (term_of ground.term) ground.sort.0 }
     ensures value { IfOk result (λ n. HasValue (program_of checked.now).theory (term_of ground.term) (term_of n)) }
+    ensures within { OnOk result (IsWithin (program_of checked.now).theory (term_of ground.term) budget) }
     ensures fault { IfErr result
         (Explains (program_of checked.now).theory budget (Here ⊥) (λ x. x ≡ term_of ground.term)) }
 {
@@ -152,6 +156,8 @@ pub fn ask_premise(
         (Explains (program_of checked.now).theory budget
         (Here (PremiseHolds (program_of checked.now).theory (terms_of scope.now) (premise (term_of left.now) (term_of right.now)) → ⊥))
         (PremiseAsks (program_of checked.now).theory (terms_of scope.now) (premise (term_of left.now) (term_of right.now)))) }
+    ensures within { BoundsEach (program_of checked.now).theory budget
+        (PremiseAsks (program_of checked.now).theory (terms_of scope.now) (premise (term_of left.now) (term_of right.now))) result }
 {
     let first = operations_of(alloc, checked, scope, left, budget)?;
     let second = operations_of(alloc, checked, scope, right, budget)?;
@@ -176,6 +182,8 @@ pub fn ask_guard(
         (Explains (program_of checked.now).theory budget
         (Here (GuardHolds (program_of checked.now).theory (terms_of scope.now) (guard_of guard.now) → ⊥))
         (GuardAsks (program_of checked.now).theory (terms_of scope.now) (guard_of guard.now))) }
+    ensures within { BoundsEach (program_of checked.now).theory budget
+        (GuardAsks (program_of checked.now).theory (terms_of scope.now) (guard_of guard.now)) result }
 {
     match guard {
         None => Ok(()),

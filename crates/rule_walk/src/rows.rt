@@ -13,6 +13,8 @@ ghost use Rattle.rule_model.specs.Derives.{DerivesWith};
 ghost use Rattle.rule_model.specs.Fields.{OnGate};
 ghost use Rattle.rule_model.specs.Substitution.{put, tidied, without};
 ghost use Rattle.substitution.specs.Scopes.{terms_of};
+ghost use Rattle.rule_walk.specs.Asking.{Asks};
+ghost use Rattle.rule_walk.specs.Bounds.{BoundsEach};
 ghost use Rattle.rule_walk.specs.Ends.{CanHandOn, HandsOn, IsAtHidden};
 ghost use Rattle.rule_walk.specs.Faults.{IsFault, IsMisfit};
 
@@ -50,6 +52,8 @@ pub fn prefix(
         DerivesWith (program_of checked.now) (terms_of scope.now) (behaviour_of from.now) (pre slots.now) s.action (behaviour_of s.rest)) }
     ensures fault { IfErr result
         (IsFault (program_of checked.now) budget (terms_of scope.now) (behaviour_of from.now) (pre slots.now)) }
+    ensures within { BoundsEach (program_of checked.now).theory budget
+        (Asks (program_of checked.now) (terms_of scope.now) (behaviour_of from.now) (pre slots.now)) result }
 {
     match from.as_action() {
         None => Err(unfit(alloc)),
@@ -100,6 +104,8 @@ pub fn exits(
         (behaviour_of s.rest)) }
     ensures fault { IfErr result
         (IsFault (program_of checked.now) budget (terms_of scope.now) (behaviour_of from.now) (exiting slots.now)) }
+    ensures within { BoundsEach (program_of checked.now).theory budget
+        (Asks (program_of checked.now) (terms_of scope.now) (behaviour_of from.now) (exiting slots.now)) result }
 {
     match from.as_exit() {
         None => Err(unfit(alloc)),

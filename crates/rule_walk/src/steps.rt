@@ -11,6 +11,7 @@ ghost use Rattle.rule_model.specs.Derivations.{derivation_of, val, gate, guard, 
 ghost use Rattle.rule_model.specs.Derives.{Derives, DerivesWith};
 ghost use Rattle.substitution.specs.Scopes.{terms_of};
 ghost use Rattle.rule_walk.specs.Asking.{Asks};
+ghost use Rattle.rule_walk.specs.Bounds.{BoundsEach};
 ghost use Rattle.rule_walk.specs.Faults.{Explains, IsFault, OnUnfit, OnSpent, OnTooLarge, Within};
 ghost use Rattle.rule_walk.specs.Parts.{HasNone, IsUnfitAt};
 
@@ -51,6 +52,8 @@ pub fn fire(
     ensures too_large { IfErr result (λ f. OnTooLarge f (λ x.
         Asks (program_of checked.now) variable (behaviour_of from.now) (derivation_of rules.now) x ×
         MeetsTooLarge (program_of checked.now).theory x)) }
+    ensures within { BoundsEach (program_of checked.now).theory budget
+        (Asks (program_of checked.now) variable (behaviour_of from.now) (derivation_of rules.now)) result }
 {
     let Step { action, rest } = step(alloc, checked, &Scope::Empty, from, rules, budget)?;
     Ok((action, rest))
@@ -72,6 +75,8 @@ fn step(
         (behaviour_of s.rest)) }
     ensures fault { IfErr result
         (IsFault (program_of checked.now) budget (terms_of scope.now) (behaviour_of from.now) (derivation_of rules.now)) }
+    ensures within { BoundsEach (program_of checked.now).theory budget
+        (Asks (program_of checked.now) (terms_of scope.now) (behaviour_of from.now) (derivation_of rules.now)) result }
 {
     match rules {
         Rules::Pre(slots) => rows::prefix(alloc, checked, scope, from, slots.as_slice(), budget),
@@ -187,6 +192,8 @@ fn step_in(
         (Explains (program_of checked.now).theory budget
         (Within place (IsUnfitAt (program_of checked.now) (terms_of scope.now) (behaviour_of from.now) (derivation_of part.now)))
         (Asks (program_of checked.now) (terms_of scope.now) (behaviour_of from.now) (derivation_of part.now))) }
+    ensures within { BoundsEach (program_of checked.now).theory budget
+        (Asks (program_of checked.now) (terms_of scope.now) (behaviour_of from.now) (derivation_of part.now)) result }
 {
     match step(alloc, checked, scope, from, part, budget) {
         Ok(done) => Ok(done),
@@ -211,6 +218,8 @@ fn by_value(
         (behaviour_of s.rest)) }
     ensures fault { IfErr result
         (IsFault (program_of checked.now) budget (terms_of scope.now) (behaviour_of from.now) (val slot.now (derivation_of part.now))) }
+    ensures within { BoundsEach (program_of checked.now).theory budget
+        (Asks (program_of checked.now) (terms_of scope.now) (behaviour_of from.now) (val slot.now (derivation_of part.now))) result }
 {
     match from.as_value_choice() {
         None => Err(unfit(alloc)),
@@ -239,6 +248,8 @@ fn by_gate(
         (behaviour_of s.rest)) }
     ensures fault { IfErr result
         (IsFault (program_of checked.now) budget (terms_of scope.now) (behaviour_of from.now) (gate place (derivation_of part.now))) }
+    ensures within { BoundsEach (program_of checked.now).theory budget
+        (Asks (program_of checked.now) (terms_of scope.now) (behaviour_of from.now) (gate place (derivation_of part.now))) result }
 {
     match from.as_gate_choice() {
         None => Err(unfit(alloc)),
@@ -268,6 +279,8 @@ fn by_premise(
         (behaviour_of s.rest)) }
     ensures fault { IfErr result
         (IsFault (program_of checked.now) budget (terms_of scope.now) (behaviour_of from.now) (guard (derivation_of part.now))) }
+    ensures within { BoundsEach (program_of checked.now).theory budget
+        (Asks (program_of checked.now) (terms_of scope.now) (behaviour_of from.now) (guard (derivation_of part.now))) result }
 {
     match from.as_guarded() {
         None => Err(unfit(alloc)),
@@ -294,6 +307,8 @@ fn by_bindings(
         (behaviour_of s.rest)) }
     ensures fault { IfErr result
         (IsFault (program_of checked.now) budget (terms_of scope.now) (behaviour_of from.now) (letting (derivation_of part.now))) }
+    ensures within { BoundsEach (program_of checked.now).theory budget
+        (Asks (program_of checked.now) (terms_of scope.now) (behaviour_of from.now) (letting (derivation_of part.now))) result }
 {
     match from.as_bound() {
         None => Err(unfit(alloc)),
@@ -320,6 +335,8 @@ fn by_call(
         (behaviour_of s.rest)) }
     ensures fault { IfErr result
         (IsFault (program_of checked.now) budget (terms_of scope.now) (behaviour_of from.now) (calling (derivation_of part.now))) }
+    ensures within { BoundsEach (program_of checked.now).theory budget
+        (Asks (program_of checked.now) (terms_of scope.now) (behaviour_of from.now) (calling (derivation_of part.now))) result }
 {
     match from.as_call() {
         None => Err(unfit(alloc)),
