@@ -2,6 +2,7 @@
 use Rattle.std.proofs.Common.{ℕ, suc, zero, ◌+◌, ◌<◌, ◌≡◌, ◌∙◌, refl, sym, ap, subst, arith, List, [], ◌∷◌, ◌++◌, map, take, drop, length, get_or, max}
 use Rattle.std.proofs.lemmas.List.{map-append}
 use Rattle.spec_core.specs.Code.{Program}
+use Rattle.spec_core.specs.Executable.{IsExecutable}
 use Rattle.rule_model.specs.declared.log.Entry.{Entry}
 use Rattle.rule_model.specs.Events.{Event, event_of}
 use Rattle.rule_model.specs.Legal.{IsPossible, IsDerivation}
@@ -11,6 +12,7 @@ use Rattle.log_check.specs.Checked.{LeadsTo, ComesTo, Explains, FailsFrom}
 use Rattle.log_check.specs.Starting.{BeginsIn, greatest_in, greatest_client}
 use Rattle.log_check.specs.declared.fault.CheckFault.{CheckFault}
 use Rattle.log_check.specs.declared.fault.CheckFault.TheVariants.{NotPossible, Spent, TooLarge, Memory}
+use Rattle.log_check.proofs.Asked.{ground_within}
 
 -- the events of entries, one more at a time
 pub events_next : (es : List Entry) (i : ℕ) (e : Entry) → i < length es → e ≡ get_or es i e → map event_of (take (i + 1) es) ≡ map event_of (take i es) ++ event_of e ∷ []
@@ -52,10 +54,13 @@ module _ (program : Program) where
       record { before = h.before; after = h.after; all = h.all; place = e; leads = record { first = s; begins = b; derivation = h.derivation } }
 
   -- what a fault of entries says of the log that begins with them
-  pub explains : (log : List Event) (s : State) (budget : ℕ) (f : CheckFault) → BeginsIn program log s → FailsFrom program log s budget f → Explains program log budget f
-  explains log s budget (NotPossible entry) b h = record { state = h.state; event = h.event; comes = comes_to log s budget (NotPossible entry) entry b h h.fails.0; impossible = h.fails.1 }
-  explains log s budget (Spent term) b h =
+  pub explains : IsExecutable program.theory → (log : List Event) (s : State) (budget : ℕ) (f : CheckFault) → BeginsIn program log s → FailsFrom program log s budget f → Explains program log budget f
+  explains executable log s budget (NotPossible entry) b h = (
+    record { state = h.state; event = h.event; comes = comes_to log s budget (NotPossible entry) entry b h h.fails.0; impossible = h.fails.1 },
+    ground_within program executable budget log h.before h.after h.event s h.state b h.all h.derivation h.within h.fails.1 h.fails.2,
+  )
+  explains executable log s budget (Spent term) b h =
       (record { entry = length h.before; state = h.state; event = h.event; comes = comes_to log s budget (Spent term) (length h.before) b h refl; asks = h.fails.0 }, h.fails.1)
-  explains log s budget (TooLarge term) b h =
+  explains executable log s budget (TooLarge term) b h =
       (record { entry = length h.before; state = h.state; event = h.event; comes = comes_to log s budget (TooLarge term) (length h.before) b h refl; asks = h.fails.0 }, h.fails.1)
-  explains log s budget Memory b h = tt
+  explains executable log s budget Memory b h = tt

@@ -2,8 +2,9 @@
 use Rattle.std.specs.Prelude.{ℕ, ◌≡◌, List, [], Bool, true, false, Option, None, Some}
 use Rattle.spec_core.specs.Budgets.{IsBeyond}
 use Rattle.spec_core.specs.Code.{Program}
+use Rattle.spec_core.specs.Sorts.{FitsGround}
 use Rattle.spec_core.specs.Terms.{TermTree, term_of, variable}
-use Rattle.rewriter.specs.Answers.{MeetsTooLarge}
+use Rattle.rewriter.specs.Answers.{IsWithin, MeetsTooLarge}
 use Rattle.rule_model.specs.Answers.{Answer}
 use Rattle.rule_model.specs.Events.{Event, pended, acted, replied, stalled, left}
 use Rattle.rule_model.specs.Legal.{IsAgreed, IsPossible, IsReplyAt}
@@ -28,6 +29,20 @@ EntryAsks program s (replied client number answer) x = ⊥
 EntryAsks program s (stalled names) x = ⊥
 EntryAsks program s (left client) x = ⊥
 
+-- each term that the tree of the entry asks has a value within so many uses of equations, and meets none that is too large
+abbrev pub EntryTermsAreWithin : Program → State → Event → ℕ → Type 0
+EntryTermsAreWithin program s event budget = (x : TermTree) → EntryAsks program s event x → IsWithin program.theory x budget
+
+-- so has each that is a ground term of the data, as all terms are that have a value
+abbrev pub EntryGroundTermsAreWithin : Program → State → Event → ℕ → Type 0
+EntryGroundTermsAreWithin program s event budget =
+    (x : TermTree) → EntryAsks program s event x → FitsGround program.theory x → IsWithin program.theory x budget
+
+-- what is known of the terms that are asked, where the entry is possible, and where it isn't
+abbrev pub BoundsEntry : Program → State → Event → ℕ → Bool → Type 0
+BoundsEntry program s event budget true = EntryTermsAreWithin program s event budget
+BoundsEntry program s event budget false = EntryGroundTermsAreWithin program s event budget
+
 -- why nothing is said of an entry, with this budget of uses
 abbrev pub EntryExplains : Program → State → Event → ℕ → FireFault → Type 0
 EntryExplains program s event budget (Unfit at) = ⊥
@@ -43,7 +58,8 @@ NamesNumber answer (Some at) = (n : ℕ) → (IsReplyAt answer n → at ≡ n) �
 
 -- what a fault says of the entry of this number, with this budget of uses
 abbrev pub EntryFails : Program → State → Event → ℕ → ℕ → CheckFault → Type 0
-EntryFails program s event place budget (NotPossible entry) = (entry ≡ place) × ((next : State) → IsPossible program s event next → ⊥)
+EntryFails program s event place budget (NotPossible entry) =
+    (entry ≡ place) × ((next : State) → IsPossible program s event next → ⊥) × EntryGroundTermsAreWithin program s event budget
 EntryFails program s event place budget (check.Spent term) =
     EntryAsks program s event (term_of term) × IsBeyond program.theory (term_of term) budget
 EntryFails program s event place budget (check.TooLarge term) =

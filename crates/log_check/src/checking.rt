@@ -7,8 +7,8 @@ ghost use Rattle.rule_model.specs.Events.{event_of};
 ghost use Rattle.rule_model.specs.Legal.{IsDerivation, IsPossible};
 ghost use Rattle.rule_model.specs.Logs.{events_of};
 ghost use Rattle.session_states.specs.Views.{state_of};
-ghost use Rattle.log_check.specs.Checked.{Explains, FailsFrom, IsDerivationOf};
-ghost use Rattle.log_check.specs.Entries.{EntryFails};
+ghost use Rattle.log_check.specs.Checked.{EntriesAreWithin, Explains, FailsFrom, IsDerivationOf, LogTermsAreWithin};
+ghost use Rattle.log_check.specs.Entries.{EntryFails, EntryTermsAreWithin};
 ghost use Rattle.log_check.specs.Starting.{BeginsIn};
 
 use crate::clients::greatest_client;
@@ -46,6 +46,7 @@ fn go_on(
 ) -> Result<(), CheckFault>
     requires ready { IsReady (program_of checked.now) }
     ensures next { OnOk result (IsPossible (program_of checked.now) (state_of state.old) (event_of entry.now) (state_of state.new)) }
+    ensures within { OnOk result (EntryTermsAreWithin (program_of checked.now) (state_of state.old) (event_of entry.now) budget) }
     ensures fault { IfErr result (EntryFails (program_of checked.now) (state_of state.old) (event_of entry.now) place budget) }
 {
     match take(alloc, checked, state, entry, budget) {
@@ -69,6 +70,7 @@ fn walk(
     requires ready { IsReady (program_of checked.now) }
     ensures taken { OnOk result (IsDerivation (program_of checked.now) (map event_of entries.now) (state_of state.old)
         (state_of state.new)) }
+    ensures within { OnOk result (EntriesAreWithin (program_of checked.now) (map event_of entries.now) (state_of state.old) budget) }
     ensures fault { IfErr result (FailsFrom (program_of checked.now) (map event_of entries.now) (state_of state.old) budget) }
 {
     for (place, entry) in entries.iter().enumerate() {
@@ -87,6 +89,7 @@ fn walk(
 pub fn check(alloc: Global, checked: &Checked, log: &Log, budget: u64) -> Result<u64, CheckFault>
     requires ready { IsReady (program_of checked.now) }
     ensures derivation { IfOk result (IsDerivationOf (program_of checked.now) (events_of log.now)) }
+    ensures within { OnOk result (LogTermsAreWithin (program_of checked.now) (events_of log.now) budget) }
     ensures fault { IfErr result (Explains (program_of checked.now) (events_of log.now) budget) }
 {
     let entries = log.as_slice();

@@ -8,7 +8,7 @@ ghost use Rattle.rule_model.specs.Derivations.{derivation_of};
 ghost use Rattle.rule_model.specs.Events.{acted, event_of, left, pended, replied, stalled};
 ghost use Rattle.rule_model.specs.Answers.{answer_of};
 ghost use Rattle.session_states.specs.Views.{state_of};
-ghost use Rattle.log_check.specs.Entries.{Becomes, EntryExplains, NamesNumber};
+ghost use Rattle.log_check.specs.Entries.{Becomes, EntryExplains, BoundsEntry, NamesNumber};
 
 use rule_laws::laws::trees_determine_steps;
 use rule_model::action::Action;
@@ -128,6 +128,8 @@ fn act(
     requires ready { IsReady (program_of checked.now) }
     ensures next { IfOk result
         (Becomes (program_of checked.now) (state_of state.old) (acted action.now (derivation_of rules.now) by) (state_of state.new)) }
+    ensures within { IfOk result
+        (BoundsEntry (program_of checked.now) (state_of state.old) (acted action.now (derivation_of rules.now) by) budget) }
     ensures cause { IfErr result
         (EntryExplains (program_of checked.now) (state_of state.old) (acted action.now (derivation_of rules.now) by) budget) }
 {
@@ -162,6 +164,7 @@ pub fn take(
 ) -> Result<bool, FireFault>
     requires ready { IsReady (program_of checked.now) }
     ensures next { IfOk result (Becomes (program_of checked.now) (state_of state.old) (event_of entry.now) (state_of state.new)) }
+    ensures within { IfOk result (BoundsEntry (program_of checked.now) (state_of state.old) (event_of entry.now) budget) }
     ensures cause { IfErr result (EntryExplains (program_of checked.now) (state_of state.old) (event_of entry.now) budget) }
 {
     match entry {
