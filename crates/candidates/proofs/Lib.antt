@@ -6,3 +6,4 @@ pub mod Needing
 pub mod Stepping
 pub mod Asking
 pub mod Numbering
+pub mod Walking

@@ -11,12 +11,12 @@ use Rattle.open_composites.specs.OpenPlans.{OpenPlan, composite_of}
 use Rattle.open_composites.specs.Laws.{composites_of}
 use Rattle.asked_trees.specs.Asked.{TreeQuery}
 use Rattle.asked_lists.proofs.Found.{searches_find_all}
-use Rattle.node_lists.specs.Waiting.{Candidate, candidate, trees_asked, waiting_composites, waiting_trees}
+use Rattle.node_lists.specs.Waiting.{Candidate, candidate, sought_by, trees_asked, waiting_composites, waiting_trees}
 use Rattle.tree_nodes.specs.Generations.{AreApart}
 use Rattle.tree_nodes.specs.Rests.{Work}
 use Rattle.tree_nodes.specs.Shapes.{Above, Held, Shape, Stands, node_at}
 use Rattle.tree_nodes.proofs.Finding.{found_is_node, none_lives}
-use Rattle.tree_composites.specs.Known.{PlanOrGap, known_plans}
+use Rattle.tree_composites.specs.Known.{PlanOrGap, sought_plans}
 use Rattle.tree_composites.specs.Laws.{composite_or_gap, AreExpanded}
 use Rattle.tree_composites.proofs.Those.{known_plans_are_those}
 use Rattle.candidates.specs.Listed.{candidates_of, candidates_in, known_candidates, items_in}
@@ -63,10 +63,11 @@ module _ (theory : Theory) (w : Windows) (t : Shape) where
 
     pub are_those : AreApart t → with_gaps (items_in theory w t) (waiting_trees theory w t q) ≡ known_candidates theory w t q
     are_those apart =
-        (parts_are_so Composite Composite Candidate).flat (items_in theory w t) (λ c. of_list (asked c)) (waiting_composites theory w t)
+        (parts_are_so Composite Composite Candidate).flat (items_in theory w t) (λ c. of_list (asked c))
+        (waiting_composites theory w t (sought_by q))
         ∙ ap (flat_map (in_its_place (λ c. with_gaps (items_in theory w t) (of_list (asked c)))))
-        (sym (known_plans_are_those theory w (items_in theory w t) t (are_expanded apart)))
-        ∙ places (known_plans theory t)
+        (sym (known_plans_are_those theory w (items_in theory w t) t (are_expanded apart) (sought_by q)))
+        ∙ places (sought_plans theory t (sought_by q))
 
 pub known_candidates_are_those : KnownCandidatesAreThose
 known_candidates_are_those theory w t apart q = are_those theory w t q apart

@@ -11,31 +11,31 @@ use Rattle.settling.specs.Needed.{next_needed}
 use Rattle.settling.specs.Numbered.{entry_with, waiting_with}
 use Rattle.settling.specs.Rules.{next_decided}
 use Rattle.settling.proofs.Numbers.{numbers_stand_for_them}
-use Rattle.tree_composites.specs.Known.{PlanOrGap}
-use Rattle.candidates.specs.Listed.{trees_in}
+use Rattle.tree_composites.specs.Known.{PlacedPlan}
+use Rattle.candidates.specs.Listed.{trees_sought}
 use Rattle.candidates.specs.Jobs.{NodeJob}
 use Rattle.candidates.specs.KnownTrees.{offer_in, numbered, is_out_in, first_in, all_in, jobs_to_first, jobs_to_all, is_held_in, HasItsParts}
 use Rattle.candidates.specs.KnownTrees.{trees_for, first_of_those, all_of_those, jobs_to_first_of, jobs_to_all_of, is_held_among}
 use Rattle.candidates.specs.declared.known_tree.KnownTree.{KnownTree}
 
 module _ (s : KnownTree) where
-  -- searches among the trees of plans
-  abbrev trees : List PlanOrGap → Query ℕ → List (OrGap Derivation)
-  trees ps q = trees_in (theory_of s.algebra.now) (windows_in s.windows.now) (numbered s q) ps
+  -- searches among the trees of plans with gaps
+  abbrev trees : List PlacedPlan → Query ℕ → List (OrGap Derivation)
+  trees ps q = trees_sought (theory_of s.algebra.now) (windows_in s.windows.now) (numbered s q) ps
 
-  abbrev find : List PlanOrGap → Query ℕ → Option (Option Derivation)
+  abbrev find : List PlacedPlan → Query ℕ → Option (Option Derivation)
   find ps q = first_of_those s (numbered s q) (trees ps q)
 
-  abbrev every : List PlanOrGap → Query ℕ → Option (List Derivation)
+  abbrev every : List PlacedPlan → Query ℕ → Option (List Derivation)
   every ps q = all_of_those s (numbered s q) (trees ps q)
 
-  abbrev missing : List PlanOrGap → Query ℕ → List NodeJob
+  abbrev missing : List PlacedPlan → Query ℕ → List NodeJob
   missing ps q = jobs_to_first_of s (numbered s q) (trees ps q)
 
-  abbrev every_missing : List PlanOrGap → Query ℕ → List NodeJob
+  abbrev every_missing : List PlacedPlan → Query ℕ → List NodeJob
   every_missing ps q = jobs_to_all_of s (numbered s q) (trees ps q)
 
-  abbrev is_there : List PlanOrGap → Query ℕ → Bool
+  abbrev is_there : List PlacedPlan → Query ℕ → Bool
   is_there ps q = is_held_among s (numbered s q) (trees ps q)
 
   pub entry_known : (w : Waiting ℕ) (o : Option (Next ℕ Derivation)) → HasItsParts s →

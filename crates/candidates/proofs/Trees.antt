@@ -8,18 +8,28 @@ use Rattle.windowed_trees.specs.Windows.{Windows}
 use Rattle.courses.specs.Courses.{expand, judge}
 use Rattle.courses.specs.Known.{where_known, known_or, unless_known}
 use Rattle.courses.specs.Lazy.{first}
+use Rattle.courses.specs.Rules.{meeting, any, unseen, beyond, any_beyond, beyond_or_unseen}
 use Rattle.courses.specs.Gaps.{OrGap, element, gap, in_its_place, first_known, all_known, missing_to_first, all_missing, known_to_hold}
 use Rattle.asked_trees.specs.Asked.{TreeQuery}
 use Rattle.asked_lists.specs.Searches.{for_offer, asked_from}
-use Rattle.node_lists.specs.Waiting.{Candidate, candidate}
+use Rattle.node_lists.specs.Waiting.{Candidate, candidate, sought_by}
 use Rattle.tree_nodes.specs.Shapes.{Shape}
-use Rattle.tree_composites.specs.Known.{PlanOrGap, known_plans}
-use Rattle.candidates.specs.Listed.{candidates_in, known_candidates, known_trees}
+use Rattle.tree_composites.specs.Known.{PlanOrGap, sought_plans}
+use Rattle.candidates.specs.Listed.{kinds_sought, candidates_in, known_candidates, known_trees}
 use Rattle.candidates.specs.Jobs.{of_tree}
 
 map_join : {A B : Type 0} (f : A → B) (xs ys : List A) → map f (xs ++ ys) ≡ map f xs ++ map f ys
 map_join f [] ys = refl
 map_join f (x ∷ xs) ys = ap (λ z. f x ∷ z) (map_join f xs ys)
+
+-- a query seeks what the query for its offer seeks
+pub same_sought : (q : TreeQuery) → kinds_sought (for_offer q) ≡ sought_by q
+same_sought (meeting p) = refl
+same_sought any = refl
+same_sought unseen = refl
+same_sought (beyond p) = refl
+same_sought any_beyond = refl
+same_sought (beyond_or_unseen p) = refl
 
 abbrev pub tree_of : Candidate → Derivation
 tree_of a = a.tree
@@ -46,7 +56,8 @@ module _ (q : TreeQuery) where
     of_plans (gap g ∷ ps) = ap (λ z. gap g ∷ z) (of_plans ps)
 
     pub candidates_are : (t : Shape) → map with_query (known_trees theory w t q) ≡ known_candidates theory w t q
-    candidates_are t = of_plans (known_plans theory t)
+    candidates_are t =
+        of_plans (sought_plans theory t (kinds_sought (for_offer q))) ∙ ap (λ v. candidates_in theory w q (sought_plans theory t v)) (same_sought q)
 
   module _ (verdict : Candidate → Option Bool) where
     abbrev of : Derivation → Option Bool

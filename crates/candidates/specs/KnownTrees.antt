@@ -14,10 +14,10 @@ use Rattle.session_states.specs.Views.{pending_of}
 use Rattle.asked_trees.specs.Asked.{TreeQuery}
 use Rattle.asked_lists.specs.Searches.{for_offer}
 use Rattle.tree_nodes.specs.Shapes.{shape_of}
-use Rattle.tree_composites.specs.Known.{part_of, known_plans}
+use Rattle.tree_composites.specs.Known.{placed_of, placed_plans}
 use Rattle.known_shows.specs.Stored.{stored}
 use Rattle.waiting_offers.specs.Offers.{offer_at}
-use Rattle.candidates.specs.Listed.{trees_in, verdict_for, first_tree, all_trees, asked_for_first, asked_for_all, is_known_to_hold}
+use Rattle.candidates.specs.Listed.{trees_sought, verdict_for, first_tree, all_trees, asked_for_first, asked_for_all, is_known_to_hold}
 use Rattle.candidates.specs.Jobs.{NodeJob, all_jobs, is_out}
 use Rattle.candidates.specs.Models.{job_of}
 use Rattle.candidates.specs.declared.known_tree.KnownTree.{KnownTree}
@@ -83,10 +83,10 @@ module _ (s : KnownTree) where
     is_held_among = is_some (first (known_to_hold
         (verdict_for (theory_of s.algebra.now) (windows_in s.windows.now) (stored s.pieces.now) (shape_of s.tree.now) q) those))
 
-  -- the trees of the parts for which a query may ask, each gap in its place
+  -- the trees of the parts for which a query may ask, and in its place each gap from which such a tree can come
   abbrev pub trees_for : Query Offer → List (OrGap Derivation)
-  trees_for q = trees_in (theory_of s.algebra.now) (windows_in s.windows.now) q (map part_of s.parts.items)
+  trees_for q = trees_sought (theory_of s.algebra.now) (windows_in s.windows.now) q (map placed_of s.parts.items)
 
 -- the parts are those of the tree, as `KnownTree::new` lists them
 abbrev pub HasItsParts : KnownTree → Type 0
-HasItsParts s = map part_of s.parts.items ≡ known_plans (theory_of s.algebra.now) (shape_of s.tree.now)
+HasItsParts s = map placed_of s.parts.items ≡ placed_plans (theory_of s.algebra.now) (shape_of s.tree.now)

@@ -14,13 +14,18 @@ use Rattle.composites.specs.Composites.{Composite}
 use Rattle.open_composites.specs.OpenPlans.{OpenPlan}
 use Rattle.open_composites.specs.Laws.{composites_of}
 use Rattle.asked_trees.specs.Asked.{TreeQuery}
-use Rattle.node_lists.specs.Waiting.{Candidate, candidate}
+use Rattle.node_lists.specs.Sought.{Sought, sought_for}
+use Rattle.node_lists.specs.Waiting.{Candidate, candidate, sought_by}
 use Rattle.asked_lists.specs.Searches.{for_offer, asked_from}
 use Rattle.tree_nodes.specs.Rests.{Work}
 use Rattle.tree_nodes.specs.Shapes.{Held, Shape, node_at}
-use Rattle.tree_composites.specs.Known.{PlanOrGap, known_plans}
+use Rattle.tree_composites.specs.Known.{PlanOrGap, PlacedPlan, plans_sought, placed_plans, sought_plans}
 use Rattle.known_shows.specs.Known.{Pieces, known_show}
 use Rattle.known_shows.specs.Asked.{asked_by, known_verdict}
+
+-- the kinds of the actions that a query may ask for
+abbrev pub kinds_sought : Query Offer → Sought
+kinds_sought q = sought_for (λ (offer : Offer). offer.gate.0) q
 
 module _ (theory : Theory) (w : Windows) where
   -- the candidates of a plan for a query, in order
@@ -31,9 +36,9 @@ module _ (theory : Theory) (w : Windows) where
   abbrev pub candidates_in : TreeQuery → List PlanOrGap → List (OrGap Candidate)
   candidates_in q ps = flat_map (in_its_place (λ p. map element (candidates_of q p))) ps
 
-  -- of a tree of nodes
+  -- of a tree of nodes; a gap only where what the query may ask for can come from it
   abbrev pub known_candidates : Shape → TreeQuery → List (OrGap Candidate)
-  known_candidates t q = candidates_in q (known_plans theory t)
+  known_candidates t q = candidates_in q (sought_plans theory t (sought_by q))
 
   -- the composites of each node that is expanded, and the verdicts that are known
   abbrev pub items_in : Shape → ℕ → Option (List Composite)
@@ -46,9 +51,13 @@ module _ (theory : Theory) (w : Windows) where
   abbrev pub trees_in : Query Offer → List PlanOrGap → List (OrGap Derivation)
   trees_in q ps = flat_map (in_its_place (λ p. map element (asked_from theory w q p 0))) ps
 
+  -- of these plans and gaps, with the steps to the whole; a gap only where what the query may ask for can come from it
+  abbrev pub trees_sought : Query Offer → List PlacedPlan → List (OrGap Derivation)
+  trees_sought q ps = trees_in q (flat_map (plans_sought (kinds_sought q)) ps)
+
   -- the trees of the candidates, in order, with the same gaps; and whether a query asks for one, as far as it is known
   abbrev pub known_trees : Shape → TreeQuery → List (OrGap Derivation)
-  known_trees t q = trees_in (for_offer q) (known_plans theory t)
+  known_trees t q = trees_sought (for_offer q) (placed_plans theory t)
 
   abbrev pub verdict_for : Pieces → Shape → Query Offer → Derivation → Option Bool
   verdict_for pieces t q d = option_map (asked_by theory w q d) (known_show theory w pieces t d)

@@ -10,8 +10,8 @@ use Rattle.courses.specs.Rules.{Query}
 use Rattle.open_composites.specs.OpenPlans.{open_plan_of}
 use Rattle.numbered_trees.specs.Numbers.{trees_at_once}
 use Rattle.asked_lists.specs.Searches.{is_wanted, wanted_from, query_of}
-use Rattle.tree_composites.specs.Known.{part_of}
-use Rattle.candidates.specs.Listed.{trees_in}
+use Rattle.tree_composites.specs.Known.{placed_of}
+use Rattle.candidates.specs.Listed.{trees_sought}
 use Rattle.candidates.specs.declared.walk.TreesLeft.{TreesLeft}
 use Rattle.candidates.specs.declared.walk.Met.{Met}
 use Rattle.candidates.specs.declared.walk.Met.TheVariants.{Gap, Tree}
@@ -32,7 +32,7 @@ module _ (theory : Theory) (w : Windows) (q : Query Offer) where
 
 -- what is in the parts behind the composite where the walk stands
 abbrev pub behind : Walk → List (OrGap Derivation)
-behind s = trees_in (theory_of s.algebra.now) (windows_in s.windows.now) (query_of s.search) (map part_of s.parts.now)
+behind s = trees_sought (theory_of s.algebra.now) (windows_in s.windows.now) (query_of s.search) (map placed_of s.parts.now)
 
 -- what is left of the composite where the walk stands, and then what is behind it
 abbrev pub ahead : Walk → List (OrGap Derivation)

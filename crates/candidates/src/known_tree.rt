@@ -26,7 +26,7 @@ pub struct KnownTree<'a> {
     pub pieces: &'a Pieces,
     pub offers: &'a [Pending],
     pub out: &'a [NodeJob],
-    pub(crate) parts: Vec<Part>,
+    pub(crate) parts: Vec<Part<'a>>,
     // What stands for an offer that there isn't.
     pub(crate) nowhere: Pending,
     pub ghost none: { pending_of nowhere ≡ no_offer },

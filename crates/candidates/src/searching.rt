@@ -142,7 +142,7 @@ impl<'a> KnownTree<'a> {
     }
 
     // A walk along the trees for which a query may ask.
-    fn walk<'b>(&'b self, search: TreeSearch<'b>) -> Walk<'b>
+    fn walk<'b>(&'b self, search: TreeSearch<'b>) -> Walk<'b, 'a>
         ensures { ahead result ≡ trees_for self.now (query_of search.entry) }
     {
         Walk::new(self.algebra, self.windows, search, &self.parts)

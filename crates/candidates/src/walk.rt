@@ -7,18 +7,23 @@ ghost use Rattle.window_tables.specs.Tables.{windows_in};
 ghost use Rattle.courses.specs.Gaps.{element};
 ghost use Rattle.open_composites.specs.OpenPlans.{open_plan_of};
 ghost use Rattle.asked_lists.specs.Searches.{asked_from, query_of};
-ghost use Rattle.tree_composites.specs.Known.{part_of};
-ghost use Rattle.candidates.specs.Listed.{trees_in};
+ghost use Rattle.rule_model.specs.Actions.{inside, ends, at_gate};
+ghost use Rattle.node_lists.specs.Sought.{these_kinds, seeks_some, sought_at};
+ghost use Rattle.tree_composites.specs.Known.{sought_in, step_of, placed_of};
+ghost use Rattle.candidates.specs.Listed.{kinds_sought, trees_sought};
 ghost use Rattle.candidates.specs.Walks.{met_of, trees_left, behind, ahead};
 
 use asked_lists::searches::{TreeSearch, next_among, slots_asked};
-use open_composites::composite::OpenComposite;
+use open_composites::composite::{ActionKind, OpenComposite};
+use rule_model::offer::Offer;
 use rule_model::rules::{Rules, Slots};
 use spec_core::equation::DataSpec;
 use spec_core::memory::Memory;
 use spec_core::window::Window;
 use std::alloc::Global;
 use tree_composites::part::Part;
+use tree_composites::sought::{Sought, sought_at};
+use tree_composites::step::Step;
 use tree_nodes::origin::Gen;
 
 /// The trees that are left of a composite: those with this number and higher ones, among those whose fields have these slots.
@@ -31,12 +36,12 @@ pub struct TreesLeft<'a> {
 
 /// A walk along the trees of parts for which a query may ask: what is left of the composite where it stands, and the parts behind it.
 #[derive(Drop)]
-pub struct Walk<'a> {
+pub struct Walk<'a, 't> {
     pub algebra: &'a DataSpec,
     pub windows: &'a [Window],
     pub search: TreeSearch<'a>,
     pub current: Option<TreesLeft<'a>>,
-    pub parts: &'a [Part],
+    pub parts: &'a [Part<'t>],
 }
 
 /// What a walk meets: the place of a node that isn't expanded, or a tree.
@@ -97,16 +102,69 @@ fn take_tree(
     }
 }
 
-impl<'a> Walk<'a> {
+// The kinds of the actions that a query may ask for.
+fn kinds_sought(alloc: Global, search: &TreeSearch<'_>) -> Result<Sought, Memory>
+    ensures { IfOk result (λ v. sought_in v ≡ kinds_sought (query_of search.now)) }
+{
+    match search {
+        TreeSearch::Meeting(offer) => only(alloc, offer),
+        TreeSearch::Any => Ok(Sought::Every),
+        TreeSearch::Unseen => unseen(alloc),
+        TreeSearch::Beyond(offer) => only(alloc, offer),
+        TreeSearch::AnyBeyond => Ok(Sought::Every),
+        TreeSearch::BeyondOrUnseen(offer) => unseen_or(alloc, offer),
+    }
+}
+
+// The kind of the actions that may meet an offer.
+fn only(alloc: Global, offer: &Offer) -> Result<Sought, Memory>
+    ensures { IfOk result (λ v. sought_in v ≡ these_kinds (at_gate offer.now.gate.0 ∷ [])) }
+{
+    let mut kinds = Vec::new(alloc);
+    kinds.push(ActionKind::At(offer.gate))?;
+    Ok(Sought::These(kinds))
+}
+
+// The kinds of unseen actions.
+fn unseen(alloc: Global) -> Result<Sought, Memory>
+    ensures { IfOk result (λ v. sought_in v ≡ these_kinds (inside ∷ ends ∷ [])) }
+{
+    let mut kinds = Vec::new(alloc);
+    kinds.push(ActionKind::Inner)?;
+    kinds.push(ActionKind::Exit)?;
+    Ok(Sought::These(kinds))
+}
+
+// The kind of the actions that may meet an offer, and those of unseen ones.
+fn unseen_or(alloc: Global, offer: &Offer) -> Result<Sought, Memory>
+    ensures { IfOk result (λ v. sought_in v ≡ these_kinds (at_gate offer.now.gate.0 ∷ inside ∷ ends ∷ [])) }
+{
+    let mut kinds = Vec::new(alloc);
+    kinds.push(ActionKind::At(offer.gate))?;
+    kinds.push(ActionKind::Inner)?;
+    kinds.push(ActionKind::Exit)?;
+    Ok(Sought::These(kinds))
+}
+
+// Whether what a query may ask for can come from below these steps.
+fn is_sought_at(alloc: Global, steps: &[Step<'_>], search: &TreeSearch<'_>) -> Result<bool, Memory>
+    ensures { IfOk result (λ b. b ≡ seeks_some (sought_at (map step_of steps.now) (kinds_sought (query_of search.now)))) }
+{
+    let whole = kinds_sought(alloc, search)?;
+    let below = sought_at(alloc, steps, whole)?;
+    Ok(below.seeks_some())
+}
+
+impl<'a, 't> Walk<'a, 't> {
     /// A walk along all trees of the parts. It takes no memory.
     pub fn new(
         algebra: &'a DataSpec,
         windows: &'a [Window],
         search: TreeSearch<'a>,
-        parts: &'a [Part],
-    ) -> Walk<'a>
+        parts: &'a [Part<'t>],
+    ) -> Walk<'a, 't>
         ensures starts { ahead result ≡
-            trees_in (theory_of algebra.now) (windows_in windows.now) (query_of search.entry) (map part_of parts.now) }
+            trees_sought (theory_of algebra.now) (windows_in windows.now) (query_of search.entry) (map placed_of parts.now) }
     {
         Walk {
             algebra,
@@ -131,7 +189,8 @@ impl<'a> Walk<'a> {
         }
     }
 
-    /// Takes the first of what is ahead; None where nothing is.
+    /// Takes the first of what is ahead; None where nothing is. It passes over each gap from which nothing can come that the query asks for.
+    #[tactic(auto, using(crate::proofs::Walking::at_composite, crate::proofs::Walking::at_gap, crate::proofs::Walking::past_gap))]
     pub fn next(&mut self, alloc: Global) -> Result<Option<Met>, Memory>
         ensures next { IfOk result (λ o. MatchOption o
             (ahead self.old ≡ [])
@@ -144,19 +203,24 @@ impl<'a> Walk<'a> {
             self.current = None;
             match self.parts {
                 [] => return Ok(None),
-                [Part::Gap(generation), rest @ ..] => {
+                [part, rest @ ..] => {
                     self.parts = rest;
-                    return Ok(Some(Met::Gap(*generation)));
-                }
-                [Part::Composite(composite), rest @ ..] => {
-                    self.parts = rest;
-                    self.current = trees_of(
-                        alloc,
-                        self.algebra,
-                        self.windows,
-                        self.search,
-                        composite,
-                    )?;
+                    match part {
+                        Part::Gap(generation, steps) => {
+                            if is_sought_at(alloc, steps, &self.search)? {
+                                return Ok(Some(Met::Gap(*generation)));
+                            }
+                        }
+                        Part::Composite(composite) => {
+                            self.current = trees_of(
+                                alloc,
+                                self.algebra,
+                                self.windows,
+                                self.search,
+                                composite,
+                            )?;
+                        }
+                    }
                 }
             }
         }

@@ -16,8 +16,9 @@ use Rattle.asked_trees.specs.Asked.{TreeQuery}
 use Rattle.numbered_trees.specs.Numbers.{trees_at_once}
 use Rattle.asked_lists.specs.Searches.{for_offer, is_wanted, slots_asked, trees_searched, asked_from}
 use Rattle.tree_nodes.specs.Shapes.{Shape}
-use Rattle.tree_composites.specs.Known.{known_plans}
-use Rattle.candidates.specs.Listed.{tree_verdict, known_trees}
+use Rattle.tree_composites.specs.Known.{known_plans, sought_plans}
+use Rattle.tree_composites.proofs.Placed.{sought_plans_are_known}
+use Rattle.candidates.specs.Listed.{kinds_sought, tree_verdict, known_trees}
 use Rattle.followed_trees.specs.Complete.{AsksUnmarked, IsSearched}
 use Rattle.followed_trees.specs.Laws.{FoundTreesAreSearched}
 use Rattle.followed_trees.proofs.Lists.{from_flat, from_some, from_filter, from_elements, from_places}
@@ -67,8 +68,13 @@ module _ (theory : Theory) (w : Windows) (t : Shape) (q : TreeQuery) (d : Deriva
 
   looked_at : IsSearched theory w t q d → IsLookedAt
   looked_at h =
-      let r = from_places (λ p. map element (asked_from theory w (for_offer q) p 0)) d (known_plans theory t) h in
-      record { plan = r.0; known = r.1; wanted = from_elements d (asked_from theory w (for_offer q) r.0 0) r.2 }
+      let v = kinds_sought (for_offer q) in
+      let r = from_places (λ p. map element (asked_from theory w (for_offer q) p 0)) d (sought_plans theory t v) h in
+      record {
+        plan = r.0;
+        known = sought_plans_are_known theory t v (element r.0) r.1;
+        wanted = from_elements d (asked_from theory w (for_offer q) r.0 0) r.2;
+      }
 
   -- it is a tree of a known plan
   pub searched_is_in : IsSearched theory w t q d → IsTreeIn theory w (known_plans theory t) d

@@ -1,5 +1,5 @@
 -- What holds of the elements of a list with gaps.
-use Rattle.std.proofs.Common.{inl, inr, List, [], ◌∷◌, refl}
+use Rattle.std.proofs.Common.{◌≡◌, inl, inr, List, [], ◌∷◌, refl, subst}
 use Rattle.spec_core.specs.Lists.{IsOneOf}
 use Rattle.courses.specs.Gaps.{OrGap, element, gap}
 
@@ -20,3 +20,10 @@ elements_listed (element a ∷ l) =
     (inl refl, elements_more (λ b. IsOneOf (element b) l) (λ b. IsOneOf (element b) (element a ∷ l)) (λ b i. inr i) l (elements_listed l))
 elements_listed (gap g ∷ l) =
     elements_more (λ b. IsOneOf (element b) l) (λ b. IsOneOf (element b) (gap g ∷ l)) (λ b i. inr i) l (elements_listed l)
+
+pub element_holds : {A : Type 0} (R : A → Type 0) (l : List (OrGap A)) (x : A) → AreElements R l → IsOneOf (element x) l → R x
+element_holds R [] x h i = absurd i
+element_holds R (element a ∷ l) x h (inl e) = let same : a ≡ x = cc in subst R same h.0
+element_holds R (element a ∷ l) x h (inr i) = element_holds R l x h.1 i
+element_holds R (gap g ∷ l) x h (inl e) = let never : ⊥ = cc in absurd never
+element_holds R (gap g ∷ l) x h (inr i) = element_holds R l x h i

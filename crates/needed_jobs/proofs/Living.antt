@@ -1,5 +1,5 @@
 -- The jobs that searches ask are of nodes of the tree, and aren't done; parts to be judged are of trees for which a query may ask.
-use Rattle.std.proofs.Common.{ℕ, ◌≡◌, ◌++◌, List, [], ◌∷◌, map, flat_map, refl, Option, Some, None, Bool, true, false}
+use Rattle.std.proofs.Common.{ℕ, ◌≡◌, ◌++◌, inl, inr, List, [], ◌∷◌, map, flat_map, refl, subst, Option, Some, None, Bool, true, false}
 use Rattle.std.proofs.Common.{if◌then◌else◌}
 use Rattle.spec_core.specs.Lists.{Each, IsOneOf}
 use Rattle.spec_core.specs.Theories.{Theory}
@@ -17,16 +17,19 @@ use Rattle.open_composites.specs.declared.scheme.Row.TheVariants.{Chl, Chr, Parl
 use Rattle.open_composites.specs.OpenPlans.{OpenPlan, under_row, plans_alone, plans_joint, plan_by_disabling}
 use Rattle.asked_trees.specs.Asked.{TreeQuery}
 use Rattle.asked_lists.specs.Searches.{for_offer, asked_from}
+use Rattle.node_lists.specs.Sought.{Sought}
 use Rattle.tree_nodes.specs.Rests.{Work}
 use Rattle.tree_nodes.specs.Shapes.{Held, Shape, leaf, ended, over, between, Unary, Binary, choosing, beside, disabling, under, first_of}
 use Rattle.tree_nodes.specs.Shapes.{second_of, Lives}
 use Rattle.tree_composites.specs.Known.{PlanOrGap, turned, each_turned, over_one, plans_at, partners, over_two, known_plans}
+use Rattle.tree_composites.specs.Known.{sought_plans}
+use Rattle.tree_composites.proofs.Placed.{sought_plans_are_known}
 use Rattle.known_shows.specs.Known.{Pieces, missing_parts}
 use Rattle.known_shows.proofs.Missing.{missing_parts_are_missing}
-use Rattle.candidates.specs.Listed.{tree_verdict, known_trees, asked_for_first, asked_for_all, is_known_to_hold}
+use Rattle.candidates.specs.Listed.{kinds_sought, tree_verdict, known_trees, asked_for_first, asked_for_all, is_known_to_hold}
 use Rattle.candidates.specs.Jobs.{NodeJob, to_expand, to_judge, jobs_of, all_jobs}
-use Rattle.needed_jobs.specs.Needed.{jobs_needed, generation_of, Waits, IsOfRules, IsPartOfTree, IsUndone}
-use Rattle.needed_jobs.specs.Laws.{NeededJobsLive, NeededJobsAreUndone, NeededPartsAreOfTrees}
+use Rattle.needed_jobs.specs.Needed.{jobs_needed, generation_of, Waits, IsOfRules, IsGapOfQuery, IsPartOfTree, IsUndone}
+use Rattle.needed_jobs.specs.Laws.{NeededJobsLive, NeededJobsAreUndone, NeededNodesAreGaps, NeededPartsAreOfTrees}
 use Rattle.needed_jobs.proofs.Elements.{AreElements, elements_listed}
 use Rattle.needed_jobs.proofs.Lists.{each_join, each_flat, each_map, each_more, each_listed, at_element}
 
@@ -40,6 +43,25 @@ gaps_more : {A : Type 0} (P Q : ℕ → Type 0) → ((g : ℕ) → P g → Q g) 
 gaps_more P Q f [] h = tt
 gaps_more P Q f (element a ∷ l) h = gaps_more P Q f l h
 gaps_more P Q f (gap g ∷ l) h = (f g h.0, gaps_more P Q f l h.1)
+
+gaps_listed : {A : Type 0} (l : List (OrGap A)) → AreGaps (λ g. IsOneOf (gap g) l) l
+gaps_listed [] = tt
+gaps_listed (element a ∷ l) =
+    gaps_more (λ g. IsOneOf (gap g) l) (λ g. IsOneOf (gap g) (element a ∷ l)) (λ g i. inr i) l (gaps_listed l)
+gaps_listed (gap h ∷ l) =
+    (inl refl, gaps_more (λ g. IsOneOf (gap g) l) (λ g. IsOneOf (gap g) (gap h ∷ l)) (λ g i. inr i) l (gaps_listed l))
+
+gap_holds : {A : Type 0} (P : ℕ → Type 0) (l : List (OrGap A)) (g : ℕ) → AreGaps P l → IsOneOf (gap g) l → P g
+gap_holds P [] g h i = absurd i
+gap_holds P (element a ∷ l) g h (inl e) = let never : ⊥ = cc in absurd never
+gap_holds P (element a ∷ l) g h (inr i) = gap_holds P l g h i
+gap_holds P (gap n ∷ l) g h (inl e) = let same : n ≡ g = cc in subst P same h.0
+gap_holds P (gap n ∷ l) g h (inr i) = gap_holds P l g h.1 i
+
+gaps_both : {A : Type 0} (P Q : ℕ → Type 0) (l : List (OrGap A)) → AreGaps P l → AreGaps Q l → AreGaps (λ g. P g × Q g) l
+gaps_both P Q [] h k = tt
+gaps_both P Q (element a ∷ l) h k = gaps_both P Q l h k
+gaps_both P Q (gap g ∷ l) h k = ((h.0, k.0), gaps_both P Q l h.1 k.1)
 
 module _ (P : ℕ → Type 0) where
   no_gaps : {A : Type 0} (xs : List A) → AreGaps P (map element xs)
@@ -114,6 +136,13 @@ gaps_wait theory (between o x y) =
     gaps_two (Waits (between o x y)) theory o (known_plans theory x) (known_plans theory y)
     (gaps_more (Waits x) (Waits (between o x y)) (waits_left o x y) (known_plans theory x) (gaps_wait theory x))
     (gaps_more (Waits y) (Waits (between o x y)) (waits_right o x y) (known_plans theory y) (gaps_wait theory y))
+
+-- also of each gap that is sought
+sought_wait : (theory : Theory) (t : Shape) (v : Sought) → AreGaps (Waits t) (sought_plans theory t v)
+sought_wait theory t v =
+    gaps_more (λ g. IsOneOf (gap g) (sought_plans theory t v)) (Waits t)
+    (λ g i. gap_holds (Waits t) (known_plans theory t) g (gaps_wait theory t) (sought_plans_are_known theory t v (gap g) i))
+    (sought_plans theory t v) (gaps_listed (sought_plans theory t v))
 
 -- P holds of the number of a node that is to be expanded, and R of what is to be judged
 abbrev OfQuestion : {A : Type 0} → (ℕ → Type 0) → (A → Type 0) → Question A → Type 0
@@ -190,50 +219,63 @@ module _ {P J : Type 0} (Q : J → Type 0) (missing every_missing : Query P → 
   each_needed = in_turn meeting w.pending (unmet_needed missing every_missing is_there w) (each_listed w.pending) unmet
 
 module _ (theory : Theory) (w : Windows) (t : Shape) (pieces : Pieces) (state : Waiting PendingOffer) where
-  -- a part that is to be judged is one of a tree for which a query of the rules may ask
-  abbrev IsOfTree : NodeJob → Type 0
-  IsOfTree (to_expand g) = Unit {0}
-  IsOfTree (to_judge part) = IsPartOfTree theory w t pieces state part
+  -- a node that is to be expanded is a gap of a query of the rules; a part that is to be judged is one of a tree for which one may ask
+  abbrev IsOfQuery : NodeJob → Type 0
+  IsOfQuery (to_expand g) = IsGapOfQuery theory w t state g
+  IsOfQuery (to_judge part) = IsPartOfTree theory w t pieces state part
 
-  -- the node of the job is one of the tree's, the job isn't done, and a part is of such a tree
+  -- the node of the job is one of the tree's, the job isn't done, and it is one of a query of the rules
   record IsIts (job : NodeJob) : Type 0 where
     pub lives : Lives t (generation_of job)
     pub undone : IsUndone pieces t job
-    pub of_tree : IsOfTree job
+    pub of_query : IsOfQuery job
 
   module _ (q : TreeQuery) (of_rules : IsOfRules state q) where
     abbrev Listed : Derivation → Type 0
     Listed d = IsOneOf (element d) (known_trees theory w t q)
 
-    jobs_are : (x : Question Derivation) → OfQuestion (Waits t) Listed x → Each IsIts (jobs_of pieces t x)
-    jobs_are (expand g) h = (record { lives = record { node = h.node; is = h.is }; undone = h; of_tree = tt }, tt)
+    abbrev Awaited : ℕ → Type 0
+    Awaited g = Waits t g × IsOneOf (gap g) (known_trees theory w t q)
+
+    jobs_are : (x : Question Derivation) → OfQuestion Awaited Listed x → Each IsIts (jobs_of pieces t x)
+    jobs_are (expand g) h = (
+      record {
+        lives = record { node = h.0.node; is = h.0.is };
+        undone = h.0;
+        of_query = record { query = q; of_rules = of_rules; listed = h.1 };
+      },
+      tt,
+    )
     jobs_are (judge d) h =
         let m = missing_parts_are_missing theory w pieces t d in
         each_map IsIts to_judge (missing_parts pieces t d)
         (λ p i. record {
           lives = m.lives p i;
           undone = m.unknown p i;
-          of_tree = record { query = q; of_rules = of_rules; tree = d; listed = h; missing = i };
+          of_query = record { query = q; of_rules = of_rules; tree = d; listed = h; missing = i };
         })
 
-    all_are : (xs : List (Question Derivation)) → Each (OfQuestion (Waits t) Listed) xs → Each IsIts (all_jobs pieces t xs)
-    all_are xs h = each_flat IsIts (OfQuestion (Waits t) Listed) (jobs_of pieces t) jobs_are xs h
+    all_are : (xs : List (Question Derivation)) → Each (OfQuestion Awaited Listed) xs → Each IsIts (all_jobs pieces t xs)
+    all_are xs h = each_flat IsIts (OfQuestion Awaited Listed) (jobs_of pieces t) jobs_are xs h
 
-    trees_wait : AreGaps (Waits t) (known_trees theory w t q)
+    trees_wait : AreGaps Awaited (known_trees theory w t q)
     trees_wait =
-        gaps_placed (Waits t) (λ p. map element (asked_from theory w (for_offer q) p 0))
-        (λ p. no_gaps (Waits t) (asked_from theory w (for_offer q) p 0)) (known_plans theory t) (gaps_wait theory t)
+        gaps_both (Waits t) (λ g. IsOneOf (gap g) (known_trees theory w t q)) (known_trees theory w t q)
+        (gaps_placed (Waits t) (λ p. map element (asked_from theory w (for_offer q) p 0))
+        (λ p. no_gaps (Waits t) (asked_from theory w (for_offer q) p 0)) (sought_plans theory t (kinds_sought (for_offer q)))
+        (sought_wait theory t (kinds_sought (for_offer q))))
+        (gaps_listed (known_trees theory w t q))
 
     first_are : Each IsIts (all_jobs pieces t (asked_for_first theory w pieces t q))
     first_are =
         all_are (asked_for_first theory w pieces t q)
-        (asked_to_first (Waits t) Listed (tree_verdict theory w pieces t q) (known_trees theory w t q) trees_wait
+        (asked_to_first Awaited Listed (tree_verdict theory w pieces t q) (known_trees theory w t q) trees_wait
         (elements_listed (known_trees theory w t q)))
 
     every_are : Each IsIts (all_jobs pieces t (asked_for_all theory w pieces t q))
     every_are =
         all_are (asked_for_all theory w pieces t q)
-        (asked_to_all (Waits t) Listed (tree_verdict theory w pieces t q) (known_trees theory w t q) trees_wait
+        (asked_to_all Awaited Listed (tree_verdict theory w pieces t q) (known_trees theory w t q) trees_wait
         (elements_listed (known_trees theory w t q)))
 
   each_is_its : (job : NodeJob) → IsOneOf job (jobs_needed theory w t pieces state) → IsIts job
@@ -248,5 +290,8 @@ needed_jobs_live theory w t pieces state job i = (each_is_its theory w t pieces 
 pub needed_jobs_are_undone : NeededJobsAreUndone
 needed_jobs_are_undone theory w t pieces state job i = (each_is_its theory w t pieces state job i).undone
 
+pub needed_nodes_are_gaps : NeededNodesAreGaps
+needed_nodes_are_gaps theory w t pieces state g i = (each_is_its theory w t pieces state (to_expand g) i).of_query
+
 pub needed_parts_are_of_trees : NeededPartsAreOfTrees
-needed_parts_are_of_trees theory w t pieces state part i = (each_is_its theory w t pieces state (to_judge part) i).of_tree
+needed_parts_are_of_trees theory w t pieces state part i = (each_is_its theory w t pieces state (to_judge part) i).of_query

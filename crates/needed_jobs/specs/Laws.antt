@@ -16,9 +16,9 @@ use Rattle.asked_trees.specs.Laws.{lists_of}
 use Rattle.tree_nodes.specs.Shapes.{Shape, Lives, stands_for}
 use Rattle.known_shows.specs.Known.{NodePart, Pieces}
 use Rattle.candidates.specs.Listed.{first_tree}
-use Rattle.candidates.specs.Jobs.{NodeJob, to_judge}
+use Rattle.candidates.specs.Jobs.{NodeJob, to_expand, to_judge}
 use Rattle.candidates.specs.Laws.{IsKnownTree}
-use Rattle.needed_jobs.specs.Needed.{jobs_needed, entry_decided, generation_of, IsPartOfTree, IsUndone}
+use Rattle.needed_jobs.specs.Needed.{jobs_needed, entry_decided, generation_of, IsGapOfQuery, IsPartOfTree, IsUndone}
 
 -- where searches ask no job, the rules decide an entry
 abbrev pub NothingNeededIsDecided : Type 0
@@ -41,6 +41,13 @@ NeededJobsAreUndone =
     (theory : Theory) (w : Windows) (t : Shape) (pieces : Pieces) (state : Waiting PendingOffer) (job : NodeJob) →
     IsOneOf job (jobs_needed theory w t pieces state) →
     IsUndone pieces t job
+
+-- a node that searches ask to expand is a gap of a query of the rules
+abbrev pub NeededNodesAreGaps : Type 0
+NeededNodesAreGaps =
+    (theory : Theory) (w : Windows) (t : Shape) (pieces : Pieces) (state : Waiting PendingOffer) (g : ℕ) →
+    IsOneOf (to_expand g) (jobs_needed theory w t pieces state) →
+    IsGapOfQuery theory w t state g
 
 -- a part that searches ask to judge is one of a tree for which a query of the rules may ask
 abbrev pub NeededPartsAreOfTrees : Type 0

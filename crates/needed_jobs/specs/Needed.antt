@@ -5,7 +5,7 @@ use Rattle.spec_core.specs.Theories.{Theory}
 use Rattle.rule_model.specs.Derivations.{Derivation}
 use Rattle.rule_model.specs.States.{PendingOffer}
 use Rattle.windowed_trees.specs.Windows.{Windows}
-use Rattle.courses.specs.Gaps.{element}
+use Rattle.courses.specs.Gaps.{element, gap}
 use Rattle.courses.specs.Rules.{Query, meeting, any, unseen, beyond, any_beyond, beyond_or_unseen, Waiting, Next}
 use Rattle.settling.specs.Rules.{next_decided}
 use Rattle.settling.specs.Needed.{next_needed}
@@ -51,6 +51,12 @@ IsOfRules state unseen = (state.asks ≡ []) × (state.all_wait ≡ true)
 IsOfRules {P = P} state (beyond p) = (others : List P) × (state.asks ≡ p ∷ others)
 IsOfRules state any_beyond = Unit {0}
 IsOfRules state (beyond_or_unseen p) = IsOneOf p state.by_client × (state.asks ≡ []) × (state.all_wait ≡ true)
+
+-- The node is a gap among the trees for which a query of the rules may ask: what the query asks for can come from it.
+pub record IsGapOfQuery (theory : Theory) (w : Windows) (t : Shape) (state : Waiting PendingOffer) (g : ℕ) : Type 0 where
+  pub query : TreeQuery
+  pub of_rules : IsOfRules state query
+  pub listed : IsOneOf (gap g) (known_trees theory w t query)
 
 -- the part is one that is missing of a tree of rules, for which a query of the rules may ask
 pub record IsPartOfTree (theory : Theory) (w : Windows) (t : Shape) (pieces : Pieces) (state : Waiting PendingOffer) (part : NodePart) :

@@ -1,7 +1,7 @@
 // What follows from the definitions: each law is the contract of a function that does nothing.
 
 ghost use Rattle.needed_jobs.specs.Laws.{NothingNeededIsDecided, NeededJobsLive, NeededJobsAreUndone};
-ghost use Rattle.needed_jobs.specs.Laws.{NeededPartsAreOfTrees, NothingNextNothingPending};
+ghost use Rattle.needed_jobs.specs.Laws.{NeededNodesAreGaps, NeededPartsAreOfTrees, NothingNextNothingPending};
 ghost use Rattle.needed_jobs.specs.Laws.{FirstTreesAreThose, FirstTreesAreSo};
 
 /// Where searches in a tree ask no job, the rules decide an entry.
@@ -17,6 +17,11 @@ pub fn needed_jobs_live()
 /// No job that searches in a tree ask is done: a node to be expanded waits, and nothing is known of a part that is to be judged.
 pub fn needed_jobs_are_undone()
     ensures { NeededJobsAreUndone }
+{}
+
+/// A node that searches ask to expand is a gap among the trees for which a query of the rules may ask.
+pub fn needed_nodes_are_gaps()
+    ensures { NeededNodesAreGaps }
 {}
 
 /// A part that searches ask to judge is one of a tree for which a query of the rules may ask.

@@ -1,6 +1,6 @@
 -- What a query asks for, it may ask for.
-use Rattle.std.proofs.Common.{ℕ, ◌≡◌, ◌==◌, ◌⊎◌, inl, inr, ◌&&◌, ◌||◌, not, List, [], ◌∷◌, refl, sym, ap, subst, ◌∙◌, Some, None, Bool}
-use Rattle.std.proofs.Common.{true, false, length}
+use Rattle.std.proofs.Common.{ℕ, ◌≡◌, ◌==◌, ◌⊎◌, inl, inr, ◌&&◌, ◌||◌, not, List, [], ◌∷◌, refl, sym, ap, ◌∙◌, Some, None, Bool}
+use Rattle.std.proofs.Common.{true, false, length, filter}
 use Rattle.std.specs.Str.{bytes_eq}
 use Rattle.spec_core.specs.Lists.{IsOneOf}
 use Rattle.spec_core.specs.Theories.{Theory}
@@ -20,13 +20,17 @@ use Rattle.windowed_trees.specs.Trees.{has_mark, FieldMayMeet, FieldsMayMeet, Is
 use Rattle.courses.specs.Rules.{meeting, any, unseen, beyond, any_beyond, beyond_or_unseen}
 use Rattle.composites.specs.Evaluations.{Evaluation, IsExact}
 use Rattle.composites.specs.Kinds.{same_kind}
-use Rattle.composites.specs.OpenFields.{OpenField, fixed, blank}
+use Rattle.composites.specs.OpenFields.{OpenField, fixed, blank, all_choices, choices_at_once}
 use Rattle.composites.specs.Composites.{Composite, composites}
+use Rattle.composites.specs.TreeLists.{offered}
 use Rattle.composites.specs.Shown.{IsAdmitted, AreAdmitted}
 use Rattle.composites.proofs.Shown.{shown_is_admitted}
-use Rattle.composites.proofs.Tests.{both_true, left_true, right_true, same_value, same_number, same_kind_so}
-use Rattle.asked_trees.specs.Asked.{TreeQuery, IsAsked, IsUnseenKind}
-use Rattle.node_lists.specs.Waiting.{is_slot, is_unseen, may_meet, all_may_meet, may_take, may_be_asked}
+use Rattle.composites.proofs.Tests.{both_true, left_true, right_true, neither_true, same_value, same_number, same_kind_so}
+use Rattle.asked_trees.specs.Asked.{TreeQuery, IsAsked, IsUnseenKind, offer_in}
+use Rattle.node_lists.specs.Sought.{is_sought}
+use Rattle.node_lists.specs.Waiting.{sought_by, is_slot, is_unseen, may_meet, all_may_meet, may_take, may_be_asked, trees_asked}
+use Rattle.node_lists.proofs.Lists.{flat_none}
+use Rattle.node_lists.proofs.Sought.{all_dropped}
 
 slot_is : (u v : List ℕ) (slots : List Slot) → v ≡ u → IsOneOf (Of v) slots → is_slot u slots ≡ true
 slot_is u v [] e h = absurd h
@@ -114,3 +118,44 @@ module _ (program : Program) (e : Evaluation) (exact : IsExact program e) (w : W
       by_case (inr i) =
           both_true (has_mark d) either i.1.1
           (right_true (may_take program.theory p.offer c choices) (is_unseen c.kind) (is_unseen_it i.0 i.1.0 i.2))
+
+and_false : (a b : Bool) → b ≡ false → a && b ≡ false
+and_false true b e = e
+and_false false b e = refl
+
+pub neither : (a b : Bool) → a || b ≡ false → (a ≡ false) × (b ≡ false)
+neither true b e = let n : true ≡ false = e in absurd cc
+neither false b e = (refl, e)
+
+pub seen_is : (k : Kind) → same_kind k inside || (same_kind k ends || false) ≡ false → is_unseen k ≡ false
+seen_is inside e = let n : true ≡ false = e in absurd cc
+seen_is ends e = let n : true ≡ false = e in absurd cc
+seen_is (at_gate g) e = refl
+
+-- a query asks for no tree of a composite whose action isn't sought
+module _ (theory : Theory) (w : Windows) (c : Composite) where
+  not_taken : (offer : Offer) (choices : List (List Slot)) → same_kind c.kind (at_gate offer.gate.0) ≡ false →
+      may_take theory offer c choices ≡ false
+  not_taken offer choices e = ap (λ z. z && all_may_meet theory c.fields choices offer.fields) e
+
+  not_asked : (q : TreeQuery) (choices : List (List Slot)) (d : Derivation) → is_sought (sought_by q) c.kind ≡ false →
+      may_be_asked theory w q c choices d ≡ false
+  not_asked (meeting p) choices d e =
+      and_false (not (has_mark d)) (may_take theory p.offer c choices)
+      (not_taken p.offer choices (neither (same_kind c.kind (at_gate p.offer.gate.0)) false e).0)
+  not_asked any choices d e = let n : true ≡ false = e in absurd cc
+  not_asked unseen choices d e = and_false (not (has_mark d)) (is_unseen c.kind) (seen_is c.kind e)
+  not_asked (beyond p) choices d e =
+      and_false (has_mark d) (may_take theory p.offer c choices)
+      (not_taken p.offer choices (neither (same_kind c.kind (at_gate p.offer.gate.0)) false e).0)
+  not_asked any_beyond choices d e = let n : true ≡ false = e in absurd cc
+  not_asked (beyond_or_unseen p) choices d e =
+      let n = neither (same_kind c.kind (at_gate p.offer.gate.0)) (same_kind c.kind inside || (same_kind c.kind ends || false)) e in
+      and_false (has_mark d) (may_take theory p.offer c choices || is_unseen c.kind)
+      (neither_true (may_take theory p.offer c choices) (is_unseen c.kind) (not_taken p.offer choices n.0) (seen_is c.kind n.1))
+
+  pub none_asked : (q : TreeQuery) → is_sought (sought_by q) c.kind ≡ false → trees_asked theory w q c ≡ []
+  none_asked q e =
+      flat_none (λ choices. filter (may_be_asked theory w q c choices) (c.trees choices))
+      (choices_at_once c.fields (all_choices theory w (offered (offer_in q)) c.fields))
+      (λ choices. all_dropped (may_be_asked theory w q c choices) (c.trees choices) (λ d. not_asked q choices d e))

@@ -18,11 +18,12 @@ use Rattle.tree_nodes.specs.Shapes.{stands_for}
 use Rattle.asked_trees.specs.Asked.{offer_in}
 use Rattle.asked_trees.specs.Laws.{EntryHolds, lists_of}
 use Rattle.asked_trees.proofs.Entries.{next_entries_hold}
-use Rattle.node_lists.specs.Waiting.{Candidate, candidate, with_trees, may_be_asked, trees_asked, waiting_composites, waiting_trees}
+use Rattle.node_lists.specs.Sought.{is_sought}
+use Rattle.node_lists.specs.Waiting.{Candidate, candidate, with_trees, sought_by, may_be_asked, trees_asked, waiting_composites, waiting_trees}
 use Rattle.node_lists.specs.Laws.{answers_by, ListsAreThose, DecidedEntriesHold}
-use Rattle.node_lists.proofs.Lists.{flat_same, flat_same_in, filter_flat, filter_passed, filter_back, map_flat}
+use Rattle.node_lists.proofs.Lists.{flat_same, flat_same_in, filter_flat, filter_passed, filter_back, map_flat, flat_left}
 use Rattle.node_lists.proofs.Composites.{whole_composites}
-use Rattle.node_lists.proofs.Asking.{asked_may_be}
+use Rattle.node_lists.proofs.Asking.{asked_may_be, none_asked}
 use Rattle.node_lists.proofs.Entries.{next_same}
 
 pub lists_are_those : ListsAreThose
@@ -37,9 +38,11 @@ lists_are_those program e size w t is_asked answered items h q =
     let back : Candidate → Derivation = λ a. a.tree in
     let choices : Composite → List (List Slot) = λ c. all_choices program.theory w (offered (offer_in q)) c.fields in
     let whole_is : whole s (waiting_trees program.theory w t q) ≡ flat_map f cs =
-    searches.flat r s (λ g. refl) (λ c. of_list (f c)) (waiting_composites program.theory w t) ∙
-    flat_same (λ c. whole s (of_list {I = Composite} (f c))) f (whole r (waiting_composites program.theory w t)) (λ c. lists.listed s (f c)) ∙
-    ap (flat_map f) (whole_composites program e w r t h) in
+    searches.flat r s (λ g. refl) (λ c. of_list (f c)) (waiting_composites program.theory w t (sought_by q)) ∙
+    flat_same (λ c. whole s (of_list {I = Composite} (f c))) f (whole r (waiting_composites program.theory w t (sought_by q)))
+    (λ c. lists.listed s (f c)) ∙
+    ap (flat_map f) (whole_composites program e w r t h (sought_by q)) ∙
+    flat_left (λ (c : Composite). is_sought (sought_by q) c.kind) f cs (λ c i. ap (map (candidate q)) (none_asked program.theory w c q i)) in
     let each_one : (c : Composite) → IsOneOf c cs → filter asked (trees_asked program.theory w q c) ≡ filter asked (filled c (choices c)) =
     λ c i.
     sym (filter_flat asked (λ z. filter (may_be_asked program.theory w q c z) (c.trees z)) (choices_at_once c.fields (choices c))) ∙

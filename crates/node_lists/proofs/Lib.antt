@@ -1,4 +1,5 @@
 pub mod Lists
+pub mod Sought
 pub mod Composites
 pub mod Asking
 pub mod Entries

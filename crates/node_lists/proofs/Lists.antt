@@ -1,5 +1,6 @@
 -- Lists in the places of elements, and filters.
 use Rattle.std.proofs.Common.{◌≡◌, inl, inr, ◌++◌, ◌∙◌, List, [], ◌∷◌, map, filter, flat_map, refl, sym, ap, Bool, true, false, cond}
+use Rattle.std.proofs.Common.{if◌then◌else◌}
 use Rattle.spec_core.specs.Lists.{IsOneOf}
 
 pub flat_same : {A B : Type 0} (f g : A → List B) (xs : List A) → ((x : A) → f x ≡ g x) → flat_map f xs ≡ flat_map g xs
@@ -72,3 +73,37 @@ filter_back f back q (x ∷ xs) h = by_test (q (f x)) (filter_back f back q xs h
         cond b (x ∷ filter (λ x. q (f x)) xs) (filter (λ x. q (f x)) xs)
     by_test true k = ap (λ z. z ∷ map back (filter q (map f xs))) (h x) ∙ ap (λ z. x ∷ z) k
     by_test false k = k
+
+-- the images of those that pass, and of those the elements that pass
+pub map_passed : {A B : Type 0} (p : A → Bool) (q : B → Bool) (f : A → B) (xs : List A) → ((x : A) → p x ≡ q (f x)) →
+    map f (filter p xs) ≡ filter q (map f xs)
+map_passed p q f [] h = refl
+map_passed p q f (x ∷ xs) h = by_test (p x) (q (f x)) (h x) (map_passed p q f xs h)
+  where
+    by_test : (b c : Bool) → b ≡ c → map f (filter p xs) ≡ filter q (map f xs) →
+        map f (cond b (x ∷ filter p xs) (filter p xs)) ≡ cond c (f x ∷ filter q (map f xs)) (filter q (map f xs))
+    by_test true true e k = ap (λ z. f x ∷ z) k
+    by_test false false e k = k
+    by_test true false e k = let n : true ≡ false = e in absurd cc
+    by_test false true e k = let n : false ≡ true = e in absurd cc
+
+pub flat_passed : {A B : Type 0} (p : A → Bool) (q : B → Bool) (f g : A → List B) (xs : List A) →
+    ((x : A) → (if p x then f x else []) ≡ filter q (g x)) → flat_map f (filter p xs) ≡ filter q (flat_map g xs)
+flat_passed p q f g [] h = refl
+flat_passed p q f g (x ∷ xs) h = by_test (p x) (h x) (flat_passed p q f g xs h) ∙ sym (filter_join q (g x) (flat_map g xs))
+  where
+    by_test : (b : Bool) → (if b then f x else []) ≡ filter q (g x) → flat_map f (filter p xs) ≡ filter q (flat_map g xs) →
+        flat_map f (cond b (x ∷ filter p xs) (filter p xs)) ≡ filter q (g x) ++ filter q (flat_map g xs)
+    by_test true e k = ap (λ z. z ++ flat_map f (filter p xs)) e ∙ ap (λ z. filter q (g x) ++ z) k
+    by_test false e k = k ∙ ap (λ z. z ++ filter q (flat_map g xs)) e
+
+-- elements with nothing in their places may be left out
+pub flat_left : {A B : Type 0} (p : A → Bool) (f : A → List B) (xs : List A) → ((x : A) → p x ≡ false → f x ≡ []) →
+    flat_map f (filter p xs) ≡ flat_map f xs
+flat_left p f [] h = refl
+flat_left p f (x ∷ xs) h = by_test (p x) refl (flat_left p f xs h)
+  where
+    by_test : (b : Bool) → p x ≡ b → flat_map f (filter p xs) ≡ flat_map f xs →
+        flat_map f (cond b (x ∷ filter p xs) (filter p xs)) ≡ f x ++ flat_map f xs
+    by_test true e k = ap (λ z. f x ++ z) k
+    by_test false e k = k ∙ ap (λ z. z ++ flat_map f xs) (sym (h x e))

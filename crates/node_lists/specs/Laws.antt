@@ -1,6 +1,7 @@
 -- What follows from the definitions.
-use Rattle.std.specs.Prelude.{ℕ, ◌≡◌, Bool, List, Some, filter, length, map}
+use Rattle.std.specs.Prelude.{ℕ, ◌≡◌, ◌↔◌, Bool, true, List, Some, filter, length, map}
 use Rattle.spec_core.specs.Code.{Program}
+use Rattle.rule_model.specs.Actions.{Kind}
 use Rattle.rule_model.specs.Derivations.{Derivation}
 use Rattle.rule_model.specs.States.{PendingOffer}
 use Rattle.windowed_trees.specs.Windows.{Windows}
@@ -14,15 +15,18 @@ use Rattle.composites.specs.Composites.{Composite, composites}
 use Rattle.tree_nodes.specs.Shapes.{Shape, stands_for}
 use Rattle.asked_trees.specs.Asked.{TreeQuery}
 use Rattle.asked_trees.specs.Laws.{IsAnswered, IsSoundWaiting, EntryHolds, lists_of}
-use Rattle.node_lists.specs.Waiting.{Candidate, with_trees, waiting_composites, waiting_trees, AreItemsOf}
+use Rattle.node_lists.specs.Sought.{Sought, these_kinds, is_one_kind, seeks_some, Step, sought_at, ComesUp}
+use Rattle.node_lists.specs.Waiting.{Candidate, with_trees, sought_of, waiting_composites, waiting_trees, AreItemsOf}
 
--- where the answers are what the nodes' origins have, the composites of the tree are those of the behaviour that it stands for
+-- where the answers are what the nodes' origins have, the composites of the tree whose actions are sought are those of the behaviour that it
+-- stands for
 abbrev pub CompositesAreThose : Type 0
 CompositesAreThose =
     (program : Program) (e : Evaluation) (w : Windows) (s : Answers Composite Composite) (t : Shape) →
     AreItemsOf program e w s.items t →
-    whole s (waiting_composites program.theory w t) ≡
-    composites program.theory e w (length program.code) unmarked (stands_for program t)
+    (v : Sought) →
+    whole s (waiting_composites program.theory w t v) ≡
+    sought_of v (composites program.theory e w (length program.code) unmarked (stands_for program t))
 
 -- a candidate holds where its query asks for its tree
 abbrev pub answers_by : (TreeQuery → Derivation → Bool) → (ℕ → List Composite) → Answers Composite Candidate
@@ -61,3 +65,10 @@ DecidedEntriesHold =
     decided known (course (waiting_trees program.theory w t) state) ≡ Some entry →
     (with_trees entry ≡ next_of (lists_of program e w (stands_for program t) is_asked) state) ×
     EntryHolds program w (stands_for program t) state (with_trees entry)
+
+-- Where these kinds of actions are sought at the whole, some action is sought below steps exactly where one of some kind comes up by them as
+-- one of these.
+abbrev pub SoughtIsWhatComesUp : Type 0
+SoughtIsWhatComesUp =
+    (steps : List Step) (ks : List Kind) →
+    (seeks_some (sought_at steps (these_kinds ks)) ≡ true) ↔ ((k : Kind) × (j : Kind) × ComesUp steps k j × (is_one_kind j ks ≡ true))

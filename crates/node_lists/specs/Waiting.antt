@@ -26,6 +26,7 @@ use Rattle.tree_nodes.specs.Shapes as nodes
 use Rattle.tree_nodes.specs.Shapes.{Above, Held, Shape, leaf, ended, over, between, Unary, hidden, enabled, Binary, choosing, beside}
 use Rattle.tree_nodes.specs.Shapes.{disabling, Stands}
 use Rattle.asked_trees.specs.Asked.{TreeQuery, offer_in}
+use Rattle.node_lists.specs.Sought.{Sought, is_sought, seeks_some, sought_for, under_one, by_itself, with_another, as_another, sought_below}
 
 -- a tree, and the query that asks for it
 pub record Candidate : Type 0 where
@@ -58,9 +59,17 @@ with_trees (goes_on all) = goes_on (map (λ (a : Candidate). a.tree) all)
 with_trees stalls = stalls
 with_trees nothing = nothing
 
+-- of composites those whose actions are sought
+abbrev pub sought_of : Sought → List Composite → List Composite
+sought_of v cs = filter (λ (c : Composite). is_sought v c.kind) cs
+
 -- one composite in the place of each
 abbrev pub each_as : (Composite → Composite) → Lazy Composite Composite → Lazy Composite Composite
 each_as f l = each (λ c. cons (f c) nil) l
+
+-- the kinds of the actions that a query may ask for
+abbrev pub sought_by : TreeQuery → Sought
+sought_by q = sought_for (λ p. p.offer.gate.0) q
 
 -- what is asked for only where the test says so
 abbrev pub where_asked : Bool → Lazy Composite Composite → Lazy Composite Composite
@@ -85,10 +94,10 @@ module _ (theory : Theory) where
   may_take offer c choices = same_kind c.kind (at_gate offer.gate.0) && all_may_meet c.fields choices offer.fields
 
 module _ (theory : Theory) (w : Windows) where
-  -- both sides together: the right side is asked only for what may be done together
-  abbrev pub together : Synchronised → Lazy Composite Composite → Lazy Composite Composite → Lazy Composite Composite
+  -- both sides together: the right side is asked only for what may be done together with an action of the left one, by its kind
+  abbrev pub together : Synchronised → Lazy Composite Composite → (Kind → Lazy Composite Composite) → Lazy Composite Composite
   together gates l k =
-      each (λ c. where_asked (is_joint gates c.kind) (each (λ d. of_list (joint theory gates c d)) k)) l
+      each (λ c. where_asked (is_joint gates c.kind) (each (λ d. of_list (joint theory gates c d)) (k c.kind))) l
 
   -- the composites of an operator, from those of its parts
 
@@ -97,19 +106,22 @@ module _ (theory : Theory) (w : Windows) where
   over_one (nodes.relabelled pairs) l = each_as (relabelled pairs) l
   over_one (enabled xs right values) l = each_as (by_enabling theory w) l
 
-  abbrev pub over_two : Binary → Lazy Composite Composite → Lazy Composite Composite → Lazy Composite Composite
-  over_two choosing l k = joined (each_as (under chl) l) (each_as (under chr) k)
-  over_two (beside gates) l k =
-      joined (each (λ c. of_list (alone gates parl c)) l)
-      (joined (each (λ c. of_list (alone gates parr c)) k) (together gates l k))
-  over_two disabling l k = joined (each_as by_disabling l) (each_as (under distake) k)
+  abbrev pub over_two : Binary → Sought → (Sought → Lazy Composite Composite) → (Sought → Lazy Composite Composite) →
+      Lazy Composite Composite
+  over_two choosing v l k = joined (each_as (under chl) (l v)) (each_as (under chr) (k v))
+  over_two (beside gates) v l k =
+      joined (each (λ c. of_list (alone gates parl c)) (l (sought_below (by_itself gates) v)))
+      (joined (each (λ c. of_list (alone gates parr c)) (k (sought_below (by_itself gates) v)))
+      (together gates (l (sought_below (with_another gates) v)) (λ j. k (sought_below (as_another j) v))))
+  over_two disabling v l k = joined (each_as by_disabling (l v)) (each_as (under distake) (k v))
 
-  -- The composites of a tree, in the order of trees. Those of a node are asked of its generation.
-  abbrev pub waiting_composites : Shape → Lazy Composite Composite
-  waiting_composites (leaf n) = waits n.generation of_list
-  waiting_composites ended = nil
-  waiting_composites (over o x) = over_one o (waiting_composites x)
-  waiting_composites (between o x y) = over_two o (waiting_composites x) (waiting_composites y)
+  -- The composites of a tree whose actions are sought, in the order of trees. Those of a node are asked of its generation, where some action
+  -- is sought of it.
+  abbrev pub waiting_composites : Shape → Sought → Lazy Composite Composite
+  waiting_composites (leaf n) v = where_asked (seeks_some v) (waits n.generation (λ cs. of_list (sought_of v cs)))
+  waiting_composites ended v = nil
+  waiting_composites (over o x) v = over_one o (waiting_composites x (sought_below (under_one o) v))
+  waiting_composites (between o x y) v = over_two o v (waiting_composites x) (waiting_composites y)
 
   -- A query may ask for this tree of a composite whose fields are filled with these slots, as far as the kind, the fields and the marks
   -- say. What the predicates say isn't looked at.
@@ -127,9 +139,9 @@ module _ (theory : Theory) (w : Windows) where
       flat_map (λ choices. filter (may_be_asked q c choices) (c.trees choices))
       (choices_at_once c.fields (all_choices theory w (offered (offer_in q)) c.fields))
 
-  -- the candidates for a query over a tree of nodes, in order
+  -- the candidates for a query over a tree of nodes, in order; a node is asked only where what the query may ask for can come from it
   abbrev pub waiting_trees : Shape → TreeQuery → Lazy Composite Candidate
-  waiting_trees t q = each (λ c. of_list (map (candidate q) (trees_asked q c))) (waiting_composites t)
+  waiting_trees t q = each (λ c. of_list (map (candidate q) (trees_asked q c))) (waiting_composites t (sought_by q))
 
 module _ (program : Program) (e : Evaluation) (w : Windows) where
   -- the composites of what an origin stands for

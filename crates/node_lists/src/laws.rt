@@ -1,6 +1,6 @@
 // What follows from the definitions: each law is the contract of a function that does nothing.
 
-ghost use Rattle.node_lists.specs.Laws.{CompositesAreThose, ListsAreThose, DecidedEntriesHold};
+ghost use Rattle.node_lists.specs.Laws.{CompositesAreThose, ListsAreThose, DecidedEntriesHold, SoughtIsWhatComesUp};
 
 /// The composites of a tree of nodes are those of the behaviour that it stands for.
 pub fn composites_are_those()
@@ -15,4 +15,9 @@ pub fn lists_are_those()
 /// An entry that is decided from what is known says what is so of the steps of the behaviour that the tree stands for.
 pub fn decided_entries_hold()
     ensures { DecidedEntriesHold }
+{}
+
+/// Some action is sought below steps exactly where one comes up by them as one that is sought.
+pub fn sought_is_what_comes_up()
+    ensures { SoughtIsWhatComesUp }
 {}

@@ -131,13 +131,13 @@ fn composite_count(
 }
 
 // How often a part of the tree's composites counts; a gap doesn't.
-fn part_count(checked: &Checked, windows: &[Window], tree: &Branch, part: &Part) -> u64
+fn part_count(checked: &Checked, windows: &[Window], tree: &Branch, part: &Part<'_>) -> u64
     requires ready { IsReady (program_of checked.now) }
     ensures { result ≡ limited (offers_of_part (program_of checked.now) (windows_in windows.now)
         (stands_for (program_of checked.now) (shape_of tree.now)) (part_of part.now)) }
 {
     match part {
-        Part::Gap(_) => 0,
+        Part::Gap(_, _) => 0,
         Part::Composite(composite) => composite_count(checked, windows, tree, composite),
     }
 }
@@ -145,7 +145,7 @@ fn part_count(checked: &Checked, windows: &[Window], tree: &Branch, part: &Part)
 /// How many possible agreements the tree has, of those of which every participant is an expanded node: each of its composites counts once
 /// where its action is at a gate and no participant has a selection predicate, else once for each way to fill its open fields with values
 /// of their windows. All above the limit comes to one more than the limit. It takes no memory, and goes once along each composite.
-pub fn count_offers(checked: &Checked, windows: &[Window], tree: &Branch, parts: &[Part]) -> u64
+pub fn count_offers(checked: &Checked, windows: &[Window], tree: &Branch, parts: &[Part<'_>]) -> u64
     requires ready { IsReady (program_of checked.now) }
     requires parts { map part_of parts.now ≡ known_plans (program_of checked.now).theory (shape_of tree.now) }
     ensures counted { result ≡ limited (offers_of_tree (program_of checked.now) (windows_in windows.now) (shape_of tree.now)) }

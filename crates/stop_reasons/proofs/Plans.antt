@@ -16,6 +16,7 @@ use Rattle.open_composites.specs.OpenPlans.{OpenPlan, composite_of, under_row, p
 use Rattle.open_composites.specs.OpenPlans.{plans_of_parallel}
 use Rattle.open_composites.specs.Laws.{composites_of}
 use Rattle.asked_trees.specs.Asked.{TreeQuery}
+use Rattle.node_lists.specs.Sought.{Sought}
 use Rattle.node_lists.specs.Waiting.{trees_asked}
 use Rattle.asked_lists.specs.Searches.{for_offer, asked_from}
 use Rattle.asked_lists.proofs.Found.{searches_find_all}
@@ -23,8 +24,10 @@ use Rattle.tree_nodes.specs.Origins.{Source}
 use Rattle.tree_nodes.specs.Rests.{Work}
 use Rattle.tree_nodes.specs.Shapes.{Shape, leaf, ended, over, between, Binary, choosing, beside, disabling, stands_for}
 use Rattle.tree_composites.specs.Known.{PlanOrGap, turned, each_turned, over_one, partners, over_two, known_plans, plans_at}
-use Rattle.candidates.specs.Listed.{known_trees}
-use Rattle.needed_jobs.proofs.Elements.{AreElements}
+use Rattle.tree_composites.specs.Known.{sought_plans}
+use Rattle.tree_composites.proofs.Placed.{sought_plans_are_known}
+use Rattle.candidates.specs.Listed.{kinds_sought, known_trees}
+use Rattle.needed_jobs.proofs.Elements.{AreElements, elements_more, elements_listed, element_holds}
 use Rattle.needed_jobs.proofs.Lists.{each_more, each_listed}
 use Rattle.waiting_offers.proofs.Members.{mapped}
 use Rattle.offer_counts.specs.Laws.{AreOwnPlans}
@@ -150,6 +153,15 @@ module _ (theory : Theory) where
         two o (all_plans theory of_node x) (all_plans theory of_node y) (known_plans theory x) (known_plans theory y) (known_among x)
         (known_among y)
 
+    -- also those that are sought
+    sought_among : (t : Shape) (v : Sought) → AreElements (Among (all_plans theory of_node t)) (sought_plans theory t v)
+    sought_among t v =
+        let all = all_plans theory of_node t in
+        let l = sought_plans theory t v in
+        elements_more (λ p. IsOneOf (element p) l) (Among all)
+        (λ p i. element_holds (Among all) (known_plans theory t) p (known_among t) (sought_plans_are_known theory t v (element p) i)) l
+        (elements_listed l)
+
 module _ (theory : Theory) (w : Windows) (q : TreeQuery) where
   abbrev looked_at : OpenPlan → List Derivation
   looked_at p = asked_from theory w (for_offer q) p 0
@@ -185,7 +197,8 @@ pub listed_of_composite : (program : Program) (e : Evaluation) (w : Windows) (q 
     (d : Derivation) → IsOneOf (element d) (known_trees program.theory w t q) → IsOfComposite program e w q t d
 listed_of_composite program e w q t origins d i =
     let all = all_plans program.theory (own program e w) t in
-    let x = of_plans program.theory w q (Among all) (known_plans program.theory t) (known_among program.theory (own program e w) t) d i in
+    let v = kinds_sought (for_offer q) in
+    let x = of_plans program.theory w q (Among all) (sought_plans program.theory t v) (sought_among program.theory (own program e w) t v) d i in
     record {
       composite = composite_of program.theory w x.plan;
       among =

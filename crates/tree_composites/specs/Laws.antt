@@ -1,15 +1,17 @@
 -- What follows from the definitions.
 use Rattle.std.specs.Prelude.{ℕ, ◌≡◌, List, map, Option, option_map}
+use Rattle.spec_core.specs.Lists.{IsOneOf}
 use Rattle.spec_core.specs.Theories.{Theory}
 use Rattle.windowed_trees.specs.Windows.{Windows}
 use Rattle.courses.specs.Gaps.{OrGap, element, gap, with_gaps}
 use Rattle.composites.specs.Composites.{Composite}
 use Rattle.open_composites.specs.OpenPlans.{composite_of}
 use Rattle.open_composites.specs.Laws.{composites_of}
+use Rattle.node_lists.specs.Sought.{Sought}
 use Rattle.node_lists.specs.Waiting.{waiting_composites}
 use Rattle.tree_nodes.specs.Rests.{Work}
 use Rattle.tree_nodes.specs.Shapes.{Above, Held, Shape, Stands}
-use Rattle.tree_composites.specs.Known.{PlanOrGap, known_plans}
+use Rattle.tree_composites.specs.Known.{PlanOrGap, known_plans, sought_plans}
 
 module _ (theory : Theory) (w : Windows) where
   -- the composite with the trees of a plan
@@ -22,9 +24,17 @@ module _ (theory : Theory) (w : Windows) where
   AreExpanded items t = (up : List Above) (n : Held) → Stands t up n →
       items n.generation ≡ option_map (λ (x : Work). composites_of theory w x.plans) n.work
 
--- the plans of a tree make its composites, with the same gaps
+-- The plans of a tree whose actions are sought make its composites whose actions are sought, with the same gaps.
 abbrev pub KnownPlansAreThose : Type 0
 KnownPlansAreThose =
     (theory : Theory) (w : Windows) (items : ℕ → Option (List Composite)) (t : Shape) →
     AreExpanded theory w items t →
-    map (composite_or_gap theory w) (known_plans theory t) ≡ with_gaps items (waiting_composites theory w t)
+    (v : Sought) →
+    map (composite_or_gap theory w) (sought_plans theory t v) ≡ with_gaps items (waiting_composites theory w t v)
+
+-- what is sought of a tree is among all that is known of it
+abbrev pub SoughtPlansAreKnown : Type 0
+SoughtPlansAreKnown =
+    (theory : Theory) (t : Shape) (v : Sought) (x : PlanOrGap) →
+    IsOneOf x (sought_plans theory t v) →
+    IsOneOf x (known_plans theory t)

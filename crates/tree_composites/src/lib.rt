@@ -5,3 +5,5 @@ pub mod known;
 pub mod laws;
 mod operators;
 pub mod part;
+pub mod sought;
+pub mod step;

@@ -3,14 +3,16 @@
 ghost use Rattle.std.specs.Prelude.{◌≡◌, ◌∷◌, [], ◌++◌, IfOk, map, flat_map, option_map};
 ghost use Rattle.spec_core.specs.Code.{synchronised_of};
 ghost use Rattle.spec_core.specs.Theories.{theory_of};
-ghost use Rattle.courses.specs.Gaps.{element, in_its_place};
 ghost use Rattle.open_composites.specs.OpenPlans.{open_plan_of, under_row, plans_alone, plans_joint, plan_by_disabling};
 ghost use Rattle.composites.specs.Composites.{from_option};
 ghost use Rattle.tree_nodes.specs.Shapes as nodes;
 ghost use Rattle.tree_nodes.specs.Shapes.{unary_of, binary_of};
-ghost use Rattle.tree_composites.specs.Known.{part_of, turned, each_turned, over_one, over_two, partners};
+ghost use Rattle.node_lists.specs.Sought.{by_itself, with_another, as_another};
+ghost use Rattle.tree_composites.specs.Known.{made, awaited, step_of, placed_of, over_one, stepped, turned_there, placed_over_one};
+ghost use Rattle.tree_composites.specs.Known.{placed_alone, placed_partners, placed_over_two};
 
 use crate::part::Part;
+use crate::step::Step;
 use open_composites::composite::OpenComposite;
 use open_composites::kind::is_joint;
 use open_composites::operators::{
@@ -22,6 +24,7 @@ use spec_core::equation::DataSpec;
 use spec_core::memory::Memory;
 use std::alloc::Global;
 use tree_nodes::branch::{Double, Single};
+use tree_nodes::origin::Gen;
 
 // What an operator over one part makes of a composite.
 fn by_single(
@@ -38,20 +41,37 @@ fn by_single(
     }
 }
 
+// A gap a step further down.
+fn further_down<'a>(
+    generation: Gen,
+    steps: Vec<Step<'a>>,
+    step: Step<'a>,
+) -> Result<Part<'a>, Memory>
+    ensures { IfOk result (λ x. placed_of x ≡ awaited generation.0 (map step_of steps.entry.items ++ step_of step.entry ∷ [])) }
+{
+    let mut steps = steps;
+    steps.push(step)?;
+    Ok(Part::Gap(generation, steps))
+}
+
 // What it makes of a part.
-fn over_part(alloc: Global, operator: &Single, part: Part) -> Result<Part, Memory>
-    ensures { IfOk result (λ x. part_of x ≡ turned (over_one (unary_of operator.now)) (part_of part)) }
+fn over_part<'a>(alloc: Global, operator: &'a Single, part: Part<'a>) -> Result<Part<'a>, Memory>
+    ensures { IfOk result (λ x. placed_of x ≡ placed_over_one (unary_of operator.now) (placed_of part.entry)) }
 {
     match part {
-        Part::Gap(generation) => Ok(Part::Gap(generation)),
+        Part::Gap(generation, steps) => further_down(generation, steps, Step::Under(operator)),
         Part::Composite(composite) => Ok(Part::Composite(by_single(alloc, operator, composite)?)),
     }
 }
 
 /// What an operator over one part makes of the composites of the part.
-pub fn over_parts(alloc: Global, operator: &Single, parts: Vec<Part>) -> Result<Vec<Part>, Memory>
+pub fn over_parts<'a>(
+    alloc: Global,
+    operator: &'a Single,
+    parts: Vec<Part<'a>>,
+) -> Result<Vec<Part<'a>>, Memory>
     ensures over { IfOk result (λ all.
-        map part_of all.items ≡ map (turned (over_one (unary_of operator.now))) (map part_of parts.items)) }
+        map placed_of all.items ≡ map (placed_over_one (unary_of operator.now)) (map placed_of parts.entry.items)) }
 {
     let mut all = Vec::new(alloc);
     for part in parts {
@@ -61,11 +81,11 @@ pub fn over_parts(alloc: Global, operator: &Single, parts: Vec<Part>) -> Result<
 }
 
 // A part under a rule.
-fn part_below(alloc: Global, row: &Row, part: Part) -> Result<Part, Memory>
-    ensures { IfOk result (λ x. part_of x ≡ turned (under_row row.now) (part_of part)) }
+fn part_below<'a>(alloc: Global, row: &Row, part: Part<'a>) -> Result<Part<'a>, Memory>
+    ensures { IfOk result (λ x. placed_of x ≡ turned_there (under_row row.now) (placed_of part.entry)) }
 {
     match part {
-        Part::Gap(generation) => Ok(Part::Gap(generation)),
+        Part::Gap(generation, steps) => Ok(Part::Gap(generation, steps)),
         Part::Composite(composite) => {
             Ok(Part::Composite(below(alloc, row.copy(alloc)?, composite)?))
         }
@@ -73,9 +93,15 @@ fn part_below(alloc: Global, row: &Row, part: Part) -> Result<Part, Memory>
 }
 
 // Appends each part under a rule.
-fn put_below(alloc: Global, row: &Row, parts: Vec<Part>, all: &mut Vec<Part>) -> Result<(), Memory>
+fn put_below<'a>(
+    alloc: Global,
+    row: &Row,
+    parts: Vec<Part<'a>>,
+    all: &mut Vec<Part<'a>>,
+) -> Result<(), Memory>
     ensures { IfOk result (λ _.
-        map part_of all.new.items ≡ map part_of all.old.items ++ map (turned (under_row row.now)) (map part_of parts.items)) }
+        map placed_of all.new.items ≡
+        map placed_of all.old.items ++ map (turned_there (under_row row.now)) (map placed_of parts.entry.items)) }
 {
     for part in parts {
         all.push(part_below(alloc, row, part)?)?;
@@ -84,18 +110,18 @@ fn put_below(alloc: Global, row: &Row, parts: Vec<Part>, all: &mut Vec<Part>) ->
 }
 
 // A part of the left side of a disabling.
-fn disabled_part(alloc: Global, part: Part) -> Result<Part, Memory>
-    ensures { IfOk result (λ x. part_of x ≡ turned plan_by_disabling (part_of part)) }
+fn disabled_part<'a>(alloc: Global, part: Part<'a>) -> Result<Part<'a>, Memory>
+    ensures { IfOk result (λ x. placed_of x ≡ turned_there plan_by_disabling (placed_of part.entry)) }
 {
     match part {
-        Part::Gap(generation) => Ok(Part::Gap(generation)),
+        Part::Gap(generation, steps) => Ok(Part::Gap(generation, steps)),
         Part::Composite(composite) => Ok(Part::Composite(by_disabling(alloc, composite)?)),
     }
 }
 
 // The parts of the left side of a disabling.
-fn disabled_parts(alloc: Global, parts: Vec<Part>) -> Result<Vec<Part>, Memory>
-    ensures { IfOk result (λ all. map part_of all.items ≡ map (turned plan_by_disabling) (map part_of parts.items)) }
+fn disabled_parts<'a>(alloc: Global, parts: Vec<Part<'a>>) -> Result<Vec<Part<'a>>, Memory>
+    ensures { IfOk result (λ all. map placed_of all.items ≡ map (turned_there plan_by_disabling) (map placed_of parts.entry.items)) }
 {
     let mut all = Vec::new(alloc);
     for part in parts {
@@ -105,10 +131,13 @@ fn disabled_parts(alloc: Global, parts: Vec<Part>) -> Result<Vec<Part>, Memory>
 }
 
 // Appends a composite, if there is one.
-fn put_composite(composite: Option<OpenComposite>, all: &mut Vec<Part>) -> Result<(), Memory>
+fn put_composite<'a>(
+    composite: Option<OpenComposite>,
+    all: &mut Vec<Part<'a>>,
+) -> Result<(), Memory>
     ensures { IfOk result (λ _.
-        map part_of all.new.items ≡
-        map part_of all.old.items ++ map element (from_option (option_map open_plan_of composite) (λ p. p ∷ []))) }
+        map placed_of all.new.items ≡
+        map placed_of all.old.items ++ map made (from_option (option_map open_plan_of composite) (λ p. p ∷ []))) }
 {
     match composite {
         None => Ok(()),
@@ -119,39 +148,56 @@ fn put_composite(composite: Option<OpenComposite>, all: &mut Vec<Part>) -> Resul
     }
 }
 
-// Appends what one side of a parallel composition makes of a part alone.
-fn put_alone(
+// Appends a gap a step further down.
+fn put_gap<'a>(
     alloc: Global,
-    gates: &GateSet,
-    row: &Row,
-    part: &Part,
-    all: &mut Vec<Part>,
+    generation: Gen,
+    steps: &[Step<'a>],
+    step: Step<'a>,
+    all: &mut Vec<Part<'a>>,
 ) -> Result<(), Memory>
     ensures { IfOk result (λ _.
-        map part_of all.new.items ≡
-        map part_of all.old.items ++
-        in_its_place (λ p. map element (plans_alone (synchronised_of gates.now) row.now p)) (part_of part.now)) }
+        map placed_of all.new.items ≡
+        map placed_of all.old.items ++ awaited generation.0 (map step_of steps.now ++ step_of step.entry ∷ []) ∷ []) }
+{
+    let those = Vec::from_slice(alloc, steps)?;
+    all.push(further_down(generation, those, step)?)?;
+    Ok(())
+}
+
+// Appends what one side of a parallel composition makes of a part alone.
+fn put_alone<'a>(
+    alloc: Global,
+    gates: &'a GateSet,
+    row: &Row,
+    part: &Part<'a>,
+    all: &mut Vec<Part<'a>>,
+) -> Result<(), Memory>
+    ensures { IfOk result (λ _.
+        map placed_of all.new.items ≡
+        map placed_of all.old.items ++
+        stepped (by_itself (synchronised_of gates.now)) (λ p. map made (plans_alone (synchronised_of gates.now) row.now p))
+        (placed_of part.now)) }
 {
     match part {
-        Part::Gap(generation) => {
-            all.push(Part::Gap(*generation))?;
-            Ok(())
+        Part::Gap(generation, steps) => {
+            put_gap(alloc, *generation, steps, Step::Alone(gates), all)
         }
         Part::Composite(composite) => put_composite(alone(alloc, gates, row, composite)?, all),
     }
 }
 
 // Appends what one side of a parallel composition does alone.
-fn put_all_alone(
+fn put_all_alone<'a>(
     alloc: Global,
-    gates: &GateSet,
+    gates: &'a GateSet,
     row: &Row,
-    parts: &[Part],
-    all: &mut Vec<Part>,
+    parts: &[Part<'a>],
+    all: &mut Vec<Part<'a>>,
 ) -> Result<(), Memory>
     ensures { IfOk result (λ _.
-        map part_of all.new.items ≡
-        map part_of all.old.items ++ each_turned (plans_alone (synchronised_of gates.now) row.now) (map part_of parts.now)) }
+        map placed_of all.new.items ≡
+        map placed_of all.old.items ++ placed_alone (synchronised_of gates.now) row.now (map placed_of parts.now)) }
 {
     for part in parts {
         put_alone(alloc, gates, row, part, all)?;
@@ -160,42 +206,44 @@ fn put_all_alone(
 }
 
 // Appends what a composite of the left side makes together with a part of the right side.
-fn put_partner(
+fn put_partner<'a>(
     alloc: Global,
     algebra: &DataSpec,
     gates: &GateSet,
     left: &OpenComposite,
-    part: &Part,
-    all: &mut Vec<Part>,
+    part: &Part<'a>,
+    all: &mut Vec<Part<'a>>,
 ) -> Result<(), Memory>
     ensures { IfOk result (λ _.
-        map part_of all.new.items ≡
-        map part_of all.old.items ++
-        in_its_place (λ p. map element (plans_joint (theory_of algebra.now) (synchronised_of gates.now) (open_plan_of left.now) p))
-        (part_of part.now)) }
+        map placed_of all.new.items ≡
+        map placed_of all.old.items ++
+        stepped (as_another (open_plan_of left.now).kind)
+        (λ p. map made (plans_joint (theory_of algebra.now) (synchronised_of gates.now) (open_plan_of left.now) p))
+        (placed_of part.now)) }
 {
     match part {
-        Part::Gap(generation) => {
-            all.push(Part::Gap(*generation))?;
-            Ok(())
+        Part::Gap(generation, steps) => {
+            put_gap(alloc, *generation, steps, Step::Beside(left.kind), all)
         }
         Part::Composite(right) => put_composite(joint(alloc, algebra, gates, left, right)?, all),
     }
 }
 
 // Appends what a composite of the left side makes together with each part of the right side.
-fn put_each_partner(
+fn put_each_partner<'a>(
     alloc: Global,
     algebra: &DataSpec,
     gates: &GateSet,
     left: &OpenComposite,
-    right: &[Part],
-    all: &mut Vec<Part>,
+    right: &[Part<'a>],
+    all: &mut Vec<Part<'a>>,
 ) -> Result<(), Memory>
     ensures { IfOk result (λ _.
-        map part_of all.new.items ≡
-        map part_of all.old.items ++
-        each_turned (plans_joint (theory_of algebra.now) (synchronised_of gates.now) (open_plan_of left.now)) (map part_of right.now)) }
+        map placed_of all.new.items ≡
+        map placed_of all.old.items ++
+        flat_map (stepped (as_another (open_plan_of left.now).kind)
+        (λ p. map made (plans_joint (theory_of algebra.now) (synchronised_of gates.now) (open_plan_of left.now) p)))
+        (map placed_of right.now)) }
 {
     for part in right {
         put_partner(alloc, algebra, gates, left, part, all)?;
@@ -204,18 +252,18 @@ fn put_each_partner(
 }
 
 // The same, where the composite is one that both sides have together.
-fn put_partners(
+fn put_partners<'a>(
     alloc: Global,
     algebra: &DataSpec,
     gates: &GateSet,
     left: &OpenComposite,
-    right: &[Part],
-    all: &mut Vec<Part>,
+    right: &[Part<'a>],
+    all: &mut Vec<Part<'a>>,
 ) -> Result<(), Memory>
     ensures { IfOk result (λ _.
-        map part_of all.new.items ≡
-        map part_of all.old.items ++
-        partners (theory_of algebra.now) (synchronised_of gates.now) (map part_of right.now) (open_plan_of left.now)) }
+        map placed_of all.new.items ≡
+        map placed_of all.old.items ++
+        placed_partners (theory_of algebra.now) (synchronised_of gates.now) (map placed_of right.now) (open_plan_of left.now)) }
 {
     if is_joint(gates, left.kind) {
         put_each_partner(alloc, algebra, gates, left, right, all)
@@ -225,42 +273,43 @@ fn put_partners(
 }
 
 // Appends what a part of the left side makes together with the right side.
-fn put_together(
+fn put_together<'a>(
     alloc: Global,
     algebra: &DataSpec,
-    gates: &GateSet,
-    part: &Part,
-    right: &[Part],
-    all: &mut Vec<Part>,
+    gates: &'a GateSet,
+    part: &Part<'a>,
+    right: &[Part<'a>],
+    all: &mut Vec<Part<'a>>,
 ) -> Result<(), Memory>
     ensures { IfOk result (λ _.
-        map part_of all.new.items ≡
-        map part_of all.old.items ++
-        in_its_place (partners (theory_of algebra.now) (synchronised_of gates.now) (map part_of right.now)) (part_of part.now)) }
+        map placed_of all.new.items ≡
+        map placed_of all.old.items ++
+        stepped (with_another (synchronised_of gates.now))
+        (placed_partners (theory_of algebra.now) (synchronised_of gates.now) (map placed_of right.now)) (placed_of part.now)) }
 {
     match part {
-        Part::Gap(generation) => {
-            all.push(Part::Gap(*generation))?;
-            Ok(())
+        Part::Gap(generation, steps) => {
+            put_gap(alloc, *generation, steps, Step::Together(gates), all)
         }
         Part::Composite(left) => put_partners(alloc, algebra, gates, left, right, all),
     }
 }
 
 // Appends what both sides of a parallel composition do together.
-fn put_all_together(
+fn put_all_together<'a>(
     alloc: Global,
     algebra: &DataSpec,
-    gates: &GateSet,
-    left: &[Part],
-    right: &[Part],
-    all: &mut Vec<Part>,
+    gates: &'a GateSet,
+    left: &[Part<'a>],
+    right: &[Part<'a>],
+    all: &mut Vec<Part<'a>>,
 ) -> Result<(), Memory>
     ensures { IfOk result (λ _.
-        map part_of all.new.items ≡
-        map part_of all.old.items ++
-        flat_map (in_its_place (partners (theory_of algebra.now) (synchronised_of gates.now) (map part_of right.now)))
-        (map part_of left.now)) }
+        map placed_of all.new.items ≡
+        map placed_of all.old.items ++
+        flat_map (stepped (with_another (synchronised_of gates.now))
+        (placed_partners (theory_of algebra.now) (synchronised_of gates.now) (map placed_of right.now)))
+        (map placed_of left.now)) }
 {
     for part in left {
         put_together(alloc, algebra, gates, part, right, all)?;
@@ -269,16 +318,17 @@ fn put_all_together(
 }
 
 // What a parallel composition makes of the composites of its sides.
-fn beside(
+fn beside<'a>(
     alloc: Global,
     algebra: &DataSpec,
-    gates: &GateSet,
-    left: &[Part],
-    right: &[Part],
-) -> Result<Vec<Part>, Memory>
+    gates: &'a GateSet,
+    left: &[Part<'a>],
+    right: &[Part<'a>],
+) -> Result<Vec<Part<'a>>, Memory>
     ensures { IfOk result (λ all.
-        map part_of all.items ≡
-        over_two (theory_of algebra.now) (nodes.beside (synchronised_of gates.now)) (map part_of left.now) (map part_of right.now)) }
+        map placed_of all.items ≡
+        placed_over_two (theory_of algebra.now) (nodes.beside (synchronised_of gates.now)) (map placed_of left.now)
+        (map placed_of right.now)) }
 {
     let mut all = Vec::new(alloc);
     put_all_alone(alloc, gates, &Row::Parl, left, &mut all)?;
@@ -288,10 +338,15 @@ fn beside(
 }
 
 // What a choice makes of the composites of its sides.
-fn choice(alloc: Global, left: Vec<Part>, right: Vec<Part>) -> Result<Vec<Part>, Memory>
+fn choice<'a>(
+    alloc: Global,
+    left: Vec<Part<'a>>,
+    right: Vec<Part<'a>>,
+) -> Result<Vec<Part<'a>>, Memory>
     ensures { IfOk result (λ all.
-        map part_of all.items ≡
-        map (turned (under_row Row.Chl)) (map part_of left.items) ++ map (turned (under_row Row.Chr)) (map part_of right.items)) }
+        map placed_of all.items ≡
+        map (turned_there (under_row Row.Chl)) (map placed_of left.entry.items) ++
+        map (turned_there (under_row Row.Chr)) (map placed_of right.entry.items)) }
 {
     let mut all = Vec::new(alloc);
     put_below(alloc, &Row::Chl, left, &mut all)?;
@@ -300,10 +355,15 @@ fn choice(alloc: Global, left: Vec<Part>, right: Vec<Part>) -> Result<Vec<Part>,
 }
 
 // What a disabling makes of the composites of its sides.
-fn disable(alloc: Global, left: Vec<Part>, right: Vec<Part>) -> Result<Vec<Part>, Memory>
+fn disable<'a>(
+    alloc: Global,
+    left: Vec<Part<'a>>,
+    right: Vec<Part<'a>>,
+) -> Result<Vec<Part<'a>>, Memory>
     ensures { IfOk result (λ all.
-        map part_of all.items ≡
-        map (turned plan_by_disabling) (map part_of left.items) ++ map (turned (under_row Row.Distake)) (map part_of right.items)) }
+        map placed_of all.items ≡
+        map (turned_there plan_by_disabling) (map placed_of left.entry.items) ++
+        map (turned_there (under_row Row.Distake)) (map placed_of right.entry.items)) }
 {
     let mut all = disabled_parts(alloc, left)?;
     put_below(alloc, &Row::Distake, right, &mut all)?;
@@ -311,16 +371,17 @@ fn disable(alloc: Global, left: Vec<Part>, right: Vec<Part>) -> Result<Vec<Part>
 }
 
 /// What an operator over two parts makes of their composites.
-pub fn over_sides(
+pub fn over_sides<'a>(
     alloc: Global,
     algebra: &DataSpec,
-    operator: &Double,
-    left: Vec<Part>,
-    right: Vec<Part>,
-) -> Result<Vec<Part>, Memory>
+    operator: &'a Double,
+    left: Vec<Part<'a>>,
+    right: Vec<Part<'a>>,
+) -> Result<Vec<Part<'a>>, Memory>
     ensures over { IfOk result (λ all.
-        map part_of all.items ≡
-        over_two (theory_of algebra.now) (binary_of operator.now) (map part_of left.items) (map part_of right.items)) }
+        map placed_of all.items ≡
+        placed_over_two (theory_of algebra.now) (binary_of operator.now) (map placed_of left.entry.items)
+        (map placed_of right.entry.items)) }
 {
     match operator {
         Double::Choice => choice(alloc, left, right),

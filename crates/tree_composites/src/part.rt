@@ -1,11 +1,12 @@
 // Composites with gaps.
 
+use crate::step::Step;
 use open_composites::composite::OpenComposite;
 use tree_nodes::origin::Gen;
 
-/// A composite of a tree of nodes; or the place of a node that isn't expanded.
+/// A composite of a tree of nodes; or the place of a node that isn't expanded, with the steps from it up to the whole, the lowest first.
 #[derive(Drop)]
-pub enum Part {
-    Gap(Gen),
+pub enum Part<'a> {
+    Gap(Gen, Vec<Step<'a>>),
     Composite(OpenComposite),
 }

@@ -1,8 +1,7 @@
 use Rattle.std.proofs.Common.{◌≡◌, map, take}
-use Rattle.courses.specs.Gaps.{element}
 use Rattle.open_composites.specs.OpenPlans.{open_plan_of}
-use Rattle.tree_composites.specs.Known.{part_of}
+use Rattle.tree_composites.specs.Known.{made, placed_of}
 use Rattle.tree_composites.proofs.known.parts.Given as goal
 
 abbrev pub invariant-loop-composite : goal.invariant-loop-composite
-invariant-loop-composite l = map part_of l.all.items ≡ map element (map open_plan_of (take l.composite-index l.composites))
+invariant-loop-composite l = map placed_of l.all.items ≡ map made (map open_plan_of (take l.composite-index l.composites))
