@@ -1,5 +1,6 @@
 -- What the program finds in what is known of a board's tree.
-use Rattle.std.proofs.Common.{◌≡◌, List, [], ◌∷◌, ◌++◌, map, refl, ap, subst, sym, ◌∙◌, inl, inr, Option, Some, option_map, Bool, true, false, cond, not, filter}
+use Rattle.std.proofs.Common.{◌≡◌, List, [], ◌∷◌, ◌++◌, map, refl, ap, subst, sym, ◌∙◌, inl, inr, Option, Some, option_map, Bool, true, false, cond, not, filter, ◌==◌, ◌||◌, None}
+use Rattle.std.proofs.lemmas.Bool.{and_parts, eqb-true}
 use Rattle.std.proofs.lemmas.List.{map-append}
 use Rattle.spec_core.specs.declared.equation.DataSpec.{DataSpec}
 use Rattle.spec_core.specs.declared.window.Window.{Window}
@@ -23,10 +24,12 @@ use Rattle.tree_nodes.specs.Origins.{source_of}
 use Rattle.tree_nodes.specs.Shapes.{Held, IsNodeOf, Lives, Shape, shape_of}
 use Rattle.window_tables.specs.Tables.{windows_in}
 use Rattle.known_shows.specs.declared.pieces.Pieces.{Pieces}
+use Rattle.known_shows.specs.Same.{same_rules}
 use Rattle.known_shows.specs.Stored.{stored}
+use Rattle.known_shows.proofs.Sameness.{same_rules_are_one}
 use Rattle.candidates.specs.declared.known_tree.KnownTree.{KnownTree}
 use Rattle.candidates.specs.declared.job.NodeJob as declared
-use Rattle.candidates.specs.Jobs.{NodeJob, is_out}
+use Rattle.candidates.specs.Jobs.{NodeJob, to_expand, to_judge, same_job, is_out}
 use Rattle.candidates.specs.KnownTrees.{offer_in, first_in, all_in, is_out_in, jobs_to_first, jobs_to_all, is_held_in}
 use Rattle.candidates.specs.Listed.{first_tree}
 use Rattle.candidates.specs.Models.{job_of}
@@ -60,6 +63,47 @@ free_is_needed out (other ∷ jobs) job e = by_test (not (out other)) e (free_is
         (first_not_out out jobs ≡ Some job → IsOneOf job jobs) → IsOneOf job (other ∷ jobs)
     by_test true f rest = let same : other ≡ job = cc in inl (sym same)
     by_test false f rest = inr (rest f)
+
+-- what is the same job is one
+pub same_jobs_are_one : (a b : NodeJob) → same_job a b ≡ true → a ≡ b
+same_jobs_are_one (to_expand g) (to_expand h) e = ap to_expand (eqb-true g h e)
+same_jobs_are_one (to_judge p) (to_judge q) e =
+    let both = and_parts (p.generation == q.generation) (same_rules p.rules q.rules) e in
+    let number = eqb-true p.generation q.generation both.0 in
+    let rules = (same_rules_are_one p.rules q.rules).0 both.1 in
+    λ i. to_judge (record { generation = number i; rules = rules i })
+same_jobs_are_one (to_expand g) (to_judge q) e = absurd (let never : ⊥ = cc in never)
+same_jobs_are_one (to_judge p) (to_expand h) e = absurd (let never : ⊥ = cc in never)
+
+-- where the first job that isn't one of these is another one, the one that is looked for is needed
+pub met_is_needed : (out : NodeJob → Bool) (jobs : List NodeJob) (job task : NodeJob) → first_not_out out jobs ≡ Some job →
+    same_job job task ≡ true → IsOneOf task jobs
+met_is_needed out jobs job task first same =
+    subst (λ j. IsOneOf j jobs) (same_jobs_are_one job task same) (free_is_needed out jobs job first)
+
+-- where all of these are out, and one isn't, it is none of these
+pub none_free : (out : NodeJob → Bool) (jobs : List NodeJob) (task : NodeJob) → first_not_out out jobs ≡ None → out task ≡ false →
+    IsOneOf task jobs → ⊥
+none_free out [] task e free among = among
+none_free out (other ∷ jobs) task e free among = by_test (out other) refl e (none_free out jobs task) among
+  where
+    by_test : (b : Bool) → out other ≡ b → first (cond (not b) (other ∷ not_out out jobs) (not_out out jobs)) ≡ None →
+        (first_not_out out jobs ≡ None → out task ≡ false → IsOneOf task jobs → ⊥) → IsOneOf task (other ∷ jobs) → ⊥
+    by_test false g f others h = let never : ⊥ = cc in never
+    by_test true g f others (inl same) =
+        let wrong : true ≡ false = sym g ∙ ap out (sym same) ∙ free in let never : ⊥ = cc in never
+    by_test true g f others (inr rest) = others f free rest
+
+-- one more job that is another one
+pub passed_by : (out : List NodeJob) (job task : NodeJob) → is_out out task ≡ false → same_job job task ≡ false →
+    is_out (out ++ job ∷ []) task ≡ false
+passed_by [] job task e f = ap (λ b. b || false) f
+passed_by (other ∷ out) job task e f = by_test (same_job other task) e (λ g. passed_by out job task g f)
+  where
+    by_test : (b : Bool) → b || is_out out task ≡ false → (is_out out task ≡ false → is_out (out ++ job ∷ []) task ≡ false) →
+        b || is_out (out ++ job ∷ []) task ≡ false
+    by_test true g others = g
+    by_test false g others = others g
 
 -- the first of the jobs that are needed is handed out
 pub handed_out : (old new : BoardView) (task again : declared.NodeJob) (job : Job) →
@@ -126,11 +170,11 @@ module _ (v : BoardView) (k : KnownTree) (is : IsOf v k) (o : OffersByNumber)
   Needs job out algebra rows t ps w =
       job ≡ first_not_out (is_out (map job_of out)) (jobs_needed (theory_of algebra) (windows_in rows) t (stored ps) w)
 
-  pub found_job : k.out.now ≡ v.out → (job : Option NodeJob) →
+  pub found_job : (those : List declared.NodeJob) → k.out.now ≡ those → (job : Option NodeJob) →
       job ≡ first_not_out (is_out_in k)
       (next_needed (jobs_to_first k) (jobs_to_all k) (is_held_in k) (waiting_with (offer_in k) (waiting_of o))) →
-      job ≡ first_not_out (is_out (map job_of v.out)) (needed_at v)
-  found_job out job h =
+      job ≡ first_not_out (is_out (map job_of those)) (needed_at v)
+  found_job those out job h =
       let p : List PendingOffer = map pending_of k.offers.now in
       let w : List PendingOffer → Waiting PendingOffer = λ z. waiting_with (offer_at z) (waiting_of o) in
       let a : Needs job k.out.now k.algebra.now k.windows.now (shape_of k.tree.now) k.pieces.now (w p) = h in

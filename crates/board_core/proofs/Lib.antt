@@ -4,6 +4,7 @@ pub mod Found
 pub mod Keeping
 pub mod Knowing
 pub mod Living
+pub mod Needing
 pub mod Origins
 pub mod Quiet
 pub mod Tables

@@ -1,11 +1,11 @@
 -- What nodes that live on stand for.
-use Rattle.std.proofs.Common.{ℕ, ◌≡◌, ◌∙◌, ◌<◌, ◌==◌, List, [], ◌∷◌, refl, sym, ap, subst, Some, Bool, true, false, if◌then◌else◌, arith}
+use Rattle.std.proofs.Common.{ℕ, ◌≡◌, ◌↔◌, ◌∙◌, ◌<◌, ◌==◌, List, [], ◌∷◌, refl, sym, ap, subst, Some, Bool, IsTrue, true, false, if◌then◌else◌, arith}
 use Rattle.tree_nodes.specs.Generations.{AreApart, AreBelow}
 use Rattle.tree_nodes.specs.Origins.{Source}
 use Rattle.tree_nodes.specs.Rests.{Work}
 use Rattle.tree_nodes.specs.Shapes.{Held, Shape, leaf, over, between, Above, under, first_of, second_of, Stands, IsNodeOf, posted}
 use Rattle.board_core.specs.Views.{BoardView, tree, SameNodes}
-use Rattle.board_core.specs.Working.{KeepsNodes, IsOrigin}
+use Rattle.board_core.specs.Working.{HasOrigin, KeepsNodes, IsOrigin}
 
 -- the same nodes
 pub same_keeps : (old new : BoardView) → SameNodes old new → KeepsNodes old new
@@ -71,3 +71,17 @@ pub source_stays : (old new : BoardView) (g : ℕ) (n m : Held) → AreApart (tr
 source_stays old new g n m apart below keeps was is =
     let r = keeps.was g m is (subst (λ (k : ℕ). k < old.session.tree.next) was.same (below was.up n was.stands)) in
     r.2 ∙ ap (λ (k : Held). k.source) (apart r.1.up was.up r.0 n r.1.stands was.stands (r.1.same ∙ sym was.same)).1
+
+-- a node that is found has the origin exactly where it stands for it
+pub found_has_origin : (t : Shape) (g : ℕ) (n : Held) (o : Source) (b : Bool) → AreApart t → IsNodeOf t g n → (IsTrue b ↔ (n.source ≡ o)) →
+    IsTrue b ↔ HasOrigin t g o
+found_has_origin t g n o b apart is same = (
+  λ h. record { node = n; is = is; source = same.0 h },
+  λ h. same.1
+      (ap (λ (k : Held). k.source) (apart is.up h.is.up n h.node is.stands h.is.stands (is.same ∙ sym h.is.same)).1 ∙ h.source),
+)
+
+-- then each node of the generation stands for it
+pub has_one_origin : (t : Shape) (g : ℕ) (o : Source) → AreApart t → HasOrigin t g o → (n : Held) → IsNodeOf t g n → n.source ≡ o
+has_one_origin t g o apart h n is =
+    ap (λ (k : Held). k.source) (apart is.up h.is.up n h.node is.stands h.is.stands (is.same ∙ sym h.is.same)).1 ∙ h.source

@@ -1,5 +1,6 @@
 -- Jobs that are handed out, and what comes of them.
 use Rattle.std.specs.Prelude.{ℕ, ◌≡◌, ◌<◌, ◌≤◌, ◌⊎◌, ◌++◌, ◌∷◌, [], List, map, filter, not, Option, Some, None}
+use Rattle.spec_core.specs.Lists.{IsOneOf}
 use Rattle.settling.specs.Jobs.{first_not_out}
 use Rattle.candidates.specs.Jobs.{NodeJob, to_expand, to_judge, same_job, is_out}
 use Rattle.candidates.specs.Models.{job_of}
@@ -36,6 +37,13 @@ pub data NoneFree (v : BoardView) : Type 0 where
   none_ended : (GoesByRules (state v) → ⊥) → NoneFree v
   none_awaited : AwaitsClients (state v) → NoneFree v
   none_needed : v.stop ≡ None → GoesByRules (state v) → first_free v ≡ None → NoneFree v
+
+-- The rules still need the job: no reason has stopped the session, they look for trees, and the job is one of those that they ask, as far as is
+-- known.
+pub record IsNeeded (v : BoardView) (job : NodeJob) : Type 0 where
+  pub running : v.stop ≡ None
+  pub looks : LooksForTrees (state v)
+  pub among : IsOneOf job (needed_at v)
 
 -- the job is to find what a node shows
 abbrev pub IsVerdict : NodeJob → Type 0
@@ -81,6 +89,12 @@ pub record KeepsNodes (old new : BoardView) : Type 0 where
 pub record IsOrigin (v : BoardView) (g : ℕ) (o : Source) : Type 0 where
   pub begun : g < v.session.tree.next
   pub origin : (n : Held) → IsNodeOf (tree v) g n → n.source ≡ o
+
+-- the node of the generation lives, and stands for this
+pub record HasOrigin (t : Shape) (g : ℕ) (o : Source) : Type 0 where
+  pub node : Held
+  pub is : IsNodeOf t g node
+  pub source : node.source ≡ o
 
 -- the first reason stays
 abbrev pub first_reason : Option StopReason → StopReason → Option StopReason

@@ -164,6 +164,13 @@ impl Board {
         self.record.state()
     }
 
+    /// How many clients there are, open or not. It takes no memory.
+    pub fn clients(&self) -> u32
+        ensures { result ≡ self.now.session.clients }
+    {
+        self.record.clients()
+    }
+
     /// How many clients are open. It takes no memory.
     pub fn open_clients(&self) -> usize
         ensures { result ≡ length (state self.now).open_clients }

@@ -1,6 +1,7 @@
 // What comes next, as far as what is known decides it.
 
-ghost use Rattle.std.specs.Prelude.{◌≡◌, IfOk, Some, map, option_map};
+ghost use Rattle.std.specs.Prelude.{◌≡◌, ◌↔◌, IfOk, IsTrue, Some, map, option_map};
+ghost use Rattle.spec_core.specs.Lists.{IsOneOf};
 ghost use Rattle.rule_model.specs.Derivations.{derivation_of};
 ghost use Rattle.session_states.specs.Views.{pending_of};
 ghost use Rattle.candidates.specs.KnownTrees.{HasItsParts};
@@ -10,8 +11,10 @@ ghost use Rattle.settling.specs.Jobs.{first_not_out};
 ghost use Rattle.tree_nodes.specs.Shapes.{shape_of};
 ghost use Rattle.board_core.specs.Entries.{entry_of};
 ghost use Rattle.board_core.specs.Views.{state, tree, decided_at, needed_at};
+ghost use Rattle.board_core.specs.Working.{IsNeeded};
 
 use crate::board::Board;
+use crate::copying::is_same;
 use candidates::entry::{next_entry, next_job};
 use candidates::job::NodeJob;
 use candidates::known_tree::KnownTree;
@@ -22,6 +25,31 @@ use std::alloc::Global;
 use waiting_offers::waiting::offers_by_number;
 
 impl Board {
+    // The tree with what is known of it, while these jobs are out.
+    fn known_besides<'a>(
+        &'a self,
+        alloc: Global,
+        out: &'a [NodeJob],
+    ) -> Result<KnownTree<'a>, Memory>
+        ensures algebra { IfOk result (λ k. k.algebra.now ≡ self.now.session.checked.algebra) }
+        ensures windows { IfOk result (λ k. k.windows.now ≡ self.now.windows) }
+        ensures tree { IfOk result (λ k. shape_of k.tree.now ≡ tree self.now) }
+        ensures pieces { IfOk result (λ k. k.pieces.now ≡ self.now.pieces) }
+        ensures offers { IfOk result (λ k. map pending_of k.offers.now ≡ (state self.now).pending) }
+        ensures parts { IfOk result HasItsParts }
+        ensures out { IfOk result (λ k. k.out.now ≡ out.now) }
+    {
+        KnownTree::new(
+            alloc,
+            &self.record.checked().algebra,
+            &self.windows,
+            self.record.tree().root(),
+            &self.pieces,
+            self.record.state().pending(),
+            out,
+        )
+    }
+
     // The tree with what is known of it.
     pub(crate) fn known(&self, alloc: Global) -> Result<KnownTree<'_>, Memory>
         ensures algebra { IfOk result (λ k. k.algebra.now ≡ self.now.session.checked.algebra) }
@@ -32,15 +60,7 @@ impl Board {
         ensures parts { IfOk result HasItsParts }
         ensures out { IfOk result (λ k. k.out.now ≡ self.now.out) }
     {
-        KnownTree::new(
-            alloc,
-            &self.record.checked().algebra,
-            &self.windows,
-            self.record.tree().root(),
-            &self.pieces,
-            self.record.state().pending(),
-            &self.out,
-        )
+        self.known_besides(alloc, &self.out)
     }
 
     /// The next entry by the rules of a session, as far as what is known decides it.
@@ -52,12 +72,55 @@ impl Board {
         next_entry(alloc, &known, &offers)
     }
 
+    // The first job that the rules still need, besides these.
+    fn next_besides(&self, alloc: Global, out: &[NodeJob]) -> Result<Option<NodeJob>, Memory>
+        ensures job { IfOk result (λ job. option_map job_of job ≡ first_not_out (is_out (map job_of out.now)) (needed_at self.now)) }
+    {
+        let offers = offers_by_number(alloc, self.state())?;
+        let known = self.known_besides(alloc, out)?;
+        next_job(alloc, &known, &offers)
+    }
+
     // The first job that the rules still need and that isn't out.
     pub(crate) fn next_task(&self, alloc: Global) -> Result<Option<NodeJob>, Memory>
         ensures job { IfOk result (λ job. option_map job_of job ≡ first_not_out (is_out (map job_of self.now.out)) (needed_at self.now)) }
     {
-        let offers = offers_by_number(alloc, self.state())?;
-        let known = self.known(alloc)?;
-        next_job(alloc, &known, &offers)
+        self.next_besides(alloc, &self.out)
+    }
+
+    // Whether the job is among those that the rules still need.
+    fn is_among_needed(&self, alloc: Global, task: &NodeJob) -> Result<bool, Memory>
+        ensures { IfOk result (λ among. IsTrue among ↔ IsOneOf (job_of task.now) (needed_at self.now)) }
+    {
+        let mut passed = Vec::new(alloc);
+        for _ in 0..u64::MAX {
+            match self.next_besides(alloc, &passed)? {
+                None => return Ok(false),
+                Some(job) => {
+                    if is_same(&job, task) {
+                        return Ok(true);
+                    }
+                    passed.push(job)?;
+                }
+            }
+        }
+        Err(Memory)
+    }
+
+    /// Whether the rules still need the job: the session goes on by them, doesn't wait for its clients, and this job is one of those that they
+    /// ask, as far as is known. Whoever worked at a job without the board looks again by this call before it says that the job has no answer.
+    pub fn is_needed(&self, alloc: Global, task: &NodeJob) -> Result<bool, Memory>
+        ensures { IfOk result (λ needed. IsTrue needed ↔ IsNeeded self.now (job_of task.now)) }
+    {
+        if self.stopped() {
+            return Ok(false);
+        }
+        if !self.goes_by_rules() {
+            return Ok(false);
+        }
+        if self.awaits_clients() {
+            return Ok(false);
+        }
+        self.is_among_needed(alloc, task)
     }
 }

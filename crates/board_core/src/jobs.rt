@@ -19,12 +19,13 @@ ghost use Rattle.tree_nodes.specs.Shapes.{Held, IsNodeOf, Lives, posted};
 ghost use Rattle.board_core.specs.Boards.{IsWorkAt};
 ghost use Rattle.needed_jobs.specs.Needed.{Waits, generation_of};
 ghost use Rattle.offer_counts.specs.Counts.{limited, offers_limit, offers_of_tree};
-ghost use Rattle.board_core.specs.Working.{IsFree, IsHandedOut, IsVerdict, KeepsNodes, NoneFree, WhyNone, first_free, first_reason, left_out};
+ghost use Rattle.board_core.specs.Working.{HasOrigin, IsFree, IsHandedOut, IsVerdict, KeepsNodes, NoneFree, WhyNone, first_free, first_reason, left_out};
 ghost use Rattle.board_core.specs.Views.{program, state, tree, windows, pieces, needed_at, SameLog, SameSession, SameNodes};
 
 use crate::board::Board;
 use crate::copying::{copy_job, generation_of, is_same};
 use crate::job::{Job, Post};
+use crate::sources::is_same_origin;
 use candidates::job::NodeJob;
 use known_shows::pieces::Piece;
 use offer_counts::counting::{OFFERS_LIMIT, count_offers};
@@ -35,7 +36,7 @@ use spec_core::window::Window;
 use std::alloc::Global;
 use tree_composites::known::known_composites;
 use tree_nodes::expansion::Expansion;
-use tree_nodes::origin::Gen;
+use tree_nodes::origin::{Gen, Origin};
 
 impl Board {
     /// The first values of each sort, by the numbers of the sorts. It takes no memory.
@@ -204,6 +205,18 @@ impl Board {
         self.record.tree().at(generation).is_some()
     }
 
+    /// Whether the node of a generation lives and stands for this origin. Whoever did a job without the board learns by this call whether what
+    /// was found is of a node of the board. It takes no memory.
+    pub fn has_origin(&self, generation: Gen, origin: &Origin) -> bool
+        ensures has { IsTrue result ↔ HasOrigin (tree self.now) generation.0 (source_of origin.now) }
+        ensures origin { IsTrue result → (n : Held) → IsNodeOf (tree self.now) generation.0 n → n.source ≡ source_of origin.now }
+    {
+        match self.record.tree().at(generation) {
+            None => false,
+            Some(node) => is_same_origin(&node.origin, origin),
+        }
+    }
+
     /// The expansion of a node. It is stale exactly where no live node that waits has the generation. It takes no memory.
     pub fn post(&mut self, generation: Gen, work: Expansion) -> Post
         requires work { (n : Held) → IsNodeOf (tree self.old) generation.0 n →
@@ -214,6 +227,7 @@ impl Board {
         ensures out { result ≡ Post.Posted → map job_of self.new.out ≡ left_out (to_expand generation.0) (map job_of self.old.out) }
         ensures kept { result ≡ Post.Stale → self.new.out ≡ self.old.out }
         ensures pieces { self.new.pieces ≡ self.old.pieces }
+        ensures next { self.new.session.tree.next ≡ self.old.session.tree.next }
         ensures nodes { KeepsNodes self.old self.new }
         ensures log { SameLog self.old self.new }
         ensures session { SameSession self.old self.new }

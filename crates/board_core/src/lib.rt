@@ -8,3 +8,4 @@ mod deciding;
 mod finishing;
 pub mod job;
 mod jobs;
+mod sources;

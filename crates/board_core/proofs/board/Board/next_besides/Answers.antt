@@ -6,7 +6,7 @@ use Rattle.numbered_trees.proofs.Trees.{if_ok_so}
 use Rattle.waiting_offers.specs.Offers.{offer_at}
 use Rattle.waiting_offers.specs.Waiting.{waiting_in}
 use Rattle.board_core.proofs.Knowing.{IsOf, found_job}
-use Rattle.board_core.proofs.board.Board.next_task.Goals as goal
+use Rattle.board_core.proofs.board.Board.next_besides.Goals as goal
 
 pub returns : goal.returns
 returns c =
@@ -16,4 +16,4 @@ returns c =
     let h = c.in_ok-known.ensures in
     let is : IsOf v k = record { algebra = h.algebra; windows = h.windows; tree = h.tree; pieces = h.pieces; offers = h.offers } in
     let asked = subst (λ s. waiting_with (offer_at s.pending) (waiting_of o) ≡ waiting_in s) c.state.ensures c.in_ok-offers.ensures.waiting in
-    record { job = if_ok_so c.next_job.result (λ job e. found_job v k is o asked h.out (option_map job_of job) e) c.next_job.ensures.job }
+    record { job = if_ok_so c.next_job.result (λ job e. found_job v k is o asked c.args.out.now h.out (option_map job_of job) e) c.next_job.ensures.job }
