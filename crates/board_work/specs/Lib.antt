@@ -1,0 +1,4 @@
+pub mod Driven
+pub mod Going
+pub mod Handed
+pub mod Outcomes

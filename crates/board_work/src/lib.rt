@@ -1,0 +1,7 @@
+// Jobs of a board: done without it, and what comes of them handed in.
+#![tactic(auto)]
+
+pub mod handing_in;
+pub mod outcome;
+pub mod performing;
+pub mod working;

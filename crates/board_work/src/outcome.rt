@@ -1,0 +1,16 @@
+// What comes of a job.
+
+use session_rules::stop_reason::StopReason;
+use shown_actions::shown::Shown;
+use tree_nodes::expansion::Expansion;
+
+/// What comes of a job.
+#[derive(Drop)]
+pub enum Outcome {
+    /// The expansion of the job's node.
+    Expanded(Expansion),
+    /// What the job's node shows by the job's tree of rules; None, if it shows nothing by it.
+    Judged(Option<Shown>),
+    /// The job has no answer, for this reason.
+    Stopped(StopReason),
+}

@@ -1,0 +1,96 @@
+// Jobs, done without the board.
+
+ghost use Rattle.std.specs.Prelude.{ℕ, ◌≡◌, IfOk, Some};
+ghost use Rattle.session_rules.specs.declared.stop_reason.StopReason.{StopReason};
+ghost use Rattle.spec_core.specs.Code.{program_of};
+ghost use Rattle.spec_core.specs.Ready.{IsReady};
+ghost use Rattle.sort_windows.specs.Found.{AreBySorts};
+ghost use Rattle.stop_reasons.specs.Given.{reason_of};
+ghost use Rattle.window_tables.specs.Tables.{windows_in};
+ghost use Rattle.candidates.specs.Jobs.{to_expand, to_judge};
+ghost use Rattle.known_shows.specs.Known.{node_part};
+ghost use Rattle.rule_model.specs.Derivations.{derivation_of};
+ghost use Rattle.tree_nodes.specs.Origins.{source_of};
+ghost use Rattle.board_work.specs.declared.outcome.Outcome.TheVariants.{Stopped};
+ghost use Rattle.board_work.specs.Outcomes.{ComesOf, IsOutcome};
+
+use crate::outcome::Outcome;
+use board_core::job::Job;
+use candidates::job::NodeJob;
+use judging::origins::shown_by;
+use marked_values::stop::Stop;
+use node_expansion::node::expand_node;
+use rule_model::rules::Rules;
+use spec_core::code::Checked;
+use spec_core::memory::Memory;
+use spec_core::window::Window;
+use std::alloc::Global;
+use stop_reasons::reasons::reason_for;
+use tree_nodes::origin::Origin;
+
+// There is no answer, unless there was only want of memory.
+fn unanswered(stop: Stop) -> Result<Outcome, Memory>
+    ensures { IfOk result (λ outcome. (reason : StopReason) × (reason_of stop ≡ Some reason) × (outcome ≡ Stopped reason)) }
+{
+    match reason_for(stop) {
+        None => Err(Memory),
+        Some(reason) => Ok(Outcome::Stopped(reason)),
+    }
+}
+
+// A node is expanded.
+fn expand(
+    alloc: Global,
+    checked: &Checked,
+    windows: &[Window],
+    origin: &Origin,
+    budget: u64,
+) -> Result<Outcome, Memory>
+    requires ready { IsReady (program_of checked.now) }
+    requires rows { (k : ℕ) × AreBySorts (program_of checked.now).theory k windows.now }
+    ensures { IfOk result (λ outcome. (g : ℕ) → ComesOf (program_of checked.now) (windows_in windows.now) budget (source_of origin.now)
+        (to_expand g) outcome) }
+{
+    match expand_node(alloc, checked, windows, origin, budget) {
+        Ok(work) => Ok(Outcome::Expanded(work)),
+        Err(stop) => unanswered(stop),
+    }
+}
+
+// It is found what a node shows by a tree of rules.
+fn judge(
+    alloc: Global,
+    checked: &Checked,
+    windows: &[Window],
+    origin: &Origin,
+    rules: &Rules,
+    budget: u64,
+) -> Result<Outcome, Memory>
+    requires ready { IsReady (program_of checked.now) }
+    ensures { IfOk result (λ outcome. (g : ℕ) → ComesOf (program_of checked.now) (windows_in windows.now) budget (source_of origin.now)
+        (to_judge (node_part g (derivation_of rules.now))) outcome) }
+{
+    match shown_by(alloc, checked, windows, origin, rules, budget) {
+        Ok(shown) => Ok(Outcome::Judged(shown)),
+        Err(stop) => unanswered(stop),
+    }
+}
+
+/// Does a job, without the board from which it was taken: over a specification that is ready and the first values of its sorts, with at most
+/// `budget` uses of equations for each value. It takes no lock. It recurs as deep as constructs, calls, terms and trees of rules nest.
+pub fn perform(
+    alloc: Global,
+    checked: &Checked,
+    windows: &[Window],
+    job: &Job,
+    budget: u64,
+) -> Result<Outcome, Memory>
+    requires ready { IsReady (program_of checked.now) }
+    requires rows { (k : ℕ) × AreBySorts (program_of checked.now).theory k windows.now }
+    ensures outcome { IfOk result (IsOutcome (program_of checked.now) (windows_in windows.now) budget job.now) }
+{
+    match &job.task {
+        NodeJob::Expand(_) => expand(alloc, checked, windows, &job.origin, budget),
+        NodeJob::Judge(_, rules) => judge(alloc, checked, windows, &job.origin, rules, budget),
+    }
+}
