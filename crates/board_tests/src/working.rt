@@ -3,8 +3,8 @@
 ghost use Rattle.std.specs.Prelude.{◌≡◌};
 
 use board_core::board::Board;
+use board_work::working::work;
 use candidates::job::NodeJob;
-use client_runs::working::work;
 use marked_values::stop::Stop;
 use node_expansion::node::expand_node;
 use spec_core::memory::Memory;

@@ -1,4 +1,3 @@
 pub mod Endings
-pub mod Jobs
 pub mod Running
 pub mod Settled

@@ -1,5 +1,5 @@
 -- How runs go on, on boards.
-use Rattle.std.proofs.Common.{ℕ, inl, inr, ◌≡◌, ◌∙◌, List, [], ◌∷◌, ◌++◌, length, map, refl, sym, ap, subst, Option, Some, None, IfSome, IfNone, is_some, false, append_assoc}
+use Rattle.std.proofs.Common.{ℕ, inl, inr, ◌≡◌, ◌⊎◌, ◌∙◌, List, [], ◌∷◌, ◌++◌, length, map, refl, sym, ap, subst, Option, Some, None, IfSome, IfNone, is_some, false, append_assoc}
 use Rattle.std.specs.Prelude.{Result, Ok, Err, OnOk}
 use Rattle.spec_core.specs.declared.code.Checked.{Checked}
 use Rattle.spec_core.specs.declared.settings.Settings.{Settings}
@@ -16,20 +16,19 @@ use Rattle.session_states.specs.Clients.{numbers_from}
 use Rattle.session_states.specs.Possible.{MayLeave, MayOffer}
 use Rattle.session_rules.specs.declared.stop_reason.StopReason.{StopReason}
 use Rattle.session_rules.specs.declared.stop_reason.StopReason.TheVariants.{Limit}
-use Rattle.spec_core.specs.Lists.{IsOneOf}
-use Rattle.candidates.specs.Jobs.{NodeJob, to_expand, to_judge, is_out}
+use Rattle.candidates.specs.Jobs.{is_out}
 use Rattle.candidates.specs.Models.{job_of}
 use Rattle.stop_reasons.specs.Laws.{GiveReasons}
-use Rattle.stop_reasons.specs.Reasons.{AsksForTree, IsAskedByRules, IsReasonToStop}
+use Rattle.stop_reasons.specs.Reasons.{IsAskedByRules, IsReasonToStop}
 use Rattle.client_sessions.specs.Ends.{IsEndingOf}
 use Rattle.client_sessions.specs.Runs.{IsClientRun, IsRun, IsSettledAt, clients_for, run_begins, run_goes_on, run_leaves, run_offers, run_stops, run_tells}
-use Rattle.board_core.specs.declared.job.Post.{Post}
-use Rattle.board_core.specs.declared.job.Post.TheVariants.{Posted, Stale}
 use Rattle.board_core.specs.Settled.{HasSettled, IsQuiet, IsSettled, WhyQuiet, settled_next, settled_stopped, settled_limit, quiet_stopped}
 use Rattle.board_core.specs.Settled.{quiet_undecided, quiet_nothing, quiet_limit}
 use Rattle.board_core.specs.Views.{BoardView, program, events, needed_at, pieces, state, tree, windows, SameLog, SameSession, SameSetting}
-use Rattle.board_core.specs.Working.{IsVerdict, WhyNone, first_reason}
+use Rattle.board_core.specs.Working.{WhyNone, first_reason}
 use Rattle.board_core.proofs.Knowing.{free_is_needed}
+use Rattle.board_work.specs.Handed.{HandsIn, StopsNow}
+use Rattle.board_work.proofs.Driving.{asked_at}
 use Rattle.client_runs.specs.Runs.{Continues, HasBegun, IsEndedRun, IsRunOn, IsSettledOn}
 
 -- a run of the old board's specification and settings is one of the new one's
@@ -105,18 +104,19 @@ module _ (old new : BoardView) (same : SameSession old new) where
 pub onward : (a b c : BoardView) → Continues a b → Continues b c → Continues a c
 onward a b c f g start wishes run = g start wishes (f start wishes run)
 
--- a job that has no answer
-pub failed : (old new : BoardView) → SameSession old new → SameLog old new → {A B : Type 0} (post : Post) (reason : StopReason) →
-    (A → IsReasonToStop (program old) old.settings (state old) reason) → IsAskedByRules (program old) old.settings (state old) reason →
-    (post ≡ Posted → A × (new.stop ≡ first_reason old.stop reason)) → (post ≡ Stale → B × (new.stop ≡ old.stop)) → Continues old new
-failed old new same log Posted reason is_so asked f g = let h = f refl in stopped old new same log reason (is_so h.0) asked h.1
-failed old new same log Stale reason is_so asked f g = same_run old new same log (g refl).1
+pub one_session : (a b c : BoardView) → SameSession a b → SameSession b c → SameSession a c
+one_session a b c x y = (
+  ((y.0.0.0 ∙ x.0.0.0, y.0.0.1 ∙ x.0.0.1), y.0.1 ∙ x.0.1, y.0.2 ∙ x.0.2),
+  y.1 ∙ x.1,
+)
 
--- where a verdict is needed, the rules may ask for a tree
-asked_at : (v : BoardView) → GiveReasons (program v) v.settings (windows v) (tree v) (pieces v) (state v) → (job : NodeJob) →
-    IsVerdict job → IsOneOf job (needed_at v) → AsksForTree (program v) v.settings (state v)
-asked_at v give (to_expand g) verdict needed = absurd verdict
-asked_at v give (to_judge part) verdict needed = give.asked part needed
+-- what came of a job is handed in
+pub handed : (old new : BoardView) → HandsIn old new → Continues old new
+handed old new h = by_stop h.stop
+  where
+    by_stop : (new.stop ≡ old.stop) ⊎ StopsNow old new → Continues old new
+    by_stop (inl same) = same_run old new h.session h.log same
+    by_stop (inr (reason, is_so, asked, stop)) = stopped old new h.session h.log reason is_so asked stop
 
 -- where no job is handed out
 pub none_taken : (old new : BoardView) → SameSession old new → SameLog old new →

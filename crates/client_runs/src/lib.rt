@@ -2,5 +2,4 @@
 #![tactic(auto)]
 
 pub mod run;
-mod settling_all;
-pub mod working;
+pub mod settling_all;

@@ -2,10 +2,11 @@
 
 ghost use Rattle.std.specs.Prelude.{◌≡◌, IfOk, IsTrue, OnOk};
 ghost use Rattle.board_core.specs.Views.{SameSession};
+ghost use Rattle.board_work.specs.Going.{GoesOn};
 ghost use Rattle.client_runs.specs.Runs.{Continues, IsSettledOn};
 
-use crate::working::work;
 use board_core::board::Board;
+use board_work::working::work;
 use spec_core::memory::Memory;
 use std::alloc::Global;
 
@@ -19,6 +20,7 @@ fn is_as_before(before: bool, after: bool) -> bool
 // One entry, or one job; whether nothing was left.
 fn settle_once(alloc: Global, board: &mut Board) -> Result<bool, Memory>
     ensures continues { OnOk result (Continues board.old board.new) }
+    ensures goes_on { OnOk result (GoesOn board.old board.new) }
     ensures settled { IfOk result (λ done. IsTrue done → IsSettledOn board.new) }
     ensures session { SameSession board.old board.new }
 {
@@ -43,6 +45,7 @@ fn settle_once(alloc: Global, board: &mut Board) -> Result<bool, Memory>
 /// Settles, and does what jobs this needs, until nothing is left to be done.
 pub fn settle_all(alloc: Global, board: &mut Board) -> Result<(), Memory>
     ensures continues { OnOk result (Continues board.old board.new) }
+    ensures goes_on { OnOk result (GoesOn board.old board.new) }
     ensures settled { OnOk result (IsSettledOn board.new) }
     ensures session { SameSession board.old board.new }
 {

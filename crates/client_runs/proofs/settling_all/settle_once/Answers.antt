@@ -1,42 +1,16 @@
-use Rattle.std.proofs.Common.{◌≡◌, ◌∙◌, IfSome, IfNone, false, is_some, length, map, rules, subst, sym}
+use Rattle.std.proofs.Common.{◌≡◌, ◌∙◌, IfSome, IfNone, false, is_some, length, rules, subst, sym}
 use Rattle.board_core.specs.Settled.{IsQuiet}
-use Rattle.stop_reasons.specs.Reasons.{LooksForTrees}
-use Rattle.spec_core.specs.Lists.{IsOneOf}
-use Rattle.board_core.specs.Views.{events, needed_at}
-use Rattle.board_core.proofs.Knowing.{free_is_needed}
+use Rattle.board_core.specs.Views.{events}
 use Rattle.board_core.specs.Working.{IsHandedOut, WhyNone}
-use Rattle.candidates.specs.Jobs.{is_out}
-use Rattle.candidates.specs.Models.{job_of}
-use Rattle.needed_jobs.specs.Needed.{generation_of}
-use Rattle.tree_nodes.specs.Origins.{source_of}
-use Rattle.tree_nodes.specs.Shapes.{Held, IsNodeOf, Shape}
-use Rattle.client_runs.proofs.Running.{after_settling, none_taken, onward, same_run, was_quiet}
-use Rattle.client_runs.proofs.Settled.{IsLike, like_twice, none_left_there, same_needed, why_stays}
+use Rattle.client_runs.proofs.Running.{after_settling, handed, none_taken, onward, same_run, was_quiet}
+use Rattle.client_runs.proofs.Settled.{IsLike, like_twice, none_left_there, why_stays}
+use Rattle.board_work.proofs.Going as going
 use Rattle.client_runs.proofs.settling_all.settle_once.Goals as goal
 
 pub returns-then-is_some-clause-continues : goal.returns-then-is_some-clause-continues
 returns-then-is_some-clause-continues c =
     let h = c.in_ok-settle.ensures in
     after_settling c.args.board.now c.settle.new.self h.session c.in_ok-settle.field-0 (length (events c.args.board.now)) h.settled h.none
-
-pub work-requires : goal.work-requires
-work-requires c =
-    let job = c.in-Some.job in
-    let g = c.give_back_all.new.self in
-    let d = c.take_job.new.self in
-    let out =
-    subst (λ o. IfSome o (λ j. IsHandedOut g d j × (d.stop ≡ g.stop))) c.in-Some.is c.in_ok-take_job.ensures.job in
-    let t = c.in_ok-take_job.ensures in
-    let gd : IsLike g d = record { session = t.session; log = t.log; nodes = t.nodes } in
-    record {
-      needed =
-          subst (IsOneOf (job_of job.task)) (sym (same_needed g d gd))
-          (free_is_needed (is_out (map job_of g.out)) (needed_at g) (job_of job.task) out.0.first);
-      origin =
-          subst (λ (t : Shape). (n : Held) → IsNodeOf t (generation_of (job_of job.task)) n → n.source ≡ source_of job.origin)
-          (search rules) out.0.origin;
-      looks = subst LooksForTrees (sym t.log.1) out.0.looks;
-    }
 
 pub returns-in-None-clause-continues : goal.returns-in-None-clause-continues
 returns-in-None-clause-continues c =
@@ -80,4 +54,39 @@ returns-in_ok-work-in-Some-clause-continues c =
     onward a b c.work.new.board (after_settling a b h.session c.in_ok-settle.field-0 (length (events a)) h.settled h.none)
     (onward b c.give_back_all.new.self c.work.new.board (same_run b c.give_back_all.new.self g.session g.log g.stop)
     (onward c.give_back_all.new.self c.take_job.new.self c.work.new.board
-    (same_run c.give_back_all.new.self c.take_job.new.self t.session t.log out.1) c.in_ok-work-in-Some.ensures.continues))
+    (same_run c.give_back_all.new.self c.take_job.new.self t.session t.log out.1) (handed c.take_job.new.self c.work.new.board c.work.ensures.handed)))
+
+pub returns-then-is_some-clause-goes_on : goal.returns-then-is_some-clause-goes_on
+returns-then-is_some-clause-goes_on c =
+    let h = c.in_ok-settle.ensures in
+    going.after_settling c.args.board.now c.settle.new.self h.session c.in_ok-settle.field-0 (length (events c.args.board.now)) h.settled h.none
+
+pub returns-in-None-clause-goes_on : goal.returns-in-None-clause-goes_on
+returns-in-None-clause-goes_on c =
+    let a = c.args.board.now in
+    let b = c.settle.new.self in
+    let d = c.give_back_all.new.self in
+    let h = c.in_ok-settle.ensures in
+    let g = c.give_back_all.ensures in
+    let t = c.in_ok-take_job.ensures in
+    going.onward a b c.take_job.new.self
+    (going.after_settling a b h.session c.in_ok-settle.field-0 (length (events a)) h.settled h.none)
+    (going.onward b d c.take_job.new.self (going.rests b d g.session.0 g.log g.stop)
+    (going.none_taken d c.take_job.new.self t.session.0 t.log c.jobs_give_reasons.ensures
+    (subst (λ o. IfNone o (WhyNone d c.take_job.new.self)) c.in-None.is t.none)))
+
+pub returns-in_ok-work-in-Some-clause-goes_on : goal.returns-in_ok-work-in-Some-clause-goes_on
+returns-in_ok-work-in-Some-clause-goes_on c =
+    let a = c.args.board.now in
+    let b = c.settle.new.self in
+    let h = c.in_ok-settle.ensures in
+    let g = c.give_back_all.ensures in
+    let t = c.in_ok-take_job.ensures in
+    let gb = c.give_back_all.new.self in
+    let d = c.take_job.new.self in
+    let out = subst (λ o. IfSome o (λ j. IsHandedOut gb d j × (d.stop ≡ gb.stop))) c.in-Some.is t.job in
+    going.onward a b c.work.new.board
+    (going.after_settling a b h.session c.in_ok-settle.field-0 (length (events a)) h.settled h.none)
+    (going.onward b gb c.work.new.board (going.rests b gb g.session.0 g.log g.stop)
+    (going.onward gb d c.work.new.board (going.rests gb d t.session.0 t.log out.1)
+    (going.handed d c.work.new.board c.work.ensures.handed)))
