@@ -1,9 +1,0 @@
-pub mod Lists
-pub mod Growing
-pub mod Finding
-pub mod Leaving
-pub mod Sharing
-pub mod Stepping
-pub mod Answering
-pub mod Refusing
-pub mod Looking

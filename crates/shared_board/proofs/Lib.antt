@@ -1,0 +1,10 @@
+pub mod Lists
+pub mod Growing
+pub mod Finding
+pub mod Leaving
+pub mod Sharing
+pub mod Stepping
+pub mod Answering
+pub mod Refusing
+pub mod Looking
+pub mod Resting
