@@ -1,0 +1,11 @@
+use Rattle.std.proofs.Common.{◌≡◌, ◌++◌, List, vec_len}
+use Rattle.session.specs.Closing.{AddsSeats, IsSeatOf}
+use Rattle.session.specs.Passes.{PassView}
+use Rattle.session.proofs.closing.add_client_seats.Given as goal
+
+abbrev pub invariant-loop-pass : goal.invariant-loop-pass
+invariant-loop-pass l =
+    (done : List PassView) × (l.fn.passes.items ≡ l.passes.items ++ done) × AddsSeats IsSeatOf done l.fn.seats.items l.seats.items
+
+abbrev pub decreases-loop-pass : goal.decreases-loop-pass
+decreases-loop-pass l = vec_len l.passes

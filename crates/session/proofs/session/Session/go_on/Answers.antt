@@ -1,0 +1,11 @@
+use Rattle.session.proofs.Seats.{sees_itself}
+use Rattle.session.proofs.session.Session.go_on.Goals as goal
+
+pub returns-in-Answered-clause-none : goal.returns-in-Answered-clause-none
+returns-in-Answered-clause-none g c = sees_itself c.args.seat.now
+
+pub returns-in-Settled-clause-none : goal.returns-in-Settled-clause-none
+returns-in-Settled-clause-none g c = sees_itself c.args.seat.now
+
+pub returns-in-Idle-clause-none : goal.returns-in-Idle-clause-none
+returns-in-Idle-clause-none g c = sees_itself c.args.seat.now

@@ -1,0 +1,27 @@
+use Rattle.std.proofs.Common.{rules, ◌≡◌}
+use Rattle.turn_lock.specs.Entries.{made_by}
+use Rattle.shared_board.specs.Lines.{maker_of}
+use Rattle.shared_board.specs.Shared.{IsMarked, lines}
+use Rattle.session.specs.Passes.{HasHalted}
+use Rattle.session.proofs.Seats.{err_more, halts, has_seen_more}
+use Rattle.session.proofs.session.Session.look.Goals as goal
+
+pub returns-clause-none : goal.returns-clause-none
+returns-clause-none g c =
+    let old = c.args.seat.now in
+    let new = c.give.new.seat in
+    let v = c.take-held.result.value in
+    let w = c.look-look.new.self in
+    let seen : new.seen ≡ lines w = search rules in
+    let own : new.own ≡ made_by maker_of old.number (lines w) = search rules in
+    has_seen_more old new v w c.take-held.ensures.list seen own c.look-look.ensures.none
+
+pub returns-clause-marked : goal.returns-clause-marked
+returns-clause-marked g c =
+    let old = c.args.seat.now in
+    let new = c.give.new.seat in
+    let v = c.take-held.result.value in
+    let w = c.look-look.new.self in
+    let seen : new.seen ≡ lines w = search rules in
+    let own : new.own ≡ made_by maker_of old.number (lines w) = search rules in
+    err_more c.look-look.result (IsMarked w) (HasHalted new.seen) (halts old new v w c.take-held.ensures.list seen own) c.look-look.ensures.marked

@@ -1,0 +1,47 @@
+use Rattle.std.proofs.Common.{rules, ◌≡◌}
+use Rattle.std.proofs.lemmas.Result.{IfOk-weaker, on_err_weaker, on_ok_weaker}
+use Rattle.turn_lock.specs.Entries.{made_by}
+use Rattle.shared_board.specs.Lines.{maker_of}
+use Rattle.shared_board.specs.Looks.{ComesOfWork}
+use Rattle.shared_board.specs.Shared.{lines}
+use Rattle.session.specs.Working.{ComesOfSeat}
+use Rattle.session.proofs.Seats.{halts, has_seen_more, isnt_halted, stays_halted}
+use Rattle.session.proofs.Working.{comes_of_seat}
+use Rattle.session.proofs.session.Session.work_turn.Goals as goal
+
+pub returns-clause-none : goal.returns-clause-none
+returns-clause-none g c =
+    let old = c.args.seat.now in
+    let new = c.give.new.seat in
+    let w = c.work-work.new.self in
+    let seen : new.seen ≡ lines w = search rules in
+    let own : new.own ≡ made_by maker_of old.number (lines w) = search rules in
+    has_seen_more old new c.take-held.result.value w c.take-held.ensures.list seen own c.work-work.ensures.none
+
+pub returns-clause-running : goal.returns-clause-running
+returns-clause-running g c =
+    let old = c.args.seat.now in
+    let v = c.take-held.result.value in
+    on_ok_weaker c.work-work.result (λ running halted. isnt_halted v running (stays_halted old.seen (lines v) c.take-held.ensures.list.0 halted))
+    c.work-work.ensures.running
+
+pub returns-clause-marked : goal.returns-clause-marked
+returns-clause-marked g c =
+    let old = c.args.seat.now in
+    let new = c.give.new.seat in
+    let w = c.work-work.new.self in
+    let seen : new.seen ≡ lines w = search rules in
+    let own : new.own ≡ made_by maker_of old.number (lines w) = search rules in
+    on_err_weaker c.work-work.result (halts old new c.take-held.result.value w c.take-held.ensures.list seen own) c.work-work.ensures.marked
+
+pub returns-clause-work : goal.returns-clause-work
+returns-clause-work g c =
+    let v = c.take-held.result.value in
+    let w = c.work-work.new.self in
+    let clients = c.args.self.now.lock.fixed.clients in
+    let old = c.args.seat.now.seen in
+    let new = c.give.new.seat.seen in
+    let seen : new ≡ lines w = search rules in
+    let same : w.board.session.clients ≡ clients = search rules in
+    IfOk-weaker c.work-work.result (ComesOfWork v w) (ComesOfSeat clients old new)
+    (λ found. comes_of_seat clients old new v w found c.take-held.ensures.list.0 seen same) c.work-work.ensures.work
