@@ -1,0 +1,5 @@
+pub mod Open
+pub mod Numbers
+pub mod Awaiting
+pub mod OneClient
+mod Others

@@ -1,0 +1,4 @@
+// What whole sessions tell their clients.
+#![tactic(auto)]
+
+pub mod laws;
