@@ -1,0 +1,5 @@
+pub mod Wishing
+pub mod Ordering
+pub mod Crossing
+pub mod Windowing
+pub mod Ending

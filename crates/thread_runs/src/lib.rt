@@ -1,0 +1,6 @@
+// Sessions whose clients and workers run in threads.
+#![tactic(auto)]
+
+mod rows;
+pub mod run;
+mod serving;
