@@ -1,3 +1,3 @@
-mod Settings
+mod Choices
 mod Short
 mod Values

@@ -1,12 +1,12 @@
 -- Options behind the words of a command (this profile): two words each, as `--budget` and a number; each option at most once, in any order.
-use Rattle.std.specs.Prelude.{ℕ, ◌+◌, ◌*◌, ◌-◌, List, [], ◌∷◌, Bool, false, ◌&&◌, ◌||◌, nat_le, if◌then◌else◌}
+use Rattle.std.specs.Prelude.{ℕ, ◌+◌, ◌*◌, ◌-◌, ◌≤◌, List, [], ◌∷◌, Bool, false, ◌&&◌, ◌||◌, nat_le, if◌then◌else◌}
 use Rattle.std.specs.Prelude.{Option, Some, None, codes}
 use Rattle.std.specs.Char.{is_ascii_digit}
 use Rattle.std.specs.List.{list_all}
 use Rattle.std.specs.Str.{bytes_eq}
-use Rattle.spec_core.specs.declared.settings.Settings.{Settings}
+use Rattle.command_words.specs.declared.option.Choices.{Choices}
 use Rattle.command_words.specs.declared.option.OptionName.{OptionName}
-use Rattle.command_words.specs.declared.option.OptionName.TheVariants.{Budget, Values, Steps, Seed}
+use Rattle.command_words.specs.declared.option.OptionName.TheVariants.{Budget, Values, Steps, Seed, Workers}
 
 -- how an option is written
 abbrev pub word_of : OptionName → List ℕ
@@ -14,6 +14,7 @@ word_of Budget = codes "--budget"
 word_of Values = codes "--values"
 word_of Steps = codes "--steps"
 word_of Seed = codes "--seed"
+word_of Workers = codes "--workers"
 
 -- the least and the greatest number that it may be given
 abbrev pub least : OptionName → ℕ
@@ -21,23 +22,26 @@ least Budget = 1
 least Values = 1
 least Steps = 1
 least Seed = 0
+least Workers = 0
 
 abbrev pub greatest : OptionName → ℕ
 greatest Budget = 4294967296
 greatest Values = 256
 greatest Steps = 1000000
 greatest Seed = 4294967295
+greatest Workers = 64
 
 -- what holds where no option is given
-abbrev pub usual : Settings
-usual = record { budget = 1000000; values = 16; steps = 10000; seed = 0 }
+abbrev pub usual : Choices
+usual = record { settings = record { budget = 1000000; values = 16; steps = 10000; seed = 0 }; workers = 0 }
 
--- the settings with another number for the option
-abbrev pub setting : OptionName → Settings → ℕ → Settings
-setting Budget s number = record { budget = number; values = s.values; steps = s.steps; seed = s.seed }
-setting Values s number = record { budget = s.budget; values = number; steps = s.steps; seed = s.seed }
-setting Steps s number = record { budget = s.budget; values = s.values; steps = number; seed = s.seed }
-setting Seed s number = record { budget = s.budget; values = s.values; steps = s.steps; seed = number }
+-- the choices with another number for the option
+abbrev pub choosing : OptionName → Choices → ℕ → Choices
+choosing Budget c number = record c { settings = record c.settings { budget = number } }
+choosing Values c number = record c { settings = record c.settings { values = number } }
+choosing Steps c number = record c { settings = record c.settings { steps = number } }
+choosing Seed c number = record c { settings = record c.settings { seed = number } }
+choosing Workers c number = record c { workers = number }
 
 -- the value of decimal digits behind others
 abbrev pub value_behind : ℕ → List ℕ → ℕ
@@ -65,18 +69,22 @@ abbrev pub is_given : List ℕ → List (List ℕ) → Bool
 is_given option (other ∷ number ∷ words) = bytes_eq other option || is_given option words
 is_given option _ = false
 
--- the settings with what the option is given, where the word is a number for it
-abbrev pub set : OptionName → Option ℕ → Option Settings → Option Settings
-set option (Some number) (Some settings) = Some (setting option settings number)
-set option _ _ = None
+-- the choices with what the option is given, where the word is a number for it
+abbrev pub choose : OptionName → Option ℕ → Option Choices → Option Choices
+choose option (Some number) (Some choices) = Some (choosing option choices number)
+choose option _ _ = None
 
-abbrev pub set_named : Option OptionName → List ℕ → Option Settings → Option Settings
-set_named (Some option) word settings = set option (number_of option word) settings
-set_named None word settings = None
+abbrev pub choose_named : Option OptionName → List ℕ → Option Choices → Option Choices
+choose_named (Some option) word choices = choose option (number_of option word) choices
+choose_named None word choices = None
 
--- the settings that words give a command which has these options
-abbrev pub settings_of : List OptionName → List (List ℕ) → Option Settings
-settings_of options [] = Some usual
-settings_of options (word ∷ []) = None
-settings_of options (word ∷ number ∷ words) =
-    if is_given word words then None else set_named (option_named options word) number (settings_of options words)
+-- the choices that words give a command which has these options
+abbrev pub choices_of : List OptionName → List (List ℕ) → Option Choices
+choices_of options [] = Some usual
+choices_of options (word ∷ []) = None
+choices_of options (word ∷ number ∷ words) =
+    if is_given word words then None else choose_named (option_named options word) number (choices_of options words)
+
+-- the number of workers is in its range
+abbrev pub HasFewWorkers : Choices → Type 0
+HasFewWorkers c = c.workers ≤ greatest Workers

@@ -1,10 +1,10 @@
 // The words of a call.
 
-ghost use Rattle.std.specs.Prelude.{◌≡◌, [], ◌∷◌, map, option_map, string_bytes};
+ghost use Rattle.std.specs.Prelude.{◌≡◌, [], ◌∷◌, IfSome, map, option_map, string_bytes};
 ghost use Rattle.command_words.specs.Commands as commands;
-ghost use Rattle.command_words.specs.Commands.{check_of, command_named, command_of, equal_of, replay_of, run_of};
+ghost use Rattle.command_words.specs.Commands.{check_of, command_named, command_of, equal_of, replay_of, run_of, HasFewWorkers};
 
-use crate::option::{OptionName, settings_of};
+use crate::option::{Choices, OptionName, choices_of};
 use spec_core::settings::Settings;
 
 /// A command with the names of its files, its terms and its numbers.
@@ -16,6 +16,8 @@ pub enum Command<'w> {
         script: &'w str,
         /// What bounds and steers the session.
         settings: Settings,
+        /// How many workers do its jobs, from 0 to 64.
+        workers: u32,
     },
     /// Whether a specification is accepted.
     Check {
@@ -49,17 +51,19 @@ fn is_name(word: &str) -> bool
 }
 
 // The options of `run`.
-const RUN_OPTIONS: [OptionName; 4] = [
+const RUN_OPTIONS: [OptionName; 5] = [
     OptionName::Budget,
     OptionName::Values,
     OptionName::Steps,
     OptionName::Seed,
+    OptionName::Workers,
 ];
 
 // What `run` is told by the words behind it.
 #[tactic(auto, using(crate::proofs::Short::no_run))]
 fn run(words: &[String]) -> Option<Command<'_>>
-    ensures { option_map command_named result ≡ run_of (map string_bytes words.now) }
+    ensures command { option_map command_named result ≡ run_of (map string_bytes words.now) }
+    ensures workers { IfSome result HasFewWorkers }
 {
     match words {
         [specification, script, options @ ..] => {
@@ -68,11 +72,12 @@ fn run(words: &[String]) -> Option<Command<'_>>
             if !is_name(specification) || !is_name(script) {
                 return None;
             }
-            let settings = settings_of(&RUN_OPTIONS, options)?;
+            let Choices { settings, workers } = choices_of(&RUN_OPTIONS, options)?;
             Some(Command::Run {
                 specification,
                 script,
                 settings,
+                workers,
             })
         }
         _ => None,
@@ -81,7 +86,8 @@ fn run(words: &[String]) -> Option<Command<'_>>
 
 // What `check` is told by the words behind it.
 fn check(words: &[String]) -> Option<Command<'_>>
-    ensures { option_map command_named result ≡ check_of (map string_bytes words.now) }
+    ensures command { option_map command_named result ≡ check_of (map string_bytes words.now) }
+    ensures workers { IfSome result HasFewWorkers }
 {
     match words {
         [specification, options @ ..] => {
@@ -89,7 +95,7 @@ fn check(words: &[String]) -> Option<Command<'_>>
             if !is_name(specification) {
                 return None;
             }
-            settings_of(&[], options)?;
+            choices_of(&[], options)?;
             Some(Command::Check { specification })
         }
         [] => None,
@@ -99,7 +105,8 @@ fn check(words: &[String]) -> Option<Command<'_>>
 // What `equal` is told by the words behind it.
 #[tactic(auto, using(crate::proofs::Short::no_equal))]
 fn equal(words: &[String]) -> Option<Command<'_>>
-    ensures { option_map command_named result ≡ equal_of (map string_bytes words.now) }
+    ensures command { option_map command_named result ≡ equal_of (map string_bytes words.now) }
+    ensures workers { IfSome result HasFewWorkers }
 {
     match words {
         [specification, first, second, options @ ..] => {
@@ -109,7 +116,7 @@ fn equal(words: &[String]) -> Option<Command<'_>>
             if !is_name(specification) || !is_name(first) || !is_name(second) {
                 return None;
             }
-            let Settings { budget, .. } = settings_of(&[OptionName::Budget], options)?;
+            let budget = choices_of(&[OptionName::Budget], options)?.settings.budget;
             Some(Command::Equal {
                 specification,
                 first,
@@ -124,7 +131,8 @@ fn equal(words: &[String]) -> Option<Command<'_>>
 // What `replay` is told by the words behind it.
 #[tactic(auto, using(crate::proofs::Short::no_replay))]
 fn replay(words: &[String]) -> Option<Command<'_>>
-    ensures { option_map command_named result ≡ replay_of (map string_bytes words.now) }
+    ensures command { option_map command_named result ≡ replay_of (map string_bytes words.now) }
+    ensures workers { IfSome result HasFewWorkers }
 {
     match words {
         [specification, trace, options @ ..] => {
@@ -133,7 +141,7 @@ fn replay(words: &[String]) -> Option<Command<'_>>
             if !is_name(specification) || !is_name(trace) {
                 return None;
             }
-            let Settings { budget, .. } = settings_of(&[OptionName::Budget], options)?;
+            let budget = choices_of(&[OptionName::Budget], options)?.settings.budget;
             Some(Command::Replay {
                 specification,
                 trace,
@@ -146,7 +154,8 @@ fn replay(words: &[String]) -> Option<Command<'_>>
 
 /// The command that words name, if they name one.
 pub fn read_command(words: &[String]) -> Option<Command<'_>>
-    ensures { option_map command_named result ≡ command_of (map string_bytes words.now) }
+    ensures command { option_map command_named result ≡ command_of (map string_bytes words.now) }
+    ensures workers { IfSome result HasFewWorkers }
 {
     match words {
         [name, words @ ..] => match name.as_str() {

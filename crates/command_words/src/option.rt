@@ -4,7 +4,7 @@ ghost use Rattle.std.specs.Prelude.{◌≡◌, ◌≤◌, ◌<◌, ◌^◌, ◌&
 ghost use Rattle.std.specs.Char.{is_ascii_digit};
 ghost use Rattle.std.specs.List.{list_all};
 ghost use Rattle.command_words.specs.Options as options;
-ghost use Rattle.command_words.specs.Options.{value_behind};
+ghost use Rattle.command_words.specs.Options.{value_behind, HasFewWorkers};
 
 use spec_core::settings::Settings;
 
@@ -19,6 +19,17 @@ pub enum OptionName {
     Steps,
     /// What chooses among internal steps, from 0 to 2^32 - 1.
     Seed,
+    /// How many workers do the jobs of a session, from 0 to 64.
+    Workers,
+}
+
+/// What options choose.
+#[derive(Clone, Copy, Debug, PartialEq, Eq)]
+pub struct Choices {
+    /// What bounds and steers a session.
+    pub settings: Settings,
+    /// How many workers do its jobs, from 0 to 64.
+    pub workers: u32,
 }
 
 impl OptionName {
@@ -31,6 +42,7 @@ impl OptionName {
             OptionName::Values => "--values",
             OptionName::Steps => "--steps",
             OptionName::Seed => "--seed",
+            OptionName::Workers => "--workers",
         }
     }
 
@@ -43,6 +55,7 @@ impl OptionName {
             OptionName::Values => 1,
             OptionName::Steps => 1,
             OptionName::Seed => 0,
+            OptionName::Workers => 0,
         }
     }
 
@@ -56,41 +69,63 @@ impl OptionName {
             OptionName::Values => 256,
             OptionName::Steps => 1_000_000,
             OptionName::Seed => 4_294_967_295,
+            OptionName::Workers => 64,
         }
     }
 
-    // The settings with this number for the option.
-    fn set(self, settings: Settings, number: u64) -> Settings
+    // The choices with this number for the option.
+    fn choose(self, choices: Choices, number: u64) -> Choices
         requires { number ≤ options.greatest self }
-        ensures { result ≡ options.setting self settings number }
+        ensures choices { result ≡ options.choosing self choices number }
+        ensures workers { HasFewWorkers choices → HasFewWorkers result }
     {
+        let Choices { settings, workers } = choices;
         match self {
-            OptionName::Budget => Settings {
-                budget: number,
-                ..settings
+            OptionName::Budget => Choices {
+                settings: Settings {
+                    budget: number,
+                    ..settings
+                },
+                workers,
             },
-            OptionName::Values => Settings {
-                values: number as u32,
-                ..settings
+            OptionName::Values => Choices {
+                settings: Settings {
+                    values: number as u32,
+                    ..settings
+                },
+                workers,
             },
-            OptionName::Steps => Settings {
-                steps: number as u32,
-                ..settings
+            OptionName::Steps => Choices {
+                settings: Settings {
+                    steps: number as u32,
+                    ..settings
+                },
+                workers,
             },
-            OptionName::Seed => Settings {
-                seed: number as u32,
-                ..settings
+            OptionName::Seed => Choices {
+                settings: Settings {
+                    seed: number as u32,
+                    ..settings
+                },
+                workers,
+            },
+            OptionName::Workers => Choices {
+                settings,
+                workers: number as u32,
             },
         }
     }
 }
 
 /// What holds where no option is given.
-pub const USUAL: Settings = Settings {
-    budget: 1_000_000,
-    values: 16,
-    steps: 10_000,
-    seed: 0,
+pub const USUAL: Choices = Choices {
+    settings: Settings {
+        budget: 1_000_000,
+        values: 16,
+        steps: 10_000,
+        seed: 0,
+    },
+    workers: 0,
 };
 
 // The value of digits behind others, if they are decimal digits and it is at most the greatest.
@@ -159,20 +194,22 @@ fn is_given(option: &str, words: &[String]) -> bool
     }
 }
 
-// The settings with what the option is given, where the word is a number for it.
-fn set_named(option: Option<OptionName>, word: &str, settings: Option<Settings>) -> Option<Settings>
-    ensures { result ≡ options.set_named option word.now settings }
+// The choices with what the option is given, where the word is a number for it.
+fn choose_named(option: Option<OptionName>, word: &str, choices: Option<Choices>) -> Option<Choices>
+    ensures choices { result ≡ options.choose_named option word.now choices }
+    ensures workers { IfSome choices HasFewWorkers → IfSome result HasFewWorkers }
 {
     let option = option?;
     let number = number_of(option, word)?;
-    let settings = settings?;
-    Some(option.set(settings, number))
+    let choices = choices?;
+    Some(option.choose(choices, number))
 }
 
-/// The settings that words give a command which has these options: each is two words, `--name` and a number in decimal digits, each option
+/// The choices that words give a command which has these options: each is two words, `--name` and a number in decimal digits, each option
 /// at most once, in any order. None where the words aren't such options, or a number isn't in its range.
-pub fn settings_of(known: &[OptionName], words: &[String]) -> Option<Settings>
-    ensures { result ≡ options.settings_of known.now (map string_bytes words.now) }
+pub fn choices_of(known: &[OptionName], words: &[String]) -> Option<Choices>
+    ensures choices { result ≡ options.choices_of known.now (map string_bytes words.now) }
+    ensures workers { IfSome result HasFewWorkers }
 {
     match words {
         [] => Some(USUAL),
@@ -183,7 +220,7 @@ pub fn settings_of(known: &[OptionName], words: &[String]) -> Option<Settings>
                     None
                 } else {
                     let option = option_named(known, word.as_str());
-                    set_named(option, number.as_str(), settings_of(known, rest))
+                    choose_named(option, number.as_str(), choices_of(known, rest))
                 }
             }
         },

@@ -9,6 +9,14 @@ use lotos_run::status::Status;
 use std::process::ExitCode;
 use std::rt::Env;
 use std::{env, io};
+use worker_drive::Probe;
+
+/// Looks at no job.
+struct Unwatched;
+
+impl Probe for Unwatched {
+    fn before(&self, _job: u64) {}
+}
 
 // The words behind the program's name. A word that isn't UTF-8 is no word of any call, so then there are none.
 fn words(rt: &(impl Env + AllocGlobal)) -> Result<Vec<String>, io::Error> {
@@ -24,7 +32,7 @@ fn main(rt: HostRuntime) -> ExitCode {
     let mut input = StreamSource::new(rt.reader());
     let mut out = StreamSink::new(io::writer(&rt));
     let status = match words(&rt) {
-        Ok(words) => lotos_main(&rt, &words, &mut shelf, &mut input, &mut out),
+        Ok(words) => lotos_main(&rt, &words, &mut shelf, &mut input, &mut out, &Unwatched),
         Err(_) => Status::Memory,
     };
     ExitCode::from(status.number())

@@ -6,7 +6,7 @@ use Rattle.term_equality.specs.declared.answer.Answer.{Answer}
 use Rattle.term_equality.specs.declared.answer.Answer.TheVariants as came
 use Rattle.lotos_run.specs.declared.status.Status.{Status}
 use Rattle.lotos_run.specs.declared.status.Status.TheVariants.{Done, Refused, Usage, ReadFault, WriteFault, Memory, Spent, Limit}
-use Rattle.lotos_run.specs.declared.status.Status.TheVariants.{ScriptRefused, NotADerivation, NotBuilt}
+use Rattle.lotos_run.specs.declared.status.Status.TheVariants.{ScriptRefused, NotADerivation}
 use Rattle.lotos_run.specs.EqualTexts.{status_of}
 use Rattle.lotos_run.specs.Equals.{IsCompared, IsComparedIn, IsEqualDue}
 use Rattle.lotos_run.specs.Outside.{Shelved}
@@ -50,5 +50,4 @@ module _ (shelf : Shelved) (name first second bytes : List ℕ) (budget : ℕ) (
   compared_due ReadFault (program, accepted, h) = absurd (is_of_terms program.theory first second budget ReadFault answer h)
   compared_due WriteFault (program, accepted, h) = absurd (is_of_terms program.theory first second budget WriteFault answer h)
   compared_due Memory (program, accepted, h) = absurd (is_of_terms program.theory first second budget Memory answer h)
-  compared_due NotBuilt (program, accepted, h) = absurd (is_of_terms program.theory first second budget NotBuilt answer h)
   compared_due NotADerivation (program, accepted, h) = absurd (is_of_terms program.theory first second budget NotADerivation answer h)

@@ -13,7 +13,7 @@ use Rattle.lotos_run.specs.declared.second_file.Second.{Second}
 use Rattle.lotos_run.specs.declared.second_file.Second.TheVariants.{Script, Trace}
 use Rattle.lotos_run.specs.declared.status.Status.{Status}
 use Rattle.lotos_run.specs.declared.status.Status.TheVariants.{Done, Refused, Usage, ReadFault, WriteFault, Memory, Spent, Limit}
-use Rattle.lotos_run.specs.declared.status.Status.TheVariants.{ScriptRefused, NotADerivation, NotBuilt}
+use Rattle.lotos_run.specs.declared.status.Status.TheVariants.{ScriptRefused, NotADerivation}
 use Rattle.lotos_run.specs.Checks.{IsReported}
 use Rattle.lotos_run.specs.Outside.{Shelved}
 use Rattle.lotos_run.specs.ReplayTexts.{status_of}
@@ -28,7 +28,6 @@ IsOfSecond NotADerivation = Unit {0}
 IsOfSecond Spent = Unit {0}
 IsOfSecond Limit = Unit {0}
 IsOfSecond ScriptRefused = Unit {0}
-IsOfSecond NotBuilt = Unit {0}
 IsOfSecond _ = ⊥
 
 of_traces : (a : Answer) → IsOfSecond (status_of a)
@@ -51,12 +50,11 @@ of_scripts : (a : scripts.Answer) → IsOfSecond (runs.status_of a)
 of_scripts (ran.Ran log end) = of_ends end
 of_scripts (ran.Spent t) = tt
 of_scripts (ran.TooLarge t) = tt
-of_scripts ran.ManyClients = tt
 of_scripts (ran.Refused line kind) = tt
 
 is_of_second : (second : Second) (program : Program) (text : List ℕ) (status : Status) (answer : List ℕ) →
     SecondComes second program text status answer → IsOfSecond status
-is_of_second (Script settings) program text status answer h = subst IsOfSecond (sym h.due) (of_scripts h.came)
+is_of_second (Script settings workers) program text status answer h = subst IsOfSecond (sym h.due) (of_scripts h.came)
 is_of_second (Trace budget) program text status answer h = subst IsOfSecond (sym h.due) (of_traces h.came)
 
 module _ (shelf : Shelved) (second : Second) (program : Program) (name bytes : List ℕ) (answer : List ℕ)
@@ -72,7 +70,6 @@ module _ (shelf : Shelved) (second : Second) (program : Program) (name bytes : L
   second_due Spent h = of_file Spent h
   second_due Limit h = of_file Limit h
   second_due ScriptRefused h = of_file ScriptRefused h
-  second_due NotBuilt h = of_file NotBuilt h
   second_due Refused h = absurd (is_of_second second program bytes Refused answer h)
   second_due Usage h = absurd (is_of_second second program bytes Usage answer h)
   second_due ReadFault h = absurd (is_of_second second program bytes ReadFault answer h)
@@ -96,7 +93,6 @@ module _ (shelf : Shelved) (second : Second) (specification name bytes : List �
   text_due Spent (program, h, k) = accepted (λ p. OnSecond shelf second p name Spent answer) program h k
   text_due Limit (program, h, k) = accepted (λ p. OnSecond shelf second p name Limit answer) program h k
   text_due ScriptRefused (program, h, k) = accepted (λ p. OnSecond shelf second p name ScriptRefused answer) program h k
-  text_due NotBuilt (program, h, k) = accepted (λ p. OnSecond shelf second p name NotBuilt answer) program h k
   text_due ReadFault (program, h, (same, unread)) = (same, inr (unread, accepted (λ p. Unit {0}) program h tt))
   text_due Usage (program, h, k) = absurd k
   text_due WriteFault (program, h, k) = absurd k

@@ -18,7 +18,8 @@ IsUsageDue _ text = ⊥
 -- which status is due, with which text
 abbrev pub IsDue : Shelved → Option Command → Status → List ℕ → Type 0
 IsDue shelf None status text = IsUsageDue status text
-IsDue shelf (Some (run specification script settings)) status text = IsSecondDue shelf (Script settings) specification script status text
+IsDue shelf (Some (run specification script settings workers)) status text =
+    IsSecondDue shelf (Script settings workers) specification script status text
 IsDue shelf (Some (check specification)) status text = IsCheckDue shelf specification status text
 IsDue shelf (Some (equal specification first second budget)) status text = IsEqualDue shelf specification first second budget status text
 IsDue shelf (Some (replay specification trace budget)) status text = IsSecondDue shelf (Trace budget) specification trace status text

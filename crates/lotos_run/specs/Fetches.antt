@@ -5,7 +5,7 @@ use Rattle.command_words.specs.Commands.{Command, run, check, equal, replay}
 -- the files that a command names, in the order in which they are fetched
 abbrev pub named_files : Option Command → List (List ℕ)
 named_files None = []
-named_files (Some (run specification script settings)) = specification ∷ script ∷ []
+named_files (Some (run specification script settings workers)) = specification ∷ script ∷ []
 named_files (Some (check specification)) = specification ∷ []
 named_files (Some (equal specification first second budget)) = specification ∷ []
 named_files (Some (replay specification trace budget)) = specification ∷ trace ∷ []

@@ -11,7 +11,7 @@ use Rattle.trace_text.specs.Trace.{trace_bytes}
 use Rattle.script_runs.specs.declared.answer.Answer.{Answer}
 use Rattle.script_runs.specs.declared.answer.Answer.TheVariants as came
 use Rattle.lotos_run.specs.declared.status.Status.{Status}
-use Rattle.lotos_run.specs.declared.status.Status.TheVariants.{Done, NotBuilt, Spent, Limit, ScriptRefused}
+use Rattle.lotos_run.specs.declared.status.Status.TheVariants.{Done, Spent, Limit, ScriptRefused}
 use Rattle.lotos_run.specs.Lines.{script_refusal, term_line}
 
 -- the status that is due for how a session ends
@@ -29,12 +29,10 @@ abbrev pub status_of : Answer → Status
 status_of (came.Ran log end) = status_of_end end
 status_of (came.Spent t) = Spent
 status_of (came.TooLarge t) = Limit
-status_of came.ManyClients = NotBuilt
 status_of (came.Refused line kind) = ScriptRefused
 
 abbrev pub text_of : Program → Answer → List ℕ
 text_of program (came.Ran log end) = trace_bytes (names_in program) (events_of log) (ending_of end)
 text_of program (came.Spent t) = term_line (codes "spent ") program.theory (term_of t)
 text_of program (came.TooLarge t) = term_line (codes "large ") program.theory (term_of t)
-text_of program came.ManyClients = codes "not built\n"
 text_of program (came.Refused line kind) = script_refusal line kind

@@ -1,5 +1,5 @@
 -- What is due for a command that reads a second file over a specification. The specification is fetched and judged before it.
-use Rattle.std.specs.Prelude.{ℕ, ◌≡◌, ◌⊎◌, List, codes, take}
+use Rattle.std.specs.Prelude.{ℕ, ◌≡◌, ◌≤◌, ◌⊎◌, List, codes, take}
 use Rattle.lotos_outside.specs.Shelf.{OnFetched}
 use Rattle.lotos_front.specs.Answers.{IsAccepted}
 use Rattle.spec_core.specs.Code.{Program}
@@ -7,7 +7,6 @@ use Rattle.lotos_run.specs.declared.second_file.Second.{Second}
 use Rattle.lotos_run.specs.declared.second_file.Second.TheVariants.{Script, Trace}
 use Rattle.lotos_run.specs.declared.status.Status.{Status}
 use Rattle.lotos_run.specs.declared.status.Status.TheVariants.{Done, Refused, ReadFault, Spent, Limit, ScriptRefused, NotADerivation}
-use Rattle.lotos_run.specs.declared.status.Status.TheVariants.{NotBuilt}
 use Rattle.lotos_run.specs.Checks.{IsReported}
 use Rattle.lotos_run.specs.Outside.{Shelved, IsUnread}
 use Rattle.lotos_run.specs.Replays.{IsReplayed}
@@ -15,13 +14,18 @@ use Rattle.lotos_run.specs.Runs.{IsScripted}
 
 -- how many bytes are fetched: one more than a script, and than a trace, may have
 abbrev pub most : Second → ℕ
-most (Script settings) = 1048577
+most (Script settings workers) = 1048577
 most (Trace budget) = 67108865
 
 -- over this program: what comes of the text of the second file, with its status and its text
 abbrev pub SecondComes : Second → Program → List ℕ → Status → List ℕ → Type 0
-SecondComes (Script settings) program text status answer = IsScripted program text settings status answer
+SecondComes (Script settings workers) program text status answer = IsScripted program text settings status answer
 SecondComes (Trace budget) program text status answer = IsReplayed program text budget status answer
+
+-- there are at most 64 workers
+abbrev pub HasFewWorkers : Second → Type 0
+HasFewWorkers (Script settings workers) = workers ≤ 64
+HasFewWorkers (Trace budget) = Unit {0}
 
 module _ (shelf : Shelved) (second : Second) where
   -- the file of this name was fetched, and this comes of its first bytes
@@ -42,7 +46,6 @@ module _ (shelf : Shelved) (second : Second) where
   IsDueForSecond program name Spent answer = OnSecond program name Spent answer
   IsDueForSecond program name Limit answer = OnSecond program name Limit answer
   IsDueForSecond program name ScriptRefused answer = OnSecond program name ScriptRefused answer
-  IsDueForSecond program name NotBuilt answer = OnSecond program name NotBuilt answer
   IsDueForSecond program name ReadFault answer = (answer ≡ codes "read fault\n") × IsUnread shelf name
   IsDueForSecond program name _ answer = ⊥
 
@@ -54,7 +57,7 @@ module _ (shelf : Shelved) (second : Second) where
   -- Which status is due, with which text, and when.
   --   refused: the specification has a first refusal;
   --   read fault: the fetch of the specification failed, or the fetch of the second file behind a specification that is accepted;
-  --   done, not a derivation, spent, limit, script refused, not built: the specification is accepted, and this comes of the second file.
+  --   done, not a derivation, spent, limit, script refused: the specification is accepted, and this comes of the second file.
   abbrev pub IsSecondDue : List ℕ → List ℕ → Status → List ℕ → Type 0
   IsSecondDue specification name Refused answer =
       OnFetched shelf.files specification (λ bytes. IsReported (take 4194305 bytes) answer)
@@ -66,5 +69,4 @@ module _ (shelf : Shelved) (second : Second) where
   IsSecondDue specification name Spent answer = OnAccepted specification (λ program. OnSecond program name Spent answer)
   IsSecondDue specification name Limit answer = OnAccepted specification (λ program. OnSecond program name Limit answer)
   IsSecondDue specification name ScriptRefused answer = OnAccepted specification (λ program. OnSecond program name ScriptRefused answer)
-  IsSecondDue specification name NotBuilt answer = OnAccepted specification (λ program. OnSecond program name NotBuilt answer)
   IsSecondDue specification name _ answer = ⊥

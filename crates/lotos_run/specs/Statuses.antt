@@ -2,7 +2,7 @@
 use Rattle.std.specs.Prelude.{ℕ}
 use Rattle.lotos_run.specs.declared.status.Status.{Status}
 use Rattle.lotos_run.specs.declared.status.Status.TheVariants.{Done, Refused, Usage, ReadFault, WriteFault, Memory, Spent, Limit}
-use Rattle.lotos_run.specs.declared.status.Status.TheVariants.{ScriptRefused, NotADerivation, NotBuilt}
+use Rattle.lotos_run.specs.declared.status.Status.TheVariants.{ScriptRefused, NotADerivation}
 
 -- the number with which the program ends
 abbrev pub number_of : Status → ℕ
@@ -16,7 +16,6 @@ number_of Spent = 6
 number_of Limit = 7
 number_of ScriptRefused = 8
 number_of NotADerivation = 9
-number_of NotBuilt = 10
 
 -- a status that is due and whose whole text was written; any other is none of these
 abbrev pub IsFinal : Status → Type 0

@@ -15,12 +15,17 @@ use command_words::{Command, read_command};
 use lotos_outside::shelf::Shelf;
 use spec_core::memory::Memory;
 use std::alloc::Global;
+use std::sync::Wait;
+use std::thread::Threads;
+use worker_drive::Probe;
 
 /// What is due for the words.
-pub fn due_answer<F: Shelf>(
+pub fn due_answer<R: Threads + Wait + Sync, F: Shelf, P: Probe + Sync>(
+    rt: &R,
     alloc: Global,
     words: &[String],
     shelf: &mut F,
+    probe: &P,
 ) -> Result<Answer, Memory>
     ensures due { IfOk result (λ a. IsDue (shelved (F.files shelf.old) (F.failed shelf.old) (F.failed shelf.new))
         (command_of (map string_bytes words.now)) a.status a.text.items) }
@@ -33,13 +38,16 @@ pub fn due_answer<F: Shelf>(
                 specification,
                 script,
                 settings,
+                workers,
             },
         ) => over_specification(
+            rt,
             alloc,
             shelf,
             specification,
             script,
-            Second::Script(settings),
+            Second::Script(settings, workers),
+            probe,
         ),
         Some(Command::Check { specification }) => check(alloc, shelf, specification),
         Some(
@@ -56,6 +64,14 @@ pub fn due_answer<F: Shelf>(
                 trace,
                 budget,
             },
-        ) => over_specification(alloc, shelf, specification, trace, Second::Trace(budget)),
+        ) => over_specification(
+            rt,
+            alloc,
+            shelf,
+            specification,
+            trace,
+            Second::Trace(budget),
+            probe,
+        ),
     }
 }

@@ -27,6 +27,9 @@ use crate::status::Status;
 use lotos_outside::shelf::Shelf;
 use lotos_outside::sink::{Sink, SinkFault, write_all};
 use lotos_outside::source::Source;
+use std::sync::Wait;
+use std::thread::Threads;
+use worker_drive::Probe;
 
 // Writes the text that is due with the status.
 fn write<O: Sink>(out: &mut O, status: Status, text: &[u8]) -> Status
@@ -46,15 +49,16 @@ fn write<O: Sink>(out: &mut O, status: Status, text: &[u8]) -> Status
 /// Carries out the command that the words name.
 ///
 /// `words` are the words behind the program's name, `shelf` is where files are fetched, and all texts go to `out`. No command reads `input`
-/// yet. Want of memory may come at any time; nothing is said of its cause.
+/// yet. In `run` each client and each worker has a thread, as far as threads can be started, and `probe` is told of each job before a worker
+/// does it. Want of memory may come at any time; nothing is said of its cause.
 #[tactic(auto, using(crate::proofs::Final::due_final))]
-pub fn lotos_main<R: AllocGlobal, F: Shelf, I: Source, O: Sink>(
-    rt: &R,
-    words: &[String],
-    shelf: &mut F,
-    input: &mut I,
-    out: &mut O,
-) -> Status
+pub fn lotos_main<
+    R: AllocGlobal + Threads + Wait + Sync,
+    F: Shelf,
+    I: Source,
+    O: Sink,
+    P: Probe + Sync,
+>(rt: &R, words: &[String], shelf: &mut F, input: &mut I, out: &mut O, probe: &P) -> Status
     // A final status is due, and the text that is due with it was written.
     ensures due { IsFinal result →
         IsAnswered (outside (F.files shelf.old) (F.failed shelf.old) (F.failed shelf.new) (O.written out.old) (O.written out.new))
@@ -77,7 +81,7 @@ pub fn lotos_main<R: AllocGlobal, F: Shelf, I: Source, O: Sink>(
     ensures input { input.new ≡ input.old }
 {
     let _ = input;
-    match due_answer(rt.alloc(), words, shelf) {
+    match due_answer(rt, rt.alloc(), words, shelf, probe) {
         Ok(answer) => write(out, answer.status, &answer.text),
         Err(_) => Status::Memory,
     }

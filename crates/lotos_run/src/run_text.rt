@@ -24,7 +24,6 @@ pub fn answer_text(alloc: Global, checked: &Checked, answer: &Answer) -> Result<
         }
         Answer::Spent(term) => term_line(alloc, "spent ", &checked.algebra, term),
         Answer::TooLarge(term) => term_line(alloc, "large ", &checked.algebra, term),
-        Answer::ManyClients => bytes_of(alloc, "not built\n"),
         Answer::Refused { line, kind } => script_refusal(alloc, *line, *kind),
     }
 }
@@ -52,7 +51,6 @@ pub fn answer_status(answer: &Answer) -> Status
         Answer::Ran(_, end) => end_status(end),
         Answer::Spent(_) => Status::Spent,
         Answer::TooLarge(_) => Status::Limit,
-        Answer::ManyClients => Status::NotBuilt,
         Answer::Refused { .. } => Status::ScriptRefused,
     }
 }

@@ -25,14 +25,12 @@ pub enum Status {
     ScriptRefused,
     /// A trace is not that of a derivation.
     NotADerivation,
-    /// The files use what the program can't run yet.
-    NotBuilt,
 }
 
 impl Status {
     ghost use Rattle.lotos_run.specs.Statuses.{number_of};
 
-    /// The number with which the program ends, from 0 to 10.
+    /// The number with which the program ends, from 0 to 9.
     pub fn number(self) -> u8
         ensures { result ≡ number_of self }
     {
@@ -47,7 +45,6 @@ impl Status {
             Status::Limit => 7,
             Status::ScriptRefused => 8,
             Status::NotADerivation => 9,
-            Status::NotBuilt => 10,
         }
     }
 }

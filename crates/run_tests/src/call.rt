@@ -6,7 +6,18 @@ use lotos_outside::memory_source::MemorySource;
 use lotos_outside::sink::Sink;
 use lotos_run::lotos_main;
 use lotos_run::status::Status;
+use std::sync::Wait;
 use std::test::Fail;
+use std::thread::Threads;
+use worker_drive::Probe;
+
+/// Looks at no job.
+#[derive(Drop)]
+pub struct Unwatched;
+
+impl Probe for Unwatched {
+    fn before(&self, _job: u64) {}
+}
 
 /// What a call ended with: its status, and what was written.
 #[derive(Drop)]
@@ -16,7 +27,7 @@ pub struct Ended {
 }
 
 /// The words as a call has them.
-pub fn words_of(rt: &HostRuntime, words: &[&str]) -> Result<Vec<String>, Fail> {
+pub fn words_of<R: AllocGlobal>(rt: &R, words: &[&str]) -> Result<Vec<String>, Fail> {
     let mut all = Vec::new(rt.alloc());
     for word in words {
         all.push(String::from_str(rt.alloc(), word)?)?;
@@ -25,8 +36,8 @@ pub fn words_of(rt: &HostRuntime, words: &[&str]) -> Result<Vec<String>, Fail> {
 }
 
 /// A shelf with the files `spec` and `script`, which fails at the calls with these numbers.
-pub fn shelf_of(
-    rt: &HostRuntime,
+pub fn shelf_of<R: AllocGlobal>(
+    rt: &R,
     spec: &[u8],
     script: &[u8],
     fails: &[u64],
@@ -44,13 +55,13 @@ pub fn shelf_of(
 }
 
 /// No input.
-pub fn no_input(rt: &HostRuntime) -> MemorySource {
+pub fn no_input<R: AllocGlobal>(rt: &R) -> MemorySource {
     MemorySource::new(Vec::new(rt.alloc()), Vec::new(rt.alloc()))
 }
 
 /// Calls with these words over a shelf that fails at these calls, and writes to this sink.
-pub fn call_into<O: Sink>(
-    rt: &HostRuntime,
+pub fn call_into<R: AllocGlobal + Threads + Wait + Sync, O: Sink>(
+    rt: &R,
     words: &[&str],
     spec: &[u8],
     script: &[u8],
@@ -59,12 +70,12 @@ pub fn call_into<O: Sink>(
 ) -> Result<Status, Fail> {
     let words = words_of(rt, words)?;
     let mut shelf = shelf_of(rt, spec, script, shelf_fails)?;
-    Ok(lotos_main(rt, &words, &mut shelf, &mut no_input(rt), out))
+    Ok(lotos_main(rt, &words, &mut shelf, &mut no_input(rt), out, &Unwatched))
 }
 
 /// Calls with these words over a shelf that fails at these calls.
-pub fn call(
-    rt: &HostRuntime,
+pub fn call<R: AllocGlobal + Threads + Wait + Sync>(
+    rt: &R,
     words: &[&str],
     spec: &[u8],
     script: &[u8],

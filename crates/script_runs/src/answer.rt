@@ -13,8 +13,6 @@ pub enum Answer {
     Spent(Term),
     /// It is a script, and the evaluation of this term of it meets a value of more than 65,536 symbols.
     TooLarge(Term),
-    /// It is a script of more than one client.
-    ManyClients,
     /// It is no script.
     Refused {
         /// The line, from 1, or 0 where the text is too long.

@@ -2,7 +2,7 @@
 use Rattle.std.proofs.Common.{ℕ, ◌≡◌, ◌≤◌, ◌-◌, ◌∙◌, sym, ap, List, [], ◌∷◌, map, length, take, drop, None, true, false, slice_index_or, arith}
 use Rattle.std.proofs.lemmas.List.{take_all, length-drop}
 use Rattle.command_words.specs.declared.option.OptionName.{OptionName}
-use Rattle.command_words.specs.Options.{is_given, option_named, set_named, settings_of}
+use Rattle.command_words.specs.Options.{is_given, option_named, choose_named, choices_of}
 
 -- what is behind the first
 abbrev pub behind : {S : Type 0} → List S → List S
@@ -32,12 +32,12 @@ split f words w n h i e g = two f words (behind words) (behind (behind words)) w
 -- the option is given again by words behind it
 pub again : {S : Type 0} (f : S → List ℕ) (known : List OptionName) (words : List S) (w n : S) → 1 ≤ length words → 1 ≤ length (behind words) →
     w ≡ slice_index_or words 0 w → n ≡ slice_index_or (behind words) 0 n →
-    is_given (f w) (map f (behind (behind words))) ≡ true → settings_of known (map f words) ≡ None
-again f known words w n h i e g given = ap (settings_of known) (split f words w n h i e g) ∙ grind arith
+    is_given (f w) (map f (behind (behind words))) ≡ true → choices_of known (map f words) ≡ None
+again f known words w n h i e g given = ap (choices_of known) (split f words w n h i e g) ∙ grind arith
 
 -- it isn't
 pub once : {S : Type 0} (f : S → List ℕ) (known : List OptionName) (words : List S) (w n : S) → 1 ≤ length words → 1 ≤ length (behind words) →
     w ≡ slice_index_or words 0 w → n ≡ slice_index_or (behind words) 0 n →
     is_given (f w) (map f (behind (behind words))) ≡ false →
-    settings_of known (map f words) ≡ set_named (option_named known (f w)) (f n) (settings_of known (map f (behind (behind words))))
-once f known words w n h i e g given = ap (settings_of known) (split f words w n h i e g) ∙ grind arith
+    choices_of known (map f words) ≡ choose_named (option_named known (f w)) (f n) (choices_of known (map f (behind (behind words))))
+once f known words w n h i e g given = ap (choices_of known) (split f words w n h i e g) ∙ grind arith
