@@ -2,11 +2,11 @@
 
 use crate::naturals::{ACK, DUP, SUCC, naturals, number};
 use crate::samples::{binary, unary};
-use plain_evaluation::{EvaluationFault, plain_value};
 use spec_core::equation::DataSpec;
 use spec_core::term::Term;
 use std::alloc::Global;
 use std::test::Fail;
+use value_reference::{EvaluationFault, plain_value};
 
 // Whether the term comes to this number after so many uses, with just so many allowed.
 fn comes_to(

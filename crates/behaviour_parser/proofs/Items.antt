@@ -9,9 +9,9 @@ use Rattle.lotos_ast.specs.Begins.{mark_at, place_at, starts}
 use Rattle.lotos_ast.specs.Nesting.{Nesting}
 use Rattle.lotos_ast.specs.Reads.{Tree, unkept, left, right, node, Reads, reads_left, reads_right, reads_part}
 use Rattle.lotos_ast.specs.ListTrees.{tree_place}
-use Rattle.token_cursor.specs.declared.parse_fault.ParseFault.{ParseFault}
-use Rattle.token_cursor.specs.Parsers.{Halts}
-use Rattle.token_cursor.proofs.Rows.{halts_second, halts_optional}
+use Rattle.syntax_cursor.specs.declared.parse_fault.ParseFault.{ParseFault}
+use Rattle.syntax_cursor.specs.Parsers.{Halts}
+use Rattle.syntax_cursor.proofs.Rows.{halts_second, halts_optional}
 
 -- a rule's tree has the place of the first token
 part_place : {d : Nesting} {q : Part} {s r : List Token} {x : Tree} → Reads d (part q) s x r → place_at s ≡ tree_place x

@@ -9,9 +9,9 @@ use Rattle.lotos_ast.specs.Grammar.{rule, prefixed}
 use Rattle.lotos_ast.specs.Begins.{mark_at, place_at, starts}
 use Rattle.lotos_ast.specs.Nesting.{Nesting, in_bracket, in_construct}
 use Rattle.lotos_ast.specs.Reads.{Tree, unkept, both, absent, present, node, Reads, reads_sequence, reads_absent, reads_present, reads_enclosed, reads_part}
-use Rattle.token_cursor.specs.declared.parse_fault.ParseFault.{ParseFault}
-use Rattle.token_cursor.specs.Parsers.{Halts}
-use Rattle.token_cursor.proofs.Rows.{halts_memory, halts_first, halts_second, halts_optional, halts_enclosed, halts_part}
+use Rattle.syntax_cursor.specs.declared.parse_fault.ParseFault.{ParseFault}
+use Rattle.syntax_cursor.specs.Parsers.{Halts}
+use Rattle.syntax_cursor.proofs.Rows.{halts_memory, halts_first, halts_second, halts_optional, halts_enclosed, halts_part}
 use Rattle.opening_parser.specs.declared.opening.Prefix.{Prefix}
 use Rattle.opening_parser.specs.declared.opening.Heading.{Heading}
 use Rattle.opening_parser.specs.Leads.{Leads}

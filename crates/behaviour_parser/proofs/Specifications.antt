@@ -12,9 +12,9 @@ use Rattle.lotos_ast.specs.Parsing.{IsParsed, refusal_at}
 use Rattle.lotos_ast.specs.Refusals.{OnRefusal}
 use Rattle.lotos_ast.proofs.Parsing.{parsed, refused}
 use Rattle.lotos_ast.proofs.GrammarLaws.{rules_are_well_formed}
-use Rattle.token_cursor.specs.declared.parse_fault.ParseFault.{ParseFault}
-use Rattle.token_cursor.specs.Parsers.{reason_of, Halts, Tells}
-use Rattle.token_cursor.proofs.Rows.{some_equal}
+use Rattle.syntax_cursor.specs.declared.parse_fault.ParseFault.{ParseFault}
+use Rattle.syntax_cursor.specs.Parsers.{reason_of, Halts, Tells}
+use Rattle.syntax_cursor.proofs.Rows.{some_equal}
 use Rattle.behaviour_parser.specs.Specifications.{IsNoSpecification, stopped, followed, IsFollowed, Fails}
 
 pub fails_halting : (e : ParseFault) (s r : List Token) → Halts e outermost (part specification) s r → Fails e s r

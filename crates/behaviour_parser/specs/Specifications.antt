@@ -8,8 +8,8 @@ use Rattle.lotos_ast.specs.declared.fault.Fault.{Fault}
 use Rattle.lotos_ast.specs.Nesting.{fault_at, outermost}
 use Rattle.lotos_ast.specs.Reads.{Tree, Reads, Stops}
 use Rattle.lotos_ast.specs.Parsing.{IsParsed, IsRefused, refusal_at}
-use Rattle.token_cursor.specs.declared.parse_fault.ParseFault.{ParseFault}
-use Rattle.token_cursor.specs.Parsers.{reason_of}
+use Rattle.syntax_cursor.specs.declared.parse_fault.ParseFault.{ParseFault}
+use Rattle.syntax_cursor.specs.Parsers.{reason_of}
 
 -- The refusal of tokens of which no beginning is a whole specification, or of which one ends before the last token: the next one
 -- is then the first with which no specification goes on, and it isn't nested.

@@ -6,14 +6,14 @@ ghost use Rattle.lotos_ast.specs.Notation.{optional, quoted, part, declarations,
 ghost use Rattle.lotos_ast.specs.Reads.{Reads};
 ghost use Rattle.lotos_ast.specs.BehaviourTrees.{accepts_tree};
 ghost use Rattle.lotos_ast.specs.Nesting.{nesting_of};
-ghost use Rattle.token_cursor.specs.Parsers.{Halts};
+ghost use Rattle.syntax_cursor.specs.Parsers.{Halts};
 
 use data_parser::declaration::declarations;
 use lotos_ast::declaration::Declarations;
 use lotos_ast::mark::Mark;
 use lotos_ast::nest::Nest;
-use token_cursor::cursor::Cursor;
-use token_cursor::parse_fault::ParseFault;
+use syntax_cursor::cursor::Cursor;
+use syntax_cursor::parse_fault::ParseFault;
 
 // `accept` with its variables and `in`, where they stand.
 pub fn accepts(cursor: &mut Cursor<'_>, nest: Nest) -> Result<Option<Declarations>, ParseFault>

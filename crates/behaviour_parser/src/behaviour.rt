@@ -7,7 +7,7 @@ ghost use Rattle.lotos_ast.specs.Notation.{part, behaviour, disable, parallel, c
 ghost use Rattle.lotos_ast.specs.Reads.{Reads};
 ghost use Rattle.lotos_ast.specs.BehaviourTrees.{behaviour_tree, disable_tree, parallel_tree, choice_tree, unary_tree};
 ghost use Rattle.lotos_ast.specs.Nesting.{nesting_of};
-ghost use Rattle.token_cursor.specs.Parsers.{Halts};
+ghost use Rattle.syntax_cursor.specs.Parsers.{Halts};
 
 use crate::accepts::accepts;
 use crate::joined::{
@@ -19,8 +19,8 @@ use lotos_ast::mark::Mark;
 use lotos_ast::nest::Nest;
 use opening_parser::opening::{Heading, Opening, Prefix, read_opening};
 use opening_parser::operator::{at_operator, operator};
-use token_cursor::cursor::Cursor;
-use token_cursor::parse_fault::ParseFault;
+use syntax_cursor::cursor::Cursor;
+use syntax_cursor::parse_fault::ParseFault;
 
 // A behaviour.
 #[tactic(auto, using(crate::proofs::Levels::behaviour_steps))]

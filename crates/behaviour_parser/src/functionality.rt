@@ -5,15 +5,15 @@ ghost use Rattle.lotos_ast.specs.Notation.{optional, part, functionality, identi
 ghost use Rattle.lotos_ast.specs.Reads.{Reads};
 ghost use Rattle.lotos_ast.specs.DeclarationTrees.{functionality_tree, sorts_tree};
 ghost use Rattle.lotos_ast.specs.Nesting.{nesting_of};
-ghost use Rattle.token_cursor.specs.Parsers.{Halts};
+ghost use Rattle.syntax_cursor.specs.Parsers.{Halts};
 
 use lotos_ast::declaration::Functionality;
 use lotos_ast::mark::Mark;
 use lotos_ast::nest::Nest;
 use lotos_ast::token::Token;
-use token_cursor::cursor::Cursor;
-use token_cursor::identifier::Identifier;
-use token_cursor::parse_fault::ParseFault;
+use syntax_cursor::cursor::Cursor;
+use syntax_cursor::identifier::Identifier;
+use syntax_cursor::parse_fault::ParseFault;
 
 // What a behaviour gives when it ends.
 pub fn functionality(cursor: &mut Cursor<'_>, nest: Nest) -> Result<Functionality, ParseFault>

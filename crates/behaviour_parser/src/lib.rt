@@ -1,5 +1,5 @@
 // The parser of behaviours, processes and whole specifications.
-#![tactic(auto, using(token_cursor::proofs::Steps::steps))]
+#![tactic(auto, using(syntax_cursor::proofs::Steps::steps))]
 
 mod accepts;
 pub mod behaviour;
@@ -8,4 +8,5 @@ mod joined;
 mod process;
 mod spec;
 
+pub use data_parser::types;
 pub use spec::specification;

@@ -8,7 +8,7 @@ ghost use Rattle.lotos_ast.specs.Begins.{mark_at, begins};
 ghost use Rattle.lotos_ast.specs.ListTrees.{repeated_tree};
 ghost use Rattle.lotos_ast.specs.SpecTrees.{parameters_tree, items_tree, process_tree, where_item_tree};
 ghost use Rattle.lotos_ast.specs.Nesting.{nesting_of};
-ghost use Rattle.token_cursor.specs.Parsers.{Halts};
+ghost use Rattle.syntax_cursor.specs.Parsers.{Halts};
 
 use crate::behaviour::behaviour;
 use crate::functionality::functionality;
@@ -19,9 +19,9 @@ use lotos_ast::mark::Mark;
 use lotos_ast::nest::Nest;
 use lotos_ast::spec::{Process, WhereItem};
 use opening_parser::gates::optional_gates;
-use token_cursor::cursor::Cursor;
-use token_cursor::item::Item;
-use token_cursor::parse_fault::ParseFault;
+use syntax_cursor::cursor::Cursor;
+use syntax_cursor::item::Item;
+use syntax_cursor::parse_fault::ParseFault;
 
 // Variables in parentheses, where they stand.
 fn parameters(cursor: &mut Cursor<'_>, nest: Nest) -> Result<Option<Declarations>, ParseFault>
@@ -64,7 +64,7 @@ fn at_where_item(cursor: &Cursor<'_>) -> bool
 }
 
 // Types and processes, any number of them.
-#[tactic(auto, using(token_cursor::proofs::Loops::loop_steps))]
+#[tactic(auto, using(syntax_cursor::proofs::Loops::loop_steps))]
 #[cycle(process)]
 fn where_items(cursor: &mut Cursor<'_>, nest: Nest) -> Result<Vec<WhereItem>, ParseFault>
     ensures read { IfOk result (λ all. Reads (nesting_of nest) (repeated (part where_item)) cursor.old

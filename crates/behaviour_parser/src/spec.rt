@@ -7,7 +7,7 @@ ghost use Rattle.lotos_ast.specs.Reads.{Reads};
 ghost use Rattle.lotos_ast.specs.Parsing.{IsParsed};
 ghost use Rattle.lotos_ast.specs.Refusals.{IfRefused};
 ghost use Rattle.lotos_ast.specs.SpecTrees.{spec_tree};
-ghost use Rattle.token_cursor.specs.Parsers.{Halts};
+ghost use Rattle.syntax_cursor.specs.Parsers.{Halts};
 ghost use Rattle.behaviour_parser.specs.Specifications.{IsNoSpecification, Fails};
 
 use crate::behaviour::behaviour;
@@ -22,9 +22,9 @@ use lotos_ast::spec::Spec;
 use lotos_ast::token::Token;
 use opening_parser::gates::optional_gates;
 use std::alloc::Global;
-use token_cursor::cursor::Cursor;
-use token_cursor::parse_fault::ParseFault;
-use token_cursor::refusals::refusal;
+use syntax_cursor::cursor::Cursor;
+use syntax_cursor::parse_fault::ParseFault;
+use syntax_cursor::refusals::refusal;
 
 /// The specification that the tokens are, all of them.
 ///

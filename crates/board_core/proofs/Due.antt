@@ -10,30 +10,30 @@ use Rattle.rule_model.specs.Derives.{Derives}
 use Rattle.rule_model.specs.Events.{OfferName}
 use Rattle.rule_model.specs.Legal.{IsAgreed}
 use Rattle.rule_model.specs.States.{PendingOffer}
-use Rattle.ready_lists.proofs.Answers.{exact_answers_exist}
-use Rattle.windowed_trees.specs.MarkedTerms.{unmarked}
-use Rattle.composites.specs.Evaluations.{Evaluation, IsExact}
-use Rattle.open_composites.specs.Laws.{composites_of}
-use Rattle.own_plans.proofs.Own.{own_plans_are_those}
-use Rattle.courses.specs.Rules.{Next, takes, deadlocks, is_beyond, is_not_now, goes_on, stalls, nothing, meeting, unseen, next_of}
-use Rattle.asked_trees.specs.Asked.{TestsAsked, TreeQuery}
-use Rattle.asked_trees.specs.Laws.{EntryHolds, lists_of}
-use Rattle.tree_nodes.specs.Generations.{AreApart}
-use Rattle.tree_nodes.specs.Origins.{meaning}
-use Rattle.tree_nodes.specs.Shapes.{stands_for}
+use Rattle.candidate_composites.proofs.Answers.{exact_answers_exist}
+use Rattle.candidate_composites.specs.MarkedTerms.{unmarked}
+use Rattle.candidate_composites.specs.Evaluations.{Evaluation, IsExact}
+use Rattle.board_laws.specs.Laws.{composites_of}
+use Rattle.board_laws.proofs.Own.{own_plans_are_those}
+use Rattle.board_laws.specs.Rules.{Next, takes, deadlocks, is_beyond, is_not_now, goes_on, stalls, nothing, meeting, unseen, next_of}
+use Rattle.board_laws.specs.Asked.{TestsAsked, TreeQuery}
+use Rattle.board_laws.specs.TreeLaws.{EntryHolds, lists_of}
+use Rattle.node_trees.specs.Generations.{AreApart}
+use Rattle.node_trees.specs.Origins.{meaning}
+use Rattle.node_trees.specs.Shapes.{stands_for}
 use Rattle.candidates.specs.Laws.{IsKnownTree}
 use Rattle.candidates.proofs.Deciding.{decided_entries_are_next, decided_entries_are_so}
-use Rattle.followed_trees.specs.Complete.{IsSearched}
-use Rattle.followed_trees.proofs.Following.{searched_trees_follow}
-use Rattle.followed_trees.proofs.Finding.{found_trees_are_searched}
-use Rattle.needed_jobs.specs.Laws.{FirstTreesSay}
-use Rattle.needed_jobs.proofs.Steps.{first_trees_are_so}
-use Rattle.session_rules.specs.Next.{AreSessionWindows, IsNextOf}
-use Rattle.waiting_offers.specs.Waiting.{waiting_in}
-use Rattle.waiting_offers.proofs.Members.{held}
-use Rattle.waiting_offers.proofs.Sound.{waiting_is_sound}
-use Rattle.stop_reasons.specs.Laws.{GiveReasons}
-use Rattle.stop_reasons.proofs.Given as given
+use Rattle.board_laws.specs.Complete.{IsSearched}
+use Rattle.board_laws.proofs.Following.{searched_trees_follow}
+use Rattle.board_laws.proofs.Finding.{found_trees_are_searched}
+use Rattle.board_laws.specs.NeededLaws.{FirstTreesSay}
+use Rattle.board_laws.proofs.Steps.{first_trees_are_so}
+use Rattle.board_laws.specs.Next.{AreSessionWindows, IsNextOf}
+use Rattle.board_offers.specs.Waiting.{waiting_in}
+use Rattle.board_offers.proofs.Members.{held}
+use Rattle.board_offers.proofs.Sound.{waiting_is_sound}
+use Rattle.board_laws.specs.StoppingLaws.{GiveReasons}
+use Rattle.board_laws.proofs.StoppingGiven as given
 use Rattle.board_core.specs.Boards.{IsBoard}
 use Rattle.board_core.specs.Settled.{IsDue, MayBeDone, MayFollow}
 use Rattle.board_core.specs.Views.{BoardView, program, state, tree, windows, pieces, decided_at, first_at, all_at}

@@ -14,26 +14,26 @@ use Rattle.rule_model.specs.Derivations.{Derivation, derivation_of}
 use Rattle.rule_model.specs.Events.{Event, OfferName, acted, replied}
 use Rattle.rule_model.specs.Legal.{IsPending, IsPossible}
 use Rattle.rule_model.specs.States.{PendingOffer, State, start_state}
-use Rattle.courses.specs.Lazy.{first}
-use Rattle.courses.specs.Rules.{Next, takes, goes_on, deadlocks}
-use Rattle.settling.specs.declared.settle.Settled.{Settled}
-use Rattle.settling.specs.declared.settle.Settled.TheVariants.{Takes, GoesOn, Unknown, Deadlocks, IsBeyond, IsNotNow, Stalls, Nothing}
-use Rattle.session_record.specs.Records.{IsSession}
-use Rattle.session_record.specs.Views.{HasActed}
-use Rattle.session_rules.specs.declared.stop_reason.StopReason.{StopReason}
-use Rattle.session_rules.specs.declared.stop_reason.StopReason.TheVariants.{Limit}
-use Rattle.session_rules.specs.Next.{GoesByRules, HasEnded, IsAtLimit, IsAct, IsEventOf, IsLeast, next_by_rules, next_ended}
-use Rattle.session_rules.specs.Drawing.{drawn}
-use Rattle.session_rules.specs.Stopping.{answer_by}
-use Rattle.session_states.specs.Clients.{numbers_from}
-use Rattle.session_states.specs.Possible.{MayStall}
-use Rattle.tree_nodes.specs.Shapes.{stands_for}
-use Rattle.waiting_offers.specs.Offers.{offer_at}
-use Rattle.waiting_offers.specs.Waiting.{by_client, insert_by_client}
-use Rattle.waiting_offers.proofs.Derivations.{pending_clients_differ}
-use Rattle.waiting_offers.proofs.Members.{held}
-use Rattle.waiting_offers.proofs.Order.{least_is_least}
-use Rattle.waiting_offers.proofs.Stalls.{stalls_name_all}
+use Rattle.board_laws.specs.Lazy.{first}
+use Rattle.board_laws.specs.Rules.{Next, takes, goes_on, deadlocks}
+use Rattle.decision_order.specs.declared.settle.Settled.{Settled}
+use Rattle.decision_order.specs.declared.settle.Settled.TheVariants.{Takes, GoesOn, Unknown, Deadlocks, IsBeyond, IsNotNow, Stalls, Nothing}
+use Rattle.board_record.specs.Records.{IsSession}
+use Rattle.board_record.specs.Views.{HasActed}
+use Rattle.board_laws.specs.declared.stop_reason.StopReason.{StopReason}
+use Rattle.board_laws.specs.declared.stop_reason.StopReason.TheVariants.{Limit}
+use Rattle.board_laws.specs.Next.{GoesByRules, HasEnded, IsAtLimit, IsAct, IsEventOf, IsLeast, next_by_rules, next_ended}
+use Rattle.board_laws.specs.Drawing.{drawn}
+use Rattle.board_laws.specs.Stopping.{answer_by}
+use Rattle.log_states.specs.Clients.{numbers_from}
+use Rattle.log_states.specs.Possible.{MayStall}
+use Rattle.node_trees.specs.Shapes.{stands_for}
+use Rattle.board_offers.specs.Offers.{offer_at}
+use Rattle.board_offers.specs.Waiting.{by_client, insert_by_client}
+use Rattle.board_offers.proofs.Derivations.{pending_clients_differ}
+use Rattle.board_offers.proofs.Members.{held}
+use Rattle.board_offers.proofs.Order.{least_is_least}
+use Rattle.board_offers.proofs.Stalls.{stalls_name_all}
 use Rattle.board_core.specs.Entries.{entry_of, OfAct}
 use Rattle.board_core.specs.Settled.{AnswersLeast, AppendsAlone, HasSettled, HasStepped, IsDue, IsKnownAtLimit, LeavesNodes, settled_limit, settled_next}
 use Rattle.board_core.specs.Settled.{settled_stopped}

@@ -1,10 +1,10 @@
 -- The trees of entries that the rules decide are found by searches.
 use Rattle.std.proofs.Common.{◌≡◌, List, [], ◌∷◌, refl, subst, Option, Some, None, Bool, true, false}
-use Rattle.courses.specs.Known.{where_known}
-use Rattle.courses.specs.Rules.{Query, meeting, any, unseen, beyond, any_beyond, beyond_or_unseen, Waiting, Next, takes, deadlocks, is_beyond}
-use Rattle.courses.specs.Rules.{is_not_now, goes_on, stalls, nothing, if_there, if_some, when}
-use Rattle.settling.specs.Rules.{first_decided, stalled_decided, unseen_decided, waiting_decided, asked_decided, dead_decided}
-use Rattle.settling.specs.Rules.{marked_decided, unmet_decided, next_decided}
+use Rattle.board_laws.specs.Known.{where_known}
+use Rattle.board_laws.specs.Rules.{Query, meeting, any, unseen, beyond, any_beyond, beyond_or_unseen, Waiting, Next, takes, deadlocks, is_beyond}
+use Rattle.board_laws.specs.Rules.{is_not_now, goes_on, stalls, nothing, if_there, if_some, when}
+use Rattle.decision_order.specs.Rules.{first_decided, stalled_decided, unseen_decided, waiting_decided, asked_decided, dead_decided}
+use Rattle.decision_order.specs.Rules.{marked_decided, unmet_decided, next_decided}
 
 module _ {P A : Type 0} (find : Query P → Option (Option A)) (all : Query P → Option (List A)) (w : Waiting P) where
   -- the trees of an action were found by the searches for it, and there are some; an offer is pending where there is a deadlock

@@ -4,19 +4,19 @@ use Rattle.spec_core.specs.declared.window.Window.{Window}
 use Rattle.spec_core.specs.Code.{Program}
 use Rattle.sort_windows.specs.Found.{AreBySorts}
 use Rattle.rule_model.specs.Derivations.{Derivation}
-use Rattle.tree_nodes.specs.declared.origin.Gen.{Gen}
-use Rattle.tree_nodes.specs.Rests.{Work}
-use Rattle.shown_actions.specs.Shows.{Show}
-use Rattle.tree_nodes.specs.Shapes.{Held, Shape, AllWait, IsNodeOf, IsRight, IsWorkFor, IsWorkOf, posted}
-use Rattle.board_tree.specs.Views.{IsStep}
-use Rattle.window_tables.specs.Tables.{windows_in}
-use Rattle.known_shows.specs.declared.pieces.Piece.{Piece}
-use Rattle.known_shows.specs.Known.{Pieces}
-use Rattle.known_shows.specs.Laws.{IsPieceOf}
-use Rattle.known_shows.specs.Stored.{with_piece, without}
-use Rattle.known_shows.proofs.Staying.{pieces_stay_so}
-use Rattle.known_shows.proofs.Verdicts.{pieces_outlive_steps}
-use Rattle.followed_trees.proofs.Keeping.{completeness_stays, expansions_stay}
+use Rattle.node_trees.specs.declared.origin.Gen.{Gen}
+use Rattle.node_trees.specs.Rests.{Work}
+use Rattle.candidate_verdicts.specs.Shows.{Show}
+use Rattle.node_trees.specs.Shapes.{Held, Shape, AllWait, IsNodeOf, IsRight, IsWorkFor, IsWorkOf, posted}
+use Rattle.candidate_verdicts.specs.Views.{IsStep}
+use Rattle.candidate_composites.specs.Tables.{windows_in}
+use Rattle.candidate_verdicts.specs.declared.pieces.Piece.{Piece}
+use Rattle.candidate_verdicts.specs.Known.{Pieces}
+use Rattle.candidate_verdicts.specs.Laws.{IsPieceOf}
+use Rattle.candidate_verdicts.specs.Stored.{with_piece, without}
+use Rattle.candidate_verdicts.proofs.Staying.{pieces_stay_so}
+use Rattle.candidate_verdicts.proofs.Verdicts.{pieces_outlive_steps}
+use Rattle.board_laws.proofs.Keeping.{completeness_stays, expansions_stay}
 use Rattle.board_core.specs.Boards.{IsKnown, IsWorkAt}
 
 -- the same, said of other names for the same things

@@ -9,34 +9,34 @@ use Rattle.spec_core.specs.Theories.{theory_of}
 use Rattle.rule_model.specs.declared.rules.Rules.{Rules}
 use Rattle.rule_model.specs.Derivations.{Derivation, derivation_of}
 use Rattle.rule_model.specs.States.{PendingOffer}
-use Rattle.asked_trees.specs.Asked.{TreeQuery}
-use Rattle.courses.specs.Lazy.{first}
-use Rattle.courses.specs.Rules.{Waiting}
-use Rattle.settling.specs.declared.listing.OffersByNumber.{OffersByNumber}
-use Rattle.settling.specs.declared.settle.Settled.{Settled}
-use Rattle.settling.specs.Jobs.{first_not_out, not_out}
-use Rattle.settling.specs.Needed.{next_needed}
-use Rattle.settling.specs.Numbered.{entry_with, waiting_with}
-use Rattle.settling.specs.Rules.{next_decided}
-use Rattle.settling.specs.Searches.{settled_of, waiting_of}
-use Rattle.session_states.specs.Views.{pending_of}
-use Rattle.tree_nodes.specs.Origins.{source_of}
-use Rattle.tree_nodes.specs.Shapes.{Held, IsNodeOf, Lives, Shape, shape_of}
-use Rattle.window_tables.specs.Tables.{windows_in}
-use Rattle.known_shows.specs.declared.pieces.Pieces.{Pieces}
-use Rattle.known_shows.specs.Same.{same_rules}
-use Rattle.known_shows.specs.Stored.{stored}
-use Rattle.known_shows.proofs.Sameness.{same_rules_are_one}
+use Rattle.board_laws.specs.Asked.{TreeQuery}
+use Rattle.board_laws.specs.Lazy.{first}
+use Rattle.board_laws.specs.Rules.{Waiting}
+use Rattle.decision_order.specs.declared.listing.OffersByNumber.{OffersByNumber}
+use Rattle.decision_order.specs.declared.settle.Settled.{Settled}
+use Rattle.decision_order.specs.Jobs.{first_not_out, not_out}
+use Rattle.decision_order.specs.Needed.{next_needed}
+use Rattle.decision_order.specs.Numbered.{entry_with, waiting_with}
+use Rattle.decision_order.specs.Rules.{next_decided}
+use Rattle.decision_order.specs.Searches.{settled_of, waiting_of}
+use Rattle.log_states.specs.Views.{pending_of}
+use Rattle.node_trees.specs.Origins.{source_of}
+use Rattle.node_trees.specs.Shapes.{Held, IsNodeOf, Lives, Shape, shape_of}
+use Rattle.candidate_composites.specs.Tables.{windows_in}
+use Rattle.candidate_verdicts.specs.declared.pieces.Pieces.{Pieces}
+use Rattle.candidate_verdicts.specs.Same.{same_rules}
+use Rattle.candidate_verdicts.specs.Stored.{stored}
+use Rattle.candidate_verdicts.proofs.Sameness.{same_rules_are_one}
 use Rattle.candidates.specs.declared.known_tree.KnownTree.{KnownTree}
 use Rattle.candidates.specs.declared.job.NodeJob as declared
 use Rattle.candidates.specs.Jobs.{NodeJob, to_expand, to_judge, same_job, is_out}
 use Rattle.candidates.specs.KnownTrees.{offer_in, first_in, all_in, is_out_in, jobs_to_first, jobs_to_all, is_held_in}
 use Rattle.candidates.specs.Listed.{first_tree}
 use Rattle.candidates.specs.Models.{job_of}
-use Rattle.needed_jobs.specs.Needed.{entry_decided, generation_of, jobs_needed}
-use Rattle.stop_reasons.specs.Reasons.{LooksForTrees}
-use Rattle.waiting_offers.specs.Offers.{offer_at}
-use Rattle.waiting_offers.specs.Waiting.{waiting_in}
+use Rattle.board_laws.specs.Needed.{entry_decided, generation_of, jobs_needed}
+use Rattle.board_laws.specs.Reasons.{LooksForTrees}
+use Rattle.board_offers.specs.Offers.{offer_at}
+use Rattle.board_offers.specs.Waiting.{waiting_in}
 use Rattle.board_core.specs.declared.job.Job.{Job}
 use Rattle.board_core.specs.Entries.{entry_of}
 use Rattle.board_core.specs.Views.{BoardView, state, tree, decided_at, first_at, needed_at}

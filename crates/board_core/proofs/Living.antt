@@ -4,19 +4,19 @@ use Rattle.std.proofs.Common.{Bool, true, false, if◌then◌else◌, option_map
 use Rattle.std.proofs.lemmas.Bool.Decides.{Decides-eqb}
 use Rattle.spec_core.specs.Lists.{Each, IsOneOf}
 use Rattle.rule_model.specs.Derivations.{Derivation}
-use Rattle.tree_nodes.specs.declared.origin.Gen.{Gen}
-use Rattle.tree_nodes.specs.Differences.{IsDifference}
-use Rattle.tree_nodes.specs.Posting.{is_there}
-use Rattle.tree_nodes.specs.Rests.{Work}
-use Rattle.tree_nodes.specs.Shapes.{Held, Shape, leaf, ended, over, between, Above, under, first_of, second_of, Stands, Lives, node_at, with_work, posted}
-use Rattle.tree_nodes.proofs.Posts.{is_there_lives, not_there}
-use Rattle.shown_actions.specs.Models.{show_of}
-use Rattle.known_shows.specs.declared.pieces.Piece.{Piece}
-use Rattle.known_shows.specs.Known.{Pieces}
-use Rattle.known_shows.specs.Stored.{is_about, is_gone, pieces_of, unless_none, with_piece, without}
-use Rattle.known_shows.proofs.Storing.{about_is}
+use Rattle.node_trees.specs.declared.origin.Gen.{Gen}
+use Rattle.node_trees.specs.Differences.{IsDifference}
+use Rattle.node_trees.specs.Posting.{is_there}
+use Rattle.node_trees.specs.Rests.{Work}
+use Rattle.node_trees.specs.Shapes.{Held, Shape, leaf, ended, over, between, Above, under, first_of, second_of, Stands, Lives, node_at, with_work, posted}
+use Rattle.node_trees.proofs.Posts.{is_there_lives, not_there}
+use Rattle.candidate_verdicts.specs.Models.{show_of}
+use Rattle.candidate_verdicts.specs.declared.pieces.Piece.{Piece}
+use Rattle.candidate_verdicts.specs.Known.{Pieces}
+use Rattle.candidate_verdicts.specs.Stored.{is_about, is_gone, pieces_of, unless_none, with_piece, without}
+use Rattle.candidate_verdicts.proofs.Storing.{about_is}
 use Rattle.candidates.specs.Jobs.{NodeJob}
-use Rattle.needed_jobs.specs.Needed.{generation_of}
+use Rattle.board_laws.specs.Needed.{generation_of}
 use Rattle.board_core.specs.Boards.{AreOfLiving}
 use Rattle.board_core.specs.Working.{jobs_left}
 

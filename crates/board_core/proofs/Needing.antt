@@ -2,9 +2,9 @@
 use Rattle.std.proofs.Common.{◌≡◌, ◌↔◌, [], refl, ap, Option, Some, None, is_some, Bool, IsTrue, true, false}
 use Rattle.spec_core.specs.Lists.{IsOneOf}
 use Rattle.candidates.specs.Jobs.{NodeJob}
-use Rattle.session_rules.specs.declared.stop_reason.StopReason.{StopReason}
-use Rattle.session_rules.specs.Next.{HasEnded}
-use Rattle.stop_reasons.specs.Reasons.{LooksForTrees}
+use Rattle.board_laws.specs.declared.stop_reason.StopReason.{StopReason}
+use Rattle.board_laws.specs.Next.{HasEnded}
+use Rattle.board_laws.specs.Reasons.{LooksForTrees}
 use Rattle.board_core.specs.Awaiting.{AwaitsClients}
 use Rattle.board_core.specs.Views.{BoardView, needed_at, state}
 use Rattle.board_core.specs.Working.{IsNeeded}

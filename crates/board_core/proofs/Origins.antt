@@ -1,9 +1,9 @@
 -- What nodes that live on stand for.
 use Rattle.std.proofs.Common.{ℕ, ◌≡◌, ◌↔◌, ◌∙◌, ◌<◌, ◌==◌, List, [], ◌∷◌, refl, sym, ap, subst, Some, Bool, IsTrue, true, false, if◌then◌else◌, arith}
-use Rattle.tree_nodes.specs.Generations.{AreApart, AreBelow}
-use Rattle.tree_nodes.specs.Origins.{Source}
-use Rattle.tree_nodes.specs.Rests.{Work}
-use Rattle.tree_nodes.specs.Shapes.{Held, Shape, leaf, over, between, Above, under, first_of, second_of, Stands, IsNodeOf, posted}
+use Rattle.node_trees.specs.Generations.{AreApart, AreBelow}
+use Rattle.node_trees.specs.Origins.{Source}
+use Rattle.node_trees.specs.Rests.{Work}
+use Rattle.node_trees.specs.Shapes.{Held, Shape, leaf, over, between, Above, under, first_of, second_of, Stands, IsNodeOf, posted}
 use Rattle.board_core.specs.Views.{BoardView, tree, SameNodes}
 use Rattle.board_core.specs.Working.{HasOrigin, KeepsNodes, IsOrigin}
 

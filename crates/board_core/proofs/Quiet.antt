@@ -5,16 +5,16 @@ use Rattle.spec_core.specs.Code.{Program}
 use Rattle.rule_model.specs.Derivations.{Derivation}
 use Rattle.rule_model.specs.Legal.{AllWait}
 use Rattle.rule_model.specs.States.{PendingOffer, State}
-use Rattle.windowed_trees.specs.Windows.{Windows}
-use Rattle.courses.specs.Lazy.{first}
-use Rattle.courses.specs.Rules.{Next, any, any_beyond, nothing, if_there, next_of}
-use Rattle.asked_trees.specs.Asked.{TreeQuery}
-use Rattle.asked_trees.specs.Laws.{lists_of}
-use Rattle.session_rules.specs.declared.stop_reason.StopReason.{StopReason}
-use Rattle.session_rules.specs.Next.{AreSessionWindows, GoesByRules, IsNextOf}
-use Rattle.stop_reasons.specs.Reasons.{LooksForTrees}
-use Rattle.waiting_offers.specs.Waiting.{by_client, only_asks, waiting_in}
-use Rattle.waiting_offers.proofs.AllWait.{all_wait_is_decided}
+use Rattle.candidate_composites.specs.Windows.{Windows}
+use Rattle.board_laws.specs.Lazy.{first}
+use Rattle.board_laws.specs.Rules.{Next, any, any_beyond, nothing, if_there, next_of}
+use Rattle.board_laws.specs.Asked.{TreeQuery}
+use Rattle.board_laws.specs.TreeLaws.{lists_of}
+use Rattle.board_laws.specs.declared.stop_reason.StopReason.{StopReason}
+use Rattle.board_laws.specs.Next.{AreSessionWindows, GoesByRules, IsNextOf}
+use Rattle.board_laws.specs.Reasons.{LooksForTrees}
+use Rattle.board_offers.specs.Waiting.{by_client, only_asks, waiting_in}
+use Rattle.board_offers.proofs.AllWait.{all_wait_is_decided}
 use Rattle.board_core.specs.Boards.{IsBoard}
 use Rattle.board_core.specs.Awaiting.{AwaitsClients}
 use Rattle.board_core.specs.Settled.{IsQuiet, quiet_nothing, quiet_stopped, quiet_undecided}

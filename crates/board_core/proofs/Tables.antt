@@ -5,9 +5,9 @@ use Rattle.spec_core.specs.declared.settings.Settings.{Settings}
 use Rattle.spec_core.specs.declared.window.Window.{Window}
 use Rattle.spec_core.specs.Code.{Program}
 use Rattle.sort_windows.specs.Found.{AreBySorts}
-use Rattle.window_tables.specs.Tables.{windows_in, values_of, complete_of}
-use Rattle.expand.proofs.Top.{table_windows}
-use Rattle.session_rules.specs.Next.{AreSessionWindows}
+use Rattle.candidate_composites.specs.Tables.{windows_in, values_of, complete_of}
+use Rattle.board_laws.proofs.Top.{table_windows}
+use Rattle.board_laws.specs.Next.{AreSessionWindows}
 
 pub table_of_session : (program : Program) (settings : Settings) (table : List Window) →
     AreBySorts program.theory settings.values table → length table ≡ length program.theory.sorts →

@@ -3,20 +3,20 @@ use Rattle.std.specs.Prelude.{ℕ, ◌≡◌, List, None, length, map}
 use Rattle.spec_core.specs.declared.window.Window.{Window}
 use Rattle.spec_core.specs.Code.{Program}
 use Rattle.spec_core.specs.Lists.{Each}
-use Rattle.windowed_trees.specs.Windows.{Windows}
+use Rattle.candidate_composites.specs.Windows.{Windows}
 use Rattle.rule_model.specs.Derivations.{Derivation}
 use Rattle.candidates.specs.Jobs.{NodeJob}
 use Rattle.candidates.specs.Models.{job_of}
-use Rattle.needed_jobs.specs.Needed.{generation_of}
-use Rattle.expand.specs.Expansions.{IsExpansion}
+use Rattle.board_laws.specs.Needed.{generation_of}
+use Rattle.board_laws.specs.Expansions.{IsExpansion}
 use Rattle.sort_windows.specs.Found.{AreBySorts}
-use Rattle.tree_nodes.specs.Origins.{Source, meaning}
-use Rattle.tree_nodes.specs.Rests.{Work, IsWayOf}
-use Rattle.tree_nodes.specs.Shapes.{Shape, IsRight, Lives}
-use Rattle.window_tables.specs.Tables.{windows_in}
-use Rattle.known_shows.specs.Known.{Pieces}
-use Rattle.known_shows.specs.Laws.{ArePiecesOf, NoneFrom}
-use Rattle.followed_trees.specs.Complete.{AreComplete, AreExpansions, IsComplete}
+use Rattle.node_trees.specs.Origins.{Source, meaning}
+use Rattle.node_trees.specs.Rests.{Work, IsWayOf}
+use Rattle.node_trees.specs.Shapes.{Shape, IsRight, Lives}
+use Rattle.candidate_composites.specs.Tables.{windows_in}
+use Rattle.candidate_verdicts.specs.Known.{Pieces}
+use Rattle.candidate_verdicts.specs.Laws.{ArePiecesOf, NoneFrom}
+use Rattle.board_laws.specs.Complete.{AreComplete, AreExpansions, IsComplete}
 use Rattle.board_core.specs.Views as views
 use Rattle.board_core.specs.Views.{BoardView}
 

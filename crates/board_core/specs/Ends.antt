@@ -4,9 +4,9 @@ use Rattle.rule_model.specs.declared.action.Action.{Action}
 use Rattle.rule_model.specs.declared.action.Action.TheVariants.{Inner, Exit, At}
 use Rattle.rule_model.specs.Derivations.{Derivation}
 use Rattle.rule_model.specs.Events.{Ending, exits, deadlocked, waiting, ends_beyond}
-use Rattle.courses.specs.Rules.{any, any_beyond}
-use Rattle.session_rules.specs.declared.stop_reason.StopReason.{StopReason}
-use Rattle.session_rules.specs.Stopping.{ending_by}
+use Rattle.board_laws.specs.Rules.{any, any_beyond}
+use Rattle.board_laws.specs.declared.stop_reason.StopReason.{StopReason}
+use Rattle.board_laws.specs.Stopping.{ending_by}
 use Rattle.board_core.specs.Views.{BoardView, first_at, state}
 
 -- where no windowed tree exists: beyond, where there is a tree with marks, else a deadlock; given is what is known of the first such tree

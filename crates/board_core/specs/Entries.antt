@@ -3,12 +3,12 @@ use Rattle.std.specs.Prelude.{Option, option_map}
 use Rattle.rule_model.specs.declared.rules.Rules.{Rules}
 use Rattle.rule_model.specs.Derivations.{Derivation, derivation_of}
 use Rattle.rule_model.specs.States.{PendingOffer}
-use Rattle.courses.specs.Rules.{Next}
-use Rattle.settling.specs.declared.settle.Settled.{Settled}
-use Rattle.settling.specs.declared.settle.Settled.TheVariants.{Takes, GoesOn}
-use Rattle.settling.specs.Numbered.{entry_with}
-use Rattle.settling.specs.Searches.{settled_of}
-use Rattle.waiting_offers.specs.Offers.{offer_at}
+use Rattle.board_laws.specs.Rules.{Next}
+use Rattle.decision_order.specs.declared.settle.Settled.{Settled}
+use Rattle.decision_order.specs.declared.settle.Settled.TheVariants.{Takes, GoesOn}
+use Rattle.decision_order.specs.Numbered.{entry_with}
+use Rattle.decision_order.specs.Searches.{settled_of}
+use Rattle.board_offers.specs.Offers.{offer_at}
 use Rattle.board_core.specs.Views.{BoardView, state}
 
 -- the entry that is found on a board, whose offers are its pending ones by their places; none where it isn't decided

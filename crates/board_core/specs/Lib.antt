@@ -5,3 +5,11 @@ pub mod Entries
 pub mod Settled
 pub mod Views
 pub mod Working
+pub use Rattle.board_offers.specs.Offers
+pub use Rattle.board_offers.specs.Waiting
+pub use Rattle.candidate_verdicts.specs.Stored
+pub use Rattle.decision_order.specs.Jobs
+pub use Rattle.decision_order.specs.Rules
+pub use Rattle.node_trees.specs.Origins
+pub use Rattle.node_trees.specs.Shapes
+pub use Rattle.sort_windows.specs.Found

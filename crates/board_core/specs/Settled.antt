@@ -9,18 +9,18 @@ use Rattle.rule_model.specs.Derivations.{Derivation}
 use Rattle.rule_model.specs.Events.{Event, OfferName, acted, replied}
 use Rattle.rule_model.specs.Legal.{IsPossible}
 use Rattle.rule_model.specs.States.{PendingOffer, State}
-use Rattle.board_tree.specs.Steps.{Follows}
-use Rattle.board_tree.specs.Views.{IsStep}
+use Rattle.candidate_verdicts.specs.Steps.{Follows}
+use Rattle.candidate_verdicts.specs.Views.{IsStep}
 use Rattle.candidates.specs.Models.{job_of}
-use Rattle.courses.specs.Rules.{Next, takes, deadlocks, goes_on, nothing}
-use Rattle.asked_trees.specs.Laws.{EntryHolds}
-use Rattle.session_record.specs.Records.{MayAct}
-use Rattle.known_shows.specs.Stored.{without}
-use Rattle.session_rules.specs.Next.{GoesByRules, HasEnded, IsAtLimit, IsEventOf, IsLeast, IsNextEvent, IsNextOf, IsStopReply}
-use Rattle.tree_nodes.specs.Shapes.{Shape}
-use Rattle.waiting_offers.specs.Waiting.{waiting_in}
-use Rattle.session_rules.specs.declared.stop_reason.StopReason.{StopReason}
-use Rattle.session_rules.specs.declared.stop_reason.StopReason.TheVariants.{Limit}
+use Rattle.board_laws.specs.Rules.{Next, takes, deadlocks, goes_on, nothing}
+use Rattle.board_laws.specs.TreeLaws.{EntryHolds}
+use Rattle.board_record.specs.Records.{MayAct}
+use Rattle.candidate_verdicts.specs.Stored.{without}
+use Rattle.board_laws.specs.Next.{GoesByRules, HasEnded, IsAtLimit, IsEventOf, IsLeast, IsNextEvent, IsNextOf, IsStopReply}
+use Rattle.node_trees.specs.Shapes.{Shape}
+use Rattle.board_offers.specs.Waiting.{waiting_in}
+use Rattle.board_laws.specs.declared.stop_reason.StopReason.{StopReason}
+use Rattle.board_laws.specs.declared.stop_reason.StopReason.TheVariants.{Limit}
 use Rattle.board_core.specs.Awaiting.{AwaitsClients}
 use Rattle.board_core.specs.Views.{BoardView, program, state, events, pieces, tree, windows, decided_at, HasOneMore, SameLog, SameNodes}
 use Rattle.board_core.specs.Working.{jobs_left}

@@ -3,26 +3,26 @@ use Rattle.std.specs.Prelude.{◌≡◌, List, Option}
 use Rattle.spec_core.specs.declared.settings.Settings.{Settings}
 use Rattle.spec_core.specs.declared.window.Window.{Window}
 use Rattle.spec_core.specs.Code.{Program}
-use Rattle.board_tree.specs.Views as trees
+use Rattle.candidate_verdicts.specs.Views as trees
 use Rattle.rule_model.specs.Derivations.{Derivation}
 use Rattle.rule_model.specs.Events.{Event}
 use Rattle.rule_model.specs.States.{PendingOffer, State}
-use Rattle.windowed_trees.specs.Windows.{Windows}
-use Rattle.window_tables.specs.Tables.{windows_in}
-use Rattle.courses.specs.Rules.{Next}
-use Rattle.asked_trees.specs.Asked.{TreeQuery}
-use Rattle.tree_nodes.specs.Shapes.{Shape}
-use Rattle.known_shows.specs.declared.pieces.Pieces.{Pieces}
-use Rattle.known_shows.specs.Known as known
-use Rattle.known_shows.specs.Stored.{stored}
+use Rattle.candidate_composites.specs.Windows.{Windows}
+use Rattle.candidate_composites.specs.Tables.{windows_in}
+use Rattle.board_laws.specs.Rules.{Next}
+use Rattle.board_laws.specs.Asked.{TreeQuery}
+use Rattle.node_trees.specs.Shapes.{Shape}
+use Rattle.candidate_verdicts.specs.declared.pieces.Pieces.{Pieces}
+use Rattle.candidate_verdicts.specs.Known as known
+use Rattle.candidate_verdicts.specs.Stored.{stored}
 use Rattle.candidates.specs.declared.job.NodeJob as jobs
 use Rattle.candidates.specs.Jobs.{NodeJob}
 use Rattle.candidates.specs.Listed.{first_tree, all_trees}
-use Rattle.needed_jobs.specs.Needed.{entry_decided, jobs_needed}
-use Rattle.session_record.specs.Views as records
-use Rattle.session_record.specs.Views.{RecordView}
-use Rattle.waiting_offers.specs.Waiting.{waiting_in}
-use Rattle.session_rules.specs.declared.stop_reason.StopReason.{StopReason}
+use Rattle.board_laws.specs.Needed.{entry_decided, jobs_needed}
+use Rattle.board_record.specs.Views as records
+use Rattle.board_record.specs.Views.{RecordView}
+use Rattle.board_offers.specs.Waiting.{waiting_in}
+use Rattle.board_laws.specs.declared.stop_reason.StopReason.{StopReason}
 
 -- the record of the session; its settings; the first values of each sort; what is known of nodes; the jobs that are out; why the session
 -- has stopped, if it has

@@ -1,21 +1,21 @@
 -- Jobs that are handed out, and what comes of them.
 use Rattle.std.specs.Prelude.{ℕ, ◌≡◌, ◌<◌, ◌≤◌, ◌⊎◌, ◌++◌, ◌∷◌, [], List, map, filter, not, Option, Some, None}
 use Rattle.spec_core.specs.Lists.{IsOneOf}
-use Rattle.settling.specs.Jobs.{first_not_out}
+use Rattle.decision_order.specs.Jobs.{first_not_out}
 use Rattle.candidates.specs.Jobs.{NodeJob, to_expand, to_judge, same_job, is_out}
 use Rattle.candidates.specs.Models.{job_of}
-use Rattle.needed_jobs.specs.Needed.{Waits, generation_of}
-use Rattle.session_rules.specs.Next.{GoesByRules}
-use Rattle.known_shows.specs.Stored.{is_gone}
-use Rattle.tree_nodes.specs.declared.origin.Gen.{Gen}
-use Rattle.tree_nodes.specs.Origins.{Source, source_of}
-use Rattle.tree_nodes.specs.Shapes.{Held, Shape, IsNodeOf, Lives}
+use Rattle.board_laws.specs.Needed.{Waits, generation_of}
+use Rattle.board_laws.specs.Next.{GoesByRules}
+use Rattle.candidate_verdicts.specs.Stored.{is_gone}
+use Rattle.node_trees.specs.declared.origin.Gen.{Gen}
+use Rattle.node_trees.specs.Origins.{Source, source_of}
+use Rattle.node_trees.specs.Shapes.{Held, Shape, IsNodeOf, Lives}
 use Rattle.board_core.specs.declared.job.Job.{Job}
 use Rattle.rule_model.specs.declared.reply.LimitKind.TheVariants.{Offers}
-use Rattle.offer_counts.specs.Counts.{offers_limit, offers_of_tree}
-use Rattle.session_rules.specs.declared.stop_reason.StopReason.{StopReason}
-use Rattle.session_rules.specs.declared.stop_reason.StopReason.TheVariants.{Limit}
-use Rattle.stop_reasons.specs.Reasons.{LooksForTrees}
+use Rattle.board_laws.specs.Counts.{offers_limit, offers_of_tree}
+use Rattle.board_laws.specs.declared.stop_reason.StopReason.{StopReason}
+use Rattle.board_laws.specs.declared.stop_reason.StopReason.TheVariants.{Limit}
+use Rattle.board_laws.specs.Reasons.{LooksForTrees}
 use Rattle.board_core.specs.Awaiting.{AwaitsClients}
 use Rattle.board_core.specs.Views.{BoardView, needed_at, program, state, tree, windows}
 

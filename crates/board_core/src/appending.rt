@@ -4,23 +4,23 @@ ghost use Rattle.std.specs.Prelude.{ℕ, ◌≡◌, ◌↔◌, ◌∷◌, ◌++�
 ghost use Rattle.std.specs.Prelude.{false, length, map, option_map};
 ghost use Rattle.rule_model.specs.Derivations.{Derivation};
 ghost use Rattle.rule_model.specs.States.{PendingOffer};
-ghost use Rattle.board_tree.specs.Views.{IsStep};
+ghost use Rattle.candidate_verdicts.specs.Views.{IsStep};
 ghost use Rattle.candidates.specs.Models.{job_of};
-ghost use Rattle.courses.specs.Rules.{Next, takes, deadlocks, is_beyond, is_not_now, goes_on, stalls};
+ghost use Rattle.board_laws.specs.Rules.{Next, takes, deadlocks, is_beyond, is_not_now, goes_on, stalls};
 ghost use Rattle.rule_model.specs.Answering.{name_of};
 ghost use Rattle.rule_model.specs.Answers.{answer_of, limit};
 ghost use Rattle.rule_model.specs.Derivations.{derivation_of};
 ghost use Rattle.rule_model.specs.Events.{replied, stalled};
 ghost use Rattle.rule_model.specs.Legal.{AllWait, IsPending, IsPossible, IsReplyAt};
-ghost use Rattle.courses.specs.Lazy.{first};
+ghost use Rattle.board_laws.specs.Lazy.{first};
 ghost use Rattle.std.specs.List.{slice_get};
-ghost use Rattle.known_shows.specs.Stored.{without};
-ghost use Rattle.session_record.specs.Views.{HasActed, IsActReserved};
-ghost use Rattle.session_rules.specs.Next.{HasEnded, GoesByRules};
-ghost use Rattle.session_states.specs.Possible.{MayStall};
-ghost use Rattle.session_states.specs.Views.{pending_of};
-ghost use Rattle.waiting_offers.specs.Offers.{offer_at};
-ghost use Rattle.waiting_offers.specs.Waiting.{by_client};
+ghost use Rattle.candidate_verdicts.specs.Stored.{without};
+ghost use Rattle.board_record.specs.Views.{HasActed, IsActReserved};
+ghost use Rattle.board_laws.specs.Next.{HasEnded, GoesByRules};
+ghost use Rattle.log_states.specs.Possible.{MayStall};
+ghost use Rattle.log_states.specs.Views.{pending_of};
+ghost use Rattle.board_offers.specs.Offers.{offer_at};
+ghost use Rattle.board_offers.specs.Waiting.{by_client};
 ghost use Rattle.board_core.specs.Entries.{entry_of, OfAct};
 ghost use Rattle.board_core.specs.Awaiting.{AwaitsClients};
 ghost use Rattle.board_core.specs.Settled.{AnswersLeast, AppendsAlone, HasSettled, HasStepped, IsDue, IsKnownAtLimit, IsQuiet, IsUnchanged, MayFollow};
@@ -29,17 +29,17 @@ ghost use Rattle.board_core.specs.Views.{program, events, state, tree, pieces, d
 
 use crate::board::Board;
 use crate::copying::generation_of;
-use known_shows::pieces::is_gone;
+use board_laws::drawing::drawn;
+use board_laws::stop_reason::StopReason;
+use board_offers::waiting::{least_pending, names_by_client};
+use candidate_verdicts::pieces::is_gone;
+use decision_order::settle::Settled;
+use log_states::pending::Pending;
 use rule_model::action::Action;
 use rule_model::reply::{LimitKind, Reply};
 use rule_model::rules::Rules;
-use session_rules::drawing::drawn;
-use session_rules::stop_reason::StopReason;
-use session_states::pending::Pending;
-use settling::settle::Settled;
 use spec_core::memory::Memory;
 use std::alloc::Global;
-use waiting_offers::waiting::{least_pending, names_by_client};
 
 /// Whether the last action was the successful termination. It takes no memory.
 pub fn has_ended(last: &Option<Action>) -> bool

@@ -1,15 +1,15 @@
 // Jobs: copies of them, their nodes, and whether two are one.
 
 ghost use Rattle.std.specs.Prelude.{◌≡◌, IfOk};
-ghost use Rattle.needed_jobs.specs.Needed as needed;
+ghost use Rattle.board_laws.specs.Needed as needed;
 ghost use Rattle.candidates.specs.Jobs.{same_job};
 ghost use Rattle.candidates.specs.Models.{job_of};
 
+use candidate_verdicts::same::same_rules;
 use candidates::job::NodeJob;
-use known_shows::same::same_rules;
+use node_trees::origin::Gen;
 use spec_core::memory::Memory;
 use std::alloc::Global;
-use tree_nodes::origin::Gen;
 
 /// The same job.
 pub fn copy_job(alloc: Global, job: &NodeJob) -> Result<NodeJob, Memory>

@@ -3,26 +3,26 @@
 ghost use Rattle.std.specs.Prelude.{◌≡◌, ◌↔◌, IfOk, IsTrue, Some, map, option_map};
 ghost use Rattle.spec_core.specs.Lists.{IsOneOf};
 ghost use Rattle.rule_model.specs.Derivations.{derivation_of};
-ghost use Rattle.session_states.specs.Views.{pending_of};
+ghost use Rattle.log_states.specs.Views.{pending_of};
 ghost use Rattle.candidates.specs.KnownTrees.{HasItsParts};
 ghost use Rattle.candidates.specs.Jobs.{is_out};
 ghost use Rattle.candidates.specs.Models.{job_of};
-ghost use Rattle.settling.specs.Jobs.{first_not_out};
-ghost use Rattle.tree_nodes.specs.Shapes.{shape_of};
+ghost use Rattle.decision_order.specs.Jobs.{first_not_out};
+ghost use Rattle.node_trees.specs.Shapes.{shape_of};
 ghost use Rattle.board_core.specs.Entries.{entry_of};
 ghost use Rattle.board_core.specs.Views.{state, tree, decided_at, needed_at};
 ghost use Rattle.board_core.specs.Working.{IsNeeded};
 
 use crate::board::Board;
 use crate::copying::is_same;
+use board_offers::waiting::offers_by_number;
 use candidates::entry::{next_entry, next_job};
 use candidates::job::NodeJob;
 use candidates::known_tree::KnownTree;
+use decision_order::settle::Settled;
 use rule_model::rules::Rules;
-use settling::settle::Settled;
 use spec_core::memory::Memory;
 use std::alloc::Global;
-use waiting_offers::waiting::offers_by_number;
 
 impl Board {
     // The tree with what is known of it, while these jobs are out.

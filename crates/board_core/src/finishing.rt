@@ -4,18 +4,18 @@ ghost use Rattle.std.specs.Prelude.{◌≡◌, IfOk, option_map};
 ghost use Rattle.rule_model.specs.Events.{ending_of};
 ghost use Rattle.rule_model.specs.Logs.{events_of};
 ghost use Rattle.candidates.specs.KnownTrees.{HasItsParts, first_in};
-ghost use Rattle.courses.specs.Rules.{any, any_beyond};
-ghost use Rattle.needed_jobs.specs.Laws.{FirstTreesSay};
-ghost use Rattle.session_rules.specs.Next.{AreSessionWindows};
+ghost use Rattle.board_laws.specs.Rules.{any, any_beyond};
+ghost use Rattle.board_laws.specs.NeededLaws.{FirstTreesSay};
+ghost use Rattle.board_laws.specs.Next.{AreSessionWindows};
 ghost use Rattle.board_core.specs.Ends as ends;
 ghost use Rattle.board_core.specs.Ends.{end_found, ending_at};
 ghost use Rattle.board_core.specs.Views.{events, first_at, pieces, program, state, tree, windows};
 
 use crate::board::Board;
 use candidates::known_tree::KnownTree;
+use decision_order::listing::{First, Listing, Search};
 use rule_model::action::Action;
 use rule_model::log::{End, Log};
-use settling::listing::{First, Listing, Search};
 use spec_core::memory::Memory;
 use std::alloc::Global;
 

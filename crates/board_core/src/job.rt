@@ -1,7 +1,7 @@
 // Jobs that the board hands out.
 
 use candidates::job::NodeJob;
-use tree_nodes::origin::Origin;
+use node_trees::origin::Origin;
 
 /// What is to be done at a node, and what the node stands for. A worker does it without the board.
 #[derive(Drop)]

@@ -9,3 +9,5 @@ mod finishing;
 pub mod job;
 mod jobs;
 mod sources;
+
+pub use candidate_verdicts::pieces::Piece;

@@ -2,11 +2,11 @@
 
 ghost use Rattle.std.specs.Prelude.{◌≡◌, ◌↔◌, IsTrue, map};
 ghost use Rattle.spec_core.specs.Code.{relabelling_of};
-ghost use Rattle.tree_nodes.specs.Origins.{source_of};
+ghost use Rattle.node_trees.specs.Origins.{source_of};
 
+use node_trees::origin::Origin;
 use spec_core::items::Gate;
 use spec_core::value::Value;
-use tree_nodes::origin::Origin;
 
 // Whether the same variables have the same values.
 fn same_values(left: &[(u32, Value)], right: &[(u32, Value)]) -> bool

@@ -6,10 +6,10 @@ use Rattle.rule_model.specs.Answering.{name_of}
 use Rattle.rule_model.specs.Derivations.{Derivation}
 use Rattle.rule_model.specs.Events.{OfferName}
 use Rattle.rule_model.specs.States.{State}
-use Rattle.session_rules.specs.Next.{GoesByRules}
-use Rattle.session_rules.specs.declared.stop_reason.StopReason.{StopReason}
-use Rattle.tree_nodes.specs.Shapes.{Shape}
-use Rattle.waiting_offers.specs.Offers.{offer_at}
+use Rattle.board_laws.specs.Next.{GoesByRules}
+use Rattle.board_laws.specs.declared.stop_reason.StopReason.{StopReason}
+use Rattle.node_trees.specs.Shapes.{Shape}
+use Rattle.board_core.specs.Offers.{offer_at}
 use Rattle.board_core.specs.Settled.{MayFollow}
 use Rattle.board_core.specs.Views.{BoardView, program, state, tree, SameLog, SameNodes, SameSession}
 use Rattle.board_tests.specs.Taking.{MayTake}

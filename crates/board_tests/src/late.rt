@@ -2,18 +2,18 @@
 
 use crate::telling::{A, B, board_of, offer_at, told};
 use crate::working::{work_and_settle, work_of};
+use board_core::Piece;
 use board_core::board::Board;
 use board_core::job::Post;
+use board_laws::stop_reason::StopReason;
 use candidates::job::NodeJob;
-use known_shows::pieces::Piece;
+use node_trees::expansion::Expansion;
+use node_trees::origin::Gen;
 use rule_model::reply::LimitKind;
 use rule_model::rules::{Rules, Slots};
-use session_rules::stop_reason::StopReason;
 use spec_core::memory::Memory;
 use std::alloc::Global;
 use std::test::Fail;
-use tree_nodes::expansion::Expansion;
-use tree_nodes::origin::Gen;
 
 // An action without values.
 fn rules(alloc: Global) -> Rules {

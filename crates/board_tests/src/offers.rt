@@ -1,7 +1,7 @@
 // Offers and leaves that are refused.
 
 use crate::telling::{A, board_of, offer_at};
-use session_record::{LeaveFault, PendFault};
+use board_record::{LeaveFault, PendFault};
 use std::test::Fail;
 
 // An offer is refused of a client that isn't open or has one pending, and at a gate that isn't there; nothing is appended.

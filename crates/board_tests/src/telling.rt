@@ -7,11 +7,11 @@ use board_core::board::Board;
 use rule_model::log::End;
 use rule_model::offer::{Fields, Offer};
 use rule_model::reply::{LimitKind, Reply};
-use sample_programs::over_small_data;
 use spec_core::items::Gate;
 use spec_core::memory::Memory;
 use spec_core::settings::Settings;
 use std::alloc::Global;
+use test_programs::over_small_data;
 
 /// The number of the first gate.
 pub const A: u32 = 0;

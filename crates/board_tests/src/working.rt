@@ -5,12 +5,12 @@ ghost use Rattle.std.specs.Prelude.{◌≡◌};
 use board_core::board::Board;
 use board_work::working::work;
 use candidates::job::NodeJob;
-use marked_values::stop::Stop;
-use node_expansion::node::expand_node;
+use node_trees::expansion::Expansion;
+use node_trees::origin::Origin;
+use node_values::stop::Stop;
+use node_work::node::expand_node;
 use spec_core::memory::Memory;
 use std::alloc::Global;
-use tree_nodes::expansion::Expansion;
-use tree_nodes::origin::Origin;
 
 /// How many uses of equations are made for a value.
 pub const BUDGET: u64 = 100;

@@ -1,8 +1,8 @@
 -- Generations under operators, from step to step.
 use Rattle.std.proofs.Common.{ℕ, ◌≡◌, ◌≤◌, inl, inr, ⊎_elim, List, [], ◌∷◌, ◌++◌, refl, sym, subst, arith}
-use Rattle.tree_nodes.specs.Generations.{AreApart, IsSound, IsFresh}
-use Rattle.tree_nodes.specs.Shapes.{Held, Shape, over, between, Unary, Binary, Above, under, first_of, second_of, Stands}
-use Rattle.tree_nodes.proofs.Growing.{new_within, new_under, fresh_later, over_apart, NeverMeet, between_apart}
+use Rattle.node_trees.specs.Generations.{AreApart, IsSound, IsFresh}
+use Rattle.node_trees.specs.Shapes.{Held, Shape, over, between, Unary, Binary, Above, under, first_of, second_of, Stands}
+use Rattle.node_trees.proofs.Growing.{new_within, new_under, fresh_later, over_apart, NeverMeet, between_apart}
 use Rattle.board_tree.specs.Keeping.{Keeps, Leaves, Advances, Goes}
 
 differ : (o p : Binary) (up vp : List Above) → first_of o ∷ up ≡ second_of p ∷ vp → ⊥

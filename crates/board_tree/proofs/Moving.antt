@@ -1,5 +1,5 @@
 -- Steps of operators over nodes.
-use Rattle.std.proofs.Common.{ℕ, ◌≡◌, ⊎_elim, List, [], ◌∷◌, ◌++◌, Some, None, refl, sym, ap, subst, ◌∙◌}
+use Rattle.std.proofs.Common.{ℕ, ◌≡◌, ⊎_elim, List, [], ◌∷◌, ◌++◌, Bool, true, false, Some, None, refl, sym, ap, subst, ◌∙◌}
 use Rattle.spec_core.specs.Code.{Program, Variable, Relabelling, Synchronised}
 use Rattle.spec_core.specs.Terms.{variable}
 use Rattle.rule_model.specs.declared.action.Action.{Action}
@@ -9,20 +9,25 @@ use Rattle.rule_model.specs.Behaviours.{Behaviour, parallel, hide, enable, disab
 use Rattle.rule_model.specs.Derivations.{Derivation, chl, chr, parl, parr, both, hiding, pass, enstep, enend, disstep, disend, distake}
 use Rattle.rule_model.specs.Derivations.{rel}
 use Rattle.rule_model.specs.Substitution.{put, without, tidied}
-use Rattle.code_behaviours.specs.Parts.{behaviour_at}
-use Rattle.code_behaviours.specs.Values.{assignment, values_for}
-use Rattle.code_behaviours.proofs.Handing.{handed_on_values_join}
-use Rattle.substitution_laws.proofs.Nothing.{empty_many, empty_substitutions_change_nothing}
-use Rattle.tree_nodes.specs.Generations.{IsFresh}
-use Rattle.tree_nodes.specs.Origins.{scoped, meaning}
-use Rattle.tree_nodes.specs.Rests.{Way, Work, Fills, slots_of, done_in, left_in}
-use Rattle.tree_nodes.specs.Shapes.{Held, Shape, leaf, ended, over, between, Unary, hidden, relabelled, enabled, Binary, choosing, beside}
-use Rattle.tree_nodes.specs.Shapes.{disabling}
-use Rattle.tree_nodes.specs.Shapes.{under, first_of, second_of, stands_for, IsRight, IsWorkOf}
-use Rattle.tree_nodes.specs.Constructs.{IsLeaf, IsTidy}
-use Rattle.board_tree.specs.Keeping.{IsUntouched}
+use Rattle.rule_origins.specs.Parts.{behaviour_at}
+use Rattle.rule_origins.specs.Values.{assignment, values_for}
+use Rattle.rule_origins.proofs.Handing.{handed_on_values_join}
+use Rattle.rule_laws.proofs.Nothing.{empty_many, empty_substitutions_change_nothing}
+use Rattle.node_trees.specs.Generations.{IsFresh}
+use Rattle.node_trees.specs.Origins.{scoped, meaning}
+use Rattle.node_trees.specs.Rests.{Way, Work, Fills, slots_of, done_in, left_in}
+use Rattle.node_trees.specs.Shapes.{Held, Shape, leaf, ended, over, between, Unary, hidden, relabelled, enabled, Binary, choosing, beside}
+use Rattle.node_trees.specs.Shapes.{disabling}
+use Rattle.node_trees.specs.Shapes.{under, first_of, second_of, stands_for, IsRight, IsWorkOf}
+use Rattle.node_trees.specs.Constructs.{IsLeaf, IsTidy}
+use Rattle.board_tree.specs.declared.side.Side.{Side}
+use Rattle.board_tree.specs.declared.side.Side.TheVariants.{Left, Right}
+use Rattle.board_tree.specs.declared.side.Taking.{Taking}
+use Rattle.board_tree.specs.declared.side.Taking.TheVariants.{ChoiceLeft, ChoiceRight, DisablingEnd, DisablingTaken}
+use Rattle.board_tree.specs.Keeping.{Goes, IsUntouched}
+use Rattle.board_tree.specs.Sides.{alone_at, hidden_action, hidden_by, joined_at, part_at, taken_by, taken_from}
 use Rattle.board_tree.specs.Steps.{IsDone, Follows, Becomes, Moves, Acts, Suits}
-use Rattle.board_tree.proofs.Going.{fresh_goes, over_goes, Splits, both_go, first_goes, second_goes, fresh_after_over}
+use Rattle.board_tree.proofs.Going.{fresh_goes, over_goes, both_go, first_goes, second_goes, fresh_after_over}
 use Rattle.board_tree.proofs.Going.{fresh_after_first, fresh_after_second}
 use Rattle.board_tree.proofs.Untouched.{never_in_leaf, never_in_left_choice, never_in_right_choice, never_enabled, never_ended}
 use Rattle.board_tree.proofs.Untouched.{never_taken, never_unsuited, never_tidied, tidy_unrelabelled}
@@ -226,27 +231,38 @@ module _ (program : Program) where
 
   -- Rows with their generations.
 
-  pub moves_choice_left : (place inner : List ℕ) (low mid high : ℕ) (x y z s t : Shape) (d : Derivation) (a b : Action) → b ≡ a →
-      s ≡ between choosing x y → Moves program inner x d a z low mid → stands_for program t ≡ stands_for program z →
-      IsFresh place mid high t → Moves program place s (chl d) b t low high
-  moves_choice_left place inner low mid high x y z s t d a b k e m i f = record {
-    becomes = becomes_at s t (between choosing x y) t (chl d) b e refl (choice_left x y z t d b i (same_action x z d a b k m.becomes));
-    goes =
-        fresh_after_first (IsUntouched (chl d)) (IsUntouched d) place inner low mid high choosing x y z s t e (never_in_left_choice d s)
-        m.goes f;
-  }
+  -- what is left of an operator whose part acts
+  takes : (taking : Taking) (x y z t : Shape) (d : Derivation) (a : Action) → stands_for program t ≡ stands_for program z →
+      Becomes program x d a z → Becomes program (taken_from taking x y) (taken_by taking d) a t
+  takes ChoiceLeft x y z t d a i m = choice_left x y z t d a i m
+  takes ChoiceRight x y z t d a i m = choice_right y x z t d a i m
+  takes DisablingEnd x y z t d a i m = disabling_end x y z t d a i m
+  takes DisablingTaken x y z t d a i m = disabling_taken y x z t d a i m
 
-  pub moves_choice_right : (place inner : List ℕ) (low mid high : ℕ) (x y z s t : Shape) (d : Derivation) (a b : Action) → b ≡ a →
-      s ≡ between choosing x y → Moves program inner y d a z low mid → stands_for program t ≡ stands_for program z →
-      IsFresh place mid high t → Moves program place s (chr d) b t low high
-  moves_choice_right place inner low mid high x y z s t d a b k e m i f = record {
-    becomes = becomes_at s t (between choosing x y) t (chr d) b e refl (choice_right x y z t d b i (same_action y z d a b k m.becomes));
-    goes =
-        fresh_after_second (IsUntouched (chr d)) (IsUntouched d) place inner low mid high choosing x y z s t e
-        (never_in_right_choice d s) m.goes f;
+  pub moves_taken : (taking : Taking) (place inner : List ℕ) (low mid high : ℕ) (x y z s t : Shape) (d : Derivation) (a b : Action) →
+      b ≡ a → s ≡ taken_from taking x y → Moves program inner x d a z low mid → stands_for program t ≡ stands_for program z →
+      IsFresh place mid high t → Moves program place s (taken_by taking d) b t low high
+  moves_taken taking place inner low mid high x y z s t d a b k e m i f = record {
+    becomes =
+        becomes_at s t (taken_from taking x y) t (taken_by taking d) b e refl (takes taking x y z t d b i (same_action x z d a b k m.becomes));
+    goes = goes_on taking e;
   }
+    where
+      goes_on : (by : Taking) → s ≡ taken_from by x y → Goes (IsUntouched (taken_by by d)) place low high s t
+      goes_on ChoiceLeft is =
+          fresh_after_first (IsUntouched (chl d)) (IsUntouched d) place inner low mid high choosing x y z s t is
+          (never_in_left_choice d s) m.goes f
+      goes_on ChoiceRight is =
+          fresh_after_second (IsUntouched (chr d)) (IsUntouched d) place inner low mid high choosing y x z s t is
+          (never_in_right_choice d s) m.goes f
+      goes_on DisablingEnd is =
+          fresh_after_first (IsUntouched (disend d)) (IsUntouched d) place inner low mid high disabling x y z s t is (never_ended d s)
+          m.goes f
+      goes_on DisablingTaken is =
+          fresh_after_second (IsUntouched (distake d)) (IsUntouched d) place inner low mid high disabling y x z s t is (never_taken d s)
+          m.goes f
 
-  pub moves_left_alone : (place inner : List ℕ) (low high : ℕ) (gates : Synchronised) (x y z s t : Shape) (d : Derivation) (a : Action) →
+  moves_left_alone : (place inner : List ℕ) (low high : ℕ) (gates : Synchronised) (x y z s t : Shape) (d : Derivation) (a : Action) →
       inner ≡ place ++ 0 ∷ [] → s ≡ between (beside gates) x y → t ≡ between (beside gates) z y →
       Moves program inner x d a z low high → Moves program place s (parl d) a t low high
   moves_left_alone place inner low high gates x y z s t d a p e f m = record {
@@ -260,7 +276,7 @@ module _ (program : Program) where
     }) m.goes;
   }
 
-  pub moves_right_alone : (place inner : List ℕ) (low high : ℕ) (gates : Synchronised) (x y w s t : Shape) (d : Derivation) (a : Action) →
+  moves_right_alone : (place inner : List ℕ) (low high : ℕ) (gates : Synchronised) (x y w s t : Shape) (d : Derivation) (a : Action) →
       inner ≡ place ++ 1 ∷ [] → s ≡ between (beside gates) x y → t ≡ between (beside gates) x w →
       Moves program inner y d a w low high → Moves program place s (parr d) a t low high
   moves_right_alone place inner low high gates x y w s t d a p e f m = record {
@@ -273,6 +289,13 @@ module _ (program : Program) where
       from_second = λ up u. u;
     }) m.goes;
   }
+
+  pub moves_alone : (side : Side) (place inner : List ℕ) (low high : ℕ) (gates : Synchronised) (x y z s t : Shape) (d : Derivation)
+      (a : Action) →
+      inner ≡ place ++ part_at side ∷ [] → s ≡ joined_at side (beside gates) x y → t ≡ joined_at side (beside gates) z y →
+      Moves program inner x d a z low high → Moves program place s (alone_at side d) a t low high
+  moves_alone Left place inner low high gates x y z s t d a p e f m = moves_left_alone place inner low high gates x y z s t d a p e f m
+  moves_alone Right place inner low high gates x y z s t d a p e f m = moves_right_alone place inner low high gates y x z s t d a p e f m
 
   pub moves_both : (place first second : List ℕ) (low mid high : ℕ) (gates : Synchronised) (x y z w s t : Shape) (d k : Derivation)
       (a b : Action) →
@@ -292,7 +315,7 @@ module _ (program : Program) where
         }) m.goes n.goes;
   }
 
-  pub moves_hidden : (place inner : List ℕ) (low high : ℕ) (gates : List ℕ) (x z s t : Shape) (d : Derivation) (a : Action) →
+  moves_hidden : (place inner : List ℕ) (low high : ℕ) (gates : List ℕ) (x z s t : Shape) (d : Derivation) (a : Action) →
       inner ≡ place ++ 0 ∷ [] → s ≡ over (hidden gates) x → t ≡ over (hidden gates) z →
       Moves program inner x d a z low high → Moves program place s (hiding d) Inner t low high
   moves_hidden place inner low high gates x z s t d a p e f m = record {
@@ -302,7 +325,7 @@ module _ (program : Program) where
         m.goes;
   }
 
-  pub moves_passed : (place inner : List ℕ) (low high : ℕ) (gates : List ℕ) (x z s t : Shape) (d : Derivation) (a : Action) →
+  moves_passed : (place inner : List ℕ) (low high : ℕ) (gates : List ℕ) (x z s t : Shape) (d : Derivation) (a : Action) →
       inner ≡ place ++ 0 ∷ [] → s ≡ over (hidden gates) x → t ≡ over (hidden gates) z →
       Moves program inner x d a z low high → Moves program place s (pass d) a t low high
   moves_passed place inner low high gates x z s t d a p e f m = record {
@@ -311,6 +334,15 @@ module _ (program : Program) where
         over_goes (IsUntouched (pass d)) (IsUntouched d) place inner low high (hidden gates) x z s t p e f (λ up n a u. u) (λ up u. u)
         m.goes;
   }
+
+  pub moves_hiding : (hides : Bool) (place inner : List ℕ) (low high : ℕ) (gates : List ℕ) (x z s t : Shape) (d : Derivation)
+      (a b : Action) →
+      b ≡ hidden_action hides a → inner ≡ place ++ 0 ∷ [] → s ≡ over (hidden gates) x → t ≡ over (hidden gates) z →
+      Moves program inner x d a z low high → Moves program place s (hidden_by hides d) b t low high
+  moves_hiding true place inner low high gates x z s t d a b k p e f m =
+      subst (λ c. Moves program place s (hiding d) c t low high) (sym k) (moves_hidden place inner low high gates x z s t d a p e f m)
+  moves_hiding false place inner low high gates x z s t d a b k p e f m =
+      subst (λ c. Moves program place s (pass d) c t low high) (sym k) (moves_passed place inner low high gates x z s t d a p e f m)
 
   pub moves_relabelled : (place inner : List ℕ) (low high : ℕ) (pairs : List Relabelling) (x z s t : Shape) (d : Derivation)
       (a b : Action) →
@@ -394,26 +426,6 @@ module _ (program : Program) where
       into_second = λ up u. tt;
       from_second = λ up u. tt;
     }) m.goes;
-  }
-
-  pub moves_disabled : (place inner : List ℕ) (low mid high : ℕ) (x y z s t : Shape) (d : Derivation) (a b : Action) → b ≡ a →
-      s ≡ between disabling x y → Moves program inner x d a z low mid → stands_for program t ≡ stands_for program z →
-      IsFresh place mid high t → Moves program place s (disend d) b t low high
-  moves_disabled place inner low mid high x y z s t d a b k e m i f = record {
-    becomes = becomes_at s t (between disabling x y) t (disend d) b e refl (disabling_end x y z t d b i (same_action x z d a b k m.becomes));
-    goes =
-        fresh_after_first (IsUntouched (disend d)) (IsUntouched d) place inner low mid high disabling x y z s t e (never_ended d s) m.goes
-        f;
-  }
-
-  pub moves_taken : (place inner : List ℕ) (low mid high : ℕ) (x y z s t : Shape) (d : Derivation) (a b : Action) → b ≡ a →
-      s ≡ between disabling x y → Moves program inner y d a z low mid → stands_for program t ≡ stands_for program z →
-      IsFresh place mid high t → Moves program place s (distake d) b t low high
-  moves_taken place inner low mid high x y z s t d a b k e m i f = record {
-    becomes = becomes_at s t (between disabling x y) t (distake d) b e refl (disabling_taken x y z t d b i (same_action y z d a b k m.becomes));
-    goes =
-        fresh_after_second (IsUntouched (distake d)) (IsUntouched d) place inner low mid high disabling x y z s t e (never_taken d s)
-        m.goes f;
   }
 
   -- Nodes.

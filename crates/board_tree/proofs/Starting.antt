@@ -4,13 +4,13 @@ use Rattle.spec_core.specs.Code.{Program}
 use Rattle.spec_core.specs.Ready.{IsReady}
 use Rattle.rule_model.specs.Behaviours.{Behaviour}
 use Rattle.rule_model.specs.Code.{StandsAt, IsStart}
-use Rattle.code_behaviours.specs.Parts.{behaviour_at}
-use Rattle.code_behaviours.specs.Values.{assignment}
-use Rattle.code_behaviours.proofs.Standing.{behaviours_stand}
-use Rattle.substitution_laws.proofs.Nothing.{empty_substitutions_change_nothing}
-use Rattle.tree_nodes.specs.Generations.{IsFresh, IsSound, ArePlaced}
-use Rattle.tree_nodes.specs.Origins.{scoped}
-use Rattle.tree_nodes.specs.Shapes.{Shape, AllWait}
+use Rattle.rule_origins.specs.Parts.{behaviour_at}
+use Rattle.rule_origins.specs.Values.{assignment}
+use Rattle.rule_origins.proofs.Standing.{behaviours_stand}
+use Rattle.rule_laws.proofs.Nothing.{empty_substitutions_change_nothing}
+use Rattle.node_trees.specs.Generations.{IsFresh, IsSound, ArePlaced}
+use Rattle.node_trees.specs.Origins.{scoped}
+use Rattle.node_trees.specs.Shapes.{Shape, AllWait}
 
 -- without values a behaviour of the code is itself
 pub scoped_nothing : (program : Program) (n : ℕ) → scoped program n [] ≡ behaviour_at program n

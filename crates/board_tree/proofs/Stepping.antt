@@ -3,11 +3,11 @@ use Rattle.std.proofs.Common.{ℕ, ◌≡◌, ⊎_elim, List, [], None, sym, sub
 use Rattle.spec_core.specs.Code.{Program}
 use Rattle.rule_model.specs.declared.action.Action.{Action}
 use Rattle.rule_model.specs.Derivations.{Derivation}
-use Rattle.tree_nodes.specs.declared.origin.Gen.{Gen}
-use Rattle.tree_nodes.specs.Differences.{IsDifference}
-use Rattle.tree_nodes.specs.Generations.{ArePlaced, IsSound}
-use Rattle.tree_nodes.specs.Shapes.{Held, Shape, IsWorkOf, IsRight}
-use Rattle.board_tree.specs.Steps.{Follows, Moves}
+use Rattle.node_trees.specs.declared.origin.Gen.{Gen}
+use Rattle.node_trees.specs.Differences.{IsDifference}
+use Rattle.node_trees.specs.Generations.{ArePlaced, IsSound}
+use Rattle.node_trees.specs.Shapes.{Held, Shape, IsWorkOf}
+use Rattle.board_tree.specs.Steps.{Moves}
 use Rattle.board_tree.specs.Views.{IsStep}
 
 module _ (program : Program) (old new : Shape) (d : Derivation) (a : Action) (next later : ℕ) where

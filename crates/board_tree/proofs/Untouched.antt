@@ -1,11 +1,11 @@
 -- What a step leaves alone.
-use Rattle.std.proofs.Common.{ℕ, ◌≡◌, List, [], ◌∷◌, sym, subst}
-use Rattle.spec_core.specs.Code.{Program, Relabelling}
+use Rattle.std.proofs.Common.{◌≡◌, List, [], ◌∷◌, sym, subst}
+use Rattle.spec_core.specs.Code.{Relabelling}
 use Rattle.rule_model.specs.Derivations.{Derivation, chl, chr, parl, parr, both, hiding, pass, enstep, enend, disstep, disend, distake}
 use Rattle.rule_model.specs.Derivations.{rel}
-use Rattle.tree_nodes.specs.Constructs.{IsTidy}
-use Rattle.tree_nodes.specs.Shapes.{Held, Shape, leaf, over, between, Unary, hidden, relabelled, enabled, Binary, choosing, beside}
-use Rattle.tree_nodes.specs.Shapes.{disabling, Above, under, first_of, second_of, Stands}
+use Rattle.node_trees.specs.Constructs.{IsTidy}
+use Rattle.node_trees.specs.Shapes.{Held, Shape, leaf, over, between, Unary, hidden, relabelled, enabled, Binary, choosing, beside}
+use Rattle.node_trees.specs.Shapes.{disabling, Above, under, first_of, second_of, Stands}
 use Rattle.board_tree.specs.Keeping.{IsUnrelabelled, IsUntouched, Leaves}
 use Rattle.board_tree.specs.Steps.{Suits}
 use Rattle.board_tree.proofs.Going.{NothingStays}

@@ -1,8 +1,8 @@
 -- What a step leaves alone, and what it keeps of nodes and their generations.
-use Rattle.std.specs.Prelude.{ℕ, ◌≤◌, ◌⊎◌, List, [], ◌∷◌}
+use Rattle.std.specs.Prelude.{ℕ, ◌≤◌, ◌⊎◌, List, ◌∷◌}
 use Rattle.rule_model.specs.Derivations.{Derivation, parl, parr, both, hiding, pass, enstep, disstep, rel}
-use Rattle.tree_nodes.specs.Generations.{AreApart, IsSound, IsNew}
-use Rattle.tree_nodes.specs.Shapes.{Held, Shape, hidden, relabelled, enabled, beside, disabling, Above, under, first_of, second_of, Stands}
+use Rattle.node_trees.specs.Generations.{AreApart, IsSound, IsNew}
+use Rattle.node_trees.specs.Shapes.{Held, Shape, hidden, relabelled, enabled, beside, disabling, Above, under, first_of, second_of, Stands}
 
 -- the first of these constructs is no relabelling
 abbrev pub IsUnrelabelled : List Above → Type 0

@@ -1,3 +1,4 @@
 pub mod Keeping
+pub mod Sides
 pub mod Steps
 pub mod Views

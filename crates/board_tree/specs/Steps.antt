@@ -9,10 +9,10 @@ use Rattle.rule_model.specs.Derivations.{pass}
 use Rattle.rule_model.specs.Derivations.{enstep, enend, disstep, disend, distake, calling, rel}
 use Rattle.rule_model.specs.Derives.{Derives}
 use Rattle.board_tree.specs.Keeping.{IsUntouched, Goes}
-use Rattle.tree_nodes.specs.Rests.{Way, Work, Fills, IsWayOf}
-use Rattle.tree_nodes.specs.Shapes.{Shape, leaf, over, between, hidden, relabelled, enabled, choosing, beside, disabling}
-use Rattle.tree_nodes.specs.Shapes.{stands_for, IsRight}
-use Rattle.tree_nodes.specs.Constructs.{IsChoosing, IsBeside, IsDisabling, IsHidden, IsRelabelled, IsEnabled}
+use Rattle.node_trees.specs.Rests.{Way, Work, Fills, IsWayOf}
+use Rattle.node_trees.specs.Shapes.{Shape, leaf, over, between, hidden, relabelled, enabled, choosing, beside, disabling}
+use Rattle.node_trees.specs.Shapes.{stands_for, IsRight}
+use Rattle.node_trees.specs.Constructs.{IsChoosing, IsBeside, IsDisabling, IsHidden, IsRelabelled, IsEnabled}
 
 -- one of the ways to act is filled by the tree
 abbrev pub AnyFilled : List Way → Derivation → Type 0

@@ -5,12 +5,12 @@ use Rattle.rule_model.specs.declared.action.Action.{Action}
 use Rattle.rule_model.specs.Behaviours.{Behaviour}
 use Rattle.rule_model.specs.Derivations.{Derivation}
 use Rattle.rule_model.specs.Derives.{Derives}
-use Rattle.tree_nodes.specs.declared.branch.Branch.{Branch}
-use Rattle.tree_nodes.specs.declared.origin.Gen.{Gen}
+use Rattle.node_trees.specs.declared.branch.Branch.{Branch}
+use Rattle.node_trees.specs.declared.origin.Gen.{Gen}
 use Rattle.board_tree.specs.declared.ready.Ready.{Ready}
-use Rattle.tree_nodes.specs.Differences.{IsDifference}
+use Rattle.node_trees.specs.Differences.{IsDifference}
 use Rattle.board_tree.specs.Keeping.{IsUntouched, Keeps, Leaves}
-use Rattle.tree_nodes.specs.Shapes.{Shape, shape_of, stands_for, IsRight}
+use Rattle.node_trees.specs.Shapes.{Shape, shape_of, stands_for, IsRight}
 use Rattle.board_tree.specs.Steps.{Moves, Follows}
 
 -- the tree, the next generation, what the last step ended and began, and the tree that stands ready for the next step

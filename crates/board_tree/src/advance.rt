@@ -4,14 +4,18 @@ ghost use Rattle.std.specs.Prelude.{◌≡◌, IfOk, map};
 ghost use Rattle.spec_core.specs.Code.{program_of, variable_of, relabelling_of, synchronised_of};
 ghost use Rattle.spec_core.specs.Numbers.{gate_number};
 ghost use Rattle.spec_core.specs.Ready.{IsReady};
-ghost use Rattle.rule_model.specs.Derivations.{derivation_of, chl, chr, parl, parr, both, hiding, pass, enstep, enend, disstep, disend};
-ghost use Rattle.rule_model.specs.Derivations.{distake, rel};
-ghost use Rattle.tree_nodes.specs.Constructs.{IsLeaf};
-ghost use Rattle.tree_nodes.specs.Shapes.{shape_of, over, between, hidden, relabelled, enabled, choosing, beside, disabling};
+ghost use Rattle.rule_model.specs.Derivations.{derivation_of, both, enstep, enend, disstep, rel};
+ghost use Rattle.node_trees.specs.Constructs.{IsLeaf};
+ghost use Rattle.node_trees.specs.Shapes.{shape_of, over, between, hidden, relabelled, enabled, beside, disabling};
+ghost use Rattle.board_tree.specs.Sides.{alone_at, hidden_action, hidden_by, joined_at, taken_by, taken_from};
 ghost use Rattle.board_tree.specs.Steps.{Moves};
 
 use crate::leaf::{Advanced, advance_node};
 use crate::operators::{anew, enabling_end, relabelled_step, unsuited};
+use crate::side::{Side, Taking, joined};
+use node_trees::branch::{Branch, Double, Single};
+use node_trees::fresh::part_of;
+use node_trees::origin::copy_values;
 use rule_model::action::Action;
 use rule_model::rules::Rules;
 use spec_core::code::{Checked, GateSet};
@@ -19,9 +23,6 @@ use spec_core::items::{Gate, Sort};
 use spec_core::memory::Memory;
 use spec_core::value::Value;
 use std::alloc::Global;
-use tree_nodes::branch::{Branch, Double, Single};
-use tree_nodes::fresh::part_of;
-use tree_nodes::origin::copy_values;
 
 /// The tree after the step by these rules: operators that stay keep their nodes, and what the step reaches has new ones. It recurs as deep
 /// as the operators nest.
@@ -74,26 +75,60 @@ fn advance_operator(
         Rules::Call(_) => return unsuited(alloc, checked, branch, rules, next, place),
         Rules::Chl(d) => match branch.as_choice() {
             None => return unsuited(alloc, checked, branch, rules, next, place),
-            Some((left, right)) => return choice_left(
-                alloc, checked, branch, left, right, d, next, place,
+            Some((left, right)) => return taken_over(
+                alloc,
+                checked,
+                branch,
+                Taking::ChoiceLeft,
+                left,
+                right,
+                d,
+                next,
+                place,
             ),
         },
         Rules::Chr(d) => match branch.as_choice() {
             None => return unsuited(alloc, checked, branch, rules, next, place),
-            Some((left, right)) => return choice_right(
-                alloc, checked, branch, left, right, d, next, place,
+            Some((left, right)) => return taken_over(
+                alloc,
+                checked,
+                branch,
+                Taking::ChoiceRight,
+                right,
+                left,
+                d,
+                next,
+                place,
             ),
         },
         Rules::Parl(d) => match branch.as_parallel() {
             None => return unsuited(alloc, checked, branch, rules, next, place),
-            Some((gates, left, right)) => return left_alone(
-                alloc, checked, branch, gates, left, right, d, next, place,
+            Some((gates, left, right)) => return one_side(
+                alloc,
+                checked,
+                branch,
+                gates,
+                Side::Left,
+                left,
+                right,
+                d,
+                next,
+                place,
             ),
         },
         Rules::Parr(d) => match branch.as_parallel() {
             None => return unsuited(alloc, checked, branch, rules, next, place),
-            Some((gates, left, right)) => return right_alone(
-                alloc, checked, branch, gates, left, right, d, next, place,
+            Some((gates, left, right)) => return one_side(
+                alloc,
+                checked,
+                branch,
+                gates,
+                Side::Right,
+                right,
+                left,
+                d,
+                next,
+                place,
             ),
         },
         Rules::Both(d, e) => match branch.as_parallel() {
@@ -104,14 +139,14 @@ fn advance_operator(
         },
         Rules::Hide(d) => match branch.as_hide() {
             None => return unsuited(alloc, checked, branch, rules, next, place),
-            Some((gates, part)) => return hidden_inside(
-                alloc, checked, branch, gates, part, d, next, place,
+            Some((gates, part)) => return hiding_step(
+                alloc, checked, branch, gates, true, part, d, next, place,
             ),
         },
         Rules::Pass(d) => match branch.as_hide() {
             None => return unsuited(alloc, checked, branch, rules, next, place),
-            Some((gates, part)) => return let_pass(
-                alloc, checked, branch, gates, part, d, next, place,
+            Some((gates, part)) => return hiding_step(
+                alloc, checked, branch, gates, false, part, d, next, place,
             ),
         },
         Rules::Enstep(d) => match branch.as_enable() {
@@ -134,14 +169,30 @@ fn advance_operator(
         },
         Rules::Disend(d) => match branch.as_disable() {
             None => return unsuited(alloc, checked, branch, rules, next, place),
-            Some((left, right)) => return disabling_end(
-                alloc, checked, branch, left, right, d, next, place,
+            Some((left, right)) => return taken_over(
+                alloc,
+                checked,
+                branch,
+                Taking::DisablingEnd,
+                left,
+                right,
+                d,
+                next,
+                place,
             ),
         },
         Rules::Distake(d) => match branch.as_disable() {
             None => return unsuited(alloc, checked, branch, rules, next, place),
-            Some((left, right)) => return disabling_taken(
-                alloc, checked, branch, left, right, d, next, place,
+            Some((left, right)) => return taken_over(
+                alloc,
+                checked,
+                branch,
+                Taking::DisablingTaken,
+                right,
+                left,
+                d,
+                next,
+                place,
             ),
         },
         Rules::Rel(d) => match branch.as_relabel() {
@@ -153,123 +204,70 @@ fn advance_operator(
     }
 }
 
-// A choice whose left side acts: the other side is lost, and what is left has new nodes.
+// What a hiding does where its part does this.
+fn seen(hides: bool, action: Action) -> Action
+    ensures { result ≡ hidden_action hides action }
+{
+    if hides { Action::Inner } else { action }
+}
+
+// A part of an operator acts, and what it becomes takes the place of the whole: the other part is lost, and what is left has new nodes.
 #[cycle(advance)]
 #[inline(never)]
-fn choice_left(
+fn taken_over(
     alloc: Global,
     checked: &Checked,
     branch: &Branch,
-    left: &Branch,
-    right: &Branch,
+    taking: Taking,
+    part: &Branch,
+    other: &Branch,
     d: &Rules,
     next: u128,
     place: &[u32],
 ) -> Result<Advanced, Memory>
     requires ready { IsReady (program_of checked.now) }
-    requires shape { shape_of branch.now ≡ between choosing (shape_of left.now) (shape_of right.now) }
+    requires shape { shape_of branch.now ≡ taken_from taking (shape_of part.now) (shape_of other.now) }
     ensures { IfOk result (λ a.
-        Moves (program_of checked.now) place.now (shape_of branch.now) (chl (derivation_of d.now)) a.action (shape_of a.branch.value) next
-        a.next) }
+        Moves (program_of checked.now) place.now (shape_of branch.now) (taken_by taking (derivation_of d.now)) a.action
+        (shape_of a.branch.value) next a.next) }
 {
-    let inner = part_of(alloc, place, 0)?;
-    let one = advance(alloc, checked, left, d, next, &inner)?;
+    let inner = part_of(alloc, place, taking.part())?;
+    let one = advance(alloc, checked, part, d, next, &inner)?;
     let done = anew(alloc, checked, one, place)?;
     Ok(done)
 }
 
-// A choice whose right side acts: the other side is lost, and what is left has new nodes.
+// A parallel composition of which one side acts alone: the other side stays.
 #[cycle(advance)]
 #[inline(never)]
-fn choice_right(
-    alloc: Global,
-    checked: &Checked,
-    branch: &Branch,
-    left: &Branch,
-    right: &Branch,
-    d: &Rules,
-    next: u128,
-    place: &[u32],
-) -> Result<Advanced, Memory>
-    requires ready { IsReady (program_of checked.now) }
-    requires shape { shape_of branch.now ≡ between choosing (shape_of left.now) (shape_of right.now) }
-    ensures { IfOk result (λ a.
-        Moves (program_of checked.now) place.now (shape_of branch.now) (chr (derivation_of d.now)) a.action (shape_of a.branch.value) next
-        a.next) }
-{
-    let inner = part_of(alloc, place, 1)?;
-    let one = advance(alloc, checked, right, d, next, &inner)?;
-    let done = anew(alloc, checked, one, place)?;
-    Ok(done)
-}
-
-// A parallel composition whose left side acts alone: the other side stays.
-#[cycle(advance)]
-#[inline(never)]
-fn left_alone(
+fn one_side(
     alloc: Global,
     checked: &Checked,
     branch: &Branch,
     gates: &GateSet,
-    left: &Branch,
-    right: &Branch,
+    side: Side,
+    part: &Branch,
+    other: &Branch,
     d: &Rules,
     next: u128,
     place: &[u32],
 ) -> Result<Advanced, Memory>
     requires ready { IsReady (program_of checked.now) }
-    requires shape { shape_of branch.now ≡ between (beside (synchronised_of gates.now)) (shape_of left.now) (shape_of right.now) }
+    requires shape { shape_of branch.now ≡ joined_at side (beside (synchronised_of gates.now)) (shape_of part.now) (shape_of other.now) }
     ensures { IfOk result (λ a.
-        Moves (program_of checked.now) place.now (shape_of branch.now) (parl (derivation_of d.now)) a.action (shape_of a.branch.value) next
-        a.next) }
+        Moves (program_of checked.now) place.now (shape_of branch.now) (alone_at side (derivation_of d.now)) a.action
+        (shape_of a.branch.value) next a.next) }
 {
-    let inner = part_of(alloc, place, 0)?;
-    let one = advance(alloc, checked, left, d, next, &inner)?;
+    let inner = part_of(alloc, place, side.part())?;
+    let one = advance(alloc, checked, part, d, next, &inner)?;
     let Advanced {
         action,
         branch: one,
         next,
     } = one;
-    let right = right.copy(alloc)?;
+    let other = other.copy(alloc)?;
     let operator = Double::Par(gates.copy(alloc)?);
-    let after = Branch::between(alloc, operator, one, right)?;
-    Ok(Advanced {
-        action,
-        branch: after,
-        next,
-    })
-}
-
-// A parallel composition whose right side acts alone: the other side stays.
-#[cycle(advance)]
-#[inline(never)]
-fn right_alone(
-    alloc: Global,
-    checked: &Checked,
-    branch: &Branch,
-    gates: &GateSet,
-    left: &Branch,
-    right: &Branch,
-    d: &Rules,
-    next: u128,
-    place: &[u32],
-) -> Result<Advanced, Memory>
-    requires ready { IsReady (program_of checked.now) }
-    requires shape { shape_of branch.now ≡ between (beside (synchronised_of gates.now)) (shape_of left.now) (shape_of right.now) }
-    ensures { IfOk result (λ a.
-        Moves (program_of checked.now) place.now (shape_of branch.now) (parr (derivation_of d.now)) a.action (shape_of a.branch.value) next
-        a.next) }
-{
-    let inner = part_of(alloc, place, 1)?;
-    let one = advance(alloc, checked, right, d, next, &inner)?;
-    let Advanced {
-        action,
-        branch: one,
-        next,
-    } = one;
-    let left = left.copy(alloc)?;
-    let operator = Double::Par(gates.copy(alloc)?);
-    let after = Branch::between(alloc, operator, left, one)?;
+    let after = joined(alloc, operator, side, one, other)?;
     Ok(Advanced {
         action,
         branch: after,
@@ -321,14 +319,15 @@ fn both_together(
     })
 }
 
-// A hiding whose part acts at a hidden gate.
+// A hiding whose part acts, at a hidden gate or not.
 #[cycle(advance)]
 #[inline(never)]
-fn hidden_inside(
+fn hiding_step(
     alloc: Global,
     checked: &Checked,
     branch: &Branch,
     gates: &[Gate],
+    hides: bool,
     part: &Branch,
     d: &Rules,
     next: u128,
@@ -337,43 +336,8 @@ fn hidden_inside(
     requires ready { IsReady (program_of checked.now) }
     requires shape { shape_of branch.now ≡ over (hidden (map gate_number gates.now)) (shape_of part.now) }
     ensures { IfOk result (λ a.
-        Moves (program_of checked.now) place.now (shape_of branch.now) (hiding (derivation_of d.now)) a.action (shape_of a.branch.value)
-        next a.next) }
-{
-    let inner = part_of(alloc, place, 0)?;
-    let one = advance(alloc, checked, part, d, next, &inner)?;
-    let Advanced {
-        action: _,
-        branch: one,
-        next,
-    } = one;
-    let operator = Single::Hide(Vec::from_slice(alloc, gates)?);
-    let after = Branch::over(alloc, operator, one)?;
-    Ok(Advanced {
-        action: Action::Inner,
-        branch: after,
-        next,
-    })
-}
-
-// A hiding whose part does anything else.
-#[cycle(advance)]
-#[inline(never)]
-fn let_pass(
-    alloc: Global,
-    checked: &Checked,
-    branch: &Branch,
-    gates: &[Gate],
-    part: &Branch,
-    d: &Rules,
-    next: u128,
-    place: &[u32],
-) -> Result<Advanced, Memory>
-    requires ready { IsReady (program_of checked.now) }
-    requires shape { shape_of branch.now ≡ over (hidden (map gate_number gates.now)) (shape_of part.now) }
-    ensures { IfOk result (λ a.
-        Moves (program_of checked.now) place.now (shape_of branch.now) (pass (derivation_of d.now)) a.action (shape_of a.branch.value) next
-        a.next) }
+        Moves (program_of checked.now) place.now (shape_of branch.now) (hidden_by hides (derivation_of d.now)) a.action
+        (shape_of a.branch.value) next a.next) }
 {
     let inner = part_of(alloc, place, 0)?;
     let one = advance(alloc, checked, part, d, next, &inner)?;
@@ -385,7 +349,7 @@ fn let_pass(
     let operator = Single::Hide(Vec::from_slice(alloc, gates)?);
     let after = Branch::over(alloc, operator, one)?;
     Ok(Advanced {
-        action,
+        action: seen(hides, action),
         branch: after,
         next,
     })
@@ -495,56 +459,6 @@ fn disabling_step(
         branch: after,
         next,
     })
-}
-
-// A disabling whose left side terminates: the right side is lost, and what is left has new nodes.
-#[cycle(advance)]
-#[inline(never)]
-fn disabling_end(
-    alloc: Global,
-    checked: &Checked,
-    branch: &Branch,
-    left: &Branch,
-    right: &Branch,
-    d: &Rules,
-    next: u128,
-    place: &[u32],
-) -> Result<Advanced, Memory>
-    requires ready { IsReady (program_of checked.now) }
-    requires shape { shape_of branch.now ≡ between disabling (shape_of left.now) (shape_of right.now) }
-    ensures { IfOk result (λ a.
-        Moves (program_of checked.now) place.now (shape_of branch.now) (disend (derivation_of d.now)) a.action (shape_of a.branch.value)
-        next a.next) }
-{
-    let inner = part_of(alloc, place, 0)?;
-    let one = advance(alloc, checked, left, d, next, &inner)?;
-    let done = anew(alloc, checked, one, place)?;
-    Ok(done)
-}
-
-// A disabling whose right side acts: the left side is lost, and what is left has new nodes.
-#[cycle(advance)]
-#[inline(never)]
-fn disabling_taken(
-    alloc: Global,
-    checked: &Checked,
-    branch: &Branch,
-    left: &Branch,
-    right: &Branch,
-    d: &Rules,
-    next: u128,
-    place: &[u32],
-) -> Result<Advanced, Memory>
-    requires ready { IsReady (program_of checked.now) }
-    requires shape { shape_of branch.now ≡ between disabling (shape_of left.now) (shape_of right.now) }
-    ensures { IfOk result (λ a.
-        Moves (program_of checked.now) place.now (shape_of branch.now) (distake (derivation_of d.now)) a.action (shape_of a.branch.value)
-        next a.next) }
-{
-    let inner = part_of(alloc, place, 1)?;
-    let one = advance(alloc, checked, right, d, next, &inner)?;
-    let done = anew(alloc, checked, one, place)?;
-    Ok(done)
 }
 
 // A relabelling whose part acts.

@@ -4,24 +4,24 @@ ghost use Rattle.std.specs.Prelude.{◌≡◌, ◌∷◌, ◌↔◌, IfOk, IsTru
 ghost use Rattle.spec_core.specs.Code.{program_of};
 ghost use Rattle.spec_core.specs.Ready.{IsReady};
 ghost use Rattle.rule_model.specs.Derivations.{derivation_of};
-ghost use Rattle.tree_nodes.specs.Generations.{IsFresh};
-ghost use Rattle.tree_nodes.specs.Origins.{source_of, meaning};
-ghost use Rattle.tree_nodes.specs.Rests.{way_of, expansion_of, rows_of, slots_of, Fills};
-ghost use Rattle.tree_nodes.specs.Shapes.{shape_of, held_of, leaf};
+ghost use Rattle.node_trees.specs.Generations.{IsFresh};
+ghost use Rattle.node_trees.specs.Origins.{source_of, meaning};
+ghost use Rattle.node_trees.specs.Rests.{way_of, expansion_of, rows_of, slots_of, Fills};
+ghost use Rattle.node_trees.specs.Shapes.{shape_of, held_of, leaf};
 ghost use Rattle.board_tree.specs.Steps.{Acts, Moves};
 
+use node_trees::branch::Branch;
+use node_trees::expansion::{Alternative, Expansion};
+use node_trees::fresh::{Fresh, nothing};
+use node_trees::left::{done_in, unfolded_rest};
+use node_trees::node::Node;
+use node_trees::origin::Origin;
+use node_trees::rows::{are_filled, put_rows, put_slots};
 use rule_model::action::Action;
 use rule_model::rules::{Rules, Slot};
 use spec_core::code::Checked;
 use spec_core::memory::Memory;
 use std::alloc::Global;
-use tree_nodes::branch::Branch;
-use tree_nodes::expansion::{Alternative, Expansion};
-use tree_nodes::fresh::{Fresh, nothing};
-use tree_nodes::left::{done_in, unfolded_rest};
-use tree_nodes::node::Node;
-use tree_nodes::origin::Origin;
-use tree_nodes::rows::{are_filled, put_rows, put_slots};
 
 /// What is done, the tree after it, and the next generation.
 #[derive(Drop)]

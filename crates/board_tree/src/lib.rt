@@ -5,4 +5,5 @@ mod advance;
 mod leaf;
 mod operators;
 pub mod ready;
+mod side;
 pub mod tree;

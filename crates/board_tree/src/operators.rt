@@ -4,26 +4,26 @@ ghost use Rattle.std.specs.Prelude.{◌≡◌, ◌++◌, ◌∷◌, [], IfOk, ma
 ghost use Rattle.spec_core.specs.Code.{program_of, variable_of, relabelling_of};
 ghost use Rattle.spec_core.specs.Ready.{IsReady};
 ghost use Rattle.rule_model.specs.Derivations.{derivation_of, enend, rel};
-ghost use Rattle.code_behaviours.specs.Values.{values_for};
-ghost use Rattle.tree_nodes.specs.Constructs.{IsLeaf, IsTidy};
-ghost use Rattle.tree_nodes.specs.Generations.{IsFresh};
-ghost use Rattle.tree_nodes.specs.Shapes.{shape_of, stands_for, over, relabelled, enabled};
+ghost use Rattle.rule_origins.specs.Values.{values_for};
+ghost use Rattle.node_trees.specs.Constructs.{IsLeaf, IsTidy};
+ghost use Rattle.node_trees.specs.Generations.{IsFresh};
+ghost use Rattle.node_trees.specs.Shapes.{shape_of, stands_for, over, relabelled, enabled};
 ghost use Rattle.board_tree.specs.Steps.{Moves, Suits};
 
 use crate::leaf::{Advanced, no_step};
+use node_trees::branch::{Branch, Single};
+use node_trees::fresh::Fresh;
+use node_trees::origin::copy_values;
+use node_trees::renew::{renewed, tidied_branch};
+use node_trees::unfold::unfold;
 use rule_model::action::Action;
 use rule_model::rules::Rules;
+use rule_substitution::relabelling::renamed;
 use spec_core::code::Checked;
 use spec_core::items::{Gate, Sort};
 use spec_core::memory::Memory;
 use spec_core::value::Value;
 use std::alloc::Global;
-use substitution::relabelling::renamed;
-use tree_nodes::branch::{Branch, Single};
-use tree_nodes::fresh::Fresh;
-use tree_nodes::origin::copy_values;
-use tree_nodes::renew::{renewed, tidied_branch};
-use tree_nodes::unfold::unfold;
 
 /// A tree of rules that doesn't suit the operator: nothing is said of it.
 #[inline(never)]

@@ -4,20 +4,20 @@ ghost use Rattle.std.specs.Prelude.{◌≡◌, [], IfOk};
 ghost use Rattle.spec_core.specs.Code.{program_of};
 ghost use Rattle.spec_core.specs.Ready.{IsReady};
 ghost use Rattle.rule_model.specs.Derivations.{derivation_of};
-ghost use Rattle.tree_nodes.specs.Differences.{IsDifference};
-ghost use Rattle.tree_nodes.specs.Shapes.{shape_of};
+ghost use Rattle.node_trees.specs.Differences.{IsDifference};
+ghost use Rattle.node_trees.specs.Shapes.{shape_of};
 ghost use Rattle.board_tree.specs.Steps.{Moves};
 
 use crate::advance::advance;
 use crate::leaf::Advanced;
+use node_trees::branch::Branch;
+use node_trees::find::difference;
+use node_trees::origin::Gen;
 use rule_model::action::Action;
 use rule_model::rules::Rules;
 use spec_core::code::Checked;
 use spec_core::memory::Memory;
 use std::alloc::Global;
-use tree_nodes::branch::Branch;
-use tree_nodes::find::difference;
-use tree_nodes::origin::Gen;
 
 /// The next tree, the action that leads to it, the next generation then, and the generations that end and begin.
 #[derive(Drop)]

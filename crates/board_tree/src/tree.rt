@@ -6,13 +6,19 @@ ghost use Rattle.spec_core.specs.Ready.{IsReady};
 ghost use Rattle.rule_model.specs.Behaviours.{behaviour_of};
 ghost use Rattle.rule_model.specs.Code.{IsStart};
 ghost use Rattle.rule_model.specs.Derivations.{derivation_of};
-ghost use Rattle.tree_nodes.specs.Generations.{AreApart, AreBelow, ArePlaced};
-ghost use Rattle.tree_nodes.specs.Rests.{expansion_of};
-ghost use Rattle.tree_nodes.specs.Shapes.{Shape, shape_of, stands_for, held_of, posted, Lives, IsNodeOf, IsRight, IsWorkFor};
-ghost use Rattle.tree_nodes.specs.Shapes.{AllWait};
+ghost use Rattle.node_trees.specs.Generations.{AreApart, AreBelow, ArePlaced};
+ghost use Rattle.node_trees.specs.Rests.{expansion_of};
+ghost use Rattle.node_trees.specs.Shapes.{Shape, shape_of, stands_for, held_of, posted, Lives, IsNodeOf, IsRight, IsWorkFor};
+ghost use Rattle.node_trees.specs.Shapes.{AllWait};
 ghost use Rattle.board_tree.specs.Views.{shape, IsReserved, IsNext, IsNextAction, IsStep};
 
 use crate::ready::{After, Ready, ready_for};
+use node_trees::branch::Branch;
+use node_trees::expansion::Expansion;
+use node_trees::fresh::Fresh;
+use node_trees::node::Node;
+use node_trees::origin::Gen;
+use node_trees::unfold::unfold;
 use rule_model::action::Action;
 use rule_model::beh::Beh;
 use rule_model::rules::Rules;
@@ -20,12 +26,6 @@ use spec_core::code::Checked;
 use spec_core::memory::Memory;
 use std::alloc::Global;
 use std::marker::Model;
-use tree_nodes::branch::Branch;
-use tree_nodes::expansion::Expansion;
-use tree_nodes::fresh::Fresh;
-use tree_nodes::node::Node;
-use tree_nodes::origin::Gen;
-use tree_nodes::unfold::unfold;
 
 /// The behaviour that a board has reached, as a tree of operators over nodes. No two of its nodes have one generation, and each one's place
 /// is where it stands.
@@ -41,10 +41,10 @@ pub struct Tree {
 impl Model for Tree {
     ghost use Rattle.std.specs.Prelude.{[]};
     ghost use Rattle.std.specs.Coded.{codes};
-    ghost use Rattle.tree_nodes.specs.contracts.branch.Branch as b;
+    ghost use Rattle.node_trees.specs.contracts.branch.Branch as b;
     ghost use Rattle.board_tree.specs.contracts.ready.Ready as r;
-    ghost use Rattle.tree_nodes.specs.Generations.{IsSound, ArePlaced};
-    ghost use Rattle.tree_nodes.specs.Shapes.{shape_of};
+    ghost use Rattle.node_trees.specs.Generations.{IsSound, ArePlaced};
+    ghost use Rattle.node_trees.specs.Shapes.{shape_of};
     ghost use Rattle.board_tree.specs.Views.{TreeView};
 
     ghost Value = { TreeView };
@@ -122,7 +122,7 @@ impl Tree {
     }
 
     /// The node of a live generation; None for any other. It takes no memory.
-    #[tactic(auto, using(tree_nodes::proofs::Finding::found_is_node, tree_nodes::proofs::Finding::none_lives))]
+    #[tactic(auto, using(node_trees::proofs::Finding::found_is_node, node_trees::proofs::Finding::none_lives))]
     pub fn at(&self, generation: Gen) -> Option<&Node>
         ensures some { IfSome result (λ n. IsNodeOf (shape self.now) generation.0 (held_of n.now)) }
         ensures none { IfNone result (Lives (shape self.now) generation.0 → ⊥) }

@@ -7,10 +7,10 @@ use Rattle.rule_model.specs.declared.reply.LimitKind.TheVariants.{Steps, Offers}
 use Rattle.rule_model.specs.Events.{Event}
 use Rattle.rule_model.specs.Legal.{IsPossible}
 use Rattle.rule_model.specs.States.{State}
-use Rattle.session_rules.specs.declared.stop_reason.StopReason.{StopReason}
-use Rattle.session_rules.specs.declared.stop_reason.StopReason.TheVariants.{Limit}
-use Rattle.stop_reasons.specs.Laws.{GiveReasons}
-use Rattle.stop_reasons.specs.Reasons.{AsksForTree}
+use Rattle.board_laws.specs.declared.stop_reason.StopReason.{StopReason}
+use Rattle.board_laws.specs.declared.stop_reason.StopReason.TheVariants.{Limit}
+use Rattle.board_laws.specs.StoppingLaws.{GiveReasons}
+use Rattle.board_laws.specs.Reasons.{AsksForTree}
 use Rattle.candidates.specs.Jobs.{NodeJob, to_expand, to_judge, is_out}
 use Rattle.candidates.specs.Models.{job_of}
 use Rattle.board_core.specs.Settled.{HasSettled, IsQuiet, IsSettled, WhyQuiet, settled_next, settled_stopped, settled_limit, quiet_stopped}

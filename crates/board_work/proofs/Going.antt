@@ -10,11 +10,11 @@ use Rattle.rule_model.specs.declared.reply.LimitKind.TheVariants.{Steps}
 use Rattle.rule_model.specs.Derivations.{Derivation}
 use Rattle.rule_model.specs.Events.{Event, event_of}
 use Rattle.rule_model.specs.States.{PendingOffer, State}
-use Rattle.courses.specs.Rules.{Next, takes, deadlocks, is_beyond, is_not_now, goes_on, stalls, nothing}
-use Rattle.session_rules.specs.declared.stop_reason.StopReason.{StopReason}
-use Rattle.session_rules.specs.declared.stop_reason.StopReason.TheVariants.{Limit}
-use Rattle.session_rules.specs.Next.{IsNextEvent, next_ended, next_by_rules, IsEventOf, IsStopReply}
-use Rattle.stop_reasons.specs.Laws.{GiveReasons}
+use Rattle.board_laws.specs.Rules.{Next, takes, deadlocks, is_beyond, is_not_now, goes_on, stalls, nothing}
+use Rattle.board_laws.specs.declared.stop_reason.StopReason.{StopReason}
+use Rattle.board_laws.specs.declared.stop_reason.StopReason.TheVariants.{Limit}
+use Rattle.board_laws.specs.Next.{IsNextEvent, next_ended, next_by_rules, IsEventOf, IsStopReply}
+use Rattle.board_laws.specs.StoppingLaws.{GiveReasons}
 use Rattle.board_core.specs.Settled.{HasSettled, IsQuiet, IsSettled, settled_next, settled_stopped, settled_limit}
 use Rattle.board_core.specs.Views.{BoardView, program, events, state, pieces, tree, windows, SameLog, SameSession, SameSetting}
 use Rattle.board_core.specs.Working.{WhyNone}

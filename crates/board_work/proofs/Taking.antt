@@ -2,23 +2,23 @@
 use Rattle.std.proofs.Common.{ℕ, ◌≡◌, ◌∙◌, inl, inr, List, refl, sym, ap, subst, Option, Some, None}
 use Rattle.spec_core.specs.Code.{Program}
 use Rattle.rule_model.specs.Derivations.{Derivation}
-use Rattle.windowed_trees.specs.Windows.{Windows}
-use Rattle.windowed_trees.specs.MarkedTerms.{unmarked}
-use Rattle.marked_values.specs.Stops.{Stops, Never}
-use Rattle.expand.specs.Expansions.{IsStop}
-use Rattle.judging.specs.Asking.{TreeAsks}
-use Rattle.shown_actions.specs.Shows.{Show, Shows}
-use Rattle.tree_nodes.specs.Origins.{Source, meaning}
-use Rattle.tree_nodes.specs.Rests.{Work, expansion_of}
-use Rattle.tree_nodes.specs.Shapes.{Above, Held, IsNodeOf, Shape, Stands}
-use Rattle.known_shows.specs.Known.{NodePart}
+use Rattle.candidate_verdicts.specs.Windows.{Windows}
+use Rattle.candidate_verdicts.specs.MarkedTerms.{unmarked}
+use Rattle.node_values.specs.Stops.{Stops, Never}
+use Rattle.node_work.specs.Expansions.{IsStop}
+use Rattle.node_verdict.specs.Asking.{TreeAsks}
+use Rattle.symbolic_actions.specs.Shows.{Show, Shows}
+use Rattle.node_trees.specs.Origins.{Source, meaning}
+use Rattle.node_trees.specs.Rests.{Work, expansion_of}
+use Rattle.node_trees.specs.Shapes.{Above, Held, IsNodeOf, Shape, Stands}
+use Rattle.candidate_verdicts.specs.Known.{NodePart}
 use Rattle.candidates.specs.Jobs.{NodeJob, to_expand, to_judge}
-use Rattle.needed_jobs.proofs.Living.{needed_jobs_live, needed_jobs_are_undone}
-use Rattle.waiting_offers.specs.Waiting.{waiting_in}
-use Rattle.session_rules.specs.declared.stop_reason.StopReason.{StopReason}
-use Rattle.stop_reasons.specs.Laws.{GiveReasons}
-use Rattle.stop_reasons.specs.Reasons.{IsAskedByRules, IsReasonToStop}
-use Rattle.stop_reasons.proofs.Given.{asked_by_rules}
+use Rattle.board_laws.proofs.Living.{needed_jobs_live, needed_jobs_are_undone}
+use Rattle.board_core.specs.Waiting.{waiting_in}
+use Rattle.board_laws.specs.declared.stop_reason.StopReason.{StopReason}
+use Rattle.board_laws.specs.StoppingLaws.{GiveReasons}
+use Rattle.board_laws.specs.Reasons.{IsAskedByRules, IsReasonToStop}
+use Rattle.board_laws.proofs.StoppingGiven.{asked_by_rules}
 use Rattle.board_core.specs.declared.job.Post.{Post}
 use Rattle.board_core.specs.declared.job.Post.TheVariants.{Posted, Stale}
 use Rattle.board_core.specs.Boards.{IsWorkAt}

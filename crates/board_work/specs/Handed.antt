@@ -1,18 +1,18 @@
 -- What a board is after something was handed in. (This profile.)
 use Rattle.std.specs.Prelude.{ℕ, ◌≡◌, ◌⊎◌, Option, None, Some, option_map}
 use Rattle.rule_model.specs.Derivations.{Derivation, derivation_of}
-use Rattle.session_rules.specs.declared.stop_reason.StopReason.{StopReason}
-use Rattle.shown_actions.specs.Models.{show_of}
-use Rattle.shown_actions.specs.Shows.{Show}
-use Rattle.stop_reasons.specs.Reasons.{IsAskedByRules, IsReasonToStop}
-use Rattle.tree_nodes.specs.Origins.{Source}
-use Rattle.tree_nodes.specs.Rests.{Work, expansion_of}
-use Rattle.tree_nodes.specs.Shapes.{Shape, posted}
-use Rattle.known_shows.specs.declared.pieces.Piece.{Piece}
-use Rattle.known_shows.specs.Known.{NodePart, node_part}
-use Rattle.known_shows.specs.Stored.{with_piece}
+use Rattle.board_laws.specs.declared.stop_reason.StopReason.{StopReason}
+use Rattle.symbolic_actions.specs.Models.{show_of}
+use Rattle.symbolic_actions.specs.Shows.{Show}
+use Rattle.board_laws.specs.Reasons.{IsAskedByRules, IsReasonToStop}
+use Rattle.node_trees.specs.Origins.{Source}
+use Rattle.node_trees.specs.Rests.{Work, expansion_of}
+use Rattle.node_trees.specs.Shapes.{Shape, posted}
+use Rattle.candidate_verdicts.specs.declared.pieces.Piece.{Piece}
+use Rattle.candidate_verdicts.specs.Known.{NodePart, node_part}
+use Rattle.candidate_verdicts.specs.Stored.{with_piece}
 use Rattle.candidates.specs.Jobs.{NodeJob, to_expand, to_judge}
-use Rattle.needed_jobs.specs.Needed.{generation_of}
+use Rattle.board_laws.specs.Needed.{generation_of}
 use Rattle.board_core.specs.Views.{BoardView, pieces, program, state, tree, SameLog, SameNodes, SameSession}
 use Rattle.board_core.specs.Working.{HasOrigin, IsFree, IsNeeded, first_reason}
 use Rattle.board_work.specs.declared.outcome.Outcome.{Outcome}

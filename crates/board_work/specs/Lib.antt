@@ -2,3 +2,5 @@ pub mod Driven
 pub mod Going
 pub mod Handed
 pub mod Outcomes
+pub use Rattle.session_laws.specs.Ends
+pub use Rattle.session_laws.specs.Runs

@@ -3,20 +3,20 @@ use Rattle.std.specs.Prelude.{ℕ, ◌≡◌, Some, option_map}
 use Rattle.spec_core.specs.Code.{Program}
 use Rattle.rule_model.specs.Behaviours.{Behaviour}
 use Rattle.rule_model.specs.Derivations.{Derivation}
-use Rattle.windowed_trees.specs.Windows.{Windows}
-use Rattle.windowed_trees.specs.MarkedTerms.{unmarked}
-use Rattle.marked_values.specs.declared.stop.Stop.{Stop}
-use Rattle.marked_values.specs.Stops.{Stops, Never}
-use Rattle.expand.specs.Expansions.{IsStop}
-use Rattle.judging.specs.Asking.{TreeAsks}
-use Rattle.shown_actions.specs.Models.{show_of}
-use Rattle.shown_actions.specs.Shows.{Shows}
-use Rattle.tree_nodes.specs.Origins.{Source, meaning, source_of}
-use Rattle.tree_nodes.specs.Rests.{expansion_of}
+use Rattle.candidate_verdicts.specs.Windows.{Windows}
+use Rattle.candidate_verdicts.specs.MarkedTerms.{unmarked}
+use Rattle.node_values.specs.declared.stop.Stop.{Stop}
+use Rattle.node_values.specs.Stops.{Stops, Never}
+use Rattle.node_work.specs.Expansions.{IsStop}
+use Rattle.node_verdict.specs.Asking.{TreeAsks}
+use Rattle.symbolic_actions.specs.Models.{show_of}
+use Rattle.symbolic_actions.specs.Shows.{Shows}
+use Rattle.node_trees.specs.Origins.{Source, meaning, source_of}
+use Rattle.node_trees.specs.Rests.{expansion_of}
 use Rattle.candidates.specs.Jobs.{NodeJob, to_expand, to_judge}
 use Rattle.candidates.specs.Models.{job_of}
-use Rattle.session_rules.specs.declared.stop_reason.StopReason.{StopReason}
-use Rattle.stop_reasons.specs.Given.{reason_of}
+use Rattle.board_laws.specs.declared.stop_reason.StopReason.{StopReason}
+use Rattle.board_laws.specs.Given.{reason_of}
 use Rattle.board_core.specs.declared.job.Job.{Job}
 use Rattle.board_core.specs.Boards.{IsWorkAt}
 use Rattle.board_work.specs.declared.outcome.Outcome.{Outcome}

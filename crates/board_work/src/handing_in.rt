@@ -4,11 +4,11 @@ ghost use Rattle.std.specs.Prelude.{◌≡◌, OnErr, OnOk, Some, map};
 ghost use Rattle.rule_model.specs.Derivations.{derivation_of};
 ghost use Rattle.candidates.specs.Jobs.{to_expand, to_judge};
 ghost use Rattle.candidates.specs.Models.{job_of};
-ghost use Rattle.known_shows.specs.Known.{node_part};
-ghost use Rattle.stop_reasons.specs.Reasons.{IsAskedByRules, IsReasonToStop};
-ghost use Rattle.tree_nodes.specs.Origins.{source_of};
-ghost use Rattle.tree_nodes.specs.Shapes.{Held, IsNodeOf};
-ghost use Rattle.tree_nodes.specs.Rests.{expansion_of};
+ghost use Rattle.candidate_verdicts.specs.Known.{node_part};
+ghost use Rattle.board_laws.specs.Reasons.{IsAskedByRules, IsReasonToStop};
+ghost use Rattle.node_trees.specs.Origins.{source_of};
+ghost use Rattle.node_trees.specs.Shapes.{Held, IsNodeOf};
+ghost use Rattle.node_trees.specs.Rests.{expansion_of};
 ghost use Rattle.board_core.specs.Boards.{IsWorkAt};
 ghost use Rattle.board_core.specs.Views.{program, state, tree, windows, SameNodes};
 ghost use Rattle.board_core.specs.Working.{IsNeeded, left_out};
@@ -18,14 +18,14 @@ ghost use Rattle.board_work.specs.Outcomes.{ComesOf, IsOutcome};
 use crate::outcome::Outcome;
 use board_core::board::Board;
 use board_core::job::{Job, Post};
+use board_laws::stop_reason::StopReason;
+use candidate_verdicts::pieces::Piece;
 use candidates::job::NodeJob;
-use known_shows::pieces::Piece;
+use node_trees::expansion::Expansion;
+use node_trees::origin::{Gen, Origin};
 use rule_model::rules::Rules;
-use session_rules::stop_reason::StopReason;
 use spec_core::memory::Memory;
 use std::alloc::Global;
-use tree_nodes::expansion::Expansion;
-use tree_nodes::origin::{Gen, Origin};
 
 // The expansion of a node that stands for the origin of which it was made.
 fn post_work(board: &mut Board, generation: Gen, origin: &Origin, work: Expansion)

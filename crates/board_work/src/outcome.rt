@@ -1,8 +1,8 @@
 // What comes of a job.
 
-use session_rules::stop_reason::StopReason;
-use shown_actions::shown::Shown;
-use tree_nodes::expansion::Expansion;
+use board_laws::stop_reason::StopReason;
+use node_trees::expansion::Expansion;
+use symbolic_actions::shown::Shown;
 
 /// What comes of a job.
 #[derive(Drop)]

@@ -1,32 +1,32 @@
 // Jobs, done without the board.
 
 ghost use Rattle.std.specs.Prelude.{ℕ, ◌≡◌, IfOk, Some};
-ghost use Rattle.session_rules.specs.declared.stop_reason.StopReason.{StopReason};
+ghost use Rattle.board_laws.specs.declared.stop_reason.StopReason.{StopReason};
 ghost use Rattle.spec_core.specs.Code.{program_of};
 ghost use Rattle.spec_core.specs.Ready.{IsReady};
-ghost use Rattle.sort_windows.specs.Found.{AreBySorts};
-ghost use Rattle.stop_reasons.specs.Given.{reason_of};
-ghost use Rattle.window_tables.specs.Tables.{windows_in};
+ghost use Rattle.board_core.specs.Found.{AreBySorts};
+ghost use Rattle.board_laws.specs.Given.{reason_of};
+ghost use Rattle.candidate_verdicts.specs.Tables.{windows_in};
 ghost use Rattle.candidates.specs.Jobs.{to_expand, to_judge};
-ghost use Rattle.known_shows.specs.Known.{node_part};
+ghost use Rattle.candidate_verdicts.specs.Known.{node_part};
 ghost use Rattle.rule_model.specs.Derivations.{derivation_of};
-ghost use Rattle.tree_nodes.specs.Origins.{source_of};
+ghost use Rattle.node_trees.specs.Origins.{source_of};
 ghost use Rattle.board_work.specs.declared.outcome.Outcome.TheVariants.{Stopped};
 ghost use Rattle.board_work.specs.Outcomes.{ComesOf, IsOutcome};
 
 use crate::outcome::Outcome;
 use board_core::job::Job;
+use board_laws::reasons::reason_for;
 use candidates::job::NodeJob;
-use judging::origins::shown_by;
-use marked_values::stop::Stop;
-use node_expansion::node::expand_node;
+use node_trees::origin::Origin;
+use node_values::stop::Stop;
+use node_verdict::origins::shown_by;
+use node_work::node::expand_node;
 use rule_model::rules::Rules;
 use spec_core::code::Checked;
 use spec_core::memory::Memory;
 use spec_core::window::Window;
 use std::alloc::Global;
-use stop_reasons::reasons::reason_for;
-use tree_nodes::origin::Origin;
 
 // There is no answer, unless there was only want of memory.
 fn unanswered(stop: Stop) -> Result<Outcome, Memory>

@@ -2,8 +2,8 @@
 
 ghost use Rattle.std.specs.Prelude.{◌≡◌, OnOk};
 ghost use Rattle.candidates.specs.Models.{job_of};
-ghost use Rattle.needed_jobs.specs.Needed.{generation_of};
-ghost use Rattle.tree_nodes.specs.Origins.{source_of};
+ghost use Rattle.board_laws.specs.Needed.{generation_of};
+ghost use Rattle.node_trees.specs.Origins.{source_of};
 ghost use Rattle.board_core.specs.Views.{tree};
 ghost use Rattle.board_core.specs.Working.{HasOrigin, IsNeeded};
 ghost use Rattle.board_work.specs.Handed.{HandsIn, IsDone};

@@ -5,15 +5,15 @@ use Rattle.spec_core.specs.Theories.{theory_of}
 use Rattle.rule_model.specs.declared.offer.Offer.{Offer}
 use Rattle.rule_model.specs.declared.rules.Rules.{Rules}
 use Rattle.rule_model.specs.Derivations.{Derivation, derivation_of}
-use Rattle.window_tables.specs.Tables.{windows_in}
-use Rattle.courses.specs.Gaps.{OrGap}
-use Rattle.courses.specs.Lazy.{first}
-use Rattle.courses.specs.Rules.{Query}
-use Rattle.settling.specs.Searches.{first_of}
-use Rattle.settling.specs.declared.listing.First.{First}
-use Rattle.settling.specs.declared.listing.First.TheVariants.{Is}
-use Rattle.tree_nodes.specs.Shapes.{shape_of}
-use Rattle.known_shows.specs.Stored.{stored}
+use Rattle.candidate_composites.specs.Tables.{windows_in}
+use Rattle.decision_trees.specs.Gaps.{OrGap}
+use Rattle.decision_trees.specs.Lazy.{first}
+use Rattle.decision_trees.specs.Rules.{Query}
+use Rattle.decision_order.specs.Searches.{first_of}
+use Rattle.decision_order.specs.declared.listing.First.{First}
+use Rattle.decision_order.specs.declared.listing.First.TheVariants.{Is}
+use Rattle.node_trees.specs.Shapes.{shape_of}
+use Rattle.candidate_verdicts.specs.Stored.{stored}
 use Rattle.candidates.specs.Listed.{verdict_for}
 use Rattle.candidates.specs.Jobs.{NodeJob, jobs_of}
 use Rattle.candidates.specs.KnownTrees.{is_out_in, first_of_those, all_of_those, left_to_first, left_to_all, is_held_among}

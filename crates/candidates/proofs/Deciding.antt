@@ -4,33 +4,33 @@ use Rattle.std.specs.Prelude.{option_and_then}
 use Rattle.spec_core.specs.Code.{Program}
 use Rattle.rule_model.specs.Derivations.{Derivation}
 use Rattle.rule_model.specs.States.{PendingOffer}
-use Rattle.windowed_trees.specs.Windows.{Windows}
-use Rattle.courses.specs.Known.{Knowledge, decided}
-use Rattle.courses.specs.Lazy.{Lazy, whole, first_holding, all_holding}
-use Rattle.courses.specs.Gaps.{first_known, all_known}
-use Rattle.courses.specs.Rules.{Waiting, Next, next_of, course}
-use Rattle.courses.proofs.Asking.{decided_is_so}
-use Rattle.courses.proofs.Following.{course_is_next}
-use Rattle.courses.proofs.Gaps.{gaps_are_so}
-use Rattle.settling.specs.Rules.{next_decided}
-use Rattle.settling.proofs.Deciding.{decided_by_rules}
-use Rattle.composites.specs.Composites.{Composite}
-use Rattle.composites.specs.Evaluations.{Evaluation}
-use Rattle.open_composites.specs.Laws.{composites_of}
-use Rattle.asked_trees.specs.Asked.{TreeQuery, TestsAsked}
-use Rattle.asked_trees.specs.Laws.{EntryHolds, lists_of}
-use Rattle.asked_trees.proofs.Entries.{next_entries_hold}
-use Rattle.asked_trees.proofs.Testing.{asked_can_be_tested}
-use Rattle.node_lists.specs.Waiting as lists
-use Rattle.node_lists.specs.Waiting.{Candidate, with_trees, waiting_trees}
-use Rattle.node_lists.specs.Laws.{IsKnownOf, answers_by}
-use Rattle.node_lists.proofs.Decided.{lists_are_those}
-use Rattle.node_lists.proofs.Entries.{next_same}
-use Rattle.tree_nodes.specs.Rests.{Work}
-use Rattle.tree_nodes.specs.Shapes.{Held, Shape, node_at, stands_for}
-use Rattle.tree_nodes.proofs.Finding.{found_is_node}
-use Rattle.known_shows.specs.Known.{Pieces}
-use Rattle.known_shows.proofs.Verdicts.{known_verdicts_are_so}
+use Rattle.candidate_composites.specs.Windows.{Windows}
+use Rattle.decision_trees.specs.Known.{Knowledge, decided}
+use Rattle.decision_trees.specs.Lazy.{Lazy, whole, first_holding, all_holding}
+use Rattle.decision_trees.specs.Gaps.{first_known, all_known}
+use Rattle.decision_trees.specs.Rules.{Waiting, Next, next_of, decision}
+use Rattle.decision_trees.proofs.Asking.{decided_is_so}
+use Rattle.decision_trees.proofs.Following.{decision_is_next}
+use Rattle.decision_trees.proofs.Gaps.{gaps_are_so}
+use Rattle.decision_order.specs.Rules.{next_decided}
+use Rattle.decision_order.proofs.Deciding.{decided_by_rules}
+use Rattle.candidate_composites.specs.Composites.{Composite}
+use Rattle.candidate_composites.specs.Evaluations.{Evaluation}
+use Rattle.symbolic_plans.specs.Laws.{composites_of}
+use Rattle.candidate_laws.specs.Asked.{TreeQuery, TestsAsked}
+use Rattle.candidate_laws.specs.TreeLaws.{EntryHolds, lists_of}
+use Rattle.candidate_laws.proofs.TreeEntries.{next_entries_hold}
+use Rattle.candidate_laws.proofs.Testing.{asked_can_be_tested}
+use Rattle.candidate_laws.specs.Waiting as lists
+use Rattle.candidate_laws.specs.Waiting.{Candidate, with_trees, waiting_trees}
+use Rattle.candidate_laws.specs.ListLaws.{IsKnownOf, answers_by}
+use Rattle.candidate_laws.proofs.Decided.{lists_are_those}
+use Rattle.candidate_laws.proofs.ListEntries.{next_same}
+use Rattle.node_trees.specs.Rests.{Work}
+use Rattle.node_trees.specs.Shapes.{Held, Shape, node_at, stands_for}
+use Rattle.node_trees.proofs.Finding.{found_is_node}
+use Rattle.candidate_verdicts.specs.Known.{Pieces}
+use Rattle.candidate_verdicts.proofs.Verdicts.{known_verdicts_are_so}
 use Rattle.candidates.specs.Listed.{knowledge, known_trees, first_tree, all_trees}
 use Rattle.candidates.specs.Laws.{IsKnownTree, DecidedEntriesAreNext, DecidedEntriesAreSo}
 use Rattle.candidates.proofs.Listing.{node_found, are_those}
@@ -94,7 +94,7 @@ module _ (program : Program) (e : Evaluation) (size : ℕ) (w : Windows) (t : Sh
       ∙ alls_are q known.verdict (known_trees program.theory w t q)
 
   abbrev outcome : Waiting PendingOffer → Option (Next PendingOffer Candidate)
-  outcome state = decided known (course lazy state)
+  outcome state = decided known (decision lazy state)
 
   trees_decided : (state : Waiting PendingOffer) →
       option_map with_trees (outcome state) ≡
@@ -122,9 +122,9 @@ module _ (program : Program) (e : Evaluation) (size : ℕ) (w : Windows) (t : Sh
 
       candidates_next : (a : Next PendingOffer Candidate) → outcome state ≡ Some a → a ≡ next_of whole_lists state
       candidates_next a f =
-          sym (decided_is_so Composite Candidate (Next PendingOffer Candidate) known (course lazy state) a (answers_by is_asked of.items)
+          sym (decided_is_so Composite Candidate (Next PendingOffer Candidate) known (decision lazy state) a (answers_by is_asked of.items)
           of.extends f)
-          ∙ course_is_next Composite PendingOffer Candidate lazy state (answers_by is_asked of.items)
+          ∙ decision_is_next Composite PendingOffer Candidate lazy state (answers_by is_asked of.items)
 
       by_outcome : (o : Option (Next PendingOffer Candidate)) → outcome state ≡ o → option_map with_trees o ≡ Some entry →
           entry ≡ next_of (lists_of program e w (stands_for program t) is_asked) state

@@ -1,12 +1,12 @@
 -- What the rules decide of candidates is decided of their trees.
 use Rattle.std.proofs.Common.{◌≡◌, ◌∙◌, List, [], ◌∷◌, map, refl, ap, Option, Some, None, option_map, Bool, true, false}
 use Rattle.rule_model.specs.Derivations.{Derivation}
-use Rattle.courses.specs.Known.{where_known}
-use Rattle.courses.specs.Rules.{Query, meeting, any, unseen, beyond, any_beyond, beyond_or_unseen, Waiting, Next, takes, deadlocks, is_beyond}
-use Rattle.courses.specs.Rules.{is_not_now, stalls, nothing, if_there, if_some, when}
-use Rattle.settling.specs.Rules.{first_decided, stalled_decided, unseen_decided, waiting_decided, asked_decided, dead_decided}
-use Rattle.settling.specs.Rules.{marked_decided, unmet_decided, next_decided}
-use Rattle.node_lists.specs.Waiting.{Candidate, with_trees}
+use Rattle.decision_trees.specs.Known.{where_known}
+use Rattle.decision_trees.specs.Rules.{Query, meeting, any, unseen, beyond, any_beyond, beyond_or_unseen, Waiting, Next, takes, deadlocks, is_beyond}
+use Rattle.decision_trees.specs.Rules.{is_not_now, stalls, nothing, if_there, if_some, when}
+use Rattle.decision_order.specs.Rules.{first_decided, stalled_decided, unseen_decided, waiting_decided, asked_decided, dead_decided}
+use Rattle.decision_order.specs.Rules.{marked_decided, unmet_decided, next_decided}
+use Rattle.candidate_laws.specs.Waiting.{Candidate, with_trees}
 use Rattle.candidates.proofs.Trees.{tree_of}
 
 -- the entry with its trees, if it is decided

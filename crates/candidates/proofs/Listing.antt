@@ -2,23 +2,23 @@
 use Rattle.std.proofs.Common.{◌≡◌, ◌++◌, ◌∙◌, List, [], ◌∷◌, map, flat_map, refl, sym, ap, Option, Some, None, option_map}
 use Rattle.std.specs.Prelude.{option_and_then}
 use Rattle.spec_core.specs.Theories.{Theory}
-use Rattle.windowed_trees.specs.Windows.{Windows}
-use Rattle.courses.specs.Lazy.{of_list}
-use Rattle.courses.specs.Gaps.{element, gap, with_gaps, in_its_place}
-use Rattle.courses.proofs.Gaps.{parts_are_so}
-use Rattle.composites.specs.Composites.{Composite}
-use Rattle.open_composites.specs.OpenPlans.{OpenPlan, composite_of}
-use Rattle.open_composites.specs.Laws.{composites_of}
-use Rattle.asked_trees.specs.Asked.{TreeQuery}
-use Rattle.asked_lists.proofs.Found.{searches_find_all}
-use Rattle.node_lists.specs.Waiting.{Candidate, candidate, sought_by, trees_asked, waiting_composites, waiting_trees}
-use Rattle.tree_nodes.specs.Generations.{AreApart}
-use Rattle.tree_nodes.specs.Rests.{Work}
-use Rattle.tree_nodes.specs.Shapes.{Above, Held, Shape, Stands, node_at}
-use Rattle.tree_nodes.proofs.Finding.{found_is_node, none_lives}
-use Rattle.tree_composites.specs.Known.{PlanOrGap, sought_plans}
-use Rattle.tree_composites.specs.Laws.{composite_or_gap, AreExpanded}
-use Rattle.tree_composites.proofs.Those.{known_plans_are_those}
+use Rattle.candidate_composites.specs.Windows.{Windows}
+use Rattle.decision_trees.specs.Lazy.{of_list}
+use Rattle.decision_trees.specs.Gaps.{element, gap, with_gaps, in_its_place}
+use Rattle.decision_trees.proofs.Gaps.{parts_are_so}
+use Rattle.candidate_composites.specs.Composites.{Composite}
+use Rattle.symbolic_plans.specs.OpenPlans.{OpenPlan, composite_of}
+use Rattle.symbolic_plans.specs.Laws.{composites_of}
+use Rattle.candidate_laws.specs.Asked.{TreeQuery}
+use Rattle.candidate_search.proofs.Found.{searches_find_all}
+use Rattle.candidate_laws.specs.Waiting.{Candidate, candidate, sought_by, trees_asked, waiting_composites, waiting_trees}
+use Rattle.node_trees.specs.Generations.{AreApart}
+use Rattle.node_trees.specs.Rests.{Work}
+use Rattle.node_trees.specs.Shapes.{Above, Held, Shape, Stands, node_at}
+use Rattle.node_trees.proofs.Finding.{found_is_node, none_lives}
+use Rattle.candidate_composites.specs.Known.{PlanOrGap, sought_plans}
+use Rattle.candidate_composites.specs.Laws.{composite_or_gap, AreExpanded}
+use Rattle.candidate_composites.proofs.Those.{known_plans_are_those}
 use Rattle.candidates.specs.Listed.{candidates_of, candidates_in, known_candidates, items_in}
 use Rattle.candidates.specs.Laws.{KnownCandidatesAreThose}
 

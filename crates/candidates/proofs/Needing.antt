@@ -3,22 +3,22 @@ use Rattle.std.proofs.Common.{◌≡◌, ◌++◌, ◌∙◌, List, [], ◌∷�
 use Rattle.std.specs.Prelude.{is_some}
 use Rattle.spec_core.specs.Theories.{Theory}
 use Rattle.rule_model.specs.States.{PendingOffer}
-use Rattle.windowed_trees.specs.Windows.{Windows}
-use Rattle.courses.specs.Courses.{Question}
-use Rattle.courses.specs.Known.{Knowledge, found}
-use Rattle.courses.specs.Lazy.{Lazy, first, first_holding, all_holding}
-use Rattle.courses.specs.Gaps.{missing_to_first, all_missing, known_to_hold}
-use Rattle.courses.specs.Rules.{Query, meeting, any, unseen, any_beyond, beyond_or_unseen, Waiting, when, course}
-use Rattle.courses.proofs.Gaps.{gaps_are_so}
-use Rattle.settling.specs.Laws.{is_held}
-use Rattle.settling.specs.Needed.{first_needed, unseen_needed, waiting_needed, asked_needed, marked_needed, unmet_needed, next_needed}
-use Rattle.settling.proofs.Needing.{needed_by_rules}
-use Rattle.composites.specs.Composites.{Composite}
-use Rattle.asked_trees.specs.Asked.{TreeQuery}
-use Rattle.node_lists.specs.Waiting.{Candidate, waiting_trees}
-use Rattle.tree_nodes.specs.Generations.{AreApart}
-use Rattle.tree_nodes.specs.Shapes.{Shape}
-use Rattle.known_shows.specs.Known.{Pieces}
+use Rattle.candidate_composites.specs.Windows.{Windows}
+use Rattle.decision_trees.specs.Decisions.{Question}
+use Rattle.decision_trees.specs.Known.{Knowledge, found}
+use Rattle.decision_trees.specs.Lazy.{Lazy, first, first_holding, all_holding}
+use Rattle.decision_trees.specs.Gaps.{missing_to_first, all_missing, known_to_hold}
+use Rattle.decision_trees.specs.Rules.{Query, meeting, any, unseen, any_beyond, beyond_or_unseen, Waiting, when, decision}
+use Rattle.decision_trees.proofs.Gaps.{gaps_are_so}
+use Rattle.decision_order.specs.Laws.{is_held}
+use Rattle.decision_order.specs.Needed.{first_needed, unseen_needed, waiting_needed, asked_needed, marked_needed, unmet_needed, next_needed}
+use Rattle.decision_order.proofs.Needing.{needed_by_rules}
+use Rattle.candidate_composites.specs.Composites.{Composite}
+use Rattle.candidate_laws.specs.Asked.{TreeQuery}
+use Rattle.candidate_laws.specs.Waiting.{Candidate, waiting_trees}
+use Rattle.node_trees.specs.Generations.{AreApart}
+use Rattle.node_trees.specs.Shapes.{Shape}
+use Rattle.candidate_verdicts.specs.Known.{Pieces}
 use Rattle.candidates.specs.Listed.{knowledge, known_trees, asked_for_first, asked_for_all, is_known_to_hold}
 use Rattle.candidates.specs.Jobs.{NodeJob, jobs_of, all_jobs, of_tree}
 use Rattle.candidates.specs.Laws.{JobsAreNeeded}
@@ -130,7 +130,7 @@ module _ (theory : Theory) (w : Windows) (t : Shape) (pieces : Pieces) (apart : 
 
   pub are_needed : (state : Waiting PendingOffer) →
       next_needed (λ q. all_jobs pieces t (asked_for_first theory w pieces t q)) (λ q. all_jobs pieces t (asked_for_all theory w pieces t q))
-      (is_known_to_hold theory w pieces t) state ≡ all_jobs pieces t (map of_tree (found known (course lazy state)))
+      (is_known_to_hold theory w pieces t) state ≡ all_jobs pieces t (map of_tree (found known (decision lazy state)))
   are_needed state =
       let every : TreeQuery → List NodeJob = λ q. all_jobs pieces t (asked_for_all theory w pieces t q) in
       let firsts : TreeQuery → List NodeJob = λ q. flat_map jobs (found known (first_holding (lazy q))) in
@@ -140,7 +140,7 @@ module _ (theory : Theory) (w : Windows) (t : Shape) (pieces : Pieces) (apart : 
       ∙ ap (λ h. next_needed firsts alls h state) held_all
       ∙ in_parts jobs (λ q. found known (first_holding (lazy q))) (λ q. found known (all_holding (lazy q))) (λ q. is_held known (lazy q)) state
       ∙ ap (flat_map jobs) (sym (needed_by_rules Composite PendingOffer Candidate lazy state known))
-      ∙ one_by_one (found known (course lazy state))
+      ∙ one_by_one (found known (decision lazy state))
 
 pub jobs_are_needed : JobsAreNeeded
 jobs_are_needed theory w t pieces apart state = are_needed theory w t pieces apart state

@@ -3,15 +3,15 @@ use Rattle.std.proofs.Common.{ℕ, ◌≡◌, ◌∙◌, List, sym, ap, Option, 
 use Rattle.spec_core.specs.Theories.{theory_of}
 use Rattle.rule_model.specs.Derivations.{Derivation}
 use Rattle.rule_model.specs.States.{PendingOffer}
-use Rattle.window_tables.specs.Tables.{windows_in}
-use Rattle.courses.specs.Gaps.{OrGap}
-use Rattle.courses.specs.Rules.{Query, Waiting, Next}
-use Rattle.settling.specs.Jobs.{first_not_out}
-use Rattle.settling.specs.Needed.{next_needed}
-use Rattle.settling.specs.Numbered.{entry_with, waiting_with}
-use Rattle.settling.specs.Rules.{next_decided}
-use Rattle.settling.proofs.Numbers.{numbers_stand_for_them}
-use Rattle.tree_composites.specs.Known.{PlacedPlan}
+use Rattle.candidate_composites.specs.Tables.{windows_in}
+use Rattle.decision_trees.specs.Gaps.{OrGap}
+use Rattle.decision_trees.specs.Rules.{Query, Waiting, Next}
+use Rattle.decision_order.specs.Jobs.{first_not_out}
+use Rattle.decision_order.specs.Needed.{next_needed}
+use Rattle.decision_order.specs.Numbered.{entry_with, waiting_with}
+use Rattle.decision_order.specs.Rules.{next_decided}
+use Rattle.decision_order.proofs.Numbers.{numbers_stand_for_them}
+use Rattle.candidate_composites.specs.Known.{PlacedPlan}
 use Rattle.candidates.specs.Listed.{trees_sought}
 use Rattle.candidates.specs.Jobs.{NodeJob}
 use Rattle.candidates.specs.KnownTrees.{offer_in, numbered, is_out_in, first_in, all_in, jobs_to_first, jobs_to_all, is_held_in, HasItsParts}

@@ -4,11 +4,11 @@ use Rattle.std.proofs.Common.{Bool, true, false, cond, if◌then◌else◌, appe
 use Rattle.std.proofs.lemmas.List.{append-nil}
 use Rattle.std.proofs.lemmas.List.Elements.{filter-append}
 use Rattle.std.specs.Prelude.{is_some}
-use Rattle.courses.specs.Courses.{Question, expand, judge}
-use Rattle.courses.specs.Known.{where_known, known_or, unless_known}
-use Rattle.courses.specs.Lazy.{first}
-use Rattle.courses.specs.Gaps.{OrGap, element, gap, first_known, all_known, missing_to_first, all_missing, known_to_hold}
-use Rattle.settling.specs.Jobs.{not_out}
+use Rattle.decision_trees.specs.Decisions.{Question, expand, judge}
+use Rattle.decision_trees.specs.Known.{where_known, known_or, unless_known}
+use Rattle.decision_trees.specs.Lazy.{first}
+use Rattle.decision_trees.specs.Gaps.{OrGap, element, gap, first_known, all_known, missing_to_first, all_missing, known_to_hold}
+use Rattle.decision_order.specs.Jobs.{not_out}
 
 -- what comes of a search from what its first element comes to, and what comes of it behind
 abbrev pub first_then : {A : Type 0} → Option (Option A) → Option (Option A) → Option (Option A)

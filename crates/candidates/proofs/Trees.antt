@@ -4,17 +4,17 @@ use Rattle.std.proofs.Common.{false, cond, if◌then◌else◌}
 use Rattle.std.specs.Prelude.{is_some}
 use Rattle.spec_core.specs.Theories.{Theory}
 use Rattle.rule_model.specs.Derivations.{Derivation}
-use Rattle.windowed_trees.specs.Windows.{Windows}
-use Rattle.courses.specs.Courses.{expand, judge}
-use Rattle.courses.specs.Known.{where_known, known_or, unless_known}
-use Rattle.courses.specs.Lazy.{first}
-use Rattle.courses.specs.Rules.{meeting, any, unseen, beyond, any_beyond, beyond_or_unseen}
-use Rattle.courses.specs.Gaps.{OrGap, element, gap, in_its_place, first_known, all_known, missing_to_first, all_missing, known_to_hold}
-use Rattle.asked_trees.specs.Asked.{TreeQuery}
-use Rattle.asked_lists.specs.Searches.{for_offer, asked_from}
-use Rattle.node_lists.specs.Waiting.{Candidate, candidate, sought_by}
-use Rattle.tree_nodes.specs.Shapes.{Shape}
-use Rattle.tree_composites.specs.Known.{PlanOrGap, sought_plans}
+use Rattle.candidate_composites.specs.Windows.{Windows}
+use Rattle.decision_trees.specs.Decisions.{expand, judge}
+use Rattle.decision_trees.specs.Known.{where_known, known_or, unless_known}
+use Rattle.decision_trees.specs.Lazy.{first}
+use Rattle.decision_trees.specs.Rules.{meeting, any, unseen, beyond, any_beyond, beyond_or_unseen}
+use Rattle.decision_trees.specs.Gaps.{OrGap, element, gap, in_its_place, first_known, all_known, missing_to_first, all_missing, known_to_hold}
+use Rattle.candidate_laws.specs.Asked.{TreeQuery}
+use Rattle.candidate_search.specs.Searches.{for_offer, asked_from}
+use Rattle.candidate_laws.specs.Waiting.{Candidate, candidate, sought_by}
+use Rattle.node_trees.specs.Shapes.{Shape}
+use Rattle.candidate_composites.specs.Known.{PlanOrGap, sought_plans}
 use Rattle.candidates.specs.Listed.{kinds_sought, candidates_in, known_candidates, known_trees}
 use Rattle.candidates.specs.Jobs.{of_tree}
 

@@ -5,20 +5,20 @@ use Rattle.spec_core.specs.Theories.{Theory}
 use Rattle.rule_model.specs.declared.offer.Offer.{Offer}
 use Rattle.rule_model.specs.declared.rules.Slot.{Slot}
 use Rattle.rule_model.specs.Actions.{inside, ends, at_gate}
-use Rattle.windowed_trees.specs.Windows.{Windows}
-use Rattle.courses.specs.Gaps.{element, gap}
-use Rattle.courses.specs.Rules.{Query, meeting, any, unseen, beyond, any_beyond, beyond_or_unseen}
-use Rattle.composites.specs.Kinds.{same_kind}
-use Rattle.composites.specs.OpenFields.{all_choices, given_in}
-use Rattle.composites.specs.Composites.{from_option}
-use Rattle.composites.proofs.Tests.{if_false}
-use Rattle.open_composites.specs.OpenPlans.{OpenPlan}
-use Rattle.node_lists.specs.Sought.{Step, is_sought, seeks_some, sought_at}
-use Rattle.node_lists.specs.Waiting.{is_unseen}
-use Rattle.node_lists.proofs.Asking.{neither, seen_is}
-use Rattle.numbered_trees.specs.Numbers.{trees_at_once}
-use Rattle.asked_lists.specs.Searches.{is_wanted, all_meeting, slots_taking, slots_asked, asked_from}
-use Rattle.tree_composites.specs.Known.{PlacedPlan, made, awaited, plans_sought}
+use Rattle.candidate_composites.specs.Windows.{Windows}
+use Rattle.decision_trees.specs.Gaps.{element, gap}
+use Rattle.decision_trees.specs.Rules.{Query, meeting, any, unseen, beyond, any_beyond, beyond_or_unseen}
+use Rattle.candidate_composites.specs.Kinds.{same_kind}
+use Rattle.candidate_composites.specs.OpenFields.{all_choices, given_in}
+use Rattle.candidate_composites.specs.Composites.{from_option}
+use Rattle.candidate_composites.proofs.Tests.{if_false}
+use Rattle.symbolic_plans.specs.OpenPlans.{OpenPlan}
+use Rattle.candidate_laws.specs.Sought.{Step, is_sought, seeks_some, sought_at}
+use Rattle.candidate_laws.specs.Waiting.{is_unseen}
+use Rattle.candidate_laws.proofs.Asking.{neither, seen_is}
+use Rattle.candidate_search.specs.Numbers.{trees_at_once}
+use Rattle.candidate_search.specs.Searches.{is_wanted, all_meeting, slots_taking, slots_asked, asked_from}
+use Rattle.candidate_composites.specs.Known.{PlacedPlan, made, awaited, plans_sought}
 use Rattle.candidates.specs.Listed.{kinds_sought, trees_in, trees_sought}
 
 module _ (theory : Theory) (w : Windows) where

@@ -1,11 +1,11 @@
 -- What is to be done at nodes, so that searches are decided. (This profile.)
 use Rattle.std.specs.Prelude.{ℕ, ◌==◌, ◌&&◌, ◌||◌, List, [], ◌∷◌, map, flat_map, Bool, false}
-use Rattle.courses.specs.Courses.{Question, expand, judge}
+use Rattle.decision_trees.specs.Decisions.{Question, expand, judge}
 use Rattle.rule_model.specs.Derivations.{Derivation}
-use Rattle.node_lists.specs.Waiting.{Candidate}
-use Rattle.tree_nodes.specs.Shapes.{Shape}
-use Rattle.known_shows.specs.Known.{Pieces, NodePart, missing_parts}
-use Rattle.known_shows.specs.Same.{same_rules}
+use Rattle.candidate_laws.specs.Waiting.{Candidate}
+use Rattle.node_trees.specs.Shapes.{Shape}
+use Rattle.candidate_verdicts.specs.Known.{Pieces, NodePart, missing_parts}
+use Rattle.candidate_verdicts.specs.Same.{same_rules}
 
 -- a node is to be expanded; or a part of a tree of rules is to be judged at its node
 pub data NodeJob : Type 0 where

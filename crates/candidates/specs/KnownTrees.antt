@@ -4,19 +4,19 @@ use Rattle.spec_core.specs.Theories.{theory_of}
 use Rattle.rule_model.specs.declared.offer.Offer.{Offer}
 use Rattle.rule_model.specs.Derivations.{Derivation}
 use Rattle.rule_model.specs.States.{PendingOffer}
-use Rattle.window_tables.specs.Tables.{windows_in}
-use Rattle.courses.specs.Gaps.{OrGap, first_known, all_known, missing_to_first, all_missing, known_to_hold}
-use Rattle.courses.specs.Lazy.{first}
-use Rattle.courses.specs.Rules.{Query}
-use Rattle.settling.specs.Jobs.{not_out}
-use Rattle.settling.specs.Numbered.{query_with}
-use Rattle.session_states.specs.Views.{pending_of}
-use Rattle.asked_trees.specs.Asked.{TreeQuery}
-use Rattle.asked_lists.specs.Searches.{for_offer}
-use Rattle.tree_nodes.specs.Shapes.{shape_of}
-use Rattle.tree_composites.specs.Known.{placed_of, placed_plans}
-use Rattle.known_shows.specs.Stored.{stored}
-use Rattle.waiting_offers.specs.Offers.{offer_at}
+use Rattle.candidate_composites.specs.Tables.{windows_in}
+use Rattle.decision_trees.specs.Gaps.{OrGap, first_known, all_known, missing_to_first, all_missing, known_to_hold}
+use Rattle.decision_trees.specs.Lazy.{first}
+use Rattle.decision_trees.specs.Rules.{Query}
+use Rattle.decision_order.specs.Jobs.{not_out}
+use Rattle.decision_order.specs.Numbered.{query_with}
+use Rattle.log_states.specs.Views.{pending_of}
+use Rattle.candidate_laws.specs.Asked.{TreeQuery}
+use Rattle.candidate_search.specs.Searches.{for_offer}
+use Rattle.node_trees.specs.Shapes.{shape_of}
+use Rattle.candidate_composites.specs.Known.{placed_of, placed_plans}
+use Rattle.candidate_verdicts.specs.Stored.{stored}
+use Rattle.board_offers.specs.Offers.{offer_at}
 use Rattle.candidates.specs.Listed.{trees_sought, verdict_for, first_tree, all_trees, asked_for_first, asked_for_all, is_known_to_hold}
 use Rattle.candidates.specs.Jobs.{NodeJob, all_jobs, is_out}
 use Rattle.candidates.specs.Models.{job_of}

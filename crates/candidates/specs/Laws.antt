@@ -5,23 +5,23 @@ use Rattle.spec_core.specs.Code.{Program}
 use Rattle.spec_core.specs.Ready.{IsReady}
 use Rattle.rule_model.specs.Derivations.{Derivation}
 use Rattle.rule_model.specs.States.{PendingOffer}
-use Rattle.windowed_trees.specs.Windows.{Windows, AreWindows}
-use Rattle.courses.specs.Known.{found}
-use Rattle.courses.specs.Gaps.{with_gaps}
-use Rattle.courses.specs.Rules.{Waiting, Next, next_of, course}
-use Rattle.settling.specs.Rules.{next_decided}
-use Rattle.settling.specs.Needed.{next_needed}
-use Rattle.composites.specs.Evaluations.{Evaluation, IsExact}
-use Rattle.open_composites.specs.Laws.{composites_of}
-use Rattle.asked_trees.specs.Asked.{TreeQuery, TestsAsked}
-use Rattle.asked_trees.specs.Laws.{IsSoundWaiting, EntryHolds, lists_of}
-use Rattle.node_lists.specs.Waiting as lists
-use Rattle.node_lists.specs.Waiting.{waiting_trees}
-use Rattle.tree_nodes.specs.Generations.{AreApart}
-use Rattle.tree_nodes.specs.Rests.{Work}
-use Rattle.tree_nodes.specs.Shapes.{Above, Held, Shape, Stands, stands_for}
-use Rattle.known_shows.specs.Known.{Pieces}
-use Rattle.known_shows.specs.Laws.{ArePiecesOf}
+use Rattle.candidate_composites.specs.Windows.{Windows, AreWindows}
+use Rattle.decision_trees.specs.Known.{found}
+use Rattle.decision_trees.specs.Gaps.{with_gaps}
+use Rattle.decision_trees.specs.Rules.{Waiting, Next, next_of, decision}
+use Rattle.decision_order.specs.Rules.{next_decided}
+use Rattle.decision_order.specs.Needed.{next_needed}
+use Rattle.candidate_composites.specs.Evaluations.{Evaluation, IsExact}
+use Rattle.symbolic_plans.specs.Laws.{composites_of}
+use Rattle.candidate_laws.specs.Asked.{TreeQuery, TestsAsked}
+use Rattle.candidate_laws.specs.TreeLaws.{IsSoundWaiting, EntryHolds, lists_of}
+use Rattle.candidate_laws.specs.Waiting as lists
+use Rattle.candidate_laws.specs.Waiting.{waiting_trees}
+use Rattle.node_trees.specs.Generations.{AreApart}
+use Rattle.node_trees.specs.Rests.{Work}
+use Rattle.node_trees.specs.Shapes.{Above, Held, Shape, Stands, stands_for}
+use Rattle.candidate_verdicts.specs.Known.{Pieces}
+use Rattle.candidate_verdicts.specs.Laws.{ArePiecesOf}
 use Rattle.candidates.specs.Listed.{known_candidates, items_in, knowledge, first_tree, all_trees, asked_for_first, asked_for_all}
 use Rattle.candidates.specs.Listed.{is_known_to_hold}
 use Rattle.candidates.specs.Jobs.{all_jobs, of_tree}
@@ -68,7 +68,7 @@ DecidedEntriesAreSo =
     next_decided (first_tree program.theory w pieces t) (all_trees program.theory w pieces t) state ≡ Some entry →
     EntryHolds program w (stands_for program t) state entry
 
--- the jobs at nodes that searches still ask by the rules are those of the questions that the walk along their course finds
+-- the jobs at nodes that searches still ask by the rules are those of the questions that the walk along their decision finds
 abbrev pub JobsAreNeeded : Type 0
 JobsAreNeeded =
     (theory : Theory) (w : Windows) (t : Shape) (pieces : Pieces) →
@@ -76,4 +76,4 @@ JobsAreNeeded =
     (state : Waiting PendingOffer) →
     next_needed (λ q. all_jobs pieces t (asked_for_first theory w pieces t q)) (λ q. all_jobs pieces t (asked_for_all theory w pieces t q))
     (is_known_to_hold theory w pieces t) state ≡
-    all_jobs pieces t (map of_tree (found (knowledge theory w pieces t) (course (waiting_trees theory w t) state)))
+    all_jobs pieces t (map of_tree (found (knowledge theory w pieces t) (decision (waiting_trees theory w t) state)))

@@ -4,3 +4,6 @@ pub mod Jobs
 pub mod Models
 pub mod KnownTrees
 pub mod Laws
+pub use Rattle.board_offers.specs.Waiting
+pub use Rattle.decision_order.specs.Needed
+pub use Rattle.decision_order.specs.Rules

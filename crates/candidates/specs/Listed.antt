@@ -4,24 +4,24 @@ use Rattle.std.specs.Prelude.{ℕ, List, map, flat_map, Option, Bool, is_some, o
 use Rattle.spec_core.specs.Theories.{Theory}
 use Rattle.rule_model.specs.declared.offer.Offer.{Offer}
 use Rattle.rule_model.specs.Derivations.{Derivation}
-use Rattle.windowed_trees.specs.Windows.{Windows}
-use Rattle.courses.specs.Courses.{Question}
-use Rattle.courses.specs.Known.{Knowledge}
-use Rattle.courses.specs.Lazy.{first}
-use Rattle.courses.specs.Rules.{Query}
-use Rattle.courses.specs.Gaps.{OrGap, element, in_its_place, first_known, all_known, missing_to_first, all_missing, known_to_hold}
-use Rattle.composites.specs.Composites.{Composite}
-use Rattle.open_composites.specs.OpenPlans.{OpenPlan}
-use Rattle.open_composites.specs.Laws.{composites_of}
-use Rattle.asked_trees.specs.Asked.{TreeQuery}
-use Rattle.node_lists.specs.Sought.{Sought, sought_for}
-use Rattle.node_lists.specs.Waiting.{Candidate, candidate, sought_by}
-use Rattle.asked_lists.specs.Searches.{for_offer, asked_from}
-use Rattle.tree_nodes.specs.Rests.{Work}
-use Rattle.tree_nodes.specs.Shapes.{Held, Shape, node_at}
-use Rattle.tree_composites.specs.Known.{PlanOrGap, PlacedPlan, plans_sought, placed_plans, sought_plans}
-use Rattle.known_shows.specs.Known.{Pieces, known_show}
-use Rattle.known_shows.specs.Asked.{asked_by, known_verdict}
+use Rattle.candidate_composites.specs.Windows.{Windows}
+use Rattle.decision_trees.specs.Decisions.{Question}
+use Rattle.decision_trees.specs.Known.{Knowledge}
+use Rattle.decision_trees.specs.Lazy.{first}
+use Rattle.decision_trees.specs.Rules.{Query}
+use Rattle.decision_trees.specs.Gaps.{OrGap, element, in_its_place, first_known, all_known, missing_to_first, all_missing, known_to_hold}
+use Rattle.candidate_composites.specs.Composites.{Composite}
+use Rattle.symbolic_plans.specs.OpenPlans.{OpenPlan}
+use Rattle.symbolic_plans.specs.Laws.{composites_of}
+use Rattle.candidate_laws.specs.Asked.{TreeQuery}
+use Rattle.candidate_laws.specs.Sought.{Sought, sought_for}
+use Rattle.candidate_laws.specs.Waiting.{Candidate, candidate, sought_by}
+use Rattle.candidate_search.specs.Searches.{for_offer, asked_from}
+use Rattle.node_trees.specs.Rests.{Work}
+use Rattle.node_trees.specs.Shapes.{Held, Shape, node_at}
+use Rattle.candidate_composites.specs.Known.{PlanOrGap, PlacedPlan, plans_sought, placed_plans, sought_plans}
+use Rattle.candidate_verdicts.specs.Known.{Pieces, known_show}
+use Rattle.candidate_verdicts.specs.Asked.{asked_by, known_verdict}
 
 -- the kinds of the actions that a query may ask for
 abbrev pub kinds_sought : Query Offer → Sought

@@ -1,6 +1,6 @@
 -- What jobs of the program stand for.
 use Rattle.rule_model.specs.Derivations.{derivation_of}
-use Rattle.known_shows.specs.Known.{node_part}
+use Rattle.candidate_verdicts.specs.Known.{node_part}
 use Rattle.candidates.specs.declared.job.NodeJob.{NodeJob}
 use Rattle.candidates.specs.declared.job.NodeJob.TheVariants.{Expand, Judge}
 use Rattle.candidates.specs.Jobs as jobs

@@ -3,14 +3,14 @@ use Rattle.std.specs.Prelude.{◌++◌, List, [], map, Option, Some, None}
 use Rattle.spec_core.specs.Theories.{Theory, theory_of}
 use Rattle.rule_model.specs.declared.offer.Offer.{Offer}
 use Rattle.rule_model.specs.Derivations.{Derivation, derivation_of}
-use Rattle.windowed_trees.specs.Windows.{Windows}
-use Rattle.window_tables.specs.Tables.{windows_in}
-use Rattle.courses.specs.Gaps.{OrGap, element, gap}
-use Rattle.courses.specs.Rules.{Query}
-use Rattle.open_composites.specs.OpenPlans.{open_plan_of}
-use Rattle.numbered_trees.specs.Numbers.{trees_at_once}
-use Rattle.asked_lists.specs.Searches.{is_wanted, wanted_from, query_of}
-use Rattle.tree_composites.specs.Known.{placed_of}
+use Rattle.candidate_composites.specs.Windows.{Windows}
+use Rattle.candidate_composites.specs.Tables.{windows_in}
+use Rattle.decision_trees.specs.Gaps.{OrGap, element, gap}
+use Rattle.decision_trees.specs.Rules.{Query}
+use Rattle.symbolic_plans.specs.OpenPlans.{open_plan_of}
+use Rattle.candidate_search.specs.Numbers.{trees_at_once}
+use Rattle.candidate_search.specs.Searches.{is_wanted, wanted_from, query_of}
+use Rattle.candidate_composites.specs.Known.{placed_of}
 use Rattle.candidates.specs.Listed.{trees_sought}
 use Rattle.candidates.specs.declared.walk.TreesLeft.{TreesLeft}
 use Rattle.candidates.specs.declared.walk.Met.{Met}

@@ -2,20 +2,20 @@
 
 ghost use Rattle.std.specs.Prelude.{◌≡◌, IfOk, option_map};
 ghost use Rattle.rule_model.specs.Derivations.{derivation_of};
-ghost use Rattle.settling.specs.Jobs.{first_not_out};
-ghost use Rattle.settling.specs.Needed.{next_needed};
-ghost use Rattle.settling.specs.Numbered.{entry_with, waiting_with};
-ghost use Rattle.settling.specs.Rules.{next_decided};
-ghost use Rattle.settling.specs.Searches.{settled_of, waiting_of};
+ghost use Rattle.decision_order.specs.Jobs.{first_not_out};
+ghost use Rattle.decision_order.specs.Needed.{next_needed};
+ghost use Rattle.decision_order.specs.Numbered.{entry_with, waiting_with};
+ghost use Rattle.decision_order.specs.Rules.{next_decided};
+ghost use Rattle.decision_order.specs.Searches.{settled_of, waiting_of};
 ghost use Rattle.candidates.specs.Models.{job_of};
 ghost use Rattle.candidates.specs.KnownTrees.{offer_in, is_out_in, first_in, all_in, jobs_to_first, jobs_to_all, is_held_in, HasItsParts};
 
 use crate::job::NodeJob;
 use crate::known_tree::KnownTree;
+use decision_order::listing::OffersByNumber;
+use decision_order::needed;
+use decision_order::settle::{Settled, settle};
 use rule_model::rules::Rules;
-use settling::listing::OffersByNumber;
-use settling::needed;
-use settling::settle::{Settled, settle};
 use spec_core::memory::Memory;
 use std::alloc::Global;
 

@@ -2,20 +2,20 @@
 
 ghost use Rattle.std.specs.Prelude.{◌≡◌, [], map, option_map};
 ghost use Rattle.rule_model.specs.Derivations.{derivation_of};
-ghost use Rattle.courses.specs.Known.{unless_known};
-ghost use Rattle.settling.specs.Jobs.{first_not_out};
-ghost use Rattle.tree_nodes.specs.Shapes.{shape_of};
-ghost use Rattle.known_shows.specs.Known.{missing_parts, node_part};
-ghost use Rattle.known_shows.specs.Stored.{stored, node_part_of};
+ghost use Rattle.decision_trees.specs.Known.{unless_known};
+ghost use Rattle.decision_order.specs.Jobs.{first_not_out};
+ghost use Rattle.node_trees.specs.Shapes.{shape_of};
+ghost use Rattle.candidate_verdicts.specs.Known.{missing_parts, node_part};
+ghost use Rattle.candidate_verdicts.specs.Stored.{stored, node_part_of};
 ghost use Rattle.candidates.specs.Jobs.{to_expand, to_judge, same_job, is_out};
 ghost use Rattle.candidates.specs.Models.{job_of};
 
-use known_shows::pieces::{NodeRules, Pieces};
-use known_shows::rule::{Sides, part_under, sides_under};
-use known_shows::same::same_rules;
+use candidate_verdicts::pieces::{NodeRules, Pieces};
+use candidate_verdicts::rule::{Sides, part_under, sides_under};
+use candidate_verdicts::same::same_rules;
+use node_trees::branch::Branch;
+use node_trees::origin::Gen;
 use rule_model::rules::Rules;
-use tree_nodes::branch::Branch;
-use tree_nodes::origin::Gen;
 
 /// What is to be done at the node of a generation.
 #[derive(Drop)]

@@ -1,21 +1,21 @@
 // What is known of a tree of nodes.
 
 ghost use Rattle.std.specs.Prelude.{◌≡◌, IfOk};
-ghost use Rattle.session_states.specs.Views.{pending_of};
-ghost use Rattle.waiting_offers.specs.Offers.{no_offer};
+ghost use Rattle.log_states.specs.Views.{pending_of};
+ghost use Rattle.board_offers.specs.Offers.{no_offer};
 
 use crate::job::NodeJob;
-use known_shows::pieces::Pieces;
+use candidate_composites::known::known_composites;
+use candidate_composites::part::Part;
+use candidate_verdicts::pieces::Pieces;
+use log_states::pending::Pending;
+use node_trees::branch::Branch;
 use rule_model::offer::{Fields, Offer};
-use session_states::pending::Pending;
 use spec_core::equation::DataSpec;
 use spec_core::items::Gate;
 use spec_core::memory::Memory;
 use spec_core::window::Window;
 use std::alloc::Global;
-use tree_composites::known::known_composites;
-use tree_composites::part::Part;
-use tree_nodes::branch::Branch;
 
 /// A tree of nodes with what is known of them, the pending offers, and the jobs that are out.
 #[derive(Drop)]

@@ -19,7 +19,7 @@ pub fn decided_entries_are_so()
     ensures { DecidedEntriesAreSo }
 {}
 
-/// The jobs at nodes that searches still ask by the rules are those of the questions that the walk along their course finds.
+/// The jobs at nodes that searches still ask by the rules are those of the questions that the walk along their decision finds.
 pub fn jobs_are_needed()
     ensures { JobsAreNeeded }
 {}

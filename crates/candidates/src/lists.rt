@@ -8,9 +8,9 @@ ghost use Rattle.candidates.specs.KnownTrees.{is_held_among, trees_for};
 
 use crate::job::NodeJob;
 use crate::known_tree::KnownTree;
+use decision_order::asking::{Asking, Missing};
+use decision_order::listing::{All, First, Listing, Search};
 use rule_model::rules::Rules;
-use settling::asking::{Asking, Missing};
-use settling::listing::{All, First, Listing, Search};
 use spec_core::memory::Memory;
 use std::alloc::Global;
 

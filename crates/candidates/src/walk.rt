@@ -3,28 +3,28 @@
 ghost use Rattle.std.specs.Prelude.{◌≡◌, ◌∷◌, [], IfOk, MatchOption, Some, map};
 ghost use Rattle.spec_core.specs.Theories.{theory_of};
 ghost use Rattle.rule_model.specs.Derivations.{derivation_of};
-ghost use Rattle.window_tables.specs.Tables.{windows_in};
-ghost use Rattle.courses.specs.Gaps.{element};
-ghost use Rattle.open_composites.specs.OpenPlans.{open_plan_of};
-ghost use Rattle.asked_lists.specs.Searches.{asked_from, query_of};
+ghost use Rattle.candidate_composites.specs.Tables.{windows_in};
+ghost use Rattle.decision_trees.specs.Gaps.{element};
+ghost use Rattle.symbolic_plans.specs.OpenPlans.{open_plan_of};
+ghost use Rattle.candidate_search.specs.Searches.{asked_from, query_of};
 ghost use Rattle.rule_model.specs.Actions.{inside, ends, at_gate};
-ghost use Rattle.node_lists.specs.Sought.{these_kinds, seeks_some, sought_at};
-ghost use Rattle.tree_composites.specs.Known.{sought_in, step_of, placed_of};
+ghost use Rattle.candidate_laws.specs.Sought.{these_kinds, seeks_some, sought_at};
+ghost use Rattle.candidate_composites.specs.Known.{sought_in, step_of, placed_of};
 ghost use Rattle.candidates.specs.Listed.{kinds_sought, trees_sought};
 ghost use Rattle.candidates.specs.Walks.{met_of, trees_left, behind, ahead};
 
-use asked_lists::searches::{TreeSearch, next_among, slots_asked};
-use open_composites::composite::{ActionKind, OpenComposite};
+use candidate_composites::part::Part;
+use candidate_composites::sought::{Sought, sought_at};
+use candidate_composites::step::Step;
+use candidate_search::searches::{TreeSearch, next_among, slots_asked};
+use node_trees::origin::Gen;
 use rule_model::offer::Offer;
 use rule_model::rules::{Rules, Slots};
 use spec_core::equation::DataSpec;
 use spec_core::memory::Memory;
 use spec_core::window::Window;
 use std::alloc::Global;
-use tree_composites::part::Part;
-use tree_composites::sought::{Sought, sought_at};
-use tree_composites::step::Step;
-use tree_nodes::origin::Gen;
+use symbolic_plans::composite::{ActionKind, OpenComposite};
 
 /// The trees that are left of a composite: those with this number and higher ones, among those whose fields have these slots.
 #[derive(Drop)]

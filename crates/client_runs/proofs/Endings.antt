@@ -6,18 +6,18 @@ use Rattle.rule_model.specs.Derivations.{Derivation}
 use Rattle.rule_model.specs.Events.{Ending, exits, deadlocked, waiting, ends_beyond}
 use Rattle.rule_model.specs.States.{PendingOffer}
 use Rattle.rule_model.specs.Actions.{Kind}
-use Rattle.windowed_trees.specs.Laws.{NoTree}
-use Rattle.windowed_trees.specs.Trees.{IsWindowed, IsBeyond}
-use Rattle.courses.specs.Known.{where_known}
-use Rattle.courses.specs.Rules.{Next, Query, Waiting, any, any_beyond, if_there, nothing}
-use Rattle.settling.specs.Rules.{asked_decided, dead_decided, next_decided}
-use Rattle.tree_nodes.specs.Shapes.{stands_for}
-use Rattle.needed_jobs.specs.Laws.{FirstTreesSay}
-use Rattle.session_rules.specs.declared.stop_reason.StopReason.{StopReason}
-use Rattle.session_rules.specs.Next.{AreSessionWindows, HasEnded}
-use Rattle.session_rules.specs.Stopping.{ending_by}
-use Rattle.waiting_offers.specs.Waiting.{waiting_in}
-use Rattle.client_sessions.specs.Ends.{IsEndingOf, IsEndOfTrees, ends_by_reason, ends_by_exit, ends_by_trees}
+use Rattle.symbolic_rules.specs.Laws.{NoTree}
+use Rattle.symbolic_rules.specs.Trees.{IsWindowed, IsBeyond}
+use Rattle.decision_trees.specs.Known.{where_known}
+use Rattle.decision_trees.specs.Rules.{Next, Query, Waiting, any, any_beyond, if_there, nothing}
+use Rattle.board_core.specs.Rules.{asked_decided, dead_decided, next_decided}
+use Rattle.board_core.specs.Shapes.{stands_for}
+use Rattle.board_laws.specs.NeededLaws.{FirstTreesSay}
+use Rattle.board_laws.specs.declared.stop_reason.StopReason.{StopReason}
+use Rattle.board_laws.specs.Next.{AreSessionWindows, HasEnded}
+use Rattle.board_laws.specs.Stopping.{ending_by}
+use Rattle.board_core.specs.Waiting.{waiting_in}
+use Rattle.board_work.specs.Ends.{IsEndingOf, IsEndOfTrees, ends_by_reason, ends_by_exit, ends_by_trees}
 use Rattle.board_core.specs.Ends.{end_after, end_found, end_unless, ending_at}
 use Rattle.board_core.specs.Views.{BoardView, program, state, tree, windows, pieces, decided_at, first_at, all_at}
 

@@ -11,17 +11,17 @@ use Rattle.rule_model.specs.Events.{Ending, Event, left, pended}
 use Rattle.rule_model.specs.Legal.{IsDerivation}
 use Rattle.rule_model.specs.Wishes.{Wish}
 use Rattle.rule_model.specs.States.{State, after_leave, after_offer, start_state}
-use Rattle.session_record.specs.Records.{IsSession}
-use Rattle.session_states.specs.Clients.{numbers_from}
-use Rattle.session_states.specs.Possible.{MayLeave, MayOffer}
-use Rattle.session_rules.specs.declared.stop_reason.StopReason.{StopReason}
-use Rattle.session_rules.specs.declared.stop_reason.StopReason.TheVariants.{Limit}
+use Rattle.board_record.specs.Records.{IsSession}
+use Rattle.log_states.specs.Clients.{numbers_from}
+use Rattle.log_states.specs.Possible.{MayLeave, MayOffer}
+use Rattle.board_laws.specs.declared.stop_reason.StopReason.{StopReason}
+use Rattle.board_laws.specs.declared.stop_reason.StopReason.TheVariants.{Limit}
 use Rattle.candidates.specs.Jobs.{is_out}
 use Rattle.candidates.specs.Models.{job_of}
-use Rattle.stop_reasons.specs.Laws.{GiveReasons}
-use Rattle.stop_reasons.specs.Reasons.{IsAskedByRules, IsReasonToStop}
-use Rattle.client_sessions.specs.Ends.{IsEndingOf}
-use Rattle.client_sessions.specs.Runs.{IsClientRun, IsRun, IsSettledAt, clients_for, run_begins, run_goes_on, run_leaves, run_offers, run_stops, run_tells}
+use Rattle.board_laws.specs.StoppingLaws.{GiveReasons}
+use Rattle.board_laws.specs.Reasons.{IsAskedByRules, IsReasonToStop}
+use Rattle.board_work.specs.Ends.{IsEndingOf}
+use Rattle.board_work.specs.Runs.{IsClientRun, IsRun, IsSettledAt, clients_for, run_begins, run_goes_on, run_leaves, run_offers, run_stops, run_tells}
 use Rattle.board_core.specs.Settled.{HasSettled, IsQuiet, IsSettled, WhyQuiet, settled_next, settled_stopped, settled_limit, quiet_stopped}
 use Rattle.board_core.specs.Settled.{quiet_undecided, quiet_nothing, quiet_limit}
 use Rattle.board_core.specs.Views.{BoardView, program, events, needed_at, pieces, state, tree, windows, SameLog, SameSession, SameSetting}

@@ -8,32 +8,32 @@ use Rattle.spec_core.specs.Ready.{IsReady}
 use Rattle.rule_model.specs.declared.reply.LimitKind.TheVariants.{Steps}
 use Rattle.rule_model.specs.Legal as legal
 use Rattle.rule_model.specs.States.{PendingOffer, State}
-use Rattle.ready_lists.proofs.Answers.{exact_answers_exist}
-use Rattle.courses.specs.Lazy.{first}
-use Rattle.courses.specs.Rules.{Waiting, nothing}
-use Rattle.settling.specs.Jobs.{first_not_out, not_out}
-use Rattle.asked_trees.specs.Laws.{lists_of}
-use Rattle.asked_trees.proofs.Testing.{asked_can_be_tested}
-use Rattle.session_states.specs.Possible.{HasPending}
-use Rattle.session_states.proofs.Members.{none_in}
-use Rattle.tree_nodes.specs.Shapes.{Shape}
-use Rattle.windowed_trees.specs.Windows.{Windows}
-use Rattle.window_tables.specs.Tables.{windows_in}
-use Rattle.known_shows.specs.declared.pieces.Pieces.{Pieces}
-use Rattle.known_shows.specs.Known as known
-use Rattle.known_shows.specs.Stored.{stored}
+use Rattle.candidate_laws.proofs.Answers.{exact_answers_exist}
+use Rattle.decision_trees.specs.Lazy.{first}
+use Rattle.decision_trees.specs.Rules.{Waiting, nothing}
+use Rattle.board_core.specs.Jobs.{first_not_out, not_out}
+use Rattle.candidate_laws.specs.TreeLaws.{lists_of}
+use Rattle.candidate_laws.proofs.Testing.{asked_can_be_tested}
+use Rattle.log_states.specs.Possible.{HasPending}
+use Rattle.log_states.proofs.Members.{none_in}
+use Rattle.board_core.specs.Shapes.{Shape}
+use Rattle.symbolic_rules.specs.Windows.{Windows}
+use Rattle.symbolic_rules.specs.Tables.{windows_in}
+use Rattle.candidate_verdicts.specs.declared.pieces.Pieces.{Pieces}
+use Rattle.candidate_verdicts.specs.Known as known
+use Rattle.candidate_verdicts.specs.Stored.{stored}
 use Rattle.candidates.specs.declared.job.NodeJob as declared
 use Rattle.candidates.specs.Jobs.{NodeJob, is_out}
 use Rattle.candidates.specs.Models.{job_of}
-use Rattle.needed_jobs.specs.Needed.{entry_decided, jobs_needed}
-use Rattle.needed_jobs.proofs.Pending.{nothing_next_nothing_pending}
-use Rattle.needed_jobs.proofs.Settling.{nothing_needed_is_decided}
-use Rattle.session_rules.specs.declared.stop_reason.StopReason.TheVariants.{Limit}
-use Rattle.session_rules.specs.declared.stop_reason.StopReason.{StopReason}
-use Rattle.session_rules.specs.Next.{GoesByRules, IsNextOf}
-use Rattle.waiting_offers.specs.Waiting.{waiting_in}
-use Rattle.waiting_offers.proofs.AllWait.{all_wait_is_decided}
-use Rattle.client_sessions.specs.Runs.{IsSettledAt, all_told, none_next}
+use Rattle.board_laws.specs.Needed.{entry_decided, jobs_needed}
+use Rattle.board_laws.proofs.Pending.{nothing_next_nothing_pending}
+use Rattle.board_laws.proofs.Settling.{nothing_needed_is_decided}
+use Rattle.board_laws.specs.declared.stop_reason.StopReason.TheVariants.{Limit}
+use Rattle.board_laws.specs.declared.stop_reason.StopReason.{StopReason}
+use Rattle.board_laws.specs.Next.{GoesByRules, IsNextOf}
+use Rattle.board_core.specs.Waiting.{waiting_in}
+use Rattle.board_core.proofs.AllWait.{all_wait_is_decided}
+use Rattle.board_work.specs.Runs.{IsSettledAt, all_told, none_next}
 use Rattle.board_core.specs.Ends.{ending_at}
 use Rattle.board_core.specs.Awaiting.{AwaitsClients}
 use Rattle.board_core.specs.Settled.{WhyQuiet, quiet_stopped, quiet_undecided, quiet_nothing, quiet_limit}

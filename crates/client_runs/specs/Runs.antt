@@ -7,11 +7,11 @@ use Rattle.rule_model.specs.Code.{IsStart}
 use Rattle.rule_model.specs.Events.{Ending, Event}
 use Rattle.rule_model.specs.Wishes.{Wish}
 use Rattle.rule_model.specs.States.{State, start_state}
-use Rattle.courses.specs.Rules.{nothing}
-use Rattle.session_rules.specs.declared.stop_reason.StopReason.{StopReason}
-use Rattle.session_states.specs.Clients.{numbers_from}
-use Rattle.client_sessions.specs.Ends.{IsEndingOf}
-use Rattle.client_sessions.specs.Runs.{IsRun, IsSettledAt}
+use Rattle.decision_trees.specs.Rules.{nothing}
+use Rattle.board_laws.specs.declared.stop_reason.StopReason.{StopReason}
+use Rattle.log_states.specs.Clients.{numbers_from}
+use Rattle.board_work.specs.Ends.{IsEndingOf}
+use Rattle.board_work.specs.Runs.{IsRun, IsSettledAt}
 use Rattle.board_core.specs.Awaiting.{AwaitsClients}
 use Rattle.board_core.specs.Views as views
 use Rattle.board_core.specs.Views.{BoardView}

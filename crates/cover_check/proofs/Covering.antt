@@ -8,15 +8,16 @@ use Rattle.spec_core.specs.Sorts.{OnSome, HasSort, HaveSorts, EquationFits, Fits
 use Rattle.spec_core.specs.Constructors.{IsConstructor, AreConstructed}
 use Rattle.spec_core.specs.Orthogonality.{IsLinear, HasPatterns, IsOrthogonal}
 use Rattle.spec_core.specs.Cover.{IsGroup, IsCoveredCall}
-use Rattle.term_shapes.specs.Shapes.{AreOfShape}
-use Rattle.term_shapes.proofs.Linear.{Tells, occurs, filled, are_of_shape}
-use Rattle.inhabited_sorts.proofs.Options.{both_on, on_some, some_one}
-use Rattle.inhabited_sorts.specs.Sorts.{IsInhabited}
-use Rattle.pattern_search.specs.Search.{variables, Finds, arguments_of}
-use Rattle.pattern_search.specs.declared.arguments.Arguments.{Arguments}
-use Rattle.pattern_search.proofs.Searching.{variables_sorts, variables_made, variables_shape, all_covered, some_uncovered}
-use Rattle.full_groups.specs.Groups.{HasFullGroup}
-use Rattle.full_groups.proofs.Fullness.{full_over, one_sort}
+use Rattle.spec_core.proofs.Instances.{bound_sort}
+use Rattle.equation_shapes.specs.Shapes.{AreOfShape}
+use Rattle.equation_shapes.proofs.Linear.{Tells, occurs, filled, are_of_shape}
+use Rattle.cover_search.proofs.Options.{on_some, some_one}
+use Rattle.cover_search.specs.Sorts.{IsInhabited}
+use Rattle.cover_search.specs.Search.{variables, Finds, arguments_of}
+use Rattle.cover_search.specs.declared.arguments.Arguments.{Arguments}
+use Rattle.cover_search.proofs.Searching.{variables_sorts, variables_made, variables_shape, all_covered, some_uncovered}
+use Rattle.cover_groups.specs.Groups.{HasFullGroup}
+use Rattle.cover_groups.proofs.Fullness.{full_over, one_sort}
 use Rattle.cover_check.specs.Cases.{IsCoveredOperation, AreRows, IsUncoveredBy}
 use Rattle.cover_check.specs.Rows.{IsRowAdded}
 use Rattle.cover_check.proofs.Occurring.{group_occurs}
@@ -82,22 +83,6 @@ module _ (theory : Theory) (f : ℕ) where
   rows_more (d ∷ es) e rows new (inr h) a = inr (h.0, rows_more es e rows new h.1 a)
 
 module _ (theory : Theory) where
-  -- what a match gives a variable has its sort
-  mutual
-    bound_sort : (vars : ℕ → Option ℕ) (b : ℕ → TermTree) (t : TermTree) (s x a : ℕ) → HasSort theory vars t s →
-        HasSort theory no_variables (instance b t) s → Occurs x t → vars x ≡ Some a → HasSort theory no_variables (b x) a
-    bound_sort vars b (variable y) s x a h k o e = subst (HasSort theory no_variables (b x)) (some_one (sym h ∙ ap vars (sym o) ∙ e)) (subst (λ z. HasSort theory no_variables (b z) s) (sym o) k)
-    bound_sort vars b (apply g ts) s x a h k o e =
-        let d = both_on (slice_get theory.operations g) (λ d. (d.result ≡ s) × HaveSorts theory vars ts d.args) (λ d. (d.result ≡ s) × HaveSorts theory no_variables (instances b ts) d.args) h k in
-        bound_sorts vars b ts d.0.args x a d.2.1 d.3.1 o e
-
-    bound_sorts : (vars : ℕ → Option ℕ) (b : ℕ → TermTree) (ts : TermTrees) (sorts : List ℕ) (x a : ℕ) → HaveSorts theory vars ts sorts →
-        HaveSorts theory no_variables (instances b ts) sorts → OccursInAny x ts → vars x ≡ Some a → HasSort theory no_variables (b x) a
-    bound_sorts vars b no_terms sorts x a h k o e = absurd o
-    bound_sorts vars b (and_term t ts) [] x a h k o e = absurd h
-    bound_sorts vars b (and_term t ts) (s ∷ sorts) x a h k (inl o) e = bound_sort vars b t s x a h.0 k.0 o e
-    bound_sorts vars b (and_term t ts) (s ∷ sorts) x a h k (inr o) e = bound_sorts vars b ts sorts x a h.1 k.1 o e
-
   -- a variable of a well sorted term has a sort
   mutual
     some_sort : (vars : ℕ → Option ℕ) (t : TermTree) (s x : ℕ) → HasSort theory vars t s → Occurs x t → (a : ℕ) × (vars x ≡ Some a)
@@ -115,7 +100,7 @@ module _ (theory : Theory) where
       HasSort theory no_variables (instance b t) s → Occurs x t → HasSort theory no_variables (b x) a → vars x ≡ Some a
   right_sort vars b t s x a h k o g =
       let r = some_sort vars t s x h o in
-      r.1 ∙ ap Some (one_sort theory no_variables (b x) r.0 a (bound_sort vars b t s x r.0 h k o r.1) g)
+      r.1 ∙ ap Some (one_sort theory no_variables (b x) r.0 a (bound_sort theory vars b t s h k x r.0 o r.1) g)
 
   module _ (f : ℕ) (d : Operation) (declared : slice_get theory.operations f ≡ Some d) (fits : FitsData theory) (orthogonal : IsOrthogonal theory)
       (rows : List TermTrees) (are_rows : AreRows theory f theory.equations rows) where
@@ -150,7 +135,7 @@ module _ (theory : Theory) where
           lists = full.lists;
           matches = m;
           sorts = λ x a v. let k = only_some (occurs x e.left) (slice_get e.sorts x) a v in
-              bound_sort (slice_get e.sorts) s.0 e.left d.result x a (left_sort e r ef l) (subst (λ t. HasSort theory no_variables t d.result) (sym m) (call_sort vs hv)) k.0 k.1;
+              bound_sort theory (slice_get e.sorts) s.0 e.left d.result (left_sort e r ef l) (subst (λ t. HasSort theory no_variables t d.result) (sym m) (call_sort vs hv)) x a k.0 k.1;
           group = full.group;
           full = full_over theory (slice_get e.sorts) (λ x. only (occurs x e.left) (slice_get e.sorts x)) full.full
               (λ ps i x a j v. only_first (occurs x e.left) (slice_get e.sorts x) (group_occurs theory e.left orthogonal.closed full.lists full.group ps i x j) ∙ v);

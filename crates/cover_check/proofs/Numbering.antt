@@ -2,7 +2,7 @@
 use Rattle.std.proofs.Common.{ℕ, ◌≡◌, ◌<◌, ◌+◌, List, [], ◌∷◌, ◌++◌, length, map, take, get_or, sym, ap, ◌∙◌, arith}
 use Rattle.spec_core.specs.declared.term.Term.{Term}
 use Rattle.spec_core.specs.Terms.{TermTree, no_terms, and_term, terms, term_of}
-use Rattle.full_groups.proofs.Fullness.{map_more}
+use Rattle.cover_groups.proofs.Fullness.{map_more}
 use Rattle.cover_check.specs.PatternTexts.{places, all_places, numbered, all_numbered}
 
 numbered_last : (n : ℕ) (ts : List TermTree) (t : TermTree) (made : List TermTree) (one : TermTree) →

@@ -8,7 +8,7 @@ use Rattle.spec_core.specs.Cover.{IsCovered}
 use Rattle.spec_core.specs.Orthogonality.{IsOrthogonal}
 use Rattle.spec_core.specs.Sorts.{OnSome, FitsData, HaveSorts, no_variables}
 use Rattle.spec_core.specs.Theories.{Operation, Theory, operation_of}
-use Rattle.inhabited_sorts.proofs.Options.{on_some}
+use Rattle.cover_search.proofs.Options.{on_some}
 use Rattle.cover_check.specs.Cases.{IsCoveredOperation}
 use Rattle.cover_check.specs.Refused.{IsAnswerOf, IsAdded, listed, AreRefusals, IsFirstRefusal, none, covered, refused}
 use Rattle.cover_check.proofs.Covering.{not_covered}

@@ -6,9 +6,9 @@ use Rattle.spec_core.specs.Lists.{Each}
 use Rattle.spec_core.specs.Sorts.{HaveSorts, no_variables}
 use Rattle.spec_core.specs.Terms.{TermTrees, apply}
 use Rattle.spec_core.specs.Theories.{Operation, ConditionalEquation, Theory}
-use Rattle.full_groups.specs.Groups.{HasFullGroup}
-use Rattle.inhabited_sorts.specs.Sorts.{IsInhabited}
-use Rattle.pattern_search.specs.Search.{variables, Finds}
+use Rattle.cover_groups.specs.Groups.{HasFullGroup}
+use Rattle.cover_search.specs.Sorts.{IsInhabited}
+use Rattle.cover_search.specs.Search.{variables, Finds}
 
 -- the operation is covered: it is a constructor, or each call of it over values matches a left side whose group is full
 abbrev pub IsCoveredOperation : Theory → ℕ → Operation → Type 0

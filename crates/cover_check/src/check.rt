@@ -3,9 +3,9 @@
 ghost use Rattle.std.specs.Prelude.{◌≡◌, IfOk, OnOk, Some};
 ghost use Rattle.std.specs.List.{slice_get};
 ghost use Rattle.cover_check.specs.Refused.{IsAdded, IsFirstRefusal, refusal_naming};
-ghost use Rattle.inhabited_sorts.specs.Sorts.{AreInhabited};
+ghost use Rattle.cover_search.specs.Sorts.{AreInhabited};
 ghost use Rattle.lotos_ast.specs.Refusals.{IfRefused};
-ghost use Rattle.pattern_search.specs.Search.{arguments_of};
+ghost use Rattle.cover_search.specs.Search.{arguments_of};
 ghost use Rattle.spec_core.specs.Cover.{IsCovered};
 ghost use Rattle.spec_core.specs.Orthogonality.{IsOrthogonal};
 ghost use Rattle.spec_core.specs.Sorts.{FitsData};
@@ -13,13 +13,12 @@ ghost use Rattle.spec_core.specs.Theories.{operation_of, theory_of};
 
 use crate::pattern_text::pattern_text;
 use crate::uncovered::uncovered_case;
-use inhabited_sorts::inhabited_sorts;
+use cover_search::{Arguments, inhabited_sorts};
+use equation_sets::set::NumberSet;
 use lotos_ast::first_refusal::first_refusal;
 use lotos_ast::names::Names;
 use lotos_ast::place::Place;
 use lotos_ast::refusal::{FrontFault, Refusal, RefusalKind};
-use number_sets::set::NumberSet;
-use pattern_search::Arguments;
 use spec_core::equation::DataSpec;
 use spec_core::items::Op;
 use spec_core::memory::Memory;

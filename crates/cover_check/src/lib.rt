@@ -7,3 +7,4 @@ mod rows;
 mod uncovered;
 
 pub use check::check_cover;
+pub use cover_groups::fits_data;

@@ -2,11 +2,11 @@
 
 ghost use Rattle.std.specs.Prelude.{◌≡◌, ◌+◌, ◌++◌, IfOk, OnOk, codes, decimal, map, string_bytes};
 ghost use Rattle.cover_check.specs.PatternTexts.{places, numbered, all_places, all_numbered, numbered_names, pattern_text};
-ghost use Rattle.pattern_search.specs.Search.{arguments_of};
+ghost use Rattle.cover_search.specs.Search.{arguments_of};
 ghost use Rattle.spec_core.specs.Terms.{term_of, terms};
 ghost use Rattle.spec_core.specs.Theories.{theory_of};
 
-use pattern_search::Arguments;
+use cover_search::Arguments;
 use spec_core::equation::DataSpec;
 use spec_core::items::Op;
 use spec_core::memory::Memory;

@@ -3,14 +3,14 @@
 ghost use Rattle.std.specs.Prelude.{◌≡◌, IfOk, OnOk};
 ghost use Rattle.cover_check.specs.Cases.{AreRows};
 ghost use Rattle.cover_check.specs.Rows.{IsRowAdded};
-ghost use Rattle.pattern_search.specs.Search.{rows_of};
+ghost use Rattle.cover_search.specs.Search.{rows_of};
 ghost use Rattle.spec_core.specs.Lists.{IsOneOf};
 ghost use Rattle.spec_core.specs.Orthogonality.{IsOrthogonal};
 ghost use Rattle.spec_core.specs.Sorts.{FitsData};
 ghost use Rattle.spec_core.specs.Theories.{equation_of, theory_of};
 
-use full_groups::has_full_group;
-use pattern_search::Arguments;
+use cover_groups::has_full_group;
+use cover_search::Arguments;
 use spec_core::equation::{DataSpec, Equation};
 use spec_core::items::Op;
 use spec_core::memory::Memory;

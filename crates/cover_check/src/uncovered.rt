@@ -3,17 +3,16 @@
 ghost use Rattle.std.specs.Prelude.{◌≡◌, IfOk, MatchOption, Some, map};
 ghost use Rattle.std.specs.List.{slice_get};
 ghost use Rattle.cover_check.specs.Cases.{IsCoveredOperation, IsUncoveredBy};
-ghost use Rattle.inhabited_sorts.specs.Sorts.{AreInhabited};
-ghost use Rattle.pattern_search.specs.Search.{variables, arguments_of};
+ghost use Rattle.cover_search.specs.Sorts.{AreInhabited};
+ghost use Rattle.cover_search.specs.Search.{variables, arguments_of};
 ghost use Rattle.spec_core.specs.Numbers.{sort_number};
 ghost use Rattle.spec_core.specs.Orthogonality.{IsOrthogonal};
 ghost use Rattle.spec_core.specs.Sorts.{FitsData};
 ghost use Rattle.spec_core.specs.Theories.{operation_of, theory_of};
 
 use crate::rows::rows_of;
-use inhabited_sorts::are_in;
-use number_sets::set::NumberSet;
-use pattern_search::{Arguments, uncovered_pattern};
+use cover_search::{Arguments, are_in, uncovered_pattern};
+use equation_sets::set::NumberSet;
 use spec_core::constructors::is_constructor;
 use spec_core::equation::DataSpec;
 use spec_core::items::{Op, Sort};

@@ -14,7 +14,8 @@ use Rattle.spec_core.specs.Executable.{IsExecutable}
 use Rattle.spec_core.proofs.OneValue.{one_value, agree, same_instance}
 use Rattle.data_laws.proofs.Matching.{either, Tells, number}
 use Rattle.data_laws.proofs.Still.{IsStill, AreStill, own_value, own_values}
-use Rattle.data_laws.proofs.Sorted.{on_map, instance_sort, keeps_sort}
+use Rattle.data_laws.proofs.Sorted.{keeps_sort}
+use Rattle.spec_core.proofs.Instances.{on_map, instance_sort}
 use Rattle.data_laws.proofs.Fit.{IsFit, Fits, fits_sorted, fit_values, on_use}
 use Rattle.data_laws.proofs.Exists.{Settles, CallSettles, constructor_stays, constructor_is_final, constructor_refutes}
 use Rattle.data_laws.proofs.Conditions.{headed_of, bare_of, sorted_of, declared}

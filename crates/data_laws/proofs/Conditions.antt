@@ -11,7 +11,8 @@ use Rattle.spec_core.specs.Orthogonality.{HasPatterns, HasNoLooseVariables}
 use Rattle.spec_core.specs.Order.{HasOperation, PremisesHaveOperation, Mentions, Decreases}
 use Rattle.spec_core.specs.Executable.{IsExecutable}
 use Rattle.spec_core.proofs.Definitions.{heads_none}
-use Rattle.data_laws.proofs.Sorted.{IsSorted, PremiseHasSort, on_map}
+use Rattle.data_laws.proofs.Sorted.{IsSorted, PremiseHasSort}
+use Rattle.spec_core.proofs.Instances.{on_map}
 use Rattle.data_laws.proofs.Fit.{on_use}
 use Rattle.data_laws.proofs.Narrow.{IsNarrow, AreNarrow, PremiseIsNarrow}
 use Rattle.data_laws.proofs.Exists.{Headed, Owes}

@@ -13,7 +13,8 @@ use Rattle.spec_core.specs.Cover.{IsConstant, HasConstants, IsOfGroup, IsCovered
 use Rattle.spec_core.specs.Executable.{IsExecutable}
 use Rattle.spec_core.proofs.OneValue.{one_value, agree, same_instance}
 use Rattle.data_laws.proofs.Still.{IsStill, AreStill, AllFail}
-use Rattle.data_laws.proofs.Sorted.{keeps_sort, instance_sort}
+use Rattle.data_laws.proofs.Sorted.{keeps_sort}
+use Rattle.spec_core.proofs.Instances.{instance_sort}
 use Rattle.data_laws.proofs.Matching.{either, Tells, number}
 use Rattle.data_laws.proofs.Exists.{Settles, PremiseSettles, IsPassed, Ends, constructor_is_final}
 use Rattle.data_laws.proofs.Conditions.{sorted_of}

@@ -7,7 +7,8 @@ use Rattle.spec_core.specs.Theories.{ConditionalEquation, Theory}
 use Rattle.spec_core.specs.Sorts.{OnSome, HasSort, HaveSorts, no_variables}
 use Rattle.spec_core.specs.Orthogonality.{HasNoLooseVariables}
 use Rattle.spec_core.specs.Evaluation.{EvaluatesAll}
-use Rattle.data_laws.proofs.Sorted.{IsSorted, keep_sorts, on_map, bound_sorts, instance_sort}
+use Rattle.data_laws.proofs.Sorted.{IsSorted, keep_sorts}
+use Rattle.spec_core.proofs.Instances.{on_map, bound_sort, instance_sort}
 
 abbrev pub IsFit : Theory → ℕ → TermTrees → Type 0
 IsFit theory g ts = OnSome (slice_get theory.operations g) (λ d. HaveSorts theory no_variables ts d.args)
@@ -67,4 +68,4 @@ module _ (theory : Theory) (e : ConditionalEquation) (w : IsSorted theory e) (s 
   pub side_fits : (t : TermTree) (a : ℕ) → HasSort theory w.vars t a → ((x : ℕ) → Occurs x t → Occurs x e.left) →
       HasSort theory no_variables (instance s t) a
   side_fits t a h o = instance_sort theory w.vars s t a h
-      (λ x b i d. bound_sorts theory w.vars s e.left w.sort w.left call_sort x b (o x i) d)
+      (λ x b i d. bound_sort theory w.vars s e.left w.sort w.left call_sort x b (o x i) d)

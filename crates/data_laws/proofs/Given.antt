@@ -11,7 +11,7 @@ use Rattle.spec_core.specs.Evaluation.{Evaluates, EvaluatesAll, Tries, Asks, cal
 use Rattle.spec_core.specs.Executable.{IsExecutable}
 use Rattle.spec_core.proofs.OneValue.{one_value}
 use Rattle.spec_core.proofs.Definitions.{heads_none}
-use Rattle.data_laws.proofs.Sorted.{on_both}
+use Rattle.spec_core.proofs.Instances.{on_both}
 use Rattle.data_laws.proofs.Still.{IsStill}
 use Rattle.data_laws.proofs.Exists.{Headed, Settles, PremiseSettles, constructor_stays, constructor_is_final, constructor_refutes}
 use Rattle.data_laws.proofs.Evaluated.{constant_value}

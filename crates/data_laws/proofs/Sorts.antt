@@ -6,7 +6,7 @@ use Rattle.spec_core.specs.Theories.{Theory}
 use Rattle.spec_core.specs.Sorts.{HasSort, HaveSorts, HaveOneSort, no_variables, EquationFits, FitsData}
 use Rattle.spec_core.specs.Equality.{Equal, AreEqual, none_equal, more_equal, by_reflexivity, by_symmetry, by_transitivity, by_congruence}
 use Rattle.spec_core.specs.Equality.{by_equation}
-use Rattle.data_laws.proofs.Sorted.{on_map, on_both, instance_sort}
+use Rattle.spec_core.proofs.Instances.{on_map, on_both, instance_sort}
 use Rattle.data_laws.proofs.Classes.{element}
 
 -- a ground term has one sort

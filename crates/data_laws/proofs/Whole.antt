@@ -15,7 +15,8 @@ use Rattle.spec_core.proofs.Definitions.{values_evaluate_to_themselves}
 use Rattle.data_laws.specs.Laws.{EachGroundTermEvaluates, EachGroundTermHasOneValue, EvaluationReachesValues, EqualityIsOfValues}
 use Rattle.data_laws.specs.Laws.{HaveOneValue, PremiseHasOneValue, TermsHaveOneValueAndCost, SubstitutionsGoByValues}
 use Rattle.data_laws.specs.Laws.{ValuesHaveThemselves, EquationSidesHaveOneValue}
-use Rattle.data_laws.proofs.Sorted.{keeps_sort, instance_sort}
+use Rattle.data_laws.proofs.Sorted.{keeps_sort}
+use Rattle.spec_core.proofs.Instances.{instance_sort}
 use Rattle.data_laws.proofs.Still.{AreStill}
 use Rattle.data_laws.proofs.Fit.{IsFit, Fits, fits_sorted}
 use Rattle.data_laws.proofs.Exists.{Settles, CallSettles, settles, by_operation}

@@ -5,7 +5,7 @@ use Rattle.std.proofs.lemmas.List.{append-nil}
 use Rattle.spec_core.specs.Terms.{TermTree, TermTrees, variable, apply, no_terms, and_term, preorder, preorders, IsGround, AreGround}
 use Rattle.spec_core.specs.Theories.{Theory}
 use Rattle.spec_core.specs.Sorts.{OnSome, HasSort, HaveSorts, no_variables}
-use Rattle.data_laws.proofs.Sorted.{on_both}
+use Rattle.spec_core.proofs.Instances.{on_both}
 use Rattle.data_laws.proofs.Fit.{on_use}
 
 module _ (theory : Theory) where

@@ -13,8 +13,8 @@ use Rattle.lotos_ast.specs.Parsing.{IsParsed, IsParsedBetween, IsRefusedFrom, re
 use Rattle.lotos_ast.specs.Refusals.{OnRefusal}
 use Rattle.lotos_ast.proofs.GrammarLaws.{rules_are_well_formed, types_are_well_formed}
 use Rattle.lotos_ast.proofs.Parsing.{parsed, refused as is_refused}
-use Rattle.token_cursor.specs.declared.parse_fault.ParseFault.{ParseFault}
-use Rattle.token_cursor.specs.Parsers.{Halts, Tells}
+use Rattle.syntax_cursor.specs.declared.parse_fault.ParseFault.{ParseFault}
+use Rattle.syntax_cursor.specs.Parsers.{Halts, Tells}
 
 rest_behind : (front rest : List Token) (n : ℕ) → n ≡ length (front ++ rest) - length rest → rest ≡ drop n (front ++ rest)
 rest_behind front rest n h =

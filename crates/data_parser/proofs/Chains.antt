@@ -8,10 +8,10 @@ use Rattle.lotos_ast.specs.Begins.{mark_at, place_at}
 use Rattle.lotos_ast.specs.Nesting.{Nesting, in_construct}
 use Rattle.lotos_ast.specs.Reads.{Tree, leaf, both, node, Reads, reads_sequence, reads_absent, reads_present, reads_enclosed, reads_part}
 use Rattle.lotos_ast.specs.ExpressionTrees.{infixes_tree, infix_tree}
-use Rattle.token_cursor.specs.declared.parse_fault.ParseFault.{ParseFault}
-use Rattle.token_cursor.specs.Parsers.{Halts}
+use Rattle.syntax_cursor.specs.declared.parse_fault.ParseFault.{ParseFault}
+use Rattle.syntax_cursor.specs.Parsers.{Halts}
 use Rattle.data_parser.specs.Chains.{ChainsOn}
-use Rattle.token_cursor.proofs.Rows.{halts_memory, halts_first, halts_second, halts_optional, halts_enclosed, halts_part}
+use Rattle.syntax_cursor.proofs.Rows.{halts_memory, halts_first, halts_second, halts_optional, halts_enclosed, halts_part}
 
 pub chain_none : (d : Nesting) (s : List Token) → ChainsOn d s [] d s
 chain_none d s = record { reads = λ ys r h. h; halts = λ e r h. h }

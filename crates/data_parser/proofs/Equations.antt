@@ -16,10 +16,10 @@ use Rattle.lotos_ast.specs.Reads.{Tree, unkept, both, node, absent, present, Rea
 use Rattle.lotos_ast.specs.ListTrees.{tree_place}
 use Rattle.lotos_ast.specs.ExpressionTrees.{expr_tree, premiss_tree}
 use Rattle.lotos_ast.specs.TypeTrees.{first_premiss_tree, conclusion_tree, premisses_tree, sides_tree, equation_tree, equations_tree}
-use Rattle.token_cursor.specs.declared.parse_fault.ParseFault.{ParseFault}
-use Rattle.token_cursor.specs.Parsers.{Halts}
+use Rattle.syntax_cursor.specs.declared.parse_fault.ParseFault.{ParseFault}
+use Rattle.syntax_cursor.specs.Parsers.{Halts}
 use Rattle.data_parser.specs.Equations.{EquationsOn}
-use Rattle.token_cursor.proofs.Rows.{part_place, halts_memory, halts_first, halts_second, halts_optional, halts_reduced, halts_part}
+use Rattle.syntax_cursor.proofs.Rows.{part_place, halts_memory, halts_first, halts_second, halts_optional, halts_reduced, halts_part}
 
 pub premisses_put_together : (first : Premiss) (rest : List Premiss) (all : Vec Premiss Global) (l r : Expr) →
     all.items ≡ insert rest 0 first →

@@ -18,9 +18,9 @@ use Rattle.lotos_ast.specs.Nesting.{Nesting}
 use Rattle.lotos_ast.specs.Reads.{unkept, both, right, leaf, Reads, Stops, reads_sequence, reads_left, reads_right, reads_placed, reads_part, stops_first, stops_second, stops_left, stops_right, stops_placed, stops_part}
 use Rattle.lotos_ast.specs.ListTrees.{optional_token_tree, behind}
 use Rattle.lotos_ast.specs.TypeTrees.{names_tree, operation_name_tree, two_sorts_tree, both_sorts_tree, operation_decl_tree}
-use Rattle.token_cursor.specs.declared.parse_fault.ParseFault.{ParseFault}
-use Rattle.token_cursor.specs.Parsers.{Halts}
-use Rattle.token_cursor.proofs.Rows.{halts_memory}
+use Rattle.syntax_cursor.specs.declared.parse_fault.ParseFault.{ParseFault}
+use Rattle.syntax_cursor.specs.Parsers.{Halts}
+use Rattle.syntax_cursor.proofs.Rows.{halts_memory}
 use Rattle.data_parser.specs.OperationNames.{is_infix, after_names, after_names_tree, NamesOn}
 
 -- the first name, with what follows it

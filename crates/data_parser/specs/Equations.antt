@@ -5,8 +5,8 @@ use Rattle.lotos_ast.specs.Notation.{optional, part, equations}
 use Rattle.lotos_ast.specs.Nesting.{Nesting}
 use Rattle.lotos_ast.specs.Reads.{Tree, Reads}
 use Rattle.lotos_ast.specs.TypeTrees.{equations_tree}
-use Rattle.token_cursor.specs.declared.parse_fault.ParseFault.{ParseFault}
-use Rattle.token_cursor.specs.Parsers.{Halts}
+use Rattle.syntax_cursor.specs.declared.parse_fault.ParseFault.{ParseFault}
+use Rattle.syntax_cursor.specs.Parsers.{Halts}
 
 -- From the first list of tokens to the second, equations with these trees were read, each with a semicolon. What follows
 -- completes them.

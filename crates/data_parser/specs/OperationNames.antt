@@ -11,8 +11,8 @@ use Rattle.lotos_ast.specs.Grammar.{infix_end}
 use Rattle.lotos_ast.specs.Nesting.{Nesting}
 use Rattle.lotos_ast.specs.Reads.{Tree, Reads}
 use Rattle.lotos_ast.specs.TypeTrees.{names_tree, prefix_end_tree, infix_end_tree}
-use Rattle.token_cursor.specs.declared.parse_fault.ParseFault.{ParseFault}
-use Rattle.token_cursor.specs.Parsers.{Halts}
+use Rattle.syntax_cursor.specs.declared.parse_fault.ParseFault.{ParseFault}
+use Rattle.syntax_cursor.specs.Parsers.{Halts}
 
 -- whether an operation stands between its arguments
 abbrev pub is_infix : OperationName → Bool

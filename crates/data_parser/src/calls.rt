@@ -16,8 +16,8 @@ use lotos_ast::refusal::FrontFault;
 use lotos_ast::token::Token;
 use lotos_ast::types::TypeDef;
 use std::alloc::Global;
-use token_cursor::cursor::Cursor;
-use token_cursor::refusals::refusal;
+use syntax_cursor::cursor::Cursor;
+use syntax_cursor::refusals::refusal;
 
 /// The expression that is the longest front of the tokens from number `from` on, and the number of the token behind it. Tokens
 /// count from 0.

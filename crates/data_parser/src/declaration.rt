@@ -5,15 +5,15 @@ ghost use Rattle.lotos_ast.specs.Notation.{part, declaration, declarations};
 ghost use Rattle.lotos_ast.specs.Reads.{Reads};
 ghost use Rattle.lotos_ast.specs.DeclarationTrees.{declaration_tree, declarations_tree};
 ghost use Rattle.lotos_ast.specs.Nesting.{nesting_of};
-ghost use Rattle.token_cursor.specs.Parsers.{Halts};
+ghost use Rattle.syntax_cursor.specs.Parsers.{Halts};
 
 use lotos_ast::declaration::{Declaration, Declarations};
 use lotos_ast::mark::Mark;
 use lotos_ast::nest::Nest;
-use token_cursor::cursor::Cursor;
-use token_cursor::identifier::Identifier;
-use token_cursor::item::Item;
-use token_cursor::parse_fault::ParseFault;
+use syntax_cursor::cursor::Cursor;
+use syntax_cursor::identifier::Identifier;
+use syntax_cursor::item::Item;
+use syntax_cursor::parse_fault::ParseFault;
 
 /// Variables of one sort.
 pub struct OneDeclaration;

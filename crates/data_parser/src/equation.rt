@@ -9,7 +9,7 @@ ghost use Rattle.lotos_ast.specs.ExpressionTrees.{expr_tree, premiss_tree};
 ghost use Rattle.lotos_ast.specs.TypeTrees.{conclusion_tree, first_premiss_tree, equation_tree, equations_tree};
 ghost use Rattle.lotos_ast.specs.TypeTrees.{equation_body_tree, optional_equation_part_tree};
 ghost use Rattle.lotos_ast.specs.Nesting.{nesting_of};
-ghost use Rattle.token_cursor.specs.Parsers.{Halts};
+ghost use Rattle.syntax_cursor.specs.Parsers.{Halts};
 
 use crate::declaration::declarations;
 use crate::expressions::{expression, premiss};
@@ -18,9 +18,9 @@ use lotos_ast::mark::Mark;
 use lotos_ast::nest::Nest;
 use lotos_ast::place::Place;
 use lotos_ast::types::{Equation, EquationBody, EquationPart, ForAll, SortEquations};
-use token_cursor::cursor::Cursor;
-use token_cursor::item::Item;
-use token_cursor::parse_fault::ParseFault;
+use syntax_cursor::cursor::Cursor;
+use syntax_cursor::item::Item;
+use syntax_cursor::parse_fault::ParseFault;
 
 /// A premiss.
 pub struct OnePremiss;

@@ -9,15 +9,15 @@ ghost use Rattle.lotos_ast.specs.ListTrees.{repeated_tree, list_tree, behind, be
 ghost use Rattle.lotos_ast.specs.ExpressionTrees.{expr_tree, infix_tree, simple_tree, head_tree, infixes_tree};
 ghost use Rattle.lotos_ast.specs.ExpressionTrees.{values_tree, optional_right_tree, premiss_tree};
 ghost use Rattle.lotos_ast.specs.Nesting.{nesting_of};
-ghost use Rattle.token_cursor.specs.Parsers.{Halts};
+ghost use Rattle.syntax_cursor.specs.Parsers.{Halts};
 
 use lotos_ast::expression::{Expr, Head, Infix, Premiss, Simple};
 use lotos_ast::mark::Mark;
 use lotos_ast::nest::Nest;
 use lotos_ast::token::Token;
-use token_cursor::cursor::Cursor;
-use token_cursor::item::Item;
-use token_cursor::parse_fault::ParseFault;
+use syntax_cursor::cursor::Cursor;
+use syntax_cursor::item::Item;
+use syntax_cursor::parse_fault::ParseFault;
 
 /// An `of` and a sort.
 pub struct OfSort;
@@ -145,7 +145,7 @@ pub fn arguments(cursor: &mut Cursor<'_>, nest: Nest) -> Result<Option<Vec<Expr>
 }
 
 // One expression or more, with commas between them.
-#[tactic(auto, using(token_cursor::proofs::Loops::loop_steps))]
+#[tactic(auto, using(syntax_cursor::proofs::Loops::loop_steps))]
 #[cycle(expression)]
 fn expressions(cursor: &mut Cursor<'_>, nest: Nest) -> Result<Vec<Expr>, ParseFault>
     ensures read { IfOk result (λ all. Reads (nesting_of nest) (list (part expression)) cursor.old
@@ -160,7 +160,7 @@ fn expressions(cursor: &mut Cursor<'_>, nest: Nest) -> Result<Vec<Expr>, ParseFa
 }
 
 // Expressions, each behind a comma.
-#[tactic(auto, using(token_cursor::proofs::Loops::loop_steps))]
+#[tactic(auto, using(syntax_cursor::proofs::Loops::loop_steps))]
 #[cycle(expression)]
 fn further_expressions(cursor: &mut Cursor<'_>, nest: Nest) -> Result<Vec<Expr>, ParseFault>
     ensures read { IfOk result (λ all. Reads (nesting_of nest) (repeated (quoted Mark.Comma ▸ part expression)) cursor.old

@@ -1,5 +1,5 @@
 // The parser of data types and expressions.
-#![tactic(auto, using(token_cursor::proofs::Steps::steps))]
+#![tactic(auto, using(syntax_cursor::proofs::Steps::steps))]
 
 mod calls;
 pub mod declaration;

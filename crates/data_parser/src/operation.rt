@@ -10,16 +10,16 @@ ghost use Rattle.lotos_ast.specs.Reads.{Reads, both, right, leaf};
 ghost use Rattle.lotos_ast.specs.ListTrees.{behind, optional_token_tree, optional_list_tree};
 ghost use Rattle.lotos_ast.specs.TypeTrees.{operation_name_tree, both_sorts_tree, operation_decl_tree, optional_operation_part_tree};
 ghost use Rattle.lotos_ast.specs.Nesting.{nesting_of};
-ghost use Rattle.token_cursor.specs.Parsers.{Halts};
+ghost use Rattle.syntax_cursor.specs.Parsers.{Halts};
 ghost use Rattle.data_parser.specs.OperationNames.{is_infix, after_names, after_names_tree, NamesOn};
 
 use lotos_ast::mark::Mark;
 use lotos_ast::nest::Nest;
 use lotos_ast::token::Token;
 use lotos_ast::types::{DeclaredName, OperationDecl, OperationName, OperationPart};
-use token_cursor::cursor::Cursor;
-use token_cursor::item::Item;
-use token_cursor::parse_fault::ParseFault;
+use syntax_cursor::cursor::Cursor;
+use syntax_cursor::item::Item;
+use syntax_cursor::parse_fault::ParseFault;
 
 /// Operations with one list of sorts.
 pub struct OneOperationDeclaration;

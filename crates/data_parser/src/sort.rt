@@ -6,14 +6,14 @@ ghost use Rattle.lotos_ast.specs.Grammar.{sort_list};
 ghost use Rattle.lotos_ast.specs.Reads.{Reads};
 ghost use Rattle.lotos_ast.specs.TypeTrees.{sort_list_tree, optional_sort_part_tree};
 ghost use Rattle.lotos_ast.specs.Nesting.{nesting_of};
-ghost use Rattle.token_cursor.specs.Parsers.{Halts};
+ghost use Rattle.syntax_cursor.specs.Parsers.{Halts};
 
 use lotos_ast::mark::Mark;
 use lotos_ast::nest::Nest;
 use lotos_ast::types::{SortList, SortPart};
-use token_cursor::cursor::Cursor;
-use token_cursor::identifier::Identifier;
-use token_cursor::parse_fault::ParseFault;
+use syntax_cursor::cursor::Cursor;
+use syntax_cursor::identifier::Identifier;
+use syntax_cursor::parse_fault::ParseFault;
 
 /// Sorts. A comma between two of them may be left out.
 pub fn sort_list(cursor: &mut Cursor<'_>, nest: Nest) -> Result<SortList, ParseFault>

@@ -12,7 +12,7 @@ ghost use Rattle.lotos_ast.specs.TypeTrees.{formal_sorts_tree, formal_operations
 ghost use Rattle.lotos_ast.specs.TypeTrees.{formals_tree, declared_items_tree, sort_pairs_tree, operation_pairs_tree};
 ghost use Rattle.lotos_ast.specs.TypeTrees.{pairs_tree, type_body_tree, type_def_tree};
 ghost use Rattle.lotos_ast.specs.Nesting.{nesting_of};
-ghost use Rattle.token_cursor.specs.Parsers.{Halts};
+ghost use Rattle.syntax_cursor.specs.Parsers.{Halts};
 
 use crate::equation::{equation_body, optional_equation_part};
 use crate::operation::{
@@ -27,10 +27,10 @@ use lotos_ast::types::{
     EquationBody, EquationPart, Formals, OperationDecl, OperationPair, OperationPart, Pairs,
     SortList, SortPair, SortPart, TypeBody, TypeDef,
 };
-use token_cursor::cursor::Cursor;
-use token_cursor::identifier::Identifier;
-use token_cursor::item::Item;
-use token_cursor::parse_fault::ParseFault;
+use syntax_cursor::cursor::Cursor;
+use syntax_cursor::identifier::Identifier;
+use syntax_cursor::item::Item;
+use syntax_cursor::parse_fault::ParseFault;
 
 /// A new sort for an old one.
 pub struct OneSortPair;

@@ -4,8 +4,8 @@ use Rattle.equation_check.specs.declared.groups.Group.{Group}
 use Rattle.std.proofs.Common.{zero, suc, ◌+◌, Bor, take, drop, get_or, set, arith}
 use Rattle.std.proofs.Math.Decide.{ℕ_discrete}
 use Rattle.std.proofs.lemmas.List.{map-append}
-use Rattle.number_sets.proofs.Members.{parted}
-use Rattle.number_sets.proofs.Flags.{in_below}
+use Rattle.equation_sets.proofs.Members.{parted}
+use Rattle.equation_sets.proofs.Flags.{in_below}
 use Rattle.spec_core.specs.declared.equation.Equation.{Equation}
 use Rattle.spec_core.specs.Lists.{Each, OneOf, IsOneOf}
 use Rattle.spec_core.specs.Orthogonality.{AreApart}

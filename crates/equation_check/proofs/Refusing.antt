@@ -10,7 +10,7 @@ use Rattle.equation_faults.specs.Faults.{loose_variable}
 use Rattle.equation_faults.proofs.Occurrences.{distinct, not_distinct, not_closed}
 use Rattle.equation_check.specs.Shape.{IsRefusalOf, IsAccepted, IsAnswerOf, AreRefusals, IsFirstRefusal, listed, none, next}
 use Rattle.equation_check.specs.Shape.{fault, overlap}
-use Rattle.number_sets.proofs.Members.{each_last, each_more, each_one, one_right}
+use Rattle.equation_sets.proofs.Members.{each_last, each_more, each_one, one_right}
 
 last_apart : (theory : Theory) (es : List ConditionalEquation) (e : ConditionalEquation) → AllApart theory es →
     Each (λ d. AreApart theory d e) es → AllApart theory (es ++ e ∷ [])

@@ -1,6 +1,6 @@
 -- Constructors by the set of the operations that head equations.
 use Rattle.std.proofs.Common.{ℕ, List, [], ◌∷◌, Bool, inl, inr}
-use Rattle.number_sets.specs.Members.{IsIn}
+use Rattle.equation_sets.specs.Members.{IsIn}
 use Rattle.spec_core.specs.Constructors.{IsMarked, IsConstructor}
 use Rattle.spec_core.specs.Lists.{Each, OneOf}
 use Rattle.spec_core.specs.Theories.{Theory, ConditionalEquation, Heads}

@@ -6,8 +6,8 @@ use Rattle.spec_core.specs.Terms.{TermTree, TermTrees, variable, apply, no_terms
 use Rattle.spec_core.specs.Theories.{Premise, premise, ConditionalEquation, OccursInPremises}
 use Rattle.equation_faults.specs.Firsts.{IsFirstOf, IsFirstRepeated}
 use Rattle.equation_faults.specs.Variables.{variables, all_variables, premises_variables, asked_variables}
-use Rattle.number_sets.proofs.Members.{each_one, each_more, one_left, one_right, one_parts, Distinct, distinct_joined}
-use Rattle.number_sets.proofs.Members.{distinct_left, distinct_right, distinct_apart}
+use Rattle.equation_sets.proofs.Members.{each_one, each_more, one_left, one_right, one_parts, Distinct, distinct_joined}
+use Rattle.equation_sets.proofs.Members.{distinct_left, distinct_right, distinct_apart}
 
 mutual
   pub listed : (x : ℕ) (t : TermTree) → Occurs x t → IsOneOf x (variables t)

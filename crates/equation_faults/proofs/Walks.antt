@@ -4,7 +4,7 @@ use Rattle.std.proofs.Common.{ap, arith, inl, inr, ◌∙◌, append_assoc}
 use Rattle.std.proofs.Common.{Bool, Result, Ok, Err, IfOk}
 use Rattle.std.proofs.lemmas.List.{append-nil}
 use Rattle.equation_faults.specs.Faults.{AreHeads}
-use Rattle.number_sets.specs.Members.{IsIn}
+use Rattle.equation_sets.specs.Members.{IsIn}
 use Rattle.spec_core.specs.declared.equation.Equation.{Equation}
 use Rattle.spec_core.specs.declared.term.Term.{Term}
 use Rattle.spec_core.specs.Constructors.{IsPattern, ArePatterns}
@@ -12,8 +12,8 @@ use Rattle.spec_core.specs.Lists.{OneOf, IsOneOf}
 use Rattle.spec_core.specs.Terms.{terms, term_of}
 use Rattle.spec_core.specs.Theories.{Theory, Premise, ConditionalEquation, Heads, premise_of, equation_of}
 use Rattle.equation_faults.specs.Variables.{variables, all_variables, premise_variables, premises_variables}
-use Rattle.number_sets.proofs.Members.{one_left, one_right, one_parts, some_left, some_right, some_parts, map_taken}
-use Rattle.term_shapes.proofs.TermLists.{each_at, each_more}
+use Rattle.equation_sets.proofs.Members.{one_left, one_right, one_parts, some_left, some_right, some_parts, map_taken}
+use Rattle.equation_shapes.proofs.TermLists.{each_at, each_more}
 
 module _ (theory : Theory) where
   pub patterns_at : (xs : List Term) (i : ℕ) (x : Term) → i < length xs → x ≡ get_or xs i x →

@@ -5,7 +5,7 @@ use Rattle.lotos_ast.specs.declared.refusal.Refusal.{Refusal}
 use Rattle.lotos_ast.specs.declared.refusal.RefusalKind.{RefusalKind}
 use Rattle.lotos_ast.specs.declared.refusal.RefusalKind.TheVariants.{ConstructorHasEquation, PatternHasDefined, NotLeftLinear}
 use Rattle.lotos_ast.specs.declared.refusal.RefusalKind.TheVariants.{LooseVariable}
-use Rattle.number_sets.specs.Members.{IsIn}
+use Rattle.equation_sets.specs.Members.{IsIn}
 use Rattle.spec_core.specs.Constructors.{IsMarked}
 use Rattle.spec_core.specs.Lists.{OneOf}
 use Rattle.spec_core.specs.Orthogonality.{HeadIsUnmarked, HasPatterns, IsLinear, HasNoLooseVariables}

@@ -4,8 +4,8 @@ ghost use Rattle.std.specs.Prelude.{IfOk};
 ghost use Rattle.equation_faults.specs.Faults.{AreHeads};
 ghost use Rattle.spec_core.specs.Theories.{theory_of};
 
-use number_sets::numbers::set_of;
-use number_sets::set::NumberSet;
+use equation_sets::numbers::set_of;
+use equation_sets::set::NumberSet;
 use spec_core::equation::DataSpec;
 use spec_core::memory::Memory;
 use spec_core::term::Term;

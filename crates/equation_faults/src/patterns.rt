@@ -7,7 +7,7 @@ ghost use Rattle.spec_core.specs.Orthogonality.{HasPatterns};
 ghost use Rattle.spec_core.specs.Terms.{term_of, terms};
 ghost use Rattle.spec_core.specs.Theories.{theory_of, equation_of};
 
-use number_sets::set::NumberSet;
+use equation_sets::set::NumberSet;
 use spec_core::constructors::is_marked;
 use spec_core::equation::{DataSpec, Equation};
 use spec_core::items::Op;

@@ -4,8 +4,8 @@ ghost use Rattle.std.specs.Prelude.{◌≡◌, IfOk, IfSome, IfNone};
 ghost use Rattle.equation_faults.specs.Firsts.{IsFirstOf, IsFirstRepeated};
 ghost use Rattle.spec_core.specs.Lists.{Each, IsOneOf, NoTwo};
 
-use number_sets::numbers::{bound_of, set_of};
-use number_sets::set::NumberSet;
+use equation_sets::numbers::{bound_of, set_of};
+use equation_sets::set::NumberSet;
 use spec_core::memory::Memory;
 use std::alloc::Global;
 

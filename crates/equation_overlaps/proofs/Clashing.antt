@@ -4,9 +4,9 @@ use Rattle.std.proofs.Common.{subst, ◌∙◌}
 use Rattle.std.proofs.Common.{inl, inr, ◌⊎◌, arith}
 use Rattle.std.proofs.Common.{Bool, true, false, refl}
 use Rattle.std.proofs.lemmas.Bool.{eqb-true, eqb-false}
-use Rattle.number_sets.proofs.Members.{map_taken, some_parts}
-use Rattle.premise_constants.proofs.Giving.{gives_to_candidates}
-use Rattle.premise_constants.specs.Given.{candidate}
+use Rattle.equation_sets.proofs.Members.{map_taken, some_parts}
+use Rattle.equation_overlaps.proofs.Giving.{gives_to_candidates}
+use Rattle.equation_overlaps.specs.Given.{candidate}
 use Rattle.spec_core.specs.declared.term.Term.{Term}
 use Rattle.spec_core.specs.Lists.{OneOf}
 use Rattle.spec_core.specs.Orthogonality.{Gives}

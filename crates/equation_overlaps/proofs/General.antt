@@ -2,8 +2,8 @@
 use Rattle.std.proofs.Common.{ℕ, ◌≡◌, ◌+◌, refl, sym}
 use Rattle.spec_core.specs.Terms.{TermTree, TermTrees, variable, apply, no_terms, and_term, instance, instances}
 use Rattle.spec_core.specs.Orthogonality.{IsLinear}
-use Rattle.term_shapes.specs.Shapes.{IsOfShape, AreOfShape, Meets, MeetAll}
-use Rattle.term_shapes.proofs.Linear.{filled, of_shape}
+use Rattle.equation_shapes.specs.Shapes.{IsOfShape, AreOfShape, Meets, MeetAll}
+use Rattle.equation_shapes.proofs.Linear.{filled, of_shape}
 use Rattle.equation_overlaps.specs.Common.{common_instance, common_instances}
 
 mutual

@@ -2,7 +2,7 @@
 use Rattle.std.proofs.Common.{ℕ, ◌≡◌, ◌<◌, ◌≤◌, ◌+◌, List, [], ◌∷◌, ◌++◌, length, map, take, get_or, refl, sym, ap, ◌∙◌, IfOk}
 use Rattle.std.proofs.Common.{Result, Ok, Err}
 use Rattle.std.proofs.lemmas.List.{map-append}
-use Rattle.number_sets.proofs.Members.{map_taken}
+use Rattle.equation_sets.proofs.Members.{map_taken}
 use Rattle.spec_core.specs.declared.term.Term.{Term}
 use Rattle.spec_core.specs.Terms.{TermTree, TermTrees, and_term, instance, instances, terms, term_of}
 use Rattle.spec_core.proofs.Lists.{all_taken}

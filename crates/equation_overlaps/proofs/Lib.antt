@@ -1,8 +1,10 @@
 pub mod Clashing
 pub mod Excluding
 pub mod General
+pub mod Giving
 pub mod Instances
 pub mod Joining
 pub mod Naming
 pub mod Parting
 pub mod Symmetric
+pub mod Walks

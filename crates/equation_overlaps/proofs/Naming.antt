@@ -4,10 +4,10 @@ use Rattle.std.proofs.Common.{◌∙◌}
 use Rattle.std.proofs.Common.{arith, inl, inr, length-append}
 use Rattle.std.proofs.lemmas.List.{get_or-set_same, get_or-set_other, take_more, map-append}
 use Rattle.equation_faults.specs.Variables.{variables, all_variables}
-use Rattle.number_sets.proofs.Members.{Distinct, distinct_apart, parted}
+use Rattle.equation_sets.proofs.Members.{Distinct, distinct_apart, parted}
 use Rattle.spec_core.specs.Lists.{IsOneOf}
 use Rattle.spec_core.specs.Terms.{TermTree, TermTrees, variable, apply, no_terms, and_term}
-use Rattle.term_shapes.specs.Shapes.{IsOfShape, AreOfShape}
+use Rattle.equation_shapes.specs.Shapes.{IsOfShape, AreOfShape}
 use Rattle.equation_overlaps.specs.Renamings.{new_name, renamed_term, renamed_terms}
 
 -- what is renamed is of the shape, and the shape is of its

@@ -2,8 +2,8 @@
 use Rattle.std.proofs.Common.{◌↔◌, IsTrue, Bool, inl, inr}
 use Rattle.spec_core.specs.Orthogonality.{IsLinear, ExcludeEachOther, AreApart}
 use Rattle.spec_core.specs.Theories.{ConditionalEquation, Theory}
-use Rattle.term_shapes.specs.Shapes.{Meets}
-use Rattle.term_shapes.proofs.Linear.{united, have_meet}
+use Rattle.equation_shapes.specs.Shapes.{Meets}
+use Rattle.equation_shapes.proofs.Linear.{united, have_meet}
 
 pub without : (theory : Theory) (e d : ConditionalEquation) → (Meets e.left d.left → ⊥) → AreApart theory e d
 without theory e d apart = inl (λ s z same. apart (have_meet e.left d.left record { one = s; other = z; same = same }))

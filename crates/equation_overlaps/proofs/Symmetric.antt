@@ -1,7 +1,7 @@
 -- Being apart is symmetric.
 use Rattle.std.proofs.Common.{ℕ, ◌≡◌, List, [], ◌∷◌, length, map, refl, sym, subst, ap, ◌∙◌, inl, inr, ◌⊎◌, arith}
 use Rattle.std.proofs.Math.Decide.{ℕ_discrete}
-use Rattle.number_sets.proofs.Members.{Distinct}
+use Rattle.equation_sets.proofs.Members.{Distinct}
 use Rattle.spec_core.specs.Lists.{Each, OneOf, IsOneOf}
 use Rattle.spec_core.specs.Orthogonality.{IsLinear, HasNoLooseVariables, Gives, renamed, IsAmong, ExcludeEachOther}
 use Rattle.spec_core.specs.Orthogonality.{AreApart}
@@ -9,8 +9,8 @@ use Rattle.spec_core.specs.Terms.{TermTree, TermTrees, variable, apply, no_terms
 use Rattle.spec_core.specs.Theories.{Premise, premise, ConditionalEquation, Theory, OccursInPremises}
 use Rattle.equation_faults.specs.Variables.{variables}
 use Rattle.equation_faults.proofs.Occurrences.{distinct}
-use Rattle.term_shapes.proofs.Linear.{of_shape}
-use Rattle.term_shapes.specs.Shapes.{IsOfShape}
+use Rattle.equation_shapes.proofs.Linear.{of_shape}
+use Rattle.equation_shapes.specs.Shapes.{IsOfShape}
 use Rattle.equation_overlaps.specs.Renamings.{renamed_term, renamed_terms}
 use Rattle.equation_overlaps.proofs.Naming.{shape_back, as_many, renamed_to}
 

@@ -3,7 +3,7 @@ use Rattle.std.specs.Prelude.{ℕ, ◌≡◌}
 use Rattle.spec_core.specs.Orthogonality.{IsLinear, HasNoLooseVariables, AreApart}
 use Rattle.spec_core.specs.Terms.{TermTree, instance}
 use Rattle.spec_core.specs.Theories.{ConditionalEquation, Theory}
-use Rattle.term_shapes.specs.Shapes.{IsOfShape, Meets}
+use Rattle.equation_shapes.specs.Shapes.{IsOfShape, Meets}
 use Rattle.equation_overlaps.specs.Common.{common_instance}
 
 abbrev pub BeingApartIsSymmetric : Type 0

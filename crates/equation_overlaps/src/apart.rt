@@ -8,10 +8,10 @@ ghost use Rattle.spec_core.specs.Theories.{theory_of, equation_of};
 use crate::exclusion::cannot_hold;
 use crate::renaming::{names_of, renamed_premises};
 use equation_faults::variables::variables;
+use equation_shapes::shape::{is_of_shape, meets};
 use spec_core::equation::{DataSpec, Equation};
 use spec_core::memory::Memory;
 use std::alloc::Global;
-use term_shapes::shape::{is_of_shape, meets};
 
 // Whether two equations exclude each other.
 fn exclude_each_other(

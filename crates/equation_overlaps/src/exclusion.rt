@@ -6,7 +6,7 @@ ghost use Rattle.spec_core.specs.Lists.{OneOf};
 ghost use Rattle.spec_core.specs.Terms.{term_of};
 ghost use Rattle.spec_core.specs.Theories.{premise_of, theory_of};
 
-use premise_constants::{candidate, constant_given};
+use crate::{candidate, constant_given};
 use spec_core::equation::DataSpec;
 use spec_core::term::Term;
 

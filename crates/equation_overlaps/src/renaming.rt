@@ -7,7 +7,7 @@ ghost use Rattle.spec_core.specs.Orthogonality.{renamed};
 ghost use Rattle.spec_core.specs.Terms.{term_of};
 ghost use Rattle.spec_core.specs.Theories.{premise_of};
 
-use number_sets::numbers::bound_of;
+use equation_sets::numbers::bound_of;
 use spec_core::memory::Memory;
 use spec_core::term::Term;
 use std::alloc::Global;

@@ -4,13 +4,13 @@ use Rattle.std.proofs.Common.{option_map, option_and_then}
 use Rattle.spec_core.specs.Terms.{TermTree}
 use Rattle.spec_core.specs.Theories.{Premise, premise}
 use Rattle.spec_core.specs.Code.{Program, Variable, Binding, ExitValue, exit_given, exit_any, ActionField, give, accept}
-use Rattle.windowed_trees.specs.MarkedTerms.{MarkedTerm, plain, mark, MarkedAssignment, with_marked, marked_instance, MayHaveValue}
-use Rattle.windowed_trees.specs.MarkedTerms.{MayBeEqual, PremiseMayHold}
-use Rattle.windowed_trees.specs.MarkedFields.{BindingsMayHave, ArgumentsMayHave}
-use Rattle.composites.specs.Evaluations.{Evaluation, IsExact, marked_value, may_be_equal, premise_may_hold, with_bindings, with_arguments}
-use Rattle.composites.specs.OpenFields.{OpenField, blank, open_by, open_fields, open_exit}
-use Rattle.composites.proofs.Exact.{value_is}
-use Rattle.marked_values.specs.Found.{FieldsOpen, ExitOpen}
+use Rattle.symbolic_rules.specs.MarkedTerms.{MarkedTerm, plain, mark, MarkedAssignment, with_marked, marked_instance, MayHaveValue}
+use Rattle.symbolic_rules.specs.MarkedTerms.{MayBeEqual, PremiseMayHold}
+use Rattle.symbolic_rules.specs.MarkedFields.{BindingsMayHave, ArgumentsMayHave}
+use Rattle.symbolic_composites.specs.Evaluations.{Evaluation, IsExact, marked_value, may_be_equal, premise_may_hold, with_bindings, with_arguments}
+use Rattle.symbolic_composites.specs.OpenFields.{OpenField, blank, open_by, open_fields, open_exit}
+use Rattle.symbolic_composites.proofs.Exact.{value_is}
+use Rattle.node_values.specs.Found.{FieldsOpen, ExitOpen}
 
 pub none_of : {A : Type 0} (o : Option A) → ((a : A) → o ≡ Some a → ⊥) → o ≡ None
 none_of None h = refl

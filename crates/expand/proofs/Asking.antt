@@ -16,23 +16,23 @@ use Rattle.rule_model.specs.Behaviours.{hide, enable, disable, call, relabel}
 use Rattle.rule_model.specs.Code.{IsDefinition}
 use Rattle.rule_model.specs.Fields.{ArgumentsHave}
 use Rattle.rule_model.specs.Substitution.{Assignment, with_term}
-use Rattle.code_behaviours.specs.Values.{term_spelled}
-use Rattle.code_behaviours.proofs.Reading.{values_are_read}
-use Rattle.windowed_trees.specs.Windows.{Windows}
-use Rattle.windowed_trees.specs.MarkedTerms.{MarkedTerm, plain, MarkedAssignment, AllPlain, unmarked, with_marked, PremiseMayHold}
-use Rattle.windowed_trees.specs.MarkedFields.{BindingsMayHave, ArgumentsMayHave}
-use Rattle.windowed_trees.proofs.Acting.{plain_instance, with_one_plain, bindings_have, arguments_have}
-use Rattle.composites.specs.Kinds.{is_alone, is_joint, is_hidden, is_end, same_kind}
-use Rattle.composites.specs.OpenFields.{OpenField, all_together}
-use Rattle.composites.specs.Composites.{from_option}
-use Rattle.open_composites.specs.declared.scheme.Row.TheVariants.{Chl, Chr, Val, Gate, Guard, Let, Parl, Parr, Pass, Enstep, Disstep}
-use Rattle.open_composites.specs.declared.scheme.Row.TheVariants.{Disend, Distake, Call}
-use Rattle.open_composites.specs.Plans.{prefix, termination, hidden, handed_on}
-use Rattle.open_composites.specs.OpenPlans.{OpenPlan, under_row, under_relabelling, turned_by, plans_alone, paired_plan, plans_joint}
-use Rattle.open_composites.specs.OpenPlans.{plan_by_hiding, plan_by_enabling, plan_by_disabling, plans_of_choice, plans_of_parallel}
-use Rattle.open_composites.specs.OpenPlans.{plans_of_disable, plans_of_gates}
-use Rattle.reached_terms.specs.Asking.{PlanAsks, binding_asks, term_asks, field_asks, exit_asks}
-use Rattle.reached_terms.specs.Reached.{FieldAsks, ExitAsks, BindingAsks, ArgumentAsks, ReachesBelow}
+use Rattle.rule_origins.specs.Values.{term_spelled}
+use Rattle.rule_origins.proofs.Reading.{values_are_read}
+use Rattle.symbolic_rules.specs.Windows.{Windows}
+use Rattle.symbolic_rules.specs.MarkedTerms.{MarkedTerm, plain, MarkedAssignment, AllPlain, unmarked, with_marked, PremiseMayHold}
+use Rattle.symbolic_rules.specs.MarkedFields.{BindingsMayHave, ArgumentsMayHave}
+use Rattle.symbolic_rules.proofs.Acting.{plain_instance, with_one_plain, bindings_have, arguments_have}
+use Rattle.symbolic_composites.specs.Kinds.{is_alone, is_joint, is_hidden, is_end, same_kind}
+use Rattle.symbolic_composites.specs.OpenFields.{OpenField, all_together}
+use Rattle.symbolic_composites.specs.Composites.{from_option}
+use Rattle.symbolic_plans.specs.declared.scheme.Row.TheVariants.{Chl, Chr, Val, Gate, Guard, Let, Parl, Parr, Pass, Enstep, Disstep}
+use Rattle.symbolic_plans.specs.declared.scheme.Row.TheVariants.{Disend, Distake, Call}
+use Rattle.symbolic_plans.specs.Plans.{prefix, termination, hidden, handed_on}
+use Rattle.symbolic_plans.specs.OpenPlans.{OpenPlan, under_row, under_relabelling, turned_by, plans_alone, paired_plan, plans_joint}
+use Rattle.symbolic_plans.specs.OpenPlans.{plan_by_hiding, plan_by_enabling, plan_by_disabling, plans_of_choice, plans_of_parallel}
+use Rattle.symbolic_plans.specs.OpenPlans.{plans_of_disable, plans_of_gates}
+use Rattle.symbolic_reach.specs.Asking.{PlanAsks, binding_asks, term_asks, field_asks, exit_asks}
+use Rattle.symbolic_reach.specs.Reached.{FieldAsks, ExitAsks, BindingAsks, ArgumentAsks, ReachesBelow}
 use Rattle.expand.specs.Choosing.{IsChoice}
 use Rattle.expand.specs.Outcomes.{AsksReached, IsReached}
 

@@ -10,23 +10,23 @@ use Rattle.spec_core.specs.Ready.{IsReady}
 use Rattle.rule_model.specs.Actions.{pairs_of}
 use Rattle.rule_model.specs.Behaviours.{Behaviour, call}
 use Rattle.rule_model.specs.Code.{IsDefinition}
-use Rattle.code_behaviours.specs.Parts.{behaviour_at}
-use Rattle.code_behaviours.proofs.Standing.{behaviours_stand}
-use Rattle.windowed_trees.specs.Windows.{Windows}
-use Rattle.windowed_trees.specs.MarkedTerms.{MarkedAssignment, unmarked}
-use Rattle.windowed_trees.specs.MarkedFields.{ArgumentsMayHave}
-use Rattle.composites.specs.Evaluations.{Definition, Evaluation, IsExact, with_arguments}
-use Rattle.composites.specs.Composites.{from_option}
-use Rattle.composites.proofs.Exact.{arguments_are}
-use Rattle.open_composites.specs.declared.scheme.Row.TheVariants.{Call}
-use Rattle.open_composites.specs.OpenPlans.{OpenPlan, under_row, under_relabelling}
-use Rattle.own_plans.specs.OwnPlans.{own_plans_below}
-use Rattle.reached_terms.specs.Reached.{ArgumentAsks, ReachesBelow}
-use Rattle.reached_terms.specs.Spread.{number_of, spread_below}
-use Rattle.marked_values.specs.declared.stop.Stop.{Stop}
-use Rattle.marked_values.specs.declared.stop.Stop.TheVariants.{Spent, TooLarge, Wide, Memory}
-use Rattle.marked_values.specs.Stops.{Stops, Never}
-use Rattle.marked_values.proofs.Stopping.{stops_on}
+use Rattle.rule_origins.specs.Parts.{behaviour_at}
+use Rattle.rule_origins.proofs.Standing.{behaviours_stand}
+use Rattle.symbolic_rules.specs.Windows.{Windows}
+use Rattle.symbolic_rules.specs.MarkedTerms.{MarkedAssignment, unmarked}
+use Rattle.symbolic_rules.specs.MarkedFields.{ArgumentsMayHave}
+use Rattle.symbolic_composites.specs.Evaluations.{Definition, Evaluation, IsExact, with_arguments}
+use Rattle.symbolic_composites.specs.Composites.{from_option}
+use Rattle.symbolic_composites.proofs.Exact.{arguments_are}
+use Rattle.symbolic_plans.specs.declared.scheme.Row.TheVariants.{Call}
+use Rattle.symbolic_plans.specs.OpenPlans.{OpenPlan, under_row, under_relabelling}
+use Rattle.symbolic_plans.specs.OwnPlans.{own_plans_below}
+use Rattle.symbolic_reach.specs.Reached.{ArgumentAsks, ReachesBelow}
+use Rattle.symbolic_reach.specs.Spread.{number_of, spread_below}
+use Rattle.node_values.specs.declared.stop.Stop.{Stop}
+use Rattle.node_values.specs.declared.stop.Stop.TheVariants.{Spent, TooLarge, Wide, Memory}
+use Rattle.node_values.specs.Stops.{Stops, Never}
+use Rattle.node_values.proofs.Stopping.{stops_on}
 use Rattle.expand.specs.declared.outcome.Expanded.{Expanded}
 use Rattle.expand.specs.Outcomes.{plans_in, AsksReached, spread_with, IsReached, IsTooWide, Stopped, Outcome, BelowOutcome}
 use Rattle.expand.specs.Joins.{OnlyWide, Sized, Turns}

@@ -6,6 +6,5 @@ pub mod Choosing
 pub mod Calling
 pub mod Showing
 pub mod Walking
-pub mod Tidying
 pub mod Few
 pub mod Top

@@ -9,25 +9,25 @@ use Rattle.spec_core.specs.Code.{Program, Variable, Binding, Relabelling, ExitVa
 use Rattle.rule_model.specs.Actions.{inside, ends, at_gate}
 use Rattle.rule_model.specs.Behaviours.{Behaviour, stop, exit, inner, action, choice, guarded, bound, gate_choice, parallel}
 use Rattle.rule_model.specs.Behaviours.{hide, enable, disable, relabel}
-use Rattle.windowed_trees.specs.Windows.{Windows}
-use Rattle.windowed_trees.specs.MarkedTerms.{MarkedAssignment, PremiseMayHold}
-use Rattle.windowed_trees.specs.MarkedFields.{BindingsMayHave}
-use Rattle.composites.specs.Evaluations.{Evaluation, IsExact}
-use Rattle.composites.specs.OpenFields.{OpenField}
-use Rattle.composites.specs.Composites.{from_option}
-use Rattle.composites.proofs.Exact.{premise_is, bindings_are}
-use Rattle.open_composites.specs.declared.scheme.Row.TheVariants.{Guard, Let}
-use Rattle.open_composites.specs.Plans.{prefix, internal, termination}
-use Rattle.open_composites.specs.OpenPlans.{OpenPlan, under_row, under_relabelling, plan_by_hiding, plan_by_enabling, plans_of_choice}
-use Rattle.open_composites.specs.OpenPlans.{plans_of_parallel, plans_of_disable, plans_of_gates}
-use Rattle.own_plans.specs.OwnPlans.{takes_value, takes_any}
-use Rattle.reached_terms.specs.Reached.{PremiseAsks, FieldAsks, ExitAsks, BindingAsks}
-use Rattle.reached_terms.specs.Spread.{number_of}
-use Rattle.marked_values.specs.declared.stop.Stop.{Stop}
-use Rattle.marked_values.specs.declared.stop.Stop.TheVariants.{Spent, TooLarge, Wide, Memory}
-use Rattle.marked_values.specs.Stops.{Stops, Never}
-use Rattle.marked_values.specs.Found.{FieldsOpen, ExitOpen}
-use Rattle.marked_values.proofs.Stopping.{stops_on}
+use Rattle.symbolic_rules.specs.Windows.{Windows}
+use Rattle.symbolic_rules.specs.MarkedTerms.{MarkedAssignment, PremiseMayHold}
+use Rattle.symbolic_rules.specs.MarkedFields.{BindingsMayHave}
+use Rattle.symbolic_composites.specs.Evaluations.{Evaluation, IsExact}
+use Rattle.symbolic_composites.specs.OpenFields.{OpenField}
+use Rattle.symbolic_composites.specs.Composites.{from_option}
+use Rattle.symbolic_composites.proofs.Exact.{premise_is, bindings_are}
+use Rattle.symbolic_plans.specs.declared.scheme.Row.TheVariants.{Guard, Let}
+use Rattle.symbolic_plans.specs.Plans.{prefix, internal, termination}
+use Rattle.symbolic_plans.specs.OpenPlans.{OpenPlan, under_row, under_relabelling, plan_by_hiding, plan_by_enabling, plans_of_choice}
+use Rattle.symbolic_plans.specs.OpenPlans.{plans_of_parallel, plans_of_disable, plans_of_gates}
+use Rattle.symbolic_plans.specs.OwnPlans.{takes_value, takes_any}
+use Rattle.symbolic_reach.specs.Reached.{PremiseAsks, FieldAsks, ExitAsks, BindingAsks}
+use Rattle.symbolic_reach.specs.Spread.{number_of}
+use Rattle.node_values.specs.declared.stop.Stop.{Stop}
+use Rattle.node_values.specs.declared.stop.Stop.TheVariants.{Spent, TooLarge, Wide, Memory}
+use Rattle.node_values.specs.Stops.{Stops, Never}
+use Rattle.node_values.specs.Found.{FieldsOpen, ExitOpen}
+use Rattle.node_values.proofs.Stopping.{stops_on}
 use Rattle.expand.specs.declared.outcome.Expanded.{Expanded}
 use Rattle.expand.specs.Outcomes.{plans_in, AsksReached, plans_with, spread_with, Expands, IsReached, IsTooWide, Stopped, Outcome}
 use Rattle.expand.specs.Joins.{OnlyWide, Sized, HandedOn, Turns, Joins}

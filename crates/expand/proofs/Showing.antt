@@ -8,15 +8,15 @@ use Rattle.spec_core.specs.Windows.{IsMember}
 use Rattle.spec_core.specs.declared.window.Window.{Window}
 use Rattle.rule_model.specs.declared.rules.Slot.TheVariants.{Of, Mark}
 use Rattle.rule_model.specs.Fields.{Spells}
-use Rattle.code_behaviours.specs.Values.{term_spelled}
-use Rattle.code_behaviours.proofs.Reading.{values_are_read}
-use Rattle.windowed_trees.specs.Windows.{Windows, sort_of_value}
-use Rattle.windowed_trees.specs.MarkedTerms.{plain, mark}
-use Rattle.windowed_trees.proofs.Sorts.{sort_of_ground}
-use Rattle.marked_values.specs.declared.scope.Given.TheVariants.{Value}
-use Rattle.marked_values.specs.Scopes.{marked_of}
+use Rattle.rule_origins.specs.Values.{term_spelled}
+use Rattle.rule_origins.proofs.Reading.{values_are_read}
+use Rattle.symbolic_rules.specs.Windows.{Windows, sort_of_value}
+use Rattle.symbolic_rules.specs.MarkedTerms.{plain, mark}
+use Rattle.symbolic_rules.proofs.Sorts.{sort_of_ground}
+use Rattle.node_values.specs.declared.scope.Given.TheVariants.{Value}
+use Rattle.node_values.specs.Scopes.{marked_of}
 use Rattle.expand.specs.Choosing.{IsChoice}
-use Rattle.window_tables.specs.Tables.{windows_in, values_of}
+use Rattle.symbolic_rules.specs.Tables.{windows_in, values_of}
 use Rattle.sort_windows.specs.Found.{AreBySorts}
 
 each_listed : {A : Type 0} (P : A → Type 0) (xs : List A) (x : A) → Each P xs → Contains xs x → P x

@@ -10,31 +10,31 @@ use Rattle.spec_core.specs.declared.window.Window.{Window}
 use Rattle.sort_windows.specs.Found.{AreBySorts}
 use Rattle.rule_model.specs.Behaviours.{Behaviour}
 use Rattle.rule_model.specs.Substitution.{put}
-use Rattle.tree_nodes.specs.Origins.{relabelled_by}
-use Rattle.tree_nodes.proofs.Tidying.{put_relabelled}
-use Rattle.code_behaviours.specs.Parts.{behaviour_at}
-use Rattle.code_behaviours.specs.Values.{assignment}
-use Rattle.code_behaviours.proofs.Reading.{values_close}
-use Rattle.windowed_trees.specs.Windows.{Windows, AreWindows}
-use Rattle.windowed_trees.specs.MarkedTerms.{MarkedAssignment, plain, unmarked}
-use Rattle.composites.specs.Evaluations.{Evaluation}
-use Rattle.own_plans.specs.OwnPlans.{own_plans}
-use Rattle.own_plans.proofs.Origins.{own_plans_of_origins}
-use Rattle.open_composites.specs.OpenPlans.{OpenPlan, open_plan_of}
-use Rattle.reached_terms.specs.Asking.{PlanAsks}
-use Rattle.reached_terms.specs.Reached.{Reaches, ReachesIn, ReachesBelow}
-use Rattle.reached_terms.specs.Spread.{spread}
-use Rattle.reached_terms.proofs.Reaching.{reached_of_origins}
-use Rattle.reached_terms.proofs.Spreading.{spread_of_origins}
-use Rattle.marked_values.specs.declared.scope.Given.{Given}
-use Rattle.marked_values.specs.declared.stop.Stop.{Stop}
-use Rattle.marked_values.specs.Scopes.{marks_of, scope_over}
+use Rattle.node_trees.specs.Origins.{relabelled_by}
+use Rattle.node_trees.proofs.Tidying.{put_relabelled}
+use Rattle.rule_origins.specs.Parts.{behaviour_at}
+use Rattle.rule_origins.specs.Values.{assignment}
+use Rattle.rule_origins.proofs.Reading.{values_close}
+use Rattle.symbolic_rules.specs.Windows.{Windows, AreWindows}
+use Rattle.symbolic_rules.specs.MarkedTerms.{MarkedAssignment, plain, unmarked}
+use Rattle.symbolic_composites.specs.Evaluations.{Evaluation}
+use Rattle.symbolic_plans.specs.OwnPlans.{own_plans}
+use Rattle.symbolic_plans.proofs.Origins.{own_plans_of_origins}
+use Rattle.symbolic_plans.specs.OpenPlans.{OpenPlan, open_plan_of}
+use Rattle.symbolic_reach.specs.Asking.{PlanAsks}
+use Rattle.symbolic_reach.specs.Reached.{Reaches, ReachesIn, ReachesBelow}
+use Rattle.symbolic_reach.specs.Spread.{spread}
+use Rattle.symbolic_reach.proofs.Reaching.{reached_of_origins}
+use Rattle.symbolic_reach.proofs.Spreading.{spread_of_origins}
+use Rattle.node_values.specs.declared.scope.Given.{Given}
+use Rattle.node_values.specs.declared.stop.Stop.{Stop}
+use Rattle.node_values.specs.Scopes.{marks_of, scope_over}
 use Rattle.expand.specs.declared.outcome.Expanded.{Expanded}
-use Rattle.marked_values.proofs.Stopping.{stops_on}
+use Rattle.node_values.proofs.Stopping.{stops_on}
 use Rattle.expand.specs.Outcomes.{AsksReached, Expands, IsReached, IsTooWide, Stopped, Outcome}
-use Rattle.window_tables.specs.Tables.{windows_in, values_of, complete_of}
+use Rattle.symbolic_rules.specs.Tables.{windows_in, values_of, complete_of}
 use Rattle.expand.specs.Expansions.{AskReached, IsExpansion, IsTooWideFor, IsStop, IsStopAt}
-use Rattle.marked_values.proofs.Scoping.{scope_known}
+use Rattle.node_values.proofs.Scoping.{scope_known}
 
 each_more : {A : Type 0} (P Q : A → Type 0) (xs : List A) → ((x : A) → P x → Q x) → Each P xs → Each Q xs
 each_more P Q [] h k = tt

@@ -10,12 +10,12 @@ use Rattle.spec_core.specs.declared.code.CodeNode.{CodeNode}
 use Rattle.spec_core.specs.declared.items.Gate.{Gate}
 use Rattle.rule_model.specs.declared.rules.Slot.TheVariants.{Of, Mark}
 use Rattle.rule_model.specs.Behaviours.{Behaviour, action, value_choice, gate_choice}
-use Rattle.code_behaviours.specs.Parts.{behaviour_at, over_parts}
-use Rattle.windowed_trees.specs.Windows.{Windows}
-use Rattle.windowed_trees.specs.MarkedTerms.{MarkedAssignment}
-use Rattle.composites.specs.OpenFields.{window_slots, mark_unless}
-use Rattle.open_composites.specs.OpenPlans.{plans_of_gates}
-use Rattle.marked_values.specs.declared.stop.Stop.{Stop}
+use Rattle.rule_origins.specs.Parts.{behaviour_at, over_parts}
+use Rattle.symbolic_rules.specs.Windows.{Windows}
+use Rattle.symbolic_rules.specs.MarkedTerms.{MarkedAssignment}
+use Rattle.symbolic_composites.specs.OpenFields.{window_slots, mark_unless}
+use Rattle.symbolic_plans.specs.OpenPlans.{plans_of_gates}
+use Rattle.node_values.specs.declared.stop.Stop.{Stop}
 use Rattle.expand.specs.declared.outcome.Expanded.{Expanded}
 use Rattle.expand.specs.Choosing.{ExpandsEach, IsPrefix}
 use Rattle.expand.specs.Joins.{OnlyWide, Sized, Turns}

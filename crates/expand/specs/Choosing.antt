@@ -5,16 +5,16 @@ use Rattle.spec_core.specs.Theories.{Theory}
 use Rattle.spec_core.specs.Code.{Program, Variable}
 use Rattle.rule_model.specs.declared.rules.Slot.{Slot}
 use Rattle.rule_model.specs.Behaviours.{Behaviour, value_choice}
-use Rattle.windowed_trees.specs.Windows.{Windows}
-use Rattle.windowed_trees.specs.MarkedTerms.{MarkedTerm, MarkedAssignment, with_marked}
-use Rattle.windowed_trees.specs.MarkedFields.{chosen_by, IsWithin, Chooses}
-use Rattle.composites.specs.Evaluations.{Evaluation, IsExact, chosen_term}
-use Rattle.composites.specs.Composites.{from_option}
-use Rattle.composites.specs.OpenFields.{window_slots}
-use Rattle.open_composites.specs.declared.scheme.Row.TheVariants.{Val}
-use Rattle.open_composites.specs.OpenPlans.{OpenPlan, under_row}
-use Rattle.reached_terms.specs.Spread.{number_of}
-use Rattle.marked_values.specs.declared.stop.Stop.{Stop}
+use Rattle.symbolic_rules.specs.Windows.{Windows}
+use Rattle.symbolic_rules.specs.MarkedTerms.{MarkedTerm, MarkedAssignment, with_marked}
+use Rattle.symbolic_rules.specs.MarkedFields.{chosen_by, IsWithin, Chooses}
+use Rattle.symbolic_composites.specs.Evaluations.{Evaluation, IsExact, chosen_term}
+use Rattle.symbolic_composites.specs.Composites.{from_option}
+use Rattle.symbolic_composites.specs.OpenFields.{window_slots}
+use Rattle.symbolic_plans.specs.declared.scheme.Row.TheVariants.{Val}
+use Rattle.symbolic_plans.specs.OpenPlans.{OpenPlan, under_row}
+use Rattle.symbolic_reach.specs.Spread.{number_of}
+use Rattle.node_values.specs.declared.stop.Stop.{Stop}
 use Rattle.expand.specs.declared.outcome.Expanded.{Expanded}
 use Rattle.expand.specs.Outcomes.{plans_in, AsksReached, plans_with, spread_with, IsReached, Stopped}
 

@@ -5,16 +5,16 @@ use Rattle.spec_core.specs.Lists.{Each}
 use Rattle.spec_core.specs.Terms.{TermTree}
 use Rattle.rule_model.specs.Behaviours.{Behaviour}
 use Rattle.rule_model.specs.Substitution.{Assignment}
-use Rattle.windowed_trees.specs.Windows.{Windows, AreWindows}
-use Rattle.windowed_trees.specs.MarkedTerms.{unmarked}
-use Rattle.composites.specs.Evaluations.{Evaluation, IsExact}
-use Rattle.open_composites.specs.OpenPlans.{OpenPlan}
-use Rattle.own_plans.specs.OwnPlans.{own_plans}
-use Rattle.reached_terms.specs.Asking.{PlanAsks}
-use Rattle.reached_terms.specs.Reached.{Reaches}
-use Rattle.reached_terms.specs.Spread.{spread}
-use Rattle.marked_values.specs.declared.stop.Stop.{Stop}
-use Rattle.marked_values.specs.Stops.{Stops}
+use Rattle.symbolic_rules.specs.Windows.{Windows, AreWindows}
+use Rattle.symbolic_rules.specs.MarkedTerms.{unmarked}
+use Rattle.symbolic_composites.specs.Evaluations.{Evaluation, IsExact}
+use Rattle.symbolic_plans.specs.OpenPlans.{OpenPlan}
+use Rattle.symbolic_plans.specs.OwnPlans.{own_plans}
+use Rattle.symbolic_reach.specs.Asking.{PlanAsks}
+use Rattle.symbolic_reach.specs.Reached.{Reaches}
+use Rattle.symbolic_reach.specs.Spread.{spread}
+use Rattle.node_values.specs.declared.stop.Stop.{Stop}
+use Rattle.node_values.specs.Stops.{Stops}
 
 module _ (program : Program) (w : Windows) (b : Behaviour) where
   -- The plans are those that the closed behaviour's constructs make, in order, whichever exact answers about data and code they are made

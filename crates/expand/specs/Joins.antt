@@ -1,10 +1,10 @@
 -- What operators make of the expansions of their parts.
 use Rattle.std.specs.Prelude.{ℕ, ◌≡◌, ◌+◌, ◌<◌, ◌++◌, List, map, Result, Ok, Err}
 use Rattle.rule_model.specs.declared.rules.Slot.{Slot}
-use Rattle.open_composites.specs.declared.scheme.Row.TheVariants.{Val}
-use Rattle.open_composites.specs.OpenPlans.{OpenPlan, under_row}
-use Rattle.marked_values.specs.declared.stop.Stop.{Stop}
-use Rattle.marked_values.specs.declared.stop.Stop.TheVariants.{Spent, TooLarge, Wide, Memory}
+use Rattle.symbolic_plans.specs.declared.scheme.Row.TheVariants.{Val}
+use Rattle.symbolic_plans.specs.OpenPlans.{OpenPlan, under_row}
+use Rattle.node_values.specs.declared.stop.Stop.{Stop}
+use Rattle.node_values.specs.declared.stop.Stop.TheVariants.{Spent, TooLarge, Wide, Memory}
 use Rattle.expand.specs.declared.outcome.Expanded.{Expanded}
 use Rattle.expand.specs.Outcomes.{plans_in}
 

@@ -5,16 +5,16 @@ use Rattle.spec_core.specs.Terms.{TermTree}
 use Rattle.spec_core.specs.Code.{Program}
 use Rattle.rule_model.specs.Behaviours.{Behaviour}
 use Rattle.rule_model.specs.Substitution.{Assignment}
-use Rattle.windowed_trees.specs.Windows.{Windows}
-use Rattle.windowed_trees.specs.MarkedTerms.{MarkedAssignment, AllPlain}
-use Rattle.composites.specs.Evaluations.{Evaluation, IsExact}
-use Rattle.open_composites.specs.OpenPlans.{OpenPlan, open_plan_of}
-use Rattle.own_plans.specs.OwnPlans.{own_plans_in, own_plans_below}
-use Rattle.reached_terms.specs.Asking.{PlanAsks}
-use Rattle.reached_terms.specs.Reached.{ReachesIn, ReachesBelow}
-use Rattle.reached_terms.specs.Spread.{spread_in, spread_below}
-use Rattle.marked_values.specs.declared.stop.Stop.{Stop}
-use Rattle.marked_values.specs.Stops.{Stops}
+use Rattle.symbolic_rules.specs.Windows.{Windows}
+use Rattle.symbolic_rules.specs.MarkedTerms.{MarkedAssignment, AllPlain}
+use Rattle.symbolic_composites.specs.Evaluations.{Evaluation, IsExact}
+use Rattle.symbolic_plans.specs.OpenPlans.{OpenPlan, open_plan_of}
+use Rattle.symbolic_plans.specs.OwnPlans.{own_plans_in, own_plans_below}
+use Rattle.symbolic_reach.specs.Asking.{PlanAsks}
+use Rattle.symbolic_reach.specs.Reached.{ReachesIn, ReachesBelow}
+use Rattle.symbolic_reach.specs.Spread.{spread_in, spread_below}
+use Rattle.node_values.specs.declared.stop.Stop.{Stop}
+use Rattle.node_values.specs.Stops.{Stops}
 use Rattle.expand.specs.declared.outcome.Expanded.{Expanded}
 
 abbrev pub plans_in : Expanded → List OpenPlan

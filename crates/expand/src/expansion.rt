@@ -4,19 +4,19 @@ ghost use Rattle.std.specs.Prelude.{ℕ, ◌≡◌, IfOk, IfErr, map};
 ghost use Rattle.spec_core.specs.Code.{program_of, relabelling_of};
 ghost use Rattle.spec_core.specs.Ready.{IsReady};
 ghost use Rattle.rule_model.specs.Substitution.{put};
-ghost use Rattle.code_behaviours.specs.Parts.{behaviour_at};
-ghost use Rattle.code_behaviours.specs.Values.{assignment};
-ghost use Rattle.windowed_trees.specs.Windows.{AreWindows};
+ghost use Rattle.rule_origins.specs.Parts.{behaviour_at};
+ghost use Rattle.rule_origins.specs.Values.{assignment};
+ghost use Rattle.symbolic_rules.specs.Windows.{AreWindows};
 ghost use Rattle.sort_windows.specs.Found.{AreBySorts};
-ghost use Rattle.open_composites.specs.OpenPlans.{open_plan_of};
-ghost use Rattle.tree_nodes.specs.Origins.{meaning, relabelled_by, scoped, source_of};
+ghost use Rattle.symbolic_plans.specs.OpenPlans.{open_plan_of};
+ghost use Rattle.node_trees.specs.Origins.{meaning, relabelled_by, scoped, source_of};
 ghost use Rattle.expand.specs.Expansions.{AskReached, IsExpansion, IsStop, IsStopAt};
-ghost use Rattle.window_tables.specs.Tables.{windows_in};
+ghost use Rattle.symbolic_rules.specs.Tables.{windows_in};
 
 use crate::relabelled::expand_relabelled;
-use marked_values::scope::known;
-use marked_values::stop::Stop;
-use open_composites::composite::OpenComposite;
+use node_trees::origin::Origin;
+use node_values::scope::known;
+use node_values::stop::Stop;
 use sort_windows::windows;
 use spec_core::code::Checked;
 use spec_core::items::Gate;
@@ -25,7 +25,7 @@ use spec_core::settings::Settings;
 use spec_core::value::Value;
 use spec_core::window::Window;
 use std::alloc::Global;
-use tree_nodes::origin::Origin;
+use symbolic_plans::composite::OpenComposite;
 
 /// What a behaviour can take part in: its composites, in order, and the first values of each sort.
 #[derive(Drop)]

@@ -4,20 +4,20 @@ ghost use Rattle.std.specs.Prelude.{◌≡◌, ◌∷◌, [], ◌+◌, ◌*◌, 
 ghost use Rattle.spec_core.specs.Code.{relabelling_of, synchronised_of};
 ghost use Rattle.spec_core.specs.Numbers.{gate_number};
 ghost use Rattle.spec_core.specs.Theories.{theory_of};
-ghost use Rattle.open_composites.specs.OpenPlans.{open_plan_of, under_row, under_relabelling, plan_by_hiding, plan_by_enabling};
-ghost use Rattle.open_composites.specs.OpenPlans.{plans_of_choice, plans_of_parallel, plans_of_disable, plans_of_gates};
+ghost use Rattle.symbolic_plans.specs.OpenPlans.{open_plan_of, under_row, under_relabelling, plan_by_hiding, plan_by_enabling};
+ghost use Rattle.symbolic_plans.specs.OpenPlans.{plans_of_choice, plans_of_parallel, plans_of_disable, plans_of_gates};
 ghost use Rattle.expand.specs.Joins.{Sized, Turns, Joins, Adds};
 
 use crate::outcome::Expanded;
-use marked_values::stop::Stop;
-use open_composites::composite::OpenComposite;
-use open_composites::operators;
-use open_composites::scheme::Row;
+use node_values::stop::Stop;
 use rule_model::rules::Slot;
 use spec_core::code::GateSet;
 use spec_core::equation::DataSpec;
 use spec_core::items::Gate;
 use std::alloc::Global;
+use symbolic_plans::composite::OpenComposite;
+use symbolic_plans::operators;
+use symbolic_plans::scheme::Row;
 
 // These composites with this spread, where it isn't too wide.
 fn sized(composites: Vec<OpenComposite>, spread: u64) -> Result<Expanded, Stop>

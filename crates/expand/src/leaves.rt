@@ -4,26 +4,26 @@ ghost use Rattle.std.specs.Prelude.{ℕ, Option, ◌≡◌, ◌∷◌, [], IfOk,
 ghost use Rattle.spec_core.specs.Code.{action_field_of, exit_value_of, program_of};
 ghost use Rattle.spec_core.specs.Executable.{IsExecutable};
 ghost use Rattle.rule_model.specs.Behaviours.{Behaviour, exit, action};
-ghost use Rattle.windowed_trees.specs.Windows.{Windows};
-ghost use Rattle.marked_values.specs.Scopes.{marks_of};
+ghost use Rattle.symbolic_rules.specs.Windows.{Windows};
+ghost use Rattle.node_values.specs.Scopes.{marks_of};
 ghost use Rattle.expand.specs.Outcomes.{Outcome};
 ghost use Rattle.spec_core.specs.Theories.{Premise};
 ghost use Rattle.rule_model.specs.Actions.{inside};
-ghost use Rattle.open_composites.specs.Plans.{internal};
+ghost use Rattle.symbolic_plans.specs.Plans.{internal};
 ghost use Rattle.expand.specs.Joins.{Sized};
-ghost use Rattle.own_plans.specs.OwnPlans.{takes_value, takes_any};
+ghost use Rattle.symbolic_plans.specs.OwnPlans.{takes_value, takes_any};
 
 use crate::joining::{nothing, single};
 use crate::outcome::Expanded;
-use marked_values::fields::{open_exit, open_fields};
-use marked_values::scope::Given;
-use marked_values::stop::Stop;
-use open_composites::composite::{ActionKind, OpenComposite};
-use open_composites::scheme::Scheme;
+use node_values::fields::{open_exit, open_fields};
+use node_values::scope::Given;
+use node_values::stop::Stop;
 use spec_core::code::{ActField, Checked, ExitField};
 use spec_core::items::Gate;
 use spec_core::memory::Memory;
 use std::alloc::Global;
+use symbolic_plans::composite::{ActionKind, OpenComposite};
+use symbolic_plans::scheme::Scheme;
 
 // Whether a field of an action takes a value.
 fn takes_value(field: &ActField) -> bool

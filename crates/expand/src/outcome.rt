@@ -2,7 +2,7 @@
 
 ghost use Rattle.std.specs.Prelude.{◌≤◌};
 
-use open_composites::composite::OpenComposite;
+use symbolic_plans::composite::OpenComposite;
 
 /// The composites of a behaviour, and its spread.
 #[derive(Drop)]

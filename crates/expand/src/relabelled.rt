@@ -5,24 +5,25 @@ ghost use Rattle.spec_core.specs.Code.{program_of, relabelling_of};
 ghost use Rattle.spec_core.specs.Ready.{IsReady};
 ghost use Rattle.rule_model.specs.Behaviours.{relabel};
 ghost use Rattle.rule_model.specs.Substitution.{tidied};
-ghost use Rattle.code_behaviours.specs.Parts.{behaviour_at};
-ghost use Rattle.marked_values.specs.Scopes.{marks_of};
+ghost use Rattle.rule_origins.specs.Parts.{behaviour_at};
+ghost use Rattle.node_values.specs.Scopes.{marks_of};
 ghost use Rattle.sort_windows.specs.Found.{AreBySorts};
-ghost use Rattle.tree_nodes.specs.Origins.{relabelled_by};
+ghost use Rattle.node_trees.specs.Origins.{relabelled_by};
 ghost use Rattle.expand.specs.Outcomes.{Outcome};
-ghost use Rattle.window_tables.specs.Tables.{windows_in};
+ghost use Rattle.symbolic_rules.specs.Tables.{windows_in};
 
 use crate::joining;
 use crate::outcome::Expanded;
 use crate::walk::{call_at, expand_at};
-use code_behaviours::code::construct_at;
-use marked_values::scope::Given;
-use marked_values::stop::Stop;
-use spec_core::code::{Checked, CodeNode};
+use node_values::scope::Given;
+use node_values::stop::Stop;
+use rule_origins::tidying::joined;
+use rule_origins::views;
+use rule_substitution::relabelling::renamed_gates;
+use spec_core::code::Checked;
 use spec_core::items::Gate;
 use spec_core::window::Window;
 use std::alloc::Global;
-use substitution::relabelling::{after, renamed_gates};
 
 // The expansion of the behaviour with this number of the code under a relabelling, which stays an operator.
 fn expand_under(
@@ -47,7 +48,6 @@ fn expand_under(
 
 /// The expansion of the behaviour with this number of the code under a relabelling, tidied: two relabellings one over the other are one,
 /// and a call is relabelled in its gates. It recurs as deep as constructs and calls nest, and as terms are.
-#[tactic(auto, using(crate::proofs::Tidying::renames_gates))]
 pub fn expand_tidied(
     alloc: Global,
     checked: &Checked,
@@ -64,41 +64,18 @@ pub fn expand_tidied(
         (marks_of (program_of checked.now).theory scope.now)
         (tidied (map relabelling_of pairs.now) (behaviour_at (program_of checked.now) node)) result }
 {
-    match construct_at(checked, node) {
-        None => expand_under(alloc, checked, windows, scope, pairs, node, calls, budget),
-        Some(construct) => match construct {
-            CodeNode::Relabel(before, body) => match after(alloc, pairs, before) {
-                Err(_) => Err(Stop::Memory),
-                Ok(all) => expand_tidied(
-                    alloc, checked, windows, scope, &all, body.0, calls, budget,
-                ),
-            },
-            CodeNode::Call {
-                process,
-                gates,
-                values,
-            } => match renamed_gates(alloc, pairs, gates) {
+    match joined(alloc, checked, pairs, node) {
+        Err(_) => Err(Stop::Memory),
+        Ok(one) => match views::call_at(checked, one.node) {
+            None => expand_under(
+                alloc, checked, windows, scope, &one.pairs, one.node, calls, budget,
+            ),
+            Some((process, gates, values)) => match renamed_gates(alloc, &one.pairs, gates) {
                 Err(_) => Err(Stop::Memory),
                 Ok(actual) => call_at(
-                    alloc, checked, windows, scope, *process, &actual, values, calls, budget,
+                    alloc, checked, windows, scope, process, &actual, values, calls, budget,
                 ),
             },
-            CodeNode::Stop
-            | CodeNode::Exit(..)
-            | CodeNode::Inner(..)
-            | CodeNode::Act { .. }
-            | CodeNode::Choice(..)
-            | CodeNode::Guard(..)
-            | CodeNode::Let(..)
-            | CodeNode::Values(..)
-            | CodeNode::Gates(..)
-            | CodeNode::Par(..)
-            | CodeNode::Hide(..)
-            | CodeNode::Enable(..)
-            | CodeNode::Disable(..)
-            | CodeNode::Process { .. } => expand_under(
-                alloc, checked, windows, scope, pairs, node, calls, budget,
-            ),
         },
     }
 }

@@ -10,65 +10,35 @@ ghost use Rattle.spec_core.specs.Theories.{premise};
 ghost use Rattle.spec_core.specs.Terms.{term_of};
 ghost use Rattle.rule_model.specs.declared.rules.Slot.TheVariants.{Of};
 ghost use Rattle.rule_model.specs.Behaviours.{call, value_choice, gate_choice, guarded, bound};
-ghost use Rattle.code_behaviours.specs.Parts.{behaviour_at, over_parts};
-ghost use Rattle.open_composites.specs.OpenPlans.{open_plan_of};
-ghost use Rattle.marked_values.specs.Scopes.{marks_of, marked_of};
+ghost use Rattle.rule_origins.specs.Parts.{behaviour_at, over_parts};
+ghost use Rattle.symbolic_plans.specs.OpenPlans.{open_plan_of};
+ghost use Rattle.node_values.specs.Scopes.{marks_of, marked_of};
 ghost use Rattle.expand.specs.Choosing.{AddsChoice, IsChoice};
 ghost use Rattle.expand.specs.Outcomes.{Outcome, BelowOutcome};
-ghost use Rattle.window_tables.specs.Tables.{windows_in};
+ghost use Rattle.symbolic_rules.specs.Tables.{windows_in};
 ghost use Rattle.sort_windows.specs.Found.{AreBySorts};
 
 use crate::joining;
 use crate::joining::{nothing, under_rule};
 use crate::leaves::{action_at, exit_at, inner_at};
 use crate::outcome::Expanded;
-use code_behaviours::code::construct_at;
-use marked_values::fields::{bind, bind_arguments};
-use marked_values::scope::{Given, copy_scope, with};
-use marked_values::stop::Stop;
-use marked_values::value::may_hold;
-use open_composites::scheme::Row;
+use node_values::fields::{bind, bind_arguments};
+use node_values::scope::{Given, copy_scope, with};
+use node_values::stop::Stop;
+use node_values::value::may_hold;
 use rule_model::rules::Slot;
-use spec_core::code::{Checked, CodeNode, Part};
+use rule_origins::code::construct_at;
+use rule_origins::views::definition_at;
+use rule_substitution::relabelling::pairs;
+use spec_core::code::{Checked, CodeNode};
 use spec_core::items::{Gate, Sort};
 use spec_core::memory::Memory;
 use spec_core::term::Term;
 use spec_core::value::Value;
 use spec_core::window::Window;
 use std::alloc::Global;
-use substitution::relabelling::pairs;
-use window_tables::{is_complete, values_at};
-
-// The gates, the variables and the body of a process.
-fn definition_at(checked: &Checked, number: u32) -> Option<(&[Gate], &[(u32, Sort)], Part)>
-    ensures some { IfSome result (λ r.
-        slice_get (program_of checked.now).code number ≡
-        Some (process (map gate_number r.0.now) (map variable_of r.1.now) r.2.0)) }
-    ensures none { IfNone result ((formal : List ℕ) (xs : List Variable) (body : ℕ) →
-        slice_get (program_of checked.now).code number ≡ Some (process formal xs body) → ⊥) }
-{
-    match checked.code.get(number as usize) {
-        None => None,
-        Some(node) => match node {
-            CodeNode::Process { gates, vars, body } => Some((gates, vars, *body)),
-            CodeNode::Stop
-            | CodeNode::Exit(..)
-            | CodeNode::Inner(..)
-            | CodeNode::Act { .. }
-            | CodeNode::Choice(..)
-            | CodeNode::Guard(..)
-            | CodeNode::Let(..)
-            | CodeNode::Values(..)
-            | CodeNode::Gates(..)
-            | CodeNode::Par(..)
-            | CodeNode::Hide(..)
-            | CodeNode::Enable(..)
-            | CodeNode::Disable(..)
-            | CodeNode::Call { .. }
-            | CodeNode::Relabel(..) => None,
-        },
-    }
-}
+use symbolic_plans::scheme::Row;
+use symbolic_rules::{is_complete, values_at};
 
 // What is known for the variables, with this for one of them.
 fn extended(
@@ -133,7 +103,7 @@ pub fn call_at(
                 Ok(Some(inner)) => match pairs(alloc, formal, gates) {
                     Err(_) => Err(Stop::Memory),
                     Ok(renamed) => {
-                        let part = enter(alloc, checked, windows, &inner, body.0, calls, budget);
+                        let part = enter(alloc, checked, windows, &inner, body, calls, budget);
                         let relabelled = joining::relabel(alloc, &renamed, part);
                         under_rule(alloc, &Row::Call, relabelled)
                     }

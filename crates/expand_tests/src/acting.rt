@@ -4,16 +4,16 @@ ghost use Rattle.spec_core.specs.Code.{program_of};
 ghost use Rattle.spec_core.specs.Ready.{IsReady};
 
 use crate::way_lines::way_lines;
-use marked_values::stop::Stop;
-use node_expansion::node::expand_node;
-use sample_programs::over_small_data;
+use node_trees::origin::Origin;
+use node_values::stop::Stop;
+use node_work::node::expand_node;
 use sort_windows::windows;
 use spec_core::code::Checked;
 use spec_core::items::Gate;
 use spec_core::memory::Memory;
 use std::alloc::Global;
 use std::test::Fail;
-use tree_nodes::origin::Origin;
+use test_programs::over_small_data;
 
 // The ways of an origin, with the first two values of each sort.
 #[tactic(auto, using(expand::proofs::Few::few_operations, expand::proofs::Few::few_sorts))]

@@ -2,11 +2,11 @@
 
 use crate::program::{expanded, settings};
 use expand::expansion::expand_code;
-use marked_values::stop::Stop;
-use sample_programs::over_small_data;
+use node_values::stop::Stop;
 use spec_core::memory::Memory;
 use std::alloc::Global;
 use std::test::Fail;
+use test_programs::over_small_data;
 
 // `a; stop` so many times and once more, a choice.
 fn alternatives(alloc: Global, more: u32) -> Result<String, Memory> {

@@ -1,8 +1,5 @@
 // Composites as text: the action with its fields, and the tree of rules.
 
-use open_composites::column::Column;
-use open_composites::composite::{ActionKind, OpenComposite};
-use open_composites::scheme::{Row, Scheme};
 use rule_model::rules::Slot;
 use spec_core::code::Checked;
 use spec_core::items::{Gate, Op, Sort};
@@ -10,6 +7,9 @@ use spec_core::memory::Memory;
 use spec_core::term::Term;
 use spec_core::value::Value;
 use std::alloc::Global;
+use symbolic_plans::column::Column;
+use symbolic_plans::composite::{ActionKind, OpenComposite};
+use symbolic_plans::scheme::{Row, Scheme};
 
 fn operation_name(checked: &Checked, op: Op) -> &str {
     match checked.algebra.signature.ops.get(op.0 as usize) {

@@ -4,13 +4,13 @@ ghost use Rattle.spec_core.specs.Code.{program_of};
 ghost use Rattle.spec_core.specs.Ready.{IsReady};
 
 use crate::program::expanded_from;
-use sample_programs::over_small_data;
 use spec_core::code::{ActField, Checked, CodeNode};
 use spec_core::items::{Gate, Op};
 use spec_core::memory::Memory;
 use spec_core::value::Value;
 use std::alloc::Global;
 use std::test::Fail;
+use test_programs::over_small_data;
 
 // What is told of the behaviour as a whole, with b in the place of a and c in that of b.
 fn under_relabelling(alloc: Global, behaviour: &str) -> Result<String, Memory> {

@@ -5,8 +5,8 @@ ghost use Rattle.spec_core.specs.Ready.{IsReady};
 
 use crate::lines::{lines, put_term};
 use expand::expansion::{Expansion, expand, expand_code};
-use marked_values::stop::Stop;
-use sample_programs::over_small_data;
+use node_trees::origin::Origin;
+use node_values::stop::Stop;
 use spec_core::code::Checked;
 use spec_core::items::Gate;
 use spec_core::memory::Memory;
@@ -14,7 +14,7 @@ use spec_core::settings::Settings;
 use spec_core::term::Term;
 use spec_core::value::Value;
 use std::alloc::Global;
-use tree_nodes::origin::Origin;
+use test_programs::over_small_data;
 
 /// So many values of a sort are shown, and so many uses of equations are made.
 pub fn settings(values: u32, budget: u64) -> Settings {

@@ -1,11 +1,11 @@
 // Ways to act as text: the action, and what is left.
 
 use crate::lines::{gate_name, put_value};
+use node_trees::expansion::Alternative;
+use node_trees::rest::{Deed, Known, Rest};
 use spec_core::code::{Checked, CodeNode};
 use spec_core::memory::Memory;
 use std::alloc::Global;
-use tree_nodes::expansion::Alternative;
-use tree_nodes::rest::{Deed, Known, Rest};
 
 // A value that is told; or a question mark and the place of one that is chosen.
 fn put_known(text: &mut String, checked: &Checked, known: &Known) -> Result<(), Memory> {

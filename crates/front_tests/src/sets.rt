@@ -1,6 +1,6 @@
 // Sets of small numbers.
 
-use number_sets::set::NumberSet;
+use equation_sets::set::NumberSet;
 use std::process::Abort;
 use std::test::Fail;
 

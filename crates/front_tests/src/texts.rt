@@ -2,7 +2,6 @@
 
 use behaviour_parser::specification;
 use data_parser::types;
-use data_presentation::presentation;
 use flattening::flatten::flatten;
 use library_text::{boolean, natural};
 use lotos_ast::spec::Spec;
@@ -10,6 +9,7 @@ use lotos_ast::types::TypeDef;
 use lotos_lexer::tokens;
 use spec_core::equation::DataSpec;
 use spec_core::memory::Memory;
+use static_presentation::presentation;
 use std::alloc::Global;
 
 // Adds the types of a text, which are none where it is empty.

@@ -7,7 +7,7 @@ use Rattle.rule_model.specs.declared.log.Entry.{Entry}
 use Rattle.rule_model.specs.Events.{Event, event_of}
 use Rattle.rule_model.specs.Legal.{IsPossible, IsDerivation}
 use Rattle.rule_model.specs.States.{State}
-use Rattle.session_states.proofs.Members.{taken_next}
+use Rattle.log_states.proofs.Members.{taken_next}
 use Rattle.log_check.specs.Checked.{LeadsTo, ComesTo, Explains, FailsFrom}
 use Rattle.log_check.specs.Starting.{BeginsIn, greatest_in, greatest_client}
 use Rattle.log_check.specs.declared.fault.CheckFault.{CheckFault}

@@ -1,3 +1,4 @@
 pub mod Asked
 pub mod Derivations
+pub mod OneAnswer
 pub mod OneWay

@@ -7,7 +7,7 @@ use Rattle.rule_model.specs.Events.{Event, pended, acted, replied, stalled, left
 use Rattle.rule_model.specs.Legal.{IsPossible}
 use Rattle.rule_model.specs.States.{State, start_state, after_action}
 use Rattle.rule_laws.proofs.Determined.{trees_determine_steps, code_is_one_behaviour}
-use Rattle.session_states.specs.Clients.{numbers_from}
+use Rattle.log_states.specs.Clients.{numbers_from}
 use Rattle.log_check.specs.Starting.{BeginsIn, greatest_client}
 
 module _ (program : Program) where

@@ -1,3 +1,4 @@
 pub mod Checked
 pub mod Entries
+pub mod Laws
 pub mod Starting

@@ -5,7 +5,7 @@ use Rattle.rule_model.specs.Behaviours.{Behaviour}
 use Rattle.rule_model.specs.Code.{IsStart}
 use Rattle.rule_model.specs.Events.{OfferName, Event, pended, acted, replied, stalled, left}
 use Rattle.rule_model.specs.States.{State, start_state}
-use Rattle.session_states.specs.Clients.{numbers_from}
+use Rattle.log_states.specs.Clients.{numbers_from}
 
 -- the greatest client that these name, 0 where there is none
 abbrev pub greatest_named : List OfferName → ℕ

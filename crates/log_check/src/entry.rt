@@ -7,9 +7,10 @@ ghost use Rattle.spec_core.specs.Ready.{IsReady};
 ghost use Rattle.rule_model.specs.Derivations.{derivation_of};
 ghost use Rattle.rule_model.specs.Events.{acted, event_of, left, pended, replied, stalled};
 ghost use Rattle.rule_model.specs.Answers.{answer_of};
-ghost use Rattle.session_states.specs.Views.{state_of};
+ghost use Rattle.log_states.specs.Views.{state_of};
 ghost use Rattle.log_check.specs.Entries.{Becomes, EntryExplains, BoundsEntry, NamesNumber};
 
+use log_states::state::SessionState;
 use rule_laws::laws::trees_determine_steps;
 use rule_model::action::Action;
 use rule_model::log::Entry;
@@ -17,7 +18,6 @@ use rule_model::offer::Offer;
 use rule_model::reply::Reply;
 use rule_model::rules::Rules;
 use rule_walk::{FireFault, fire};
-use session_states::state::SessionState;
 use spec_core::code::Checked;
 use std::alloc::Global;
 

@@ -1,10 +1,11 @@
-// Whether a log is a derivation: each entry is possible in the state that those before it lead to.
+// Whether a log is a derivation, and laws of logs that are, or end being one.
 #![tactic(auto)]
 
 mod checking;
 mod clients;
 mod entry;
 mod fault;
+pub mod laws;
 
 pub use checking::check;
 pub use fault::CheckFault;

@@ -14,7 +14,7 @@ use Rattle.spec_core.specs.Orthogonality.{IsOrthogonal}
 use Rattle.spec_core.specs.Theories.{Theory}
 use Rattle.behaviour_parser.specs.Specifications.{IsNoSpecification}
 use Rattle.flattening.specs.Refusals.{refusals_of}
-use Rattle.data_presentation.specs.Presentations as presentation
+use Rattle.static_presentation.specs.Presentations as presentation
 use Rattle.equation_check.specs.Shape as equations
 use Rattle.path_order.specs.Decrease as order
 use Rattle.cover_check.specs.Refused as cover

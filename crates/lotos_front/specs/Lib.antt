@@ -5,3 +5,7 @@ pub mod Libraries
 pub mod Parsed
 pub mod Stages
 pub mod Types
+pub use Rattle.behaviour_parser.specs.Specifications
+pub use Rattle.flattening.specs.Refusals
+pub use Rattle.static_check.specs.Compiled
+pub use Rattle.static_check.specs.Written

@@ -5,7 +5,7 @@ use Rattle.lotos_ast.specs.declared.types.TypeDef.{TypeDef}
 use Rattle.spec_core.specs.Sorts.{FitsData}
 use Rattle.spec_core.specs.Theories.{Theory}
 use Rattle.flattening.specs.Refusals.{refusals_of}
-use Rattle.data_presentation.specs.Presentations.{IsPresentation}
+use Rattle.static_presentation.specs.Presentations.{IsPresentation}
 use Rattle.lotos_front.specs.Parsed.{IsLexed}
 use Rattle.lotos_front.specs.Types.{AreTypesOf}
 

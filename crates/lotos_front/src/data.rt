@@ -10,14 +10,14 @@ ghost use Rattle.lotos_front.specs.Stages.{AreTypesIn, IsDataOf};
 
 use crate::check::check;
 use crate::types::types_of;
-use data_fits::fits_data;
-use data_presentation::presentation;
+use cover_check::fits_data;
 use flattening::flatten::flatten;
 use lotos_ast::refusal::FrontFault;
 use lotos_ast::token::Token;
 use lotos_ast::types::TypeDef;
 use lotos_lexer::tokens;
 use spec_core::equation::DataSpec;
+use static_presentation::presentation;
 use std::alloc::Global;
 
 /// The tokens of a text, or its first refusal.

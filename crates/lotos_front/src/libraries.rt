@@ -6,13 +6,13 @@ ghost use Rattle.lotos_ast.specs.ListTrees.{repeated_tree};
 ghost use Rattle.lotos_ast.specs.Notation.{part, repeated, type_definition};
 ghost use Rattle.lotos_ast.specs.Parsing.{IsParsedBetween};
 ghost use Rattle.lotos_ast.specs.TypeTrees.{type_def_tree};
-ghost use Rattle.sort_overloads.specs.Listed.{is_same_name};
+ghost use Rattle.static_check.specs.Listed.{is_same_name};
 ghost use Rattle.library_text.specs.Texts.{boolean_text, natural_text};
 ghost use Rattle.type_names.specs.UnknownTypes.{library_names};
 ghost use Rattle.lotos_front.specs.Libraries as libraries;
 ghost use Rattle.lotos_front.specs.Libraries.{library_texts, AreLibraryTypes, AreTakenIn, AreWithLibrary};
 
-use data_parser::types;
+use behaviour_parser::types;
 use library_text::{boolean, natural};
 use lotos_ast::place::Place;
 use lotos_ast::token::Token;

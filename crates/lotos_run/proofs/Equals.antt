@@ -2,8 +2,8 @@
 use Rattle.std.proofs.Common.{ℕ, ◌≡◌, subst, sym, List, take}
 use Rattle.lotos_outside.specs.Shelf.{OnFetched}
 use Rattle.spec_core.specs.Theories.{Theory}
-use Rattle.term_equality.specs.declared.answer.Answer.{Answer}
-use Rattle.term_equality.specs.declared.answer.Answer.TheVariants as came
+use Rattle.command_equal.specs.declared.answer.Answer.{Answer}
+use Rattle.command_equal.specs.declared.answer.Answer.TheVariants as came
 use Rattle.lotos_run.specs.declared.status.Status.{Status}
 use Rattle.lotos_run.specs.declared.status.Status.TheVariants.{Done, Refused, Usage, ReadFault, WriteFault, Memory, Spent, Limit}
 use Rattle.lotos_run.specs.declared.status.Status.TheVariants.{ScriptRefused, NotADerivation}

@@ -5,10 +5,10 @@ use Rattle.lotos_front.specs.Answers.{IsAccepted}
 use Rattle.spec_core.specs.Code.{Program}
 use Rattle.rule_model.specs.declared.log.End.{End}
 use Rattle.rule_model.specs.declared.log.End.TheVariants as ends
-use Rattle.script_runs.specs.declared.answer.Answer as scripts
-use Rattle.script_runs.specs.declared.answer.Answer.TheVariants as ran
-use Rattle.trace_replay.specs.declared.answer.Answer.{Answer}
-use Rattle.trace_replay.specs.declared.answer.Answer.TheVariants as came
+use Rattle.command_run.specs.declared.answer.Answer as scripts
+use Rattle.command_run.specs.declared.answer.Answer.TheVariants as ran
+use Rattle.command_replay.specs.declared.answer.Answer.{Answer}
+use Rattle.command_replay.specs.declared.answer.Answer.TheVariants as came
 use Rattle.lotos_run.specs.declared.second_file.Second.{Second}
 use Rattle.lotos_run.specs.declared.second_file.Second.TheVariants.{Script, Trace}
 use Rattle.lotos_run.specs.declared.status.Status.{Status}

@@ -4,8 +4,8 @@ use Rattle.lotos_outside.specs.Shelf.{OnFetched}
 use Rattle.lotos_front.specs.Answers.{IsAccepted}
 use Rattle.spec_core.specs.Code.{Program}
 use Rattle.spec_core.specs.Theories.{Theory}
-use Rattle.term_equality.specs.declared.answer.Answer.{Answer}
-use Rattle.term_equality.specs.Comparisons.{Comes}
+use Rattle.command_equal.specs.declared.answer.Answer.{Answer}
+use Rattle.command_equal.specs.Comparisons.{Comes}
 use Rattle.lotos_run.specs.declared.status.Status.{Status}
 use Rattle.lotos_run.specs.declared.status.Status.TheVariants.{Done, Refused, ReadFault, Spent, Limit, ScriptRefused}
 use Rattle.lotos_run.specs.Checks.{IsReported}

@@ -2,8 +2,8 @@
 use Rattle.std.specs.Prelude.{ℕ, List, ◌++◌, codes, decimal}
 use Rattle.spec_core.specs.Terms.{term_of}
 use Rattle.spec_core.specs.Theories.{Theory}
-use Rattle.trace_replay.specs.declared.answer.Answer.{Answer}
-use Rattle.trace_replay.specs.declared.answer.Answer.TheVariants as came
+use Rattle.command_replay.specs.declared.answer.Answer.{Answer}
+use Rattle.command_replay.specs.declared.answer.Answer.TheVariants as came
 use Rattle.lotos_run.specs.declared.status.Status.{Status}
 use Rattle.lotos_run.specs.declared.status.Status.TheVariants.{Done, NotADerivation, Spent, Limit, ScriptRefused}
 use Rattle.lotos_run.specs.Lines.{script_refusal, term_line}

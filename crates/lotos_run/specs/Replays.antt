@@ -1,8 +1,8 @@
 -- What comes of the trace of `replay`.
 use Rattle.std.specs.Prelude.{ℕ, ◌≡◌, List}
 use Rattle.spec_core.specs.Code.{Program}
-use Rattle.trace_replay.specs.declared.answer.Answer.{Answer}
-use Rattle.trace_replay.specs.Replays.{Comes}
+use Rattle.command_replay.specs.declared.answer.Answer.{Answer}
+use Rattle.command_replay.specs.Replays.{Comes}
 use Rattle.lotos_run.specs.declared.status.Status.{Status}
 use Rattle.lotos_run.specs.ReplayTexts.{status_of, text_of}
 

@@ -8,8 +8,8 @@ use Rattle.rule_model.specs.Events.{ending_of}
 use Rattle.rule_model.specs.Logs.{events_of}
 use Rattle.trace_text.specs.Names.{names_in}
 use Rattle.trace_text.specs.Trace.{trace_bytes}
-use Rattle.script_runs.specs.declared.answer.Answer.{Answer}
-use Rattle.script_runs.specs.declared.answer.Answer.TheVariants as came
+use Rattle.command_run.specs.declared.answer.Answer.{Answer}
+use Rattle.command_run.specs.declared.answer.Answer.TheVariants as came
 use Rattle.lotos_run.specs.declared.status.Status.{Status}
 use Rattle.lotos_run.specs.declared.status.Status.TheVariants.{Done, Spent, Limit, ScriptRefused}
 use Rattle.lotos_run.specs.Lines.{script_refusal, term_line}

@@ -2,8 +2,8 @@
 use Rattle.std.specs.Prelude.{ℕ, ◌≡◌, List}
 use Rattle.spec_core.specs.declared.settings.Settings.{Settings}
 use Rattle.spec_core.specs.Code.{Program}
-use Rattle.script_runs.specs.declared.answer.Answer.{Answer}
-use Rattle.script_runs.specs.Runs.{Comes}
+use Rattle.command_run.specs.declared.answer.Answer.{Answer}
+use Rattle.command_run.specs.Runs.{Comes}
 use Rattle.lotos_run.specs.declared.status.Status.{Status}
 use Rattle.lotos_run.specs.RunTexts.{status_of, text_of}
 

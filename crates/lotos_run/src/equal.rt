@@ -11,14 +11,14 @@ use crate::answer::{Answer, fetch, with_text};
 use crate::check_text::refusal_text;
 use crate::equal_text::{answer_status, answer_text};
 use crate::status::Status;
-use accepted_laws::laws::accepted_is_ready;
+use command_equal::compare_texts;
+use front_laws::accepted::accepted_is_ready;
 use lotos_ast::refusal::FrontFault;
 use lotos_front::accept;
 use lotos_outside::shelf::{Shelf, ShelfFault};
 use spec_core::code::Checked;
 use spec_core::memory::Memory;
 use std::alloc::Global;
-use term_equality::compare_texts;
 
 // What is due for an accepted specification.
 fn compared(

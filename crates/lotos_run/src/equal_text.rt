@@ -6,10 +6,10 @@ ghost use Rattle.lotos_run.specs.EqualTexts as texts;
 
 use crate::lines::{bytes_of, script_refusal, term_line};
 use crate::status::Status;
+use command_equal::Answer;
 use spec_core::equation::DataSpec;
 use spec_core::memory::Memory;
 use std::alloc::Global;
-use term_equality::Answer;
 
 /// What comes of two terms as it is printed.
 pub fn answer_text(alloc: Global, algebra: &DataSpec, answer: &Answer) -> Result<Vec<u8>, Memory>

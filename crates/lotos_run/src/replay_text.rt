@@ -6,10 +6,10 @@ ghost use Rattle.lotos_run.specs.ReplayTexts as texts;
 
 use crate::lines::{bytes_of, script_refusal, term_line};
 use crate::status::Status;
+use command_replay::Answer;
 use spec_core::equation::DataSpec;
 use spec_core::memory::Memory;
 use std::alloc::Global;
-use trace_replay::Answer;
 
 // A number behind a word.
 fn number_line(alloc: Global, word: &str, number: u64) -> Result<Vec<u8>, Memory>

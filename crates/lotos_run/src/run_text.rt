@@ -6,8 +6,8 @@ ghost use Rattle.lotos_run.specs.RunTexts as texts;
 
 use crate::lines::{bytes_of, script_refusal, term_line};
 use crate::status::Status;
+use command_run::Answer;
 use rule_model::log::End;
-use script_runs::Answer;
 use spec_core::code::Checked;
 use spec_core::memory::Memory;
 use std::alloc::Global;

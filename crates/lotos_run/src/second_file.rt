@@ -13,18 +13,18 @@ use crate::answer::{Answer, fetch, with_text};
 use crate::check_text::refusal_text;
 use crate::status::Status;
 use crate::{replay_text, run_text};
-use accepted_laws::laws::accepted_is_ready;
+use command_replay::replay_text as replay_trace;
+use command_run::run_text as run_script;
+use front_laws::accepted::accepted_is_ready;
 use lotos_ast::refusal::FrontFault;
 use lotos_front::accept;
 use lotos_outside::shelf::{Shelf, ShelfFault};
-use script_runs::run_text as run_script;
 use spec_core::code::Checked;
 use spec_core::memory::Memory;
 use spec_core::settings::Settings;
 use std::alloc::Global;
 use std::sync::Wait;
 use std::thread::Threads;
-use trace_replay::replay_text as replay_trace;
 use worker_drive::Probe;
 
 /// What the second file is to be.

@@ -10,9 +10,9 @@ use Rattle.lotos_ast.specs.Nesting.{Nesting, in_bracket}
 use Rattle.lotos_ast.specs.Reads.{Tree, left, right, node, reads_part, reads_placed}
 use Rattle.lotos_ast.specs.BehaviourTrees.{atomic_tree}
 use Rattle.lotos_ast.proofs.Tables.{same_equal}
-use Rattle.token_cursor.specs.declared.parse_fault.ParseFault.{ParseFault}
-use Rattle.token_cursor.specs.Parsers.{Halts}
-use Rattle.token_cursor.proofs.Rows.{halts_part, halts_placed}
+use Rattle.syntax_cursor.specs.declared.parse_fault.ParseFault.{ParseFault}
+use Rattle.syntax_cursor.specs.Parsers.{Halts}
+use Rattle.syntax_cursor.proofs.Rows.{halts_part, halts_placed}
 use Rattle.opening_parser.specs.Leads.{Leads}
 use Rattle.opening_parser.specs.Openings.{named_part, hide_part, let_part, choice_part, par_part, last_part, before_last}
 use Rattle.opening_parser.proofs.Leads.{leads_none, leads_left, leads_right, leads_bracketed}

@@ -5,9 +5,9 @@ use Rattle.lotos_ast.specs.Notation.{Syntax, sequence, either, bracketed}
 use Rattle.lotos_ast.specs.Begins.{mark_at, starts}
 use Rattle.lotos_ast.specs.Nesting.{Nesting, in_bracket}
 use Rattle.lotos_ast.specs.Reads.{Tree, both, left, right, Reads, reads_sequence, reads_left, reads_right, reads_bracketed}
-use Rattle.token_cursor.specs.declared.parse_fault.ParseFault.{ParseFault}
-use Rattle.token_cursor.specs.Parsers.{Halts}
-use Rattle.token_cursor.proofs.Rows.{halts_second, halts_left, halts_right, halts_bracketed}
+use Rattle.syntax_cursor.specs.declared.parse_fault.ParseFault.{ParseFault}
+use Rattle.syntax_cursor.specs.Parsers.{Halts}
+use Rattle.syntax_cursor.proofs.Rows.{halts_second, halts_left, halts_right, halts_bracketed}
 use Rattle.opening_parser.specs.Leads.{Leads}
 
 pub leads_none : (d : Nesting) (g : Syntax) (s : List Token) → Leads d g s (λ x. x) d g s

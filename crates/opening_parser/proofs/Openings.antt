@@ -25,9 +25,9 @@ use Rattle.lotos_ast.specs.ListTrees.{repeated_tree, list_tree, token_list_tree,
 use Rattle.lotos_ast.specs.ExpressionTrees.{values_tree}
 use Rattle.lotos_ast.specs.DeclarationTrees.{declaration_tree, gate_list_tree, optional_gates_tree}
 use Rattle.lotos_ast.specs.BehaviourTrees.{exit_values_tree, predicate_tree, optional_predicate_tree, offer_tree, offers_tree, binding_tree, gate_choice_tree, operator_tree, atomic_tree, brackets_tree, first_names_tree, choice_declarations_tree, choice_gates_tree}
-use Rattle.token_cursor.specs.declared.parse_fault.ParseFault.{ParseFault}
-use Rattle.token_cursor.specs.Parsers.{Halts}
-use Rattle.token_cursor.proofs.Rows.{halts_second}
+use Rattle.syntax_cursor.specs.declared.parse_fault.ParseFault.{ParseFault}
+use Rattle.syntax_cursor.specs.Parsers.{Halts}
+use Rattle.syntax_cursor.proofs.Rows.{halts_second}
 use Rattle.opening_parser.specs.Leads.{Leads}
 use Rattle.opening_parser.specs.declared.prefix.Offers.{Offers}
 use Rattle.opening_parser.specs.declared.opening.Prefix.{Prefix}

@@ -4,9 +4,9 @@ use data_parser::expressions::expression;
 use lotos_ast::behaviour::Binding;
 use lotos_ast::mark::Mark;
 use lotos_ast::nest::Nest;
-use token_cursor::cursor::Cursor;
-use token_cursor::item::Item;
-use token_cursor::parse_fault::ParseFault;
+use syntax_cursor::cursor::Cursor;
+use syntax_cursor::item::Item;
+use syntax_cursor::parse_fault::ParseFault;
 
 /// A variable with its value.
 pub struct OneBinding;

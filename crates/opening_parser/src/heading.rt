@@ -6,7 +6,7 @@ ghost use Rattle.lotos_ast.specs.MarkNumbers.{is_same_mark};
 ghost use Rattle.lotos_ast.specs.Notation.{part, unary};
 ghost use Rattle.lotos_ast.specs.Begins.{mark_at};
 ghost use Rattle.lotos_ast.specs.Nesting.{nesting_of};
-ghost use Rattle.token_cursor.specs.Parsers.{Halts};
+ghost use Rattle.syntax_cursor.specs.Parsers.{Halts};
 ghost use Rattle.opening_parser.specs.Openings.{IsHeading, CompletesChoice, choice_range};
 
 use crate::binding::OneBinding;
@@ -20,9 +20,9 @@ use lotos_ast::mark::Mark;
 use lotos_ast::nest::Nest;
 use lotos_ast::place::Place;
 use lotos_ast::token::Token;
-use token_cursor::cursor::Cursor;
-use token_cursor::identifier::Identifier;
-use token_cursor::parse_fault::ParseFault;
+use syntax_cursor::cursor::Cursor;
+use syntax_cursor::identifier::Identifier;
+use syntax_cursor::parse_fault::ParseFault;
 
 // `hide` and its gates, up to `in`.
 pub fn hide(cursor: &mut Cursor<'_>, nest: Nest) -> Result<Heading, ParseFault>

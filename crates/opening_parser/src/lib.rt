@@ -1,5 +1,5 @@
 // The parser of what stands before the first behaviour inside another one.
-#![tactic(auto, using(token_cursor::proofs::Steps::steps))]
+#![tactic(auto, using(syntax_cursor::proofs::Steps::steps))]
 
 mod binding;
 mod exit;

@@ -4,10 +4,10 @@ use data_parser::expressions::expression;
 use lotos_ast::behaviour::Offer;
 use lotos_ast::mark::Mark;
 use lotos_ast::nest::Nest;
-use token_cursor::cursor::Cursor;
-use token_cursor::identifier::Identifier;
-use token_cursor::item::Item;
-use token_cursor::parse_fault::ParseFault;
+use syntax_cursor::cursor::Cursor;
+use syntax_cursor::identifier::Identifier;
+use syntax_cursor::item::Item;
+use syntax_cursor::parse_fault::ParseFault;
 
 /// Values that an action offers.
 pub struct OneOffer;

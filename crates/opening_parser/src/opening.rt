@@ -8,7 +8,7 @@ ghost use Rattle.lotos_ast.specs.Reads.{Reads};
 ghost use Rattle.lotos_ast.specs.Begins.{mark_at, is_among};
 ghost use Rattle.lotos_ast.specs.BehaviourTrees.{behaviour_tree, unary_tree, atom_tree};
 ghost use Rattle.lotos_ast.specs.Nesting.{nesting_of};
-ghost use Rattle.token_cursor.specs.Parsers.{Halts};
+ghost use Rattle.syntax_cursor.specs.Parsers.{Halts};
 ghost use Rattle.opening_parser.specs.Openings.{prefix_tree, heading_tree, IsOpening, before_last};
 
 use crate::exit::exit_values;
@@ -23,8 +23,8 @@ use lotos_ast::place::Place;
 use lotos_ast::token::Token;
 use spec_core::memory::Memory;
 use std::alloc::Global;
-use token_cursor::cursor::Cursor;
-use token_cursor::parse_fault::ParseFault;
+use syntax_cursor::cursor::Cursor;
+use syntax_cursor::parse_fault::ParseFault;
 
 // An action or a guard, before the behaviour that follows.
 #[derive(Drop)]

@@ -6,14 +6,14 @@ ghost use Rattle.lotos_ast.specs.Reads.{Reads};
 ghost use Rattle.lotos_ast.specs.Begins.{mark_at, begins_operator};
 ghost use Rattle.lotos_ast.specs.BehaviourTrees.{operator_tree};
 ghost use Rattle.lotos_ast.specs.Nesting.{nesting_of};
-ghost use Rattle.token_cursor.specs.Parsers.{Halts};
+ghost use Rattle.syntax_cursor.specs.Parsers.{Halts};
 
 use lotos_ast::behaviour::Operator;
 use lotos_ast::mark::Mark;
 use lotos_ast::nest::Nest;
-use token_cursor::cursor::Cursor;
-use token_cursor::identifier::Identifier;
-use token_cursor::parse_fault::ParseFault;
+use syntax_cursor::cursor::Cursor;
+use syntax_cursor::identifier::Identifier;
+use syntax_cursor::parse_fault::ParseFault;
 
 // Whether a parallel operator begins with the next token.
 pub fn at_operator(cursor: &Cursor<'_>) -> bool

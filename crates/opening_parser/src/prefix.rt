@@ -9,7 +9,7 @@ ghost use Rattle.lotos_ast.specs.Reads.{Reads};
 ghost use Rattle.lotos_ast.specs.Begins.{mark_at};
 ghost use Rattle.lotos_ast.specs.BehaviourTrees.{predicate_tree, optional_predicate_tree};
 ghost use Rattle.lotos_ast.specs.Nesting.{nesting_of};
-ghost use Rattle.token_cursor.specs.Parsers.{Halts};
+ghost use Rattle.syntax_cursor.specs.Parsers.{Halts};
 ghost use Rattle.opening_parser.specs.Openings.{offering, offering_tree, IsPrefix, IsOpening};
 ghost use Rattle.opening_parser.specs.Leads.{Leads};
 
@@ -21,9 +21,9 @@ use lotos_ast::behaviour::{Action, Atom, Offer};
 use lotos_ast::expression::Premiss;
 use lotos_ast::mark::Mark;
 use lotos_ast::nest::Nest;
-use token_cursor::cursor::Cursor;
-use token_cursor::item::Item;
-use token_cursor::parse_fault::ParseFault;
+use syntax_cursor::cursor::Cursor;
+use syntax_cursor::item::Item;
+use syntax_cursor::parse_fault::ParseFault;
 
 // The values of an action, with what has to hold of them.
 #[derive(Drop)]

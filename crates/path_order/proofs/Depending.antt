@@ -7,7 +7,7 @@ use Rattle.spec_core.specs.Lists.{Each, OneOf, IsOneOf}
 use Rattle.spec_core.specs.Terms.{TermTree, TermTrees, variable, apply, no_terms, and_term}
 use Rattle.spec_core.specs.Theories.{Premise, premise, Theory, ConditionalEquation, Heads, equation_of}
 use Rattle.spec_core.specs.Order.{HasOperation, AnyHasOperation, PremisesHaveOperation, DependsOn, itself, onward}
-use Rattle.number_sets.specs.Members.{IsIn}
+use Rattle.equation_sets.specs.Members.{IsIn}
 use Rattle.path_order.specs.Below.{HasMember, AnyHasMember, PremisesHaveMember, EquationHasMember, IsClosedAt, AllDepend, HeadIsBelow}
 
 module _ (set : List Bool) where

@@ -6,7 +6,7 @@ use Rattle.spec_core.specs.Terms.{TermTree, TermTrees, variable, apply, no_terms
 use Rattle.spec_core.specs.Theories.{Theory, ConditionalEquation, Heads}
 use Rattle.spec_core.specs.Constructors.{IsConstructor}
 use Rattle.spec_core.specs.Order.{IsSmaller, HasOperation, AnyHasOperation, PremisesHaveOperation, DependsOn, itself, onward, IsAbove, IsLevel, IsBelow, AreBelow, Decreases}
-use Rattle.number_sets.specs.Members.{IsIn}
+use Rattle.equation_sets.specs.Members.{IsIn}
 use Rattle.path_order.specs.Below.{IsBelowBy, AreBelowBy}
 use Rattle.path_order.specs.Decrease.{IsFirstNot, IsDecreasingAt, sides}
 use Rattle.path_order.proofs.Asked.{has_side, first_alike, each_alike, decreases}

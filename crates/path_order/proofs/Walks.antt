@@ -4,7 +4,7 @@ use Rattle.spec_core.specs.declared.term.Term.{Term}
 use Rattle.spec_core.specs.Terms.{TermTree, TermTrees, terms, term_of}
 use Rattle.spec_core.specs.Theories.{Theory, premise_of}
 use Rattle.spec_core.specs.Order.{IsInside, IsInsideAny}
-use Rattle.term_shapes.proofs.TermLists.{some_at, none_next, none_end, each_at, each_more, each_end}
+use Rattle.equation_shapes.proofs.TermLists.{some_at, none_next, none_end, each_at, each_more, each_end}
 use Rattle.path_order.specs.Below.{HasMember, AnyHasMember, PremisesHaveMember, IsBelowBy, AreBelowBy}
 
 module _ (u : TermTree) where

@@ -4,7 +4,7 @@ use Rattle.spec_core.specs.Terms.{TermTree, TermTrees, variable, apply, no_terms
 use Rattle.spec_core.specs.Theories.{Premise, premise, Theory, ConditionalEquation, Heads}
 use Rattle.spec_core.specs.Constructors.{IsConstructor}
 use Rattle.spec_core.specs.Order.{IsInsideAny, IsSmaller, DependsOn}
-use Rattle.number_sets.specs.Members.{IsIn}
+use Rattle.equation_sets.specs.Members.{IsIn}
 
 -- an operation of the set stands in the term
 abbrev mutual

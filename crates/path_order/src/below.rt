@@ -6,7 +6,7 @@ ghost use Rattle.spec_core.specs.Terms.{term_of, terms};
 ghost use Rattle.spec_core.specs.Theories.{theory_of};
 
 use crate::inside::{is_inside_any, is_smaller};
-use number_sets::set::NumberSet;
+use equation_sets::set::NumberSet;
 use spec_core::constructors::is_constructor;
 use spec_core::equation::DataSpec;
 use spec_core::term::Term;

@@ -1,14 +1,14 @@
 // Which operations depend on one.
 
 ghost use Rattle.std.specs.Prelude.{ℕ, ◌≡◌, ◌↔◌, ◌<◌, ◌⊎◌, IfOk, IfSome, IsTrue, false, map};
-ghost use Rattle.number_sets.specs.Members.{IsIn};
+ghost use Rattle.equation_sets.specs.Members.{IsIn};
 ghost use Rattle.path_order.specs.Below.{HasMember, AnyHasMember, PremisesHaveMember, EquationHasMember, IsClosedAt};
 ghost use Rattle.path_order.specs.Below.{AllDepend, HeadIsBelow, AreDependents};
 ghost use Rattle.spec_core.specs.Lists.{Each, OneOf};
 ghost use Rattle.spec_core.specs.Terms.{term_of, terms};
 ghost use Rattle.spec_core.specs.Theories.{Heads, theory_of, premise_of, equation_of};
 
-use number_sets::set::NumberSet;
+use equation_sets::set::NumberSet;
 use spec_core::equation::{DataSpec, Equation};
 use spec_core::items::Op;
 use spec_core::memory::Memory;

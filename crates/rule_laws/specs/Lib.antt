@@ -1,2 +1,4 @@
+pub mod Closing
 pub mod Examples
 pub mod Laws
+pub mod Substitution

@@ -1,4 +1,4 @@
-// Behaviours, derivations, logs, and the inference rules as definitions.
+// Behaviours, derivations, logs, and the inference rules as definitions; and what a client wishes to offer.
 #![tactic(auto)]
 
 pub mod action;
@@ -10,3 +10,4 @@ pub mod reply;
 pub mod rules;
 pub mod sorts;
 pub mod view;
+pub mod wish;

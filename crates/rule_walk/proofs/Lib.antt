@@ -1,7 +1,6 @@
 pub mod Bounds
 pub mod Faults
 pub mod Filling
-pub mod Gates
 pub mod Judging
 pub mod Misfits
 pub mod NoStep

@@ -6,7 +6,7 @@ ghost use Rattle.spec_core.specs.Executable.{IsExecutable};
 ghost use Rattle.spec_core.specs.Terms.{TermTree, term_of};
 ghost use Rattle.rule_model.specs.declared.rules.Slot.TheVariants.{Of};
 ghost use Rattle.rule_model.specs.Fields.{Spells, FieldsHave, ExitHas, BindingsHave, ArgumentsHave, IsHandedOn};
-ghost use Rattle.substitution.specs.Scopes.{terms_of};
+ghost use Rattle.rule_substitution.specs.Scopes.{terms_of};
 ghost use Rattle.rule_walk.specs.Asking.{FieldsAsk, ExitAsks, BindingsAsk, ArgumentsAsk};
 ghost use Rattle.rule_walk.specs.Bounds.{BoundsEach};
 ghost use Rattle.rule_walk.specs.Faults.{Explains, Here, IsMisfit, HasNoFields, HasNoExit, HasNoBindings, HasNoArguments};
@@ -15,13 +15,13 @@ ghost use Rattle.rule_walk.specs.Faults.{HandsOnNothing};
 use crate::fault::{FireFault, unfit};
 use crate::judge::{operations_of, value_of};
 use rule_model::rules::Slot;
+use rule_substitution::scope::Scope;
 use spec_core::code::{ActField, Checked, ExitField};
 use spec_core::items::Sort;
 use spec_core::memory::Memory;
 use spec_core::term::Term;
 use spec_core::value::Value;
 use std::alloc::Global;
-use substitution::scope::Scope;
 use value_terms::spelled;
 
 /// A chosen value: as the list of its operations, and as the term that they spell.

@@ -9,20 +9,20 @@ ghost use Rattle.spec_core.specs.Theories.{premise};
 ghost use Rattle.spec_core.specs.Values.{HasValue};
 ghost use Rattle.rewriter.specs.Answers.{IsWithin, SpellsValue};
 ghost use Rattle.rule_model.specs.Fields.{GivesValue, GuardHolds, PremiseHolds};
-ghost use Rattle.substitution.specs.Scopes.{terms_of};
+ghost use Rattle.rule_substitution.specs.Scopes.{terms_of};
 ghost use Rattle.rule_walk.specs.Asking.{GuardAsks, PremiseAsks};
 ghost use Rattle.rule_walk.specs.Bounds.{BoundsEach};
 ghost use Rattle.rule_walk.specs.Faults.{Explains, HasNoValue, Here};
 
 use crate::fault::{FireFault, unfit};
 use rewriter::Eval;
+use rule_substitution::scope::Scope;
 use spec_core::code::Checked;
 use spec_core::items::Sort;
 use spec_core::memory::Memory;
 use spec_core::term::Term;
 use spec_core::value::Value;
 use std::alloc::Global;
-use substitution::scope::Scope;
 use value_terms::{sort_of_ground, spelled};
 
 // A ground term and its sort.

@@ -8,6 +8,6 @@ pub mod laws;
 mod rows;
 mod steps;
 
-pub use code_parts::start;
 pub use fault::FireFault;
+pub use rule_code::start;
 pub use steps::fire;

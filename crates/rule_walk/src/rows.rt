@@ -10,9 +10,8 @@ ghost use Rattle.rule_model.specs.Behaviours.{behaviour_of, parallel, hide, enab
 ghost use Rattle.rule_model.specs.Constructs.{OnInner};
 ghost use Rattle.rule_model.specs.Derivations.{pre, exiting};
 ghost use Rattle.rule_model.specs.Derives.{DerivesWith};
-ghost use Rattle.rule_model.specs.Fields.{OnGate};
 ghost use Rattle.rule_model.specs.Substitution.{put, tidied, without};
-ghost use Rattle.substitution.specs.Scopes.{terms_of};
+ghost use Rattle.rule_substitution.specs.Scopes.{terms_of};
 ghost use Rattle.rule_walk.specs.Asking.{Asks};
 ghost use Rattle.rule_walk.specs.Bounds.{BoundsEach};
 ghost use Rattle.rule_walk.specs.Ends.{CanHandOn, HandsOn, IsAtHidden};
@@ -24,12 +23,12 @@ use crate::judge::ask_guard;
 use rule_model::action::{Action, Values};
 use rule_model::beh::Beh;
 use rule_model::rules::Slot;
+use rule_substitution::relabelling::{is_among, renamed, tidied};
+use rule_substitution::scope::Scope;
 use spec_core::code::{Checked, GateSet};
 use spec_core::items::{Gate, Sort};
 use spec_core::memory::Memory;
 use std::alloc::Global;
-use substitution::relabelling::{is_among, renamed, tidied};
-use substitution::scope::Scope;
 
 /// What is done, and what is left.
 #[derive(Drop)]
@@ -116,22 +115,6 @@ pub fn exits(
                 rest: Beh::Stop,
             })
         }
-    }
-}
-
-/// The gate at this place of the list, counted from 1. It takes no memory.
-pub fn gate_at(gates: &[Gate], place: u32) -> Option<Gate>
-    ensures there { IfSome result (λ gate. OnGate (map gate_number gates.now) place (λ h. gate.0 ≡ h)) }
-    ensures none { IfNone result (OnGate (map gate_number gates.now) place (λ _. Unit {0}) → ⊥) }
-{
-    if place == 0 {
-        return None;
-    }
-    let index = (place - 1) as usize;
-    if index < gates.len() {
-        Some(gates[index])
-    } else {
-        None
     }
 }
 

@@ -9,7 +9,7 @@ ghost use Rattle.rewriter.specs.Answers.{MeetsTooLarge};
 ghost use Rattle.rule_model.specs.Behaviours.{behaviour_of};
 ghost use Rattle.rule_model.specs.Derivations.{derivation_of, val, gate, guard, letting, both, calling};
 ghost use Rattle.rule_model.specs.Derives.{Derives, DerivesWith};
-ghost use Rattle.substitution.specs.Scopes.{terms_of};
+ghost use Rattle.rule_substitution.specs.Scopes.{terms_of};
 ghost use Rattle.rule_walk.specs.Asking.{Asks};
 ghost use Rattle.rule_walk.specs.Bounds.{BoundsEach};
 ghost use Rattle.rule_walk.specs.Faults.{Explains, IsFault, OnUnfit, OnSpent, OnTooLarge, Within};
@@ -20,14 +20,14 @@ use crate::fields::{bind, bind_arguments, choose};
 use crate::judge::ask_premise;
 use crate::rows;
 use crate::rows::Step;
-use code_parts::{Definition, process_at};
+use rule_code::{Definition, gate_at, process_at};
 use rule_model::action::Action;
 use rule_model::beh::Beh;
 use rule_model::rules::{Rules, Slot};
+use rule_substitution::relabelling::pairs;
+use rule_substitution::scope::Scope;
 use spec_core::code::Checked;
 use std::alloc::Global;
-use substitution::relabelling::pairs;
-use substitution::scope::Scope;
 
 /// What a closed behaviour does by a tree, and what it becomes. Each value that the tree asks is found with at most `budget` uses of
 /// equations. A rule is tried from its own construct on: then its expressions from the left, then its parts from the left, and then the
@@ -253,7 +253,7 @@ fn by_gate(
 {
     match from.as_gate_choice() {
         None => Err(unfit(alloc)),
-        Some((name, gates, body)) => match rows::gate_at(gates, place) {
+        Some((name, gates, body)) => match gate_at(gates, place) {
             None => Err(unfit(alloc)),
             Some(actual) => {
                 let body = rows::renamed_copy(alloc, name, actual, body)?;

@@ -9,8 +9,8 @@ use Rattle.rule_model.specs.declared.offer.Field.{Field}
 use Rattle.rule_model.specs.declared.offer.Field.TheVariants.{Give, Take}
 use Rattle.rule_model.specs.Fields.{GivesValue}
 use Rattle.rule_model.specs.Wishes.{Wish}
-use Rattle.client_wishes.specs.declared.ClientWish.{ClientWish}
-use Rattle.client_wishes.specs.Views.{wish_of}
+use Rattle.rule_model.specs.declared.wish.ClientWish.{ClientWish}
+use Rattle.rule_model.specs.WishViews.{wish_of}
 use Rattle.script_text.specs.Wishes.{WishedField, gives, takes, Wished}
 
 -- the elements of two lists are related one by one: there are as many, in order

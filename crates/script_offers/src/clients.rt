@@ -14,7 +14,7 @@ ghost use Rattle.script_offers.specs.Valued.{all_wishes_of, AreScriptValued, Giv
 
 use crate::fault::WishFault;
 use crate::offers::offers_of;
-use client_wishes::ClientWish;
+use rule_model::wish::ClientWish;
 use script_text::wish::{Script, Wish};
 use spec_core::code::Checked;
 use std::alloc::Global;

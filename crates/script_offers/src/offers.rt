@@ -12,13 +12,13 @@ ghost use Rattle.script_text.specs.Scripts.{FieldFits, WishFits};
 ghost use Rattle.script_text.specs.Wishes.{wished_field_of, wished_of};
 ghost use Rattle.script_offers.specs.Faults.{HasNoValue, IsFaultOf};
 ghost use Rattle.script_offers.specs.Given.{given_in, given_by, all_given, IsValuedWithin};
-ghost use Rattle.client_wishes.specs.Views.{wish_of};
+ghost use Rattle.rule_model.specs.WishViews.{wish_of};
 ghost use Rattle.script_offers.specs.Valued.{IsValuedField, AreValuedFields, IsValuedWish, AreValued, GivesValues};
 
 use crate::fault::WishFault;
-use client_wishes::ClientWish;
 use rewriter::{Eval, value};
 use rule_model::offer::{Field, Fields, Offer};
+use rule_model::wish::ClientWish;
 use script_text::wish::{Wish, WishField};
 use spec_core::code::Checked;
 use spec_core::term::Term;

@@ -8,9 +8,9 @@ use Rattle.lotos_ast.specs.Reads.{Tree, Reads}
 use Rattle.lotos_ast.specs.Tokenizes.{Tokenizes, text_limit}
 use Rattle.lotos_ast.proofs.OneReading.{one_reading, never_both}
 use Rattle.lotos_ast.proofs.TokenLaws.{one_tokens}
-use Rattle.token_cursor.specs.declared.parse_fault.ParseFault.{ParseFault}
-use Rattle.token_cursor.specs.declared.parse_fault.ParseFault.TheVariants.{Stopped}
-use Rattle.token_cursor.specs.Parsers.{reason_of, Halts}
+use Rattle.syntax_cursor.specs.declared.parse_fault.ParseFault.{ParseFault}
+use Rattle.syntax_cursor.specs.declared.parse_fault.ParseFault.TheVariants.{Stopped}
+use Rattle.syntax_cursor.specs.Parsers.{reason_of, Halts}
 use Rattle.script_text.specs.Texts.{IsTextOf, IsNoTextOf}
 
 pub one_text : {g : Syntax} {text : List ℕ} {x y : Tree} → IsTextOf g text x → IsTextOf g text y → x ≡ y

@@ -13,7 +13,7 @@ mod term;
 mod vocabulary;
 mod whole;
 pub mod wish;
-#[tactic(auto, using(token_cursor::proofs::Steps::steps))]
+#[tactic(auto, using(syntax_cursor::proofs::Steps::steps))]
 mod written;
 
 pub use script::{SCRIPT_LIMIT, read_script};

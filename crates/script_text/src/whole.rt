@@ -15,9 +15,9 @@ use lotos_ast::text_kind::TextKind;
 use lotos_ast::token::Token;
 use lotos_lexer::tokens;
 use std::alloc::Global;
-use token_cursor::cursor::Cursor;
-use token_cursor::item::Item;
-use token_cursor::parse_fault::ParseFault;
+use syntax_cursor::cursor::Cursor;
+use syntax_cursor::item::Item;
+use syntax_cursor::parse_fault::ParseFault;
 
 // The tokens of a text that isn't too long.
 #[tactic(auto, using(crate::proofs::WholeTexts::whole_steps))]

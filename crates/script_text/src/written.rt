@@ -5,16 +5,16 @@ ghost use Rattle.lotos_ast.specs.ListTrees.{optional_token_tree};
 ghost use Rattle.lotos_ast.specs.Nesting.{nesting_of};
 ghost use Rattle.lotos_ast.specs.Notation.{optional, identifier};
 ghost use Rattle.lotos_ast.specs.Reads.{Reads};
-ghost use Rattle.token_cursor.specs.Parsers.{Halts};
+ghost use Rattle.syntax_cursor.specs.Parsers.{Halts};
 
 use data_parser::expressions::expression;
 use lotos_ast::expression::Expr;
 use lotos_ast::mark::Mark;
 use lotos_ast::nest::Nest;
 use lotos_ast::token::Token;
-use token_cursor::cursor::Cursor;
-use token_cursor::item::Item;
-use token_cursor::parse_fault::ParseFault;
+use syntax_cursor::cursor::Cursor;
+use syntax_cursor::item::Item;
+use syntax_cursor::parse_fault::ParseFault;
 
 // A field of an offer.
 #[derive(Drop)]

@@ -13,23 +13,23 @@ use Rattle.turn_lock.specs.Seats.{AgreesWith, SeatModel}
 use Rattle.rule_model.specs.Events.{Event, event_of, pended, acted, replied, stalled, left}
 use Rattle.rule_model.specs.Legal.{IsDerivation, IsPossible}
 use Rattle.rule_model.specs.States.{PendingOffer, State, start_state, without_taken}
-use Rattle.session_states.specs.Clients.{numbers_from}
-use Rattle.session_states.proofs.Members.{first_in, in_cases, later_in, none_in}
-use Rattle.session_states.proofs.Tests.{by_cases, on_either, true_false}
-use Rattle.waiting_offers.proofs.Members.{in_behind, in_filtered}
+use Rattle.session_closing.specs.Clients.{numbers_from}
+use Rattle.session_closing.proofs.Members.{first_in, in_cases, later_in, none_in}
+use Rattle.session_closing.proofs.Tests.{by_cases, on_either, true_false}
+use Rattle.board_core.proofs.Members.{in_behind, in_filtered}
 use Rattle.board_core.specs.Views.{events, program, state}
-use Rattle.session_laws.specs.Answers.{offers_by}
-use Rattle.session_laws.specs.Logs.{IsOfClient}
-use Rattle.session_laws.proofs.Driven.{driven_derives}
-use Rattle.board_closing.specs.Closing.{IsClosedOff}
-use Rattle.shared_board.specs.declared.line.Line.{Line}
-use Rattle.shared_board.specs.declared.line.Line.TheVariants.{Happened, Halted}
-use Rattle.shared_board.specs.Answers.{HasItsAnswers}
-use Rattle.shared_board.specs.Lines.{events_in, maker_of, seat_for}
-use Rattle.shared_board.specs.Shared.{SharedView, HasDrivenLog, lines}
-use Rattle.shared_board.proofs.Answering.{answered_not_pending}
-use Rattle.shared_board.proofs.Leaving.{is_number, not_open_has_left, open_hasnt_left}
-use Rattle.shared_board.proofs.Lists.{events_behind, events_of_lines}
+use Rattle.session_closing.specs.Answers.{offers_by}
+use Rattle.session_closing.specs.Logs.{IsOfClient}
+use Rattle.session_closing.proofs.Driven.{driven_derives}
+use Rattle.session_closing.specs.Closing.{IsClosedOff}
+use Rattle.session_board.specs.declared.line.Line.{Line}
+use Rattle.session_board.specs.declared.line.Line.TheVariants.{Happened, Halted}
+use Rattle.session_board.specs.Answers.{HasItsAnswers}
+use Rattle.session_board.specs.Lines.{events_in, maker_of, seat_for}
+use Rattle.session_board.specs.Shared.{SharedView, HasDrivenLog, lines}
+use Rattle.session_board.proofs.Answering.{answered_not_pending}
+use Rattle.session_board.proofs.Leaving.{is_number, not_open_has_left, open_hasnt_left}
+use Rattle.session_board.proofs.Lists.{events_behind, events_of_lines}
 use Rattle.session.specs.Closing.{HasItsEntries, IsSeatOf, events_by}
 use Rattle.session.specs.Passes.{PassView, HasLeft}
 use Rattle.session.proofs.Owning.{left_is_own, own_is_there}

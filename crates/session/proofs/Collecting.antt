@@ -5,10 +5,10 @@ use Rattle.std.specs.Prelude.{All}
 use Rattle.std.specs.List.{AllByRecursion}
 use Rattle.std.proofs.lemmas.List.Elements.{All-contains, All-from_recursion, Contains-append_left}
 use Rattle.std.proofs.lemmas.List.Elements.{Contains-append_right}
-use Rattle.session_states.proofs.Members.{first_in, in_cases, later_in, none_in}
-use Rattle.session_states.proofs.Tests.{on_either}
+use Rattle.session_closing.proofs.Members.{first_in, in_cases, later_in, none_in}
+use Rattle.session_closing.proofs.Tests.{on_either}
 use Rattle.turn_lock.specs.Seats.{IsAtRest, LockId, SeatModel}
-use Rattle.shared_board.specs.declared.line.Line.{Line}
+use Rattle.session_board.specs.declared.line.Line.{Line}
 use Rattle.session.specs.Closing.{AddsSeats, AreAllClients, AreAllWorkers, AreSeatsOf, HasSeat, IsSeatOf, IsSeatOfOne, IsSeatOfWorker}
 use Rattle.session.specs.Passes.{PassView, WorkPassView}
 

@@ -7,13 +7,13 @@ use Rattle.turn_lock.specs.Entries.{Begins}
 use Rattle.turn_lock.specs.Seats.{AgreesWith, IsAtRest, LockModel, SeatModel}
 use Rattle.rule_model.specs.Events.{Ending, Event}
 use Rattle.board_core.specs.Views.{BoardView, program, state}
-use Rattle.session_laws.specs.Sessions.{IsWholeSession}
-use Rattle.board_closing.specs.Closing.{IsClosedOff}
-use Rattle.shared_board.specs.declared.fixed.FixedPart.{FixedPart}
-use Rattle.shared_board.specs.declared.line.Line.{Line}
-use Rattle.shared_board.specs.Answers.{HasItsAnswers}
-use Rattle.shared_board.specs.Lines.{events_in, maker_of}
-use Rattle.shared_board.specs.Shared.{SharedView, HasDrivenLog, fixed_part, lines}
+use Rattle.session_closing.specs.Sessions.{IsWholeSession}
+use Rattle.session_closing.specs.Closing.{IsClosedOff}
+use Rattle.session_board.specs.declared.fixed.FixedPart.{FixedPart}
+use Rattle.session_board.specs.declared.line.Line.{Line}
+use Rattle.session_board.specs.Answers.{HasItsAnswers}
+use Rattle.session_board.specs.Lines.{events_in, maker_of}
+use Rattle.session_board.specs.Shared.{SharedView, HasDrivenLog, fixed_part, lines}
 use Rattle.session.specs.Closing.{AreAllClients, AreAllWorkers, AreSeatsOf, HasItsEntries, HasSeat, IsSeatOf, IsSeatOfWorker}
 use Rattle.session.specs.Passes.{PassView, WorkPassView, HasHalted}
 use Rattle.session.specs.Sessions.{IsClientOf, IsWorkerOf, SessionView, who_of}

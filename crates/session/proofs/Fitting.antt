@@ -4,17 +4,17 @@ use Rattle.spec_core.specs.declared.code.Checked.{Checked}
 use Rattle.spec_core.specs.declared.settings.Settings.{Settings}
 use Rattle.spec_core.specs.declared.window.Window.{Window}
 use Rattle.spec_core.specs.Code.{Program, program_of}
-use Rattle.windowed_trees.specs.Windows.{Windows}
-use Rattle.window_tables.specs.Tables.{windows_in}
+use Rattle.session_board.specs.Windows.{Windows}
+use Rattle.session_board.specs.Tables.{windows_in}
 use Rattle.turn_lock.specs.Seats.{LockModel, SeatModel}
 use Rattle.board_core.specs.Views.{program, windows}
 use Rattle.board_work.specs.declared.outcome.Outcome.{Outcome}
 use Rattle.board_work.specs.Outcomes.{IsOutcome}
-use Rattle.shared_board.specs.declared.fixed.FixedPart.{FixedPart}
-use Rattle.shared_board.specs.declared.line.Line.{Line}
-use Rattle.shared_board.specs.declared.shared.TakenJob.{TakenJob}
+use Rattle.session_board.specs.declared.fixed.FixedPart.{FixedPart}
+use Rattle.session_board.specs.declared.line.Line.{Line}
+use Rattle.session_board.specs.declared.shared.TakenJob.{TakenJob}
 use Rattle.session.specs.Sessions.{FitsJob, IsWellMade, SessionView}
-use Rattle.shared_board.specs.Shared.{SharedView, fixed_part}
+use Rattle.session_board.specs.Shared.{SharedView, fixed_part}
 
 -- what came of a job over what the session was made with came of it over the board
 pub fits_board : (s : SessionView) (v : SharedView) (taken : TakenJob) (outcome : Outcome) → fixed_part v ≡ s.lock.fixed → FitsJob s taken outcome →

@@ -1,8 +1,8 @@
 -- The seats of passes.
 use Rattle.std.proofs.Common.{ℕ, ◌≡◌, ap, subst, false}
 use Rattle.turn_lock.specs.Seats.{SeatModel}
-use Rattle.shared_board.specs.declared.line.Line.{Line}
-use Rattle.shared_board.specs.declared.spot.Spot.{Spot}
+use Rattle.session_board.specs.declared.line.Line.{Line}
+use Rattle.session_board.specs.declared.spot.Spot.{Spot}
 use Rattle.session.specs.Calls.{IsIdleSeat}
 use Rattle.session.specs.Closing.{IsSeatOf, IsSeatOfWorker}
 use Rattle.session.specs.Passes.{PassView, WorkPassView, IsPass}

@@ -1,12 +1,13 @@
-mod Owning
-mod Seats
-mod Posting
-mod Passing
-mod Fitting
-mod Starting
-mod Manning
-mod Working
-pub mod Collecting
-pub mod Handing
 pub mod Closed
+pub mod Collecting
+pub mod Crossing
 pub mod Ending
+mod Fitting
+pub mod Handing
+mod Manning
+mod Owning
+mod Passing
+mod Posting
+mod Seats
+mod Starting
+mod Working

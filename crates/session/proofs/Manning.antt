@@ -10,11 +10,11 @@ use Rattle.spec_core.specs.declared.settings.Settings.{Settings}
 use Rattle.spec_core.specs.declared.window.Window.{Window}
 use Rattle.spec_core.specs.Code.{Program, program_of}
 use Rattle.spec_core.specs.Ready.{IsReady}
-use Rattle.sort_windows.specs.Found.{AreBySorts}
+use Rattle.board_core.specs.Found.{AreBySorts}
 use Rattle.turn_lock.specs.Seats.{LockId, LockModel, SeatModel, new_seat, new_seats}
-use Rattle.shared_board.specs.declared.fixed.FixedPart.{FixedPart}
-use Rattle.shared_board.specs.declared.line.Line.{Line}
-use Rattle.shared_board.specs.Lines.{maker_of}
+use Rattle.session_board.specs.declared.fixed.FixedPart.{FixedPart}
+use Rattle.session_board.specs.declared.line.Line.{Line}
+use Rattle.session_board.specs.Lines.{maker_of}
 use Rattle.session.specs.Sessions.{IsWellMade}
 use Rattle.session.specs.Starting.{AreFresh, content_of, new_pass, new_work_pass, pass_of, work_pass_of}
 use Rattle.session.proofs.Starting.{same_rows, same_windows}

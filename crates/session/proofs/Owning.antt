@@ -6,14 +6,14 @@ use Rattle.std.proofs.lemmas.List.Elements.{All-from_recursion, filter-append}
 use Rattle.turn_lock.specs.Entries.{Continues, is_named, made_by}
 use Rattle.rule_model.specs.declared.log.Entry.{Entry}
 use Rattle.rule_model.specs.Events.{Event, event_of, pended, acted, replied, stalled, left}
-use Rattle.session_states.proofs.Members.{first_in, in_cases, later_in, none_in}
-use Rattle.session_states.proofs.Tests.{by_cases, on_either}
-use Rattle.session_laws.specs.Answers.{offers_by}
-use Rattle.shared_board.specs.declared.line.Line.{Line}
-use Rattle.shared_board.specs.declared.line.Line.TheVariants.{Happened, Halted}
-use Rattle.shared_board.specs.Lines.{events_in, maker_of, seat_for}
-use Rattle.shared_board.proofs.Answering.{offers_by_behind}
-use Rattle.shared_board.proofs.Lists.{events_behind, longer_front}
+use Rattle.session_closing.proofs.Members.{first_in, in_cases, later_in, none_in}
+use Rattle.session_closing.proofs.Tests.{by_cases, on_either}
+use Rattle.session_closing.specs.Answers.{offers_by}
+use Rattle.session_board.specs.declared.line.Line.{Line}
+use Rattle.session_board.specs.declared.line.Line.TheVariants.{Happened, Halted}
+use Rattle.session_board.specs.Lines.{events_in, maker_of, seat_for}
+use Rattle.session_board.proofs.Answering.{offers_by_behind}
+use Rattle.session_board.proofs.Lists.{events_behind, longer_front}
 
 -- one line more, which the seat makes
 

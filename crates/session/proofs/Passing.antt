@@ -6,15 +6,15 @@ use Rattle.turn_lock.specs.Seats.{SeatModel}
 use Rattle.rule_model.specs.declared.offer.Offer.{Offer}
 use Rattle.rule_model.specs.Answers.{Answer}
 use Rattle.rule_model.specs.Events.{Event, left, pended}
-use Rattle.shared_board.specs.declared.line.Line.{Line}
-use Rattle.shared_board.specs.declared.line.Line.TheVariants.{Happened}
-use Rattle.shared_board.specs.declared.spot.Spot.{Spot}
-use Rattle.shared_board.specs.Answers.{AnswersAll, EndsWithAnswer, IsSpot}
+use Rattle.session_board.specs.declared.line.Line.{Line}
+use Rattle.session_board.specs.declared.line.Line.TheVariants.{Happened}
+use Rattle.session_board.specs.declared.spot.Spot.{Spot}
+use Rattle.session_board.specs.Answers.{AnswersAll, EndsWithAnswer, IsSpot}
 use Rattle.session.specs.Calls.{HasItsLines, HasMade, HasSeenMore, IsIdleSeat, StaysSeat}
-use Rattle.shared_board.specs.Lines.{events_in, maker_of}
+use Rattle.session_board.specs.Lines.{events_in, maker_of}
 use Rattle.session.specs.Passes.{HasHalted, IsPass, KnowsAnswer, KnowsLeave, PassView, made_by_client}
-use Rattle.shared_board.proofs.Growing.{spot_stays}
-use Rattle.shared_board.proofs.Lists.{fronts, whole_front}
+use Rattle.session_board.proofs.Growing.{spot_stays}
+use Rattle.session_board.proofs.Lists.{fronts, whole_front}
 use Rattle.session.proofs.Owning.{front_made}
 use Rattle.session.proofs.Seats.{as_long, begins_on, made_begins, stays_halted}
 

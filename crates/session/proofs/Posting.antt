@@ -5,16 +5,16 @@ use Rattle.turn_lock.specs.Entries.{Continues}
 use Rattle.turn_lock.specs.Seats.{AgreesWith, SeatModel}
 use Rattle.rule_model.specs.declared.offer.Offer.{Offer}
 use Rattle.rule_model.specs.Events.{Event, left}
-use Rattle.session_record.specs.declared.faults.LeaveFault.TheVariants as leaving
-use Rattle.session_record.specs.declared.faults.PendFault.TheVariants.{NotOpen, NoSuchGate}
+use Rattle.board_record.specs.declared.faults.LeaveFault.TheVariants as leaving
+use Rattle.board_record.specs.declared.faults.PendFault.TheVariants.{NotOpen, NoSuchGate}
 use Rattle.board_core.specs.Views.{events, program}
-use Rattle.shared_board.specs.declared.fixed.FixedPart.{FixedPart}
-use Rattle.shared_board.specs.declared.line.Line.{Line}
-use Rattle.shared_board.specs.Faults.{ExplainsNoLeave, ExplainsNoOffer, HasntLeft, MayBeMade}
-use Rattle.shared_board.specs.Growing.{GrowsByNone, GrowsByOne}
-use Rattle.shared_board.specs.Lines.{events_in, maker_of, seat_for}
-use Rattle.shared_board.specs.Shared.{SharedView, fixed_part, lines}
-use Rattle.shared_board.proofs.Lists.{events_of_lines}
+use Rattle.session_board.specs.declared.fixed.FixedPart.{FixedPart}
+use Rattle.session_board.specs.declared.line.Line.{Line}
+use Rattle.session_board.specs.Faults.{ExplainsNoLeave, ExplainsNoOffer, HasntLeft, MayBeMade}
+use Rattle.session_board.specs.Growing.{GrowsByNone, GrowsByOne}
+use Rattle.session_board.specs.Lines.{events_in, maker_of, seat_for}
+use Rattle.session_board.specs.Shared.{SharedView, fixed_part, lines}
+use Rattle.session_board.proofs.Lists.{events_of_lines}
 use Rattle.session.specs.declared.calls.CallFault.TheVariants as call
 use Rattle.session.specs.Calls.{ExplainsCallBy, ExplainsLeavingBy, HasGate, MayCallBy}
 use Rattle.session.specs.Passes.{HasLeftBy}

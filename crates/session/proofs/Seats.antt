@@ -6,21 +6,21 @@ use Rattle.turn_lock.specs.Entries.{Begins, Continues, made_by}
 use Rattle.turn_lock.specs.Seats.{AgreesWith, SeatModel}
 use Rattle.rule_model.specs.declared.log.Entry.{Entry}
 use Rattle.rule_model.specs.Events.{Event}
-use Rattle.session_states.proofs.Members.{first_in, in_cases, none_in}
-use Rattle.session_states.proofs.Tests.{on_either}
-use Rattle.session_laws.specs.Answers.{offers_by}
-use Rattle.shared_board.specs.declared.line.Line.{Line}
-use Rattle.shared_board.specs.declared.line.Line.TheVariants.{Happened, Halted}
-use Rattle.shared_board.specs.Answers.{HasItsAnswers}
+use Rattle.session_closing.proofs.Members.{first_in, in_cases, none_in}
+use Rattle.session_closing.proofs.Tests.{on_either}
+use Rattle.session_closing.specs.Answers.{offers_by}
+use Rattle.session_board.specs.declared.line.Line.{Line}
+use Rattle.session_board.specs.declared.line.Line.TheVariants.{Happened, Halted}
+use Rattle.session_board.specs.Answers.{HasItsAnswers}
 use Rattle.session.specs.declared.calls.CallFault.{CallFault}
 use Rattle.session.specs.declared.calls.CallFault.TheVariants.{Memory}
 use Rattle.session.specs.Calls.{HasMade, HasSeenMore, IsIdleSeat, StaysSeat}
-use Rattle.shared_board.specs.Growing.{GrowsByNone, GrowsByOne}
-use Rattle.shared_board.specs.Lines.{events_in, lines_of, maker_of, seat_for}
+use Rattle.session_board.specs.Growing.{GrowsByNone, GrowsByOne}
+use Rattle.session_board.specs.Lines.{events_in, lines_of, maker_of, seat_for}
 use Rattle.session.specs.Passes.{HasHalted}
-use Rattle.shared_board.specs.Shared.{IsMarked, SharedView, lines}
-use Rattle.shared_board.proofs.Growing.{continues_by_none, made_by_none}
-use Rattle.shared_board.proofs.Lists.{running_lines}
+use Rattle.session_board.specs.Shared.{IsMarked, SharedView, lines}
+use Rattle.session_board.proofs.Growing.{continues_by_none, made_by_none}
+use Rattle.session_board.proofs.Lists.{running_lines}
 use Rattle.session.proofs.Owning.{continues_by_one, made_by_one, names_itself, none_made_behind, same_offers}
 
 -- beginnings

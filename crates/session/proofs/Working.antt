@@ -2,12 +2,12 @@
 use Rattle.std.proofs.Common.{ℕ, ◌<◌, ◌≡◌, ◌∙◌, sym, ap, subst, arith, List, length}
 use Rattle.std.proofs.lemmas.List.{length-append}
 use Rattle.turn_lock.specs.Entries.{Begins}
-use Rattle.shared_board.specs.declared.line.Line.{Line}
-use Rattle.shared_board.specs.declared.shared.Work.{Work}
-use Rattle.shared_board.specs.declared.shared.Work.TheVariants as work
-use Rattle.shared_board.specs.Lines.{AllHaveLeft}
-use Rattle.shared_board.specs.Looks.{ComesOfWork}
-use Rattle.shared_board.specs.Shared.{SharedView, lines}
+use Rattle.session_board.specs.declared.line.Line.{Line}
+use Rattle.session_board.specs.declared.shared.Work.{Work}
+use Rattle.session_board.specs.declared.shared.Work.TheVariants as work
+use Rattle.session_board.specs.Lines.{AllHaveLeft}
+use Rattle.session_board.specs.Looks.{ComesOfWork}
+use Rattle.session_board.specs.Shared.{SharedView, lines}
 use Rattle.session.specs.Working.{ComesOfSeat}
 
 -- a list that goes on from one that is longer than the first is longer than it

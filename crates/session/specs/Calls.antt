@@ -8,9 +8,9 @@ use Rattle.rule_model.specs.declared.offer.Offer.{Offer}
 use Rattle.rule_model.specs.Events.{Event, event_of}
 use Rattle.session.specs.declared.calls.CallFault.{CallFault}
 use Rattle.session.specs.declared.calls.CallFault.TheVariants.{Left, NoSuchGate, Memory}
-use Rattle.shared_board.specs.declared.line.Line.{Line}
-use Rattle.shared_board.specs.declared.line.Line.TheVariants.{Happened}
-use Rattle.shared_board.specs.Lines.{maker_of}
+use Rattle.session_board.specs.declared.line.Line.{Line}
+use Rattle.session_board.specs.declared.line.Line.TheVariants.{Happened}
+use Rattle.session_board.specs.Lines.{maker_of}
 use Rattle.session.specs.Passes.{PassView, HasHalted, HasLeftBy, KnowsItsAnswers}
 use Rattle.session.specs.Sessions.{SessionView}
 

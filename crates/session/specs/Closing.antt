@@ -4,8 +4,8 @@ use Rattle.std.specs.List.{AllByRecursion}
 use Rattle.turn_lock.specs.Entries.{is_named}
 use Rattle.turn_lock.specs.Seats.{SeatModel}
 use Rattle.rule_model.specs.Events.{Event, left}
-use Rattle.shared_board.specs.declared.line.Line.{Line}
-use Rattle.shared_board.specs.Lines.{events_in, seat_for}
+use Rattle.session_board.specs.declared.line.Line.{Line}
+use Rattle.session_board.specs.Lines.{events_in, seat_for}
 use Rattle.session.specs.Calls.{IsIdleSeat}
 use Rattle.session.specs.Passes.{PassView, WorkPassView, HasLeft}
 

@@ -6,11 +6,11 @@ use Rattle.rule_model.specs.declared.log.Entry.{Entry}
 use Rattle.rule_model.specs.declared.offer.Offer.{Offer}
 use Rattle.rule_model.specs.Answers.{Answer}
 use Rattle.rule_model.specs.Events.{event_of, left, pended}
-use Rattle.shared_board.specs.declared.line.Line.{Line}
-use Rattle.shared_board.specs.declared.line.Line.TheVariants.{Happened, Halted}
-use Rattle.shared_board.specs.declared.spot.Spot.{Spot}
-use Rattle.shared_board.specs.Answers.{AnswersAll, EndsWithAnswer, IsSpot}
-use Rattle.shared_board.specs.Lines.{events_in, maker_of}
+use Rattle.session_board.specs.declared.line.Line.{Line}
+use Rattle.session_board.specs.declared.line.Line.TheVariants.{Happened, Halted}
+use Rattle.session_board.specs.declared.spot.Spot.{Spot}
+use Rattle.session_board.specs.Answers.{AnswersAll, EndsWithAnswer, IsSpot}
+use Rattle.session_board.specs.Lines.{events_in, maker_of}
 
 -- a client's pass: its lock, the client's number, the list that its seat has seen, the lines of it that the client made, and how many
 -- lines of the list it knows

@@ -5,15 +5,15 @@ use Rattle.spec_core.specs.declared.settings.Settings.{Settings}
 use Rattle.spec_core.specs.declared.window.Window.{Window}
 use Rattle.spec_core.specs.Code.{program_of}
 use Rattle.spec_core.specs.Ready.{IsReady}
-use Rattle.sort_windows.specs.Found.{AreBySorts}
-use Rattle.window_tables.specs.Tables.{windows_in}
+use Rattle.board_core.specs.Found.{AreBySorts}
+use Rattle.session_board.specs.Tables.{windows_in}
 use Rattle.turn_lock.specs.Seats.{LockId, LockModel, SeatModel, IsAtRest}
 use Rattle.board_work.specs.declared.outcome.Outcome.{Outcome}
 use Rattle.board_work.specs.Outcomes.{IsOutcome}
-use Rattle.shared_board.specs.declared.fixed.FixedPart.{FixedPart}
-use Rattle.shared_board.specs.declared.line.Line.{Line}
-use Rattle.shared_board.specs.declared.shared.TakenJob.{TakenJob}
-use Rattle.shared_board.specs.Lines.{AllHaveLeft}
+use Rattle.session_board.specs.declared.fixed.FixedPart.{FixedPart}
+use Rattle.session_board.specs.declared.line.Line.{Line}
+use Rattle.session_board.specs.declared.shared.TakenJob.{TakenJob}
+use Rattle.session_board.specs.Lines.{AllHaveLeft}
 use Rattle.session.specs.Passes.{PassView, WorkPassView}
 
 -- the lock round the board, which tells the specification, the settings, the number of clients and the windows; and the number of workers

@@ -2,7 +2,7 @@
 use Rattle.std.specs.Prelude.{ℕ, ◌+◌, ◌≡◌, [], ◌∷◌, List, Bool, false}
 use Rattle.spec_core.specs.declared.window.Window.{Window}
 use Rattle.turn_lock.specs.Seats.{LockId, SeatModel}
-use Rattle.shared_board.specs.declared.line.Line.{Line}
+use Rattle.session_board.specs.declared.line.Line.{Line}
 use Rattle.session.specs.Passes.{PassView, WorkPassView}
 
 -- what a window holds

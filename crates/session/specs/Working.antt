@@ -3,10 +3,10 @@ use Rattle.std.specs.Prelude.{ℕ, ◌≡◌, ◌<◌, List, length}
 use Rattle.worker_drive.specs.Counts.{raised_by}
 use Rattle.session.specs.declared.desk.Did.{Did}
 use Rattle.session.specs.declared.desk.Did.TheVariants.{Job, Settled, Idle, Over}
-use Rattle.shared_board.specs.declared.line.Line.{Line}
-use Rattle.shared_board.specs.declared.shared.Work.{Work}
-use Rattle.shared_board.specs.declared.shared.Work.TheVariants as work
-use Rattle.shared_board.specs.Lines.{AllHaveLeft}
+use Rattle.session_board.specs.declared.line.Line.{Line}
+use Rattle.session_board.specs.declared.shared.Work.{Work}
+use Rattle.session_board.specs.declared.shared.Work.TheVariants as work
+use Rattle.session_board.specs.Lines.{AllHaveLeft}
 use Rattle.session.specs.Passes.{WorkPassView}
 
 -- what a turn of a worker tells of the list that its seat has seen

@@ -12,7 +12,7 @@ ghost use Rattle.session.specs.Working.{ComesOfDoing, ComesOfSeat, OneJobMore, S
 use crate::session::Session;
 use crate::work_pass::WorkPass;
 use board_work::outcome::Outcome;
-use shared_board::shared::{SharedBoard, TakenJob, Work};
+use session_board::shared::{SharedBoard, TakenJob, Work};
 use spec_core::memory::Memory;
 use std::sync::Wait;
 use turn_lock::TurnSeat;

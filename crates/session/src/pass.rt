@@ -1,7 +1,7 @@
 // The pass of a client.
 
-use shared_board::shared::SharedBoard;
-use shared_board::spot::Spot;
+use session_board::shared::SharedBoard;
+use session_board::spot::Spot;
 use std::marker::Model;
 use turn_lock::TurnSeat;
 

@@ -4,14 +4,14 @@ ghost use Rattle.std.specs.Prelude.{◌≡◌, ◌≤◌, IfOk, false, length, m
 ghost use Rattle.std.specs.List.{AllByRecursion, range_with_len};
 ghost use Rattle.spec_core.specs.Code.{program_of};
 ghost use Rattle.spec_core.specs.Ready.{IsReady};
-ghost use Rattle.sort_windows.specs.Found.{AreBySorts};
+ghost use Rattle.board_core.specs.Found.{AreBySorts};
 ghost use Rattle.session.specs.Starting.{AreFresh, content_of, new_pass, new_work_pass, pass_of, work_pass_of};
 
 use crate::pass::Pass;
 use crate::work_pass::WorkPass;
 use board_core::board::Board;
-use shared_board::shared::SharedBoard;
-use shared_board::spot::Spot;
+use session_board::shared::SharedBoard;
+use session_board::spot::Spot;
 use spec_core::code::Checked;
 use spec_core::memory::Memory;
 use spec_core::settings::Settings;

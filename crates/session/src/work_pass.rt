@@ -1,6 +1,6 @@
 // The pass of a worker.
 
-use shared_board::shared::SharedBoard;
+use session_board::shared::SharedBoard;
 use std::marker::Model;
 use turn_lock::TurnSeat;
 

@@ -12,15 +12,15 @@ use Rattle.rule_model.specs.Derivations.{Derivation}
 use Rattle.rule_model.specs.Events.{OfferName, Event, pended, acted, replied, stalled, left}
 use Rattle.rule_model.specs.Legal.{IsPossible, IsPending}
 use Rattle.rule_model.specs.States.{PendingOffer, State, start_state, without}
-use Rattle.courses.specs.Rules.{Next, takes, deadlocks, is_beyond, is_not_now, goes_on, stalls, nothing}
-use Rattle.session_states.proofs.Members.{none_in, first_in, later_in, in_cases}
-use Rattle.session_states.proofs.Tests.{by_cases, on_either}
-use Rattle.session_states.specs.Clients.{numbers_from}
-use Rattle.waiting_offers.specs.Waiting.{AreOfDifferentClients, by_client, insert_by_client}
-use Rattle.waiting_offers.proofs.Derivations.{pending_clients_differ}
-use Rattle.waiting_offers.proofs.Members.{held, in_by_client, listed}
-use Rattle.session_rules.specs.declared.stop_reason.StopReason.{StopReason}
-use Rattle.session_rules.specs.Next.{IsNextEvent, next_ended, next_by_rules, IsEventOf}
+use Rattle.decision_trees.specs.Rules.{Next, takes, deadlocks, is_beyond, is_not_now, goes_on, stalls, nothing}
+use Rattle.log_states.proofs.Members.{none_in, first_in, later_in, in_cases}
+use Rattle.log_states.proofs.Tests.{by_cases, on_either}
+use Rattle.log_states.specs.Clients.{numbers_from}
+use Rattle.board_offers.specs.Waiting.{AreOfDifferentClients, by_client, insert_by_client}
+use Rattle.board_offers.proofs.Derivations.{pending_clients_differ}
+use Rattle.board_offers.proofs.Members.{held, in_by_client, listed}
+use Rattle.board_laws.specs.declared.stop_reason.StopReason.{StopReason}
+use Rattle.board_laws.specs.Next.{IsNextEvent, next_ended, next_by_rules, IsEventOf}
 use Rattle.session_laws.specs.Answers.{answered_to, names_of, of_client, offers_by}
 use Rattle.session_laws.specs.Laws.{DrivenLogsAnswerClients}
 use Rattle.session_laws.specs.Logs.{IsLogBy, ComesByRules, ComesByReason, IsDrivenLog}

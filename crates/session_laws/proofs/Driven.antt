@@ -5,9 +5,9 @@ use Rattle.spec_core.specs.Code.{Program}
 use Rattle.rule_model.specs.Events.{Event}
 use Rattle.rule_model.specs.Legal.{IsPossible, IsDerivation}
 use Rattle.rule_model.specs.States.{State}
-use Rattle.session_rules.specs.declared.stop_reason.StopReason.{StopReason}
-use Rattle.session_rules.specs.Next.{IsNextEvent, IsStopReply}
-use Rattle.stop_reasons.specs.Reasons.{IsAskedByRules, IsReasonToStop}
+use Rattle.board_laws.specs.declared.stop_reason.StopReason.{StopReason}
+use Rattle.board_laws.specs.Next.{IsNextEvent, IsStopReply}
+use Rattle.board_laws.specs.Reasons.{IsAskedByRules, IsReasonToStop}
 use Rattle.session_laws.specs.Logs.{IsOfClient, IsLogBy, ComesByRules, ComesByReason, IsStoppedLog, IsDrivenLog}
 use Rattle.session_laws.proofs.Logs.{further, derives, behind}
 

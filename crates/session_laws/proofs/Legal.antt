@@ -6,12 +6,12 @@ use Rattle.spec_core.specs.Lists.{Each}
 use Rattle.spec_core.specs.Ready.{IsReady}
 use Rattle.rule_model.specs.Events.{Event, pended, acted, replied, stalled, left}
 use Rattle.rule_model.specs.States.{State, start_state}
-use Rattle.session_states.specs.Clients.{numbers_from}
-use Rattle.session_rules.specs.declared.stop_reason.StopReason.{StopReason}
-use Rattle.session_rules.specs.Next.{IsStopReply}
-use Rattle.session_rules.specs.Stopping.{answer_by}
-use Rattle.client_sessions.specs.Justified.{IsJustified, IsJustifiedLog, ComesAfterStop, StopsFor}
-use Rattle.client_sessions.proofs.Justified.{next_justifies, stop_justifies}
+use Rattle.log_states.specs.Clients.{numbers_from}
+use Rattle.board_laws.specs.declared.stop_reason.StopReason.{StopReason}
+use Rattle.board_laws.specs.Next.{IsStopReply}
+use Rattle.board_laws.specs.Stopping.{answer_by}
+use Rattle.client_laws.specs.Justified.{IsJustified, IsJustifiedLog, ComesAfterStop, StopsFor}
+use Rattle.client_laws.proofs.Justified.{next_justifies, stop_justifies}
 use Rattle.session_laws.specs.Laws.{DrivenLogsAreDerivations, DrivenLogsAreLegal}
 use Rattle.session_laws.specs.Logs.{IsOfClient, IsLogBy, ComesByRules, ComesByReason, IsDrivenLog}
 use Rattle.session_laws.proofs.Logs.{behind, derives, in_other_way}

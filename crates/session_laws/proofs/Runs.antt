@@ -6,9 +6,9 @@ use Rattle.rule_model.specs.Events.{Event, pended, left}
 use Rattle.rule_model.specs.Legal.{IsPossible}
 use Rattle.rule_model.specs.Wishes.{Wish}
 use Rattle.rule_model.specs.States.{State, start_state}
-use Rattle.session_states.specs.Clients.{numbers_from}
-use Rattle.session_rules.specs.declared.stop_reason.StopReason.{StopReason}
-use Rattle.client_sessions.specs.Runs.{IsRun, run_begins, run_offers, run_leaves, run_goes_on, run_stops, run_tells, clients_for}
+use Rattle.log_states.specs.Clients.{numbers_from}
+use Rattle.board_laws.specs.declared.stop_reason.StopReason.{StopReason}
+use Rattle.client_laws.specs.Runs.{IsRun, run_begins, run_offers, run_leaves, run_goes_on, run_stops, run_tells, clients_for}
 use Rattle.session_laws.specs.Laws.{ClientRunsAreSessions, RunsAreDriven}
 use Rattle.session_laws.specs.Logs.{IsOfClient, IsDrivenLog}
 use Rattle.session_laws.proofs.Driven.{Comes, goes_on, by_client, stops}

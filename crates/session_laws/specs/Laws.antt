@@ -10,9 +10,9 @@ use Rattle.rule_model.specs.Events.{Event, Ending}
 use Rattle.rule_model.specs.Legal.{IsDerivation}
 use Rattle.rule_model.specs.Wishes.{Wish}
 use Rattle.rule_model.specs.States.{State, start_state}
-use Rattle.session_rules.specs.declared.stop_reason.StopReason.{StopReason}
-use Rattle.session_states.specs.Clients.{numbers_from}
-use Rattle.client_sessions.specs.Runs.{IsRun, IsClientRun, clients_for}
+use Rattle.board_laws.specs.declared.stop_reason.StopReason.{StopReason}
+use Rattle.log_states.specs.Clients.{numbers_from}
+use Rattle.client_laws.specs.Runs.{IsRun, IsClientRun, clients_for}
 use Rattle.session_laws.specs.Answers.{answered_to, of_client, offers_by}
 use Rattle.session_laws.specs.Logs.{IsDrivenLog}
 use Rattle.session_laws.specs.Sessions.{IsDriven, IsLegal, IsWholeSession}

@@ -6,11 +6,11 @@ use Rattle.rule_model.specs.Behaviours.{Behaviour}
 use Rattle.rule_model.specs.Code.{IsStart}
 use Rattle.rule_model.specs.Events.{Event, Ending}
 use Rattle.rule_model.specs.States.{State, start_state}
-use Rattle.session_rules.specs.declared.stop_reason.StopReason.{StopReason}
-use Rattle.session_states.specs.Clients.{numbers_from}
-use Rattle.client_sessions.specs.Ends.{IsEndingOf}
-use Rattle.client_sessions.specs.Justified.{IsJustifiedLog, StopsFor}
-use Rattle.client_sessions.specs.Runs.{IsSettledAt}
+use Rattle.board_laws.specs.declared.stop_reason.StopReason.{StopReason}
+use Rattle.log_states.specs.Clients.{numbers_from}
+use Rattle.client_laws.specs.Ends.{IsEndingOf}
+use Rattle.client_laws.specs.Justified.{IsJustifiedLog, StopsFor}
+use Rattle.client_laws.specs.Runs.{IsSettledAt}
 use Rattle.session_laws.specs.Logs.{IsDrivenLog}
 
 module _ (program : Program) (settings : Settings) (clients : ℕ) where

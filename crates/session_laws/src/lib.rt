@@ -1,4 +1,5 @@
-// Sessions of any number of clients: definitions, and what follows from them.
+// Sessions of any number of clients: definitions, what follows from them, and what they tell their clients.
 #![tactic(auto)]
 
+pub mod answers;
 pub mod laws;

@@ -2,12 +2,12 @@
 
 use rule_model::offer::{Fields, Offer};
 use rule_model::reply::Reply;
-use sample_programs::over_small_data;
 use session::calls::CallFault;
 use session::session::Session;
 use spec_core::items::Gate;
 use spec_core::settings::Settings;
 use std::alloc::Global;
+use test_programs::over_small_data;
 
 const SETTINGS: Settings = Settings {
     budget: 100,

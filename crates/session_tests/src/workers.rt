@@ -1,13 +1,13 @@
 // Workers that do jobs beside one another.
 
 use rule_model::log::End;
-use sample_programs::over_small_data;
 use session::desk::Did;
 use session::session::Session;
+use session_threads::run::run_in_threads;
 use spec_core::settings::Settings;
 use std::alloc::Global;
 use std::sync::atomic::{AtomicBool, Ordering};
-use thread_runs::run::run_in_threads;
+use test_programs::over_small_data;
 use worker_drive::Probe;
 
 const TWO_PROCESSES: &str = "P [a] ||| P [b] where process P [g] : noexit := g; P [g] endproc";

@@ -2,7 +2,7 @@
 use Rattle.std.proofs.Common.{ℕ, zero, suc, ◌≡◌, List, [], ◌∷◌, ◌++◌, map, refl, sym, subst, ◌+◌}
 use Rattle.std.specs.Prelude.{Option, Some, None, option_map, IsSome}
 use Rattle.std.specs.List.{filter_map, cons_option, slice_get, flat_map}
-use Rattle.constructs.specs.Written.{listed, behaviour_written}
+use Rattle.static_constructs.specs.Written.{listed, behaviour_written}
 use Rattle.lotos_ast.specs.declared.declaration.Declaration.{Declaration}
 use Rattle.lotos_ast.specs.declared.declaration.Functionality.{Functionality}
 use Rattle.lotos_ast.specs.declared.declaration.Functionality.TheVariants.{NoExit, Exit}
@@ -15,13 +15,13 @@ use Rattle.spec_core.specs.Functionality as core
 use Rattle.spec_core.specs.Theories.{Theory}
 use Rattle.sort_overloads.specs.Readings.{Context}
 use Rattle.sort_overloads.specs.Refused.{unknown_sort, is_sort_known}
-use Rattle.behaviour_readings.specs.Declarations.{declared_names}
-use Rattle.behaviour_readings.specs.Joins.{Read, after}
-use Rattle.behaviour_readings.specs.Sites.{Heading}
-use Rattle.process_table.specs.Headings.{known_sort, known_sorts, declared, parameter_sorts, headings_from, functionality_refusals}
-use Rattle.process_table.specs.Headings.{parameter_refusals, heading_refusals, twice_refusals, table_refusals, opening_refusals}
-use Rattle.process_table.specs.Processes.{Entry, entries, visible_in}
-use Rattle.call_cycles.specs.Unguarded.{unguarded_refusals}
+use Rattle.static_readings.specs.Declarations.{declared_names}
+use Rattle.static_readings.specs.Joins.{Read, after}
+use Rattle.static_readings.specs.Sites.{Heading}
+use Rattle.static_processes.specs.Headings.{known_sort, known_sorts, declared, parameter_sorts, headings_from, functionality_refusals}
+use Rattle.static_processes.specs.Headings.{parameter_refusals, heading_refusals, twice_refusals, table_refusals, opening_refusals}
+use Rattle.static_processes.specs.Processes.{Entry, entries, visible_in}
+use Rattle.static_call_cycles.specs.Unguarded.{unguarded_refusals}
 use Rattle.type_names.specs.DuplicateNames.{names_twice}
 use Rattle.static_check.specs.Bodies.{Setting, Placed, placed, body_site, headings_within, ending_refusals, body_ending_refusals, AreBodiesRead, none_left, one_more, calls_from}
 use Rattle.static_check.specs.Compiled.{data_context, setting, start_site, program_if_read, IsJudged}

@@ -4,7 +4,7 @@ use Rattle.std.specs.Prelude.{option_map}
 use Rattle.lotos_ast.specs.declared.place.Place.{Place}
 use Rattle.lotos_ast.specs.declared.refusal.Refusal.{Refusal}
 use Rattle.spec_core.specs.Functionality.{Functionality}
-use Rattle.behaviour_readings.specs.Joins.{Read}
+use Rattle.static_readings.specs.Joins.{Read}
 use Rattle.static_check.specs.Bodies.{may_end, refused_unless, ending_refusals}
 
 no_some : {A : Type 0} (x : A) → None ≡ Some x → ⊥

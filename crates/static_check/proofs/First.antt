@@ -4,9 +4,9 @@ use Rattle.lotos_ast.specs.declared.refusal.Refusal.{Refusal}
 use Rattle.lotos_ast.specs.declared.spec.Spec.{Spec}
 use Rattle.spec_core.specs.Code.{Node, Program}
 use Rattle.spec_core.specs.Theories.{Theory}
-use Rattle.behaviour_readings.specs.Joins.{Read}
-use Rattle.behaviour_readings.specs.ReadsAll.{before}
-use Rattle.process_table.specs.Processes.{Entry, entries}
+use Rattle.static_readings.specs.Joins.{Read}
+use Rattle.static_readings.specs.ReadsAll.{before}
+use Rattle.static_processes.specs.Processes.{Entry, entries}
 use Rattle.static_check.specs.Bodies.{Setting, Placed, AreBodiesRead, none_left, one_more}
 use Rattle.static_check.specs.Compiled.{setting, process_nodes, body_nodes, assembled, program_if_read}
 use Rattle.static_check.specs.Laws.{IsProcessAt, ProcessesStandFirst}

@@ -3,17 +3,17 @@ use Rattle.std.proofs.Common.{ℕ, ◌≡◌, ◌∙◌, refl, sym, ap, subst, L
 use Rattle.std.specs.Prelude.{option_map}
 use Rattle.lotos_ast.specs.declared.refusal.Refusal.{Refusal}
 use Rattle.lotos_ast.specs.declared.spec.Spec.{Spec}
-use Rattle.constructs.specs.Written.{gates_in, behaviour_written}
+use Rattle.static_constructs.specs.Written.{gates_in, behaviour_written}
 use Rattle.spec_core.specs.Code.{Node, Program}
 use Rattle.spec_core.specs.Functionality.{Functionality}
 use Rattle.spec_core.specs.Theories.{Theory}
 use Rattle.sort_overloads.specs.Readings.{Context}
-use Rattle.behaviour_readings.specs.Joins.{Read, root}
-use Rattle.behaviour_readings.specs.Outputs.{Output, nodes_of}
-use Rattle.process_table.specs.Headings.{declared, table_refusals, opening_refusals}
-use Rattle.process_table.specs.Processes.{Entry, entries}
-use Rattle.call_cycles.specs.declared.call.Call.{Call}
-use Rattle.call_cycles.specs.Unguarded.{unguarded_refusals}
+use Rattle.static_readings.specs.Joins.{Read, root}
+use Rattle.static_readings.specs.Outputs.{Output, nodes_of}
+use Rattle.static_processes.specs.Headings.{declared, table_refusals, opening_refusals}
+use Rattle.static_processes.specs.Processes.{Entry, entries}
+use Rattle.static_call_cycles.specs.declared.call.Call.{Call}
+use Rattle.static_call_cycles.specs.Unguarded.{unguarded_refusals}
 use Rattle.static_check.specs.Bodies.{Setting, Placed, ending_refusals, AreBodiesRead, calls_from}
 use Rattle.static_check.specs.Compiled.{data_context, setting, start_site, process_nodes, body_nodes, program_if_read, IsJudged}
 use Rattle.static_check.specs.Steps.{AreReadSoFar, IsStartRead, program_with_if}

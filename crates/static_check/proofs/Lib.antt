@@ -5,3 +5,4 @@ pub mod Judged
 pub mod OneByOne
 pub mod Sites
 pub mod Unrefused
+pub use Rattle.sort_overloads.proofs.Any

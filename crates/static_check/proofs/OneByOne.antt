@@ -5,27 +5,27 @@ use Rattle.std.specs.List.{slice_get}
 use Rattle.std.proofs.lemmas.List.{length-append, length-map, length-take-le, map-append}
 use Rattle.std.proofs.lemmas.Option.{slice_get-map}
 use Rattle.lotos_ast.specs.declared.refusal.Refusal.{Refusal}
-use Rattle.constructs.specs.Constructs.{Construct}
+use Rattle.static_constructs.specs.Constructs.{Construct}
 use Rattle.spec_core.specs.Code.{Node}
 use Rattle.spec_core.specs.Functionality.{Functionality}
 use Rattle.sort_overloads.specs.Readings.{Context}
 use Rattle.sort_overloads.proofs.Loops.{taken-next, taken-all, dropped-next, dropped-all}
-use Rattle.equation_readings.specs.Variables.{all_variables}
+use Rattle.static_equations.specs.Variables.{all_variables}
 use Rattle.type_names.proofs.Lists.{got}
-use Rattle.behaviour_readings.specs.Joins.{Read, root, after}
-use Rattle.behaviour_readings.specs.Outputs.{Output, nodes_of, HasRead}
-use Rattle.behaviour_readings.specs.ReadsAll.{before, all_before}
-use Rattle.behaviour_readings.specs.Readings.{IsRead}
-use Rattle.behaviour_readings.specs.Sites.{Site}
-use Rattle.behaviour_readings.specs.declared.heading.Heading.{Heading}
-use Rattle.behaviour_readings.specs.Views.{heading_of, functionality_of}
-use Rattle.behaviour_readings.proofs.Together.{alone, first_alone, joined_before}
-use Rattle.process_table.specs.Headings.{headings_from, heading, declared, parameter_sorts}
-use Rattle.process_table.specs.Processes.{Entry}
-use Rattle.process_table.specs.declared.entry.Entry as code
-use Rattle.process_table.specs.Views.{entry_of}
-use Rattle.call_cycles.specs.AtOnce.{calls_at_once}
-use Rattle.call_cycles.specs.declared.call.Call.{Call}
+use Rattle.static_readings.specs.Joins.{Read, root, after}
+use Rattle.static_readings.specs.Outputs.{Output, nodes_of, HasRead}
+use Rattle.static_readings.specs.ReadsAll.{before, all_before}
+use Rattle.static_readings.specs.Readings.{IsRead}
+use Rattle.static_readings.specs.Sites.{Site}
+use Rattle.static_readings.specs.declared.heading.Heading.{Heading}
+use Rattle.static_readings.specs.Views.{heading_of, functionality_of}
+use Rattle.static_readings.proofs.Together.{alone, first_alone, joined_before}
+use Rattle.static_processes.specs.Headings.{headings_from, heading, declared, parameter_sorts}
+use Rattle.static_processes.specs.Processes.{Entry}
+use Rattle.static_processes.specs.declared.entry.Entry as code
+use Rattle.static_processes.specs.Views.{entry_of}
+use Rattle.static_call_cycles.specs.AtOnce.{calls_at_once}
+use Rattle.static_call_cycles.specs.declared.call.Call.{Call}
 use Rattle.static_check.specs.Bodies.{Setting, Placed, placed, body_site, body_ending_refusals, AreBodiesRead, none_left, one_more, calls_from}
 use Rattle.static_check.specs.Compiled.{process_node, process_nodes, body_nodes}
 use Rattle.static_check.specs.Steps.{node_over, IsBodyRead, AreReadSoFar, IsStartRead}

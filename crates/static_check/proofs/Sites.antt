@@ -3,14 +3,14 @@ use Rattle.std.proofs.Common.{ℕ, ◌≡◌, ◌∙◌, refl, sym, ap, List, []
 use Rattle.std.specs.List.{filter_map, cons_option, slice_get}
 use Rattle.std.proofs.lemmas.Option.{slice_get-map}
 use Rattle.lotos_ast.specs.declared.spec.Spec.{Spec}
-use Rattle.constructs.specs.Written.{gates_in}
+use Rattle.static_constructs.specs.Written.{gates_in}
 use Rattle.sort_overloads.specs.Readings.{Context}
-use Rattle.equation_readings.specs.Variables.{all_variables}
-use Rattle.behaviour_readings.specs.Sites.{Site, bare, with_gates, with_variables}
-use Rattle.behaviour_readings.specs.declared.heading.Heading.{Heading}
-use Rattle.behaviour_readings.specs.Views.{heading_of, headings_at}
-use Rattle.process_table.specs.Headings.{headings_from}
-use Rattle.process_table.specs.Processes.{Entry, visible_in}
+use Rattle.static_equations.specs.Variables.{all_variables}
+use Rattle.static_readings.specs.Sites.{Site, bare, with_gates, with_variables}
+use Rattle.static_readings.specs.declared.heading.Heading.{Heading}
+use Rattle.static_readings.specs.Views.{heading_of, headings_at}
+use Rattle.static_processes.specs.Headings.{headings_from}
+use Rattle.static_processes.specs.Processes.{Entry, visible_in}
 use Rattle.static_check.specs.Bodies.{body_site}
 use Rattle.static_check.specs.Compiled.{start_site}
 use Rattle.static_check.specs.Views.{data_of}

@@ -25,26 +25,26 @@ use Rattle.sort_overloads.specs.Judged.{IsJudged, read, unread, unknown}
 use Rattle.sort_overloads.specs.Listed.{Typed}
 use Rattle.sort_overloads.specs.Readings.{Context}
 use Rattle.sort_overloads.specs.Refused.{unknown_sort, is_sort_known}
-use Rattle.equation_readings.specs.Equalities as equalities
-use Rattle.equation_readings.specs.Equalities.{IsEqualityJudged, Sides, right_unread, left_unread}
-use Rattle.equation_readings.specs.Premisses.{IsTruthJudged, by_truth, without, IsConditionJudged, or_no_reading}
-use Rattle.equation_readings.specs.Variables.{all_variables}
-use Rattle.constructs.specs.Constructs.{Construct}
-use Rattle.behaviour_readings.specs.Calls as read_calls
-use Rattle.behaviour_readings.specs.Calls.{IsValueRead, sorted, unsorted, IsArgumentRead, fitted, AreValuesRead, called, IsCallRead, miscounted, counted}
-use Rattle.behaviour_readings.specs.Calls.{IsBindingRead, bound_to, variable_of}
-use Rattle.behaviour_readings.specs.Declarations.{declared_names, refused_unless, unknown_gate, unknown_gates, gate_numbers, declaration_refusals, declared_variables, are_known}
-use Rattle.behaviour_readings.specs.Joins.{Read, after, around, over, either, both, joined, disagreement, refused_if_none}
-use Rattle.behaviour_readings.specs.Offers.{IsOfferRead, value, variables, IsPredicateRead, IsExitValueRead, any}
-use Rattle.behaviour_readings.specs.Offers.{offered_variables, offered_names, numbered_offers}
-use Rattle.behaviour_readings.specs.ReadsAll.{ReadsAll, none, further, before}
-use Rattle.behaviour_readings.specs.Readings as readings
-use Rattle.behaviour_readings.specs.Readings.{ended, acting, under, chosen, gates_of, synchronised, composed, composed_refusals, enabled}
-use Rattle.behaviour_readings.specs.Readings.{enabled_refusals, copied}
-use Rattle.behaviour_readings.specs.Readings.{IsRead, stopped, exited, acted_inside, acted, chosen_either, asked, bound_to_values}
-use Rattle.behaviour_readings.specs.Readings.{chosen_values, chosen_gates, composed_with, hidden, enabled_by, disabled_by, called_with}
-use Rattle.behaviour_readings.specs.Readings.{copied_at, AreGatesChosen}
-use Rattle.behaviour_readings.specs.Sites.{Site, Heading, gate_number, next_gate, process_named, sort_of, with_gates, with_variables}
+use Rattle.static_equations.specs.Equalities as equalities
+use Rattle.static_equations.specs.Equalities.{IsEqualityJudged, Sides, right_unread, left_unread}
+use Rattle.static_equations.specs.Premisses.{IsTruthJudged, by_truth, without, IsConditionJudged, or_no_reading}
+use Rattle.static_equations.specs.Variables.{all_variables}
+use Rattle.static_constructs.specs.Constructs.{Construct}
+use Rattle.static_readings.specs.Calls as read_calls
+use Rattle.static_readings.specs.Calls.{IsValueRead, sorted, unsorted, IsArgumentRead, fitted, AreValuesRead, called, IsCallRead, miscounted, counted}
+use Rattle.static_readings.specs.Calls.{IsBindingRead, bound_to, variable_of}
+use Rattle.static_readings.specs.Declarations.{declared_names, refused_unless, unknown_gate, unknown_gates, gate_numbers, declaration_refusals, declared_variables, are_known}
+use Rattle.static_readings.specs.Joins.{Read, after, around, over, either, both, joined, disagreement, refused_if_none}
+use Rattle.static_readings.specs.Offers.{IsOfferRead, value, variables, IsPredicateRead, IsExitValueRead, any}
+use Rattle.static_readings.specs.Offers.{offered_variables, offered_names, numbered_offers}
+use Rattle.static_readings.specs.ReadsAll.{ReadsAll, none, further, before}
+use Rattle.static_readings.specs.Readings as readings
+use Rattle.static_readings.specs.Readings.{ended, acting, under, chosen, gates_of, synchronised, composed, composed_refusals, enabled}
+use Rattle.static_readings.specs.Readings.{enabled_refusals, copied}
+use Rattle.static_readings.specs.Readings.{IsRead, stopped, exited, acted_inside, acted, chosen_either, asked, bound_to_values}
+use Rattle.static_readings.specs.Readings.{chosen_values, chosen_gates, composed_with, hidden, enabled_by, disabled_by, called_with}
+use Rattle.static_readings.specs.Readings.{copied_at, AreGatesChosen}
+use Rattle.static_readings.specs.Sites.{Site, Heading, gate_number, next_gate, process_named, sort_of, with_gates, with_variables}
 use Rattle.type_names.specs.DuplicateNames.{names_twice}
 
 -- nothing is there, and something

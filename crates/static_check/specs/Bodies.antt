@@ -9,15 +9,15 @@ use Rattle.lotos_ast.specs.declared.refusal.RefusalKind.TheVariants.{WrongFuncti
 use Rattle.spec_core.specs.Functionality.{Functionality, noexit, exits}
 use Rattle.sort_overloads.specs.Readings.{Context}
 use Rattle.sort_overloads.specs.Refused.{refused}
-use Rattle.equation_readings.specs.Variables.{all_variables}
-use Rattle.behaviour_readings.specs.Joins.{Read, after}
-use Rattle.behaviour_readings.specs.ReadsAll.{before}
-use Rattle.behaviour_readings.specs.Readings.{IsRead}
-use Rattle.behaviour_readings.specs.Sites.{Site, Heading}
-use Rattle.process_table.specs.Headings.{headings_from, declared, parameter_sorts}
-use Rattle.process_table.specs.Processes.{Defined, Entry, visible_in}
-use Rattle.call_cycles.specs.declared.call.Call.{Call}
-use Rattle.call_cycles.specs.AtOnce.{calls_at_once}
+use Rattle.static_equations.specs.Variables.{all_variables}
+use Rattle.static_readings.specs.Joins.{Read, after}
+use Rattle.static_readings.specs.ReadsAll.{before}
+use Rattle.static_readings.specs.Readings.{IsRead}
+use Rattle.static_readings.specs.Sites.{Site, Heading}
+use Rattle.static_processes.specs.Headings.{headings_from, declared, parameter_sorts}
+use Rattle.static_processes.specs.Processes.{Defined, Entry, visible_in}
+use Rattle.static_call_cycles.specs.declared.call.Call.{Call}
+use Rattle.static_call_cycles.specs.AtOnce.{calls_at_once}
 
 -- what all bodies are read by: sorts and operations, how many gates the specification has, and all processes
 pub record Setting : Type 0 where

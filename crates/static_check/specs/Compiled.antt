@@ -4,18 +4,18 @@ use Rattle.std.specs.List.{range_with_len}
 use Rattle.lotos_ast.specs.declared.refusal.Refusal.{Refusal}
 use Rattle.lotos_ast.specs.declared.spec.Spec.{Spec}
 use Rattle.lotos_ast.specs.FirstRefusals.{first_refusal}
-use Rattle.constructs.specs.Written.{gates_in, behaviour_written}
+use Rattle.static_constructs.specs.Written.{gates_in, behaviour_written}
 use Rattle.spec_core.specs.Code.{Node, process, Program}
 use Rattle.spec_core.specs.Theories.{Theory}
 use Rattle.sort_overloads.specs.Readings.{Context}
-use Rattle.equation_readings.specs.Variables.{all_variables}
-use Rattle.behaviour_readings.specs.Declarations.{numbered_from}
-use Rattle.behaviour_readings.specs.Joins.{Read, root}
-use Rattle.behaviour_readings.specs.Readings.{IsRead}
-use Rattle.behaviour_readings.specs.Sites.{Site}
-use Rattle.process_table.specs.Headings.{declared, table_refusals, opening_refusals}
-use Rattle.process_table.specs.Processes.{Entry, entries}
-use Rattle.call_cycles.specs.Unguarded.{unguarded_refusals}
+use Rattle.static_equations.specs.Variables.{all_variables}
+use Rattle.static_readings.specs.Declarations.{numbered_from}
+use Rattle.static_readings.specs.Joins.{Read, root}
+use Rattle.static_readings.specs.Readings.{IsRead}
+use Rattle.static_readings.specs.Sites.{Site}
+use Rattle.static_processes.specs.Headings.{declared, table_refusals, opening_refusals}
+use Rattle.static_processes.specs.Processes.{Entry, entries}
+use Rattle.static_call_cycles.specs.Unguarded.{unguarded_refusals}
 use Rattle.static_check.specs.Bodies.{Setting, Placed, headings_within, ending_refusals, AreBodiesRead, calls_from}
 
 -- the sorts and operations of the data; no variable is in scope

@@ -4,7 +4,7 @@ use Rattle.std.specs.List.{slice_get}
 use Rattle.lotos_ast.specs.declared.spec.Spec.{Spec}
 use Rattle.spec_core.specs.Code.{Node, Variable, process, Program}
 use Rattle.spec_core.specs.Theories.{Theory}
-use Rattle.process_table.specs.Processes.{entries}
+use Rattle.static_processes.specs.Processes.{entries}
 use Rattle.static_check.specs.Compiled.{IsCompiled, IsJudged}
 
 -- the node of this number is a process

@@ -3,3 +3,7 @@ pub mod Compiled
 pub mod Laws
 pub mod Steps
 pub mod Views
+pub use Rattle.sort_overloads.specs.Listed
+pub use Rattle.static_constructs.specs.Written
+pub use Rattle.static_processes.specs.Headings
+pub use Rattle.static_processes.specs.Processes

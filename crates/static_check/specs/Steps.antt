@@ -6,16 +6,16 @@ use Rattle.lotos_ast.specs.declared.spec.Spec.{Spec}
 use Rattle.spec_core.specs.Code.{Node, process, Program}
 use Rattle.spec_core.specs.Theories.{Theory}
 use Rattle.sort_overloads.specs.Readings.{Declared}
-use Rattle.behaviour_readings.specs.Declarations.{numbered_from}
-use Rattle.behaviour_readings.specs.Joins.{Read, root}
-use Rattle.behaviour_readings.specs.Outputs.{Output, nodes_of}
-use Rattle.behaviour_readings.specs.Readings.{IsRead}
-use Rattle.behaviour_readings.specs.Sites.{Site}
-use Rattle.behaviour_readings.specs.Views.{heading_of}
-use Rattle.constructs.specs.Constructs.{Construct}
-use Rattle.constructs.specs.Written.{gates_in}
-use Rattle.process_table.specs.Headings.{declared, headings_from}
-use Rattle.process_table.specs.Processes.{Entry}
+use Rattle.static_readings.specs.Declarations.{numbered_from}
+use Rattle.static_readings.specs.Joins.{Read, root}
+use Rattle.static_readings.specs.Outputs.{Output, nodes_of}
+use Rattle.static_readings.specs.Readings.{IsRead}
+use Rattle.static_readings.specs.Sites.{Site}
+use Rattle.static_readings.specs.Views.{heading_of}
+use Rattle.static_constructs.specs.Constructs.{Construct}
+use Rattle.static_constructs.specs.Written.{gates_in}
+use Rattle.static_processes.specs.Headings.{declared, headings_from}
+use Rattle.static_processes.specs.Processes.{Entry}
 use Rattle.static_check.specs.Bodies.{Setting, Placed, placed, body_site, body_ending_refusals, AreBodiesRead}
 use Rattle.static_check.specs.Compiled.{process_node, process_nodes, body_nodes}
 use Rattle.static_check.specs.declared.setting.Setting as code

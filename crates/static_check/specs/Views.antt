@@ -1,7 +1,7 @@
 -- What the definitions see of the values of the code.
 use Rattle.std.specs.Prelude.{map, []}
 use Rattle.sort_overloads.specs.Readings.{Context}
-use Rattle.process_table.specs.Views.{entry_of}
+use Rattle.static_processes.specs.Views.{entry_of}
 use Rattle.static_check.specs.Bodies as bodies
 use Rattle.static_check.specs.declared.setting.Setting.{Setting}
 

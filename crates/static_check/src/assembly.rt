@@ -1,18 +1,18 @@
 // A program is put together.
 
 ghost use Rattle.std.specs.Prelude.{◌≡◌, ◌++◌, IfOk, OnOk, map, length, drop, option_map};
-ghost use Rattle.constructs.specs.Written.{gates_in};
+ghost use Rattle.static_constructs.specs.Written.{gates_in};
 ghost use Rattle.spec_core.specs.Code.{node_of, program_of};
 ghost use Rattle.spec_core.specs.Theories.{theory_of};
 ghost use Rattle.static_check.specs.Steps.{program_with, program_with_if};
 
 use lotos_ast::spec::Spec;
 use lotos_ast::token::Token;
-use process_table::heading::gates_in;
 use spec_core::code::{Checked, CodeNode, Part};
 use spec_core::equation::DataSpec;
 use spec_core::memory::Memory;
 use spec_core::name::Name;
+use static_processes::heading::gates_in;
 use std::alloc::Global;
 
 /// So many nodes, in place of which those of processes are put at the end.

@@ -2,11 +2,11 @@
 
 ghost use Rattle.std.specs.List.{list_all};
 ghost use Rattle.std.specs.Prelude.{◌≡◌, ◌<◌, ◌++◌, Option, IfOk, OnOk, map, length, pred, get_or, is_some, option_map};
-ghost use Rattle.behaviour_readings.specs.Joins.{Read};
-ghost use Rattle.behaviour_readings.specs.Views.{functionality_of, heading_of, output_of};
-ghost use Rattle.call_cycles.specs.AtOnce.{calls_at_once};
-ghost use Rattle.constructs.specs.Views.{construct_of};
-ghost use Rattle.process_table.specs.Views.{entry_of};
+ghost use Rattle.static_readings.specs.Joins.{Read};
+ghost use Rattle.static_readings.specs.Views.{functionality_of, heading_of, output_of};
+ghost use Rattle.static_call_cycles.specs.AtOnce.{calls_at_once};
+ghost use Rattle.static_constructs.specs.Views.{construct_of};
+ghost use Rattle.static_processes.specs.Views.{entry_of};
 ghost use Rattle.spec_core.specs.Code.{node_of};
 ghost use Rattle.spec_core.specs.Numbers.{sort_number};
 ghost use Rattle.static_check.specs.Bodies as bodies;
@@ -17,22 +17,22 @@ ghost use Rattle.static_check.specs.Views.{data_of, setting_of};
 
 use crate::ending::add_ending;
 use crate::setting::Setting;
-use behaviour_reader::gates::numbers_from;
-use behaviour_reader::reader::read;
-use behaviour_readings::functionality::Functionality;
-use behaviour_readings::heading::Heading;
-use behaviour_readings::output::Output;
-use behaviour_readings::site::Site;
-use behaviour_readings::values::with_one;
-use call_cycles::call::Call;
-use call_cycles::calls::calls_at_once;
-use constructs::construct::Construct;
-use constructs::written::behaviour;
-use process_table::entry::Entry;
-use process_table::heading::gates_in;
 use spec_core::code::{CodeNode, Part};
 use spec_core::items::Sort;
 use spec_core::memory::Memory;
+use static_call_cycles::call::Call;
+use static_call_cycles::calls::calls_at_once;
+use static_compiler::gates::numbers_from;
+use static_compiler::reader::read;
+use static_constructs::construct::Construct;
+use static_constructs::written::behaviour;
+use static_processes::entry::Entry;
+use static_processes::heading::gates_in;
+use static_readings::functionality::Functionality;
+use static_readings::heading::Heading;
+use static_readings::output::Output;
+use static_readings::site::Site;
+use static_readings::values::with_one;
 use std::alloc::Global;
 
 /// The body of a process that is read.

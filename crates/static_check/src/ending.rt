@@ -3,17 +3,17 @@
 ghost use Rattle.std.specs.Cmp.Lexicographic.{pointwise};
 ghost use Rattle.std.specs.Prelude.{◌≡◌, ◌++◌, OnOk, Option, map, option_map};
 ghost use Rattle.spec_core.specs.Numbers.{sort_number};
-ghost use Rattle.behaviour_readings.specs.Joins.{Read};
-ghost use Rattle.behaviour_readings.specs.Views.{functionality_of, output_of};
+ghost use Rattle.static_readings.specs.Joins.{Read};
+ghost use Rattle.static_readings.specs.Views.{functionality_of, output_of};
 ghost use Rattle.static_check.specs.Bodies as bodies;
 ghost use Rattle.static_check.specs.Bodies.{ending_refusals};
 
-use behaviour_readings::functionality::Functionality;
-use behaviour_readings::output::Output;
 use lotos_ast::place::Place;
 use lotos_ast::refusal::RefusalKind;
 use spec_core::items::Sort;
 use spec_core::memory::Memory;
+use static_readings::functionality::Functionality;
+use static_readings::output::Output;
 use std::alloc::Global;
 
 // Whether a sort in which a behaviour ends may be declared as another: a sort that isn't known, which has the number `unknown`, as any.

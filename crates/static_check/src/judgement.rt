@@ -1,10 +1,10 @@
 // What a specification comes to, and everything that is refused of it.
 
 ghost use Rattle.std.specs.Prelude.{◌≡◌, ◌<◌, ◌^◌, ◌-◌, ◌++◌, [], IfOk, OnOk, map, length, option_map, vec_len};
-ghost use Rattle.behaviour_readings.specs.Views.{output_of};
-ghost use Rattle.call_cycles.specs.Unguarded.{unguarded_refusals};
-ghost use Rattle.process_table.specs.Headings.{opening_refusals, table_refusals};
-ghost use Rattle.process_table.specs.Views.{entry_of};
+ghost use Rattle.static_readings.specs.Views.{output_of};
+ghost use Rattle.static_call_cycles.specs.Unguarded.{unguarded_refusals};
+ghost use Rattle.static_processes.specs.Headings.{opening_refusals, table_refusals};
+ghost use Rattle.static_processes.specs.Views.{entry_of};
 ghost use Rattle.sort_overloads.specs.Views.{context_of};
 ghost use Rattle.spec_core.specs.Code.{program_of};
 ghost use Rattle.spec_core.specs.Theories.{theory_of};
@@ -15,22 +15,22 @@ use crate::assembly::{places, program_if};
 use crate::bodies::read_bodies;
 use crate::setting::Setting;
 use crate::start::read_start;
-use behaviour_readings::output::Output;
-use behaviour_readings::site::Site;
-use call_cycles::call::Call;
-use call_cycles::unguarded::add_unguarded;
 use lotos_ast::refusal::Refusal;
 use lotos_ast::spec::Spec;
-use process_table::entry::Entry;
-use process_table::heading::{declared, gates_in, headings};
-use process_table::refusals::{add_opening_refusals, add_table_refusals};
-use process_table::table::processes;
 use sort_overloads::name_index::NameIndex;
 use sort_overloads::scope::Scope;
 use spec_core::code::Checked;
 use spec_core::equation::DataSpec;
 use spec_core::memory::Memory;
 use spec_core::name::Name;
+use static_call_cycles::call::Call;
+use static_call_cycles::unguarded::add_unguarded;
+use static_processes::entry::Entry;
+use static_processes::heading::{declared, gates_in, headings};
+use static_processes::refusals::{add_opening_refusals, add_table_refusals};
+use static_processes::table::processes;
+use static_readings::output::Output;
+use static_readings::site::Site;
 use std::alloc::Global;
 
 /// What a specification comes to.

@@ -1,21 +1,21 @@
 // What all bodies are read by.
 
 ghost use Rattle.std.specs.Prelude.{◌≡◌, OnOk, IfOk, ◌∷◌, map};
-ghost use Rattle.process_table.specs.Processes.{visible_in};
-ghost use Rattle.process_table.specs.Views.{entry_of};
+ghost use Rattle.static_processes.specs.Processes.{visible_in};
+ghost use Rattle.static_processes.specs.Views.{entry_of};
 ghost use Rattle.static_check.specs.Bodies.{body_site};
 ghost use Rattle.static_check.specs.Steps.{HasHeadings};
 ghost use Rattle.static_check.specs.Views.{setting_of};
 
-use behaviour_readings::declarations::put_declarations;
-use behaviour_readings::heading::Heading;
-use behaviour_readings::site::Site;
 use lotos_ast::declaration::Declaration;
 use lotos_ast::token::Token;
-use process_table::entry::Entry;
-use process_table::heading::{declarations_in, gates_in};
-use process_table::table::visible;
 use spec_core::memory::Memory;
+use static_processes::entry::Entry;
+use static_processes::heading::{declarations_in, gates_in};
+use static_processes::table::visible;
+use static_readings::declarations::put_declarations;
+use static_readings::heading::Heading;
+use static_readings::site::Site;
 use std::alloc::Global;
 
 /// What all bodies are read by.

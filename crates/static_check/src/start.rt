@@ -1,8 +1,8 @@
 // The behaviour of the specification.
 
 ghost use Rattle.std.specs.Prelude.{◌≡◌, IfOk, OnOk, None, length, pred, option_map};
-ghost use Rattle.behaviour_readings.specs.Views.{functionality_of, output_of};
-ghost use Rattle.constructs.specs.Written.{behaviour_written};
+ghost use Rattle.static_readings.specs.Views.{functionality_of, output_of};
+ghost use Rattle.static_constructs.specs.Written.{behaviour_written};
 ghost use Rattle.static_check.specs.Bodies.{ending_refusals};
 ghost use Rattle.static_check.specs.Compiled.{start_site};
 ghost use Rattle.static_check.specs.Steps.{HasHeadings, IsStartRead};
@@ -10,16 +10,16 @@ ghost use Rattle.static_check.specs.Views.{setting_of};
 
 use crate::ending::add_ending;
 use crate::setting::Setting;
-use behaviour_reader::reader::read;
-use behaviour_readings::functionality::Functionality;
-use behaviour_readings::output::Output;
-use behaviour_readings::site::Site;
-use constructs::written::behaviour;
 use lotos_ast::spec::Spec;
-use process_table::heading::gates_in;
-use process_table::table::visible;
 use spec_core::code::Part;
 use spec_core::memory::Memory;
+use static_compiler::reader::read;
+use static_constructs::written::behaviour;
+use static_processes::heading::gates_in;
+use static_processes::table::visible;
+use static_readings::functionality::Functionality;
+use static_readings::output::Output;
+use static_readings::site::Site;
 use std::alloc::Global;
 
 // Goes to where the behaviour of the specification stands.

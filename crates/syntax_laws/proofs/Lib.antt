@@ -1,2 +1,5 @@
+mod Bytes
+mod Words
+pub mod Tokens
 pub mod Trees
 pub mod Types

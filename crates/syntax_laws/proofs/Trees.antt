@@ -1,47 +1,71 @@
 -- Trees of parts of the grammar, whatever was read for them.
-use Rattle.std.proofs.Common.{◌≡◌, refl, List, [], ◌∷◌, map}
+use Rattle.std.proofs.Common.{◌≡◌, ◌∙◌, refl, sym, ap, subst, List, [], ◌∷◌, map, true}
 use Rattle.lotos_ast.specs.declared.mark.Mark.{Mark}
 use Rattle.lotos_ast.specs.declared.place.Place.{Place}
 use Rattle.lotos_ast.specs.declared.token.Token.{Token}
 use Rattle.lotos_ast.specs.Grammar.{rule}
 use Rattle.lotos_ast.specs.Nesting.{Nesting}
-use Rattle.lotos_ast.specs.Notation.{Part, Wanted, Reduction, Syntax, quoted, kept, sequence, either, optional, repeated, placed, reduced, bracketed, enclosed, part}
+use Rattle.lotos_ast.specs.Notation.{Part, Wanted, Reduction, fits, Syntax, quoted, kept, sequence, either, optional, repeated, placed, reduced, bracketed, enclosed, part}
 use Rattle.lotos_ast.specs.ListTrees.{repeated_tree, behind, list_tree}
 use Rattle.lotos_ast.specs.Reads.{Tree, unkept, leaf, both, left, right, absent, present, no_more, more, node, reduce, Reads, reads_quoted, reads_kept, reads_sequence, reads_left, reads_right, reads_absent, reads_present, reads_no_more, reads_more, reads_placed, reads_reduced, reads_bracketed, reads_enclosed, reads_part}
+use Rattle.lotos_ast.specs.Begins.{mark_at}
+use Rattle.lotos_ast.specs.TokenMarks.{mark_of}
+use Rattle.spec_core.specs.Lists.{Each}
 use Rattle.syntax_laws.specs.Alike.{AreAlike}
 
--- the tree is one of the part
-pub data IsTreeOf : Syntax → Tree → Type 0 where
-  of_quoted : {k : Mark} → IsTreeOf (quoted k) unkept
-  of_kept : {w : Wanted} (t : Token) → IsTreeOf (kept w) (leaf t)
-  of_sequence : {a b : Syntax} {x y : Tree} → IsTreeOf a x → IsTreeOf b y → IsTreeOf (sequence a b) (both x y)
-  of_left : {a b : Syntax} {x : Tree} → IsTreeOf a x → IsTreeOf (either a b) (left x)
-  of_right : {a b : Syntax} {x : Tree} → IsTreeOf b x → IsTreeOf (either a b) (right x)
-  of_absent : {a : Syntax} → IsTreeOf (optional a) absent
-  of_present : {a : Syntax} {x : Tree} → IsTreeOf a x → IsTreeOf (optional a) (present x)
-  of_no_more : {a : Syntax} → IsTreeOf (repeated a) no_more
-  of_more : {a : Syntax} {x y : Tree} → IsTreeOf a x → IsTreeOf (repeated a) y → IsTreeOf (repeated a) (more x y)
-  of_placed : {p : Place} {a : Syntax} {x : Tree} → IsTreeOf a x → IsTreeOf (placed a) (node p x)
-  of_reduced : {u : Reduction} {a : Syntax} (x : Tree) {y : Tree} → reduce u x ≡ y → IsTreeOf a x → IsTreeOf (reduced u a) y
-  of_bracketed : {a : Syntax} {x : Tree} → IsTreeOf a x → IsTreeOf (bracketed a) x
-  of_enclosed : {a : Syntax} {x : Tree} → IsTreeOf a x → IsTreeOf (enclosed a) x
-  of_part : {p : Place} {q : Part} {x : Tree} → IsTreeOf (rule q) x → IsTreeOf (part q) (node p x)
+-- the tree is one of the part, and each token that it keeps is as it must be
+pub data IsTreeWith (Is : Wanted → Token → Type 0) : Syntax → Tree → Type 0 where
+  of_quoted : {k : Mark} → IsTreeWith Is (quoted k) unkept
+  of_kept : {w : Wanted} (t : Token) → Is w t → IsTreeWith Is (kept w) (leaf t)
+  of_sequence : {a b : Syntax} {x y : Tree} → IsTreeWith Is a x → IsTreeWith Is b y → IsTreeWith Is (sequence a b) (both x y)
+  of_left : {a b : Syntax} {x : Tree} → IsTreeWith Is a x → IsTreeWith Is (either a b) (left x)
+  of_right : {a b : Syntax} {x : Tree} → IsTreeWith Is b x → IsTreeWith Is (either a b) (right x)
+  of_absent : {a : Syntax} → IsTreeWith Is (optional a) absent
+  of_present : {a : Syntax} {x : Tree} → IsTreeWith Is a x → IsTreeWith Is (optional a) (present x)
+  of_no_more : {a : Syntax} → IsTreeWith Is (repeated a) no_more
+  of_more : {a : Syntax} {x y : Tree} → IsTreeWith Is a x → IsTreeWith Is (repeated a) y → IsTreeWith Is (repeated a) (more x y)
+  of_placed : {p : Place} {a : Syntax} {x : Tree} → IsTreeWith Is a x → IsTreeWith Is (placed a) (node p x)
+  of_reduced : {u : Reduction} {a : Syntax} (x : Tree) {y : Tree} → reduce u x ≡ y → IsTreeWith Is a x → IsTreeWith Is (reduced u a) y
+  of_bracketed : {a : Syntax} {x : Tree} → IsTreeWith Is a x → IsTreeWith Is (bracketed a) x
+  of_enclosed : {a : Syntax} {x : Tree} → IsTreeWith Is a x → IsTreeWith Is (enclosed a) x
+  of_part : {p : Place} {q : Part} {x : Tree} → IsTreeWith Is (rule q) x → IsTreeWith Is (part q) (node p x)
+
+-- what is read of tokens of which something holds is such a tree, where this makes kept tokens be as they must; and it holds of what is left
+module _ (Is : Wanted → Token → Type 0) (Holds : Token → Type 0) (makes : (w : Wanted) (t : Token) → fits w (mark_of t) ≡ true → Holds t → Is w t) where
+  first-holds : (t : Token) (s r : List Token) → s ≡ t ∷ r → Each Holds s → Holds t × Each Holds r
+  first-holds t s r e h = subst (Each Holds) e h
+
+  first-mark : (w : Wanted) (t : Token) (s r : List Token) → s ≡ t ∷ r → fits w (mark_at s) ≡ true → fits w (mark_of t) ≡ true
+  first-mark w t s r e h = sym (ap (λ zs. fits w (mark_at zs)) e) ∙ h
+
+  pub tree-read-with : {d : Nesting} {g : Syntax} {s r : List Token} {x : Tree} → Reads d g s x r → Each Holds s → IsTreeWith Is g x × Each Holds r
+  tree-read-with (reads_quoted {t = t} {s = s} {r = r} e m v) h = (of_quoted, (first-holds t s r e h).1)
+  tree-read-with (reads_kept {w = w} {t = t} {s = s} {r = r} e m v) h =
+      let n = first-holds t s r e h in
+      (of_kept t (makes w t (first-mark w t s r e m) n.0), n.1)
+  tree-read-with (reads_sequence m h k) n = let u = tree-read-with h n in let v = tree-read-with k u.1 in (of_sequence u.0 v.0, v.1)
+  tree-read-with (reads_left b h) n = let u = tree-read-with h n in (of_left u.0, u.1)
+  tree-read-with (reads_right b h) n = let u = tree-read-with h n in (of_right u.0, u.1)
+  tree-read-with (reads_absent b e) n = (of_absent, subst (Each Holds) e n)
+  tree-read-with (reads_present b h) n = let u = tree-read-with h n in (of_present u.0, u.1)
+  tree-read-with (reads_no_more b e) n = (of_no_more, subst (Each Holds) e n)
+  tree-read-with (reads_more m b h k) n = let u = tree-read-with h n in let v = tree-read-with k u.1 in (of_more u.0 v.0, v.1)
+  tree-read-with (reads_placed e h) n = let u = tree-read-with h n in (of_placed u.0, u.1)
+  tree-read-with (reads_reduced {x = x} e h) n = let u = tree-read-with h n in (of_reduced x e u.0, u.1)
+  tree-read-with (reads_bracketed h) n = let u = tree-read-with h n in (of_bracketed u.0, u.1)
+  tree-read-with (reads_enclosed h) n = let u = tree-read-with h n in (of_enclosed u.0, u.1)
+  tree-read-with (reads_part e h) n = let u = tree-read-with h n in (of_part u.0, u.1)
+
+-- a tree of a part, whatever its tokens are
+abbrev pub IsTreeOf : Syntax → Tree → Type 0
+IsTreeOf = IsTreeWith (λ w t. Unit {0})
 
 pub tree-read : {d : Nesting} {g : Syntax} {s r : List Token} {x : Tree} → Reads d g s x r → IsTreeOf g x
-tree-read (reads_quoted e m v) = of_quoted
-tree-read (reads_kept {t = t} e m v) = of_kept t
-tree-read (reads_sequence m h k) = of_sequence (tree-read h) (tree-read k)
-tree-read (reads_left b h) = of_left (tree-read h)
-tree-read (reads_right b h) = of_right (tree-read h)
-tree-read (reads_absent b e) = of_absent
-tree-read (reads_present b h) = of_present (tree-read h)
-tree-read (reads_no_more b e) = of_no_more
-tree-read (reads_more m b h k) = of_more (tree-read h) (tree-read k)
-tree-read (reads_placed e h) = of_placed (tree-read h)
-tree-read (reads_reduced {x = x} e h) = of_reduced x e (tree-read h)
-tree-read (reads_bracketed h) = of_bracketed (tree-read h)
-tree-read (reads_enclosed h) = of_enclosed (tree-read h)
-tree-read (reads_part e h) = of_part (tree-read h)
+tree-read {s = s} h = (tree-read-with (λ (w : Wanted) (t : Token). Unit {0}) (λ (t : Token). Unit {0}) (λ w t e h. tt) h (any s)).0
+  where
+    any : (ts : List Token) → Each (λ (t : Token). Unit {0}) ts
+    any [] = tt
+    any (t ∷ ts) = (tt, any ts)
 
 -- the parts of a tree, by the part of the grammar
 
@@ -66,22 +90,26 @@ abbrev pub OnNode : Tree → (Tree → Type 0) → Type 0
 OnNode (node p x) P = P x
 OnNode _ P = ⊥
 
-abbrev pub Parts : Syntax → Tree → Type 0
-Parts (quoted k) t = Unit {0}
-Parts (kept w) t = Unit {0}
-Parts (sequence a b) t = OnBoth t (λ x y. IsTreeOf a x × IsTreeOf b y)
-Parts (either a b) t = OnEither t (IsTreeOf a) (IsTreeOf b)
-Parts (optional a) t = OnPresent t (IsTreeOf a)
-Parts (repeated a) t = OnMore t (λ x y. IsTreeOf a x × IsTreeOf (repeated a) y)
-Parts (placed a) t = OnNode t (IsTreeOf a)
-Parts (reduced u a) t = (x : Tree) × (reduce u x ≡ t) × IsTreeOf a x
-Parts (bracketed a) t = IsTreeOf a t
-Parts (enclosed a) t = IsTreeOf a t
-Parts (part q) t = OnNode t (IsTreeOf (rule q))
+abbrev pub OnLeaf : Tree → (Token → Type 0) → Type 0
+OnLeaf (leaf t) P = P t
+OnLeaf _ P = ⊥
 
-pub parts : {g : Syntax} {t : Tree} → IsTreeOf g t → Parts g t
+abbrev pub Parts : (Wanted → Token → Type 0) → Syntax → Tree → Type 0
+Parts Is (quoted k) t = Unit {0}
+Parts Is (kept w) t = OnLeaf t (Is w)
+Parts Is (sequence a b) t = OnBoth t (λ x y. IsTreeWith Is a x × IsTreeWith Is b y)
+Parts Is (either a b) t = OnEither t (IsTreeWith Is a) (IsTreeWith Is b)
+Parts Is (optional a) t = OnPresent t (IsTreeWith Is a)
+Parts Is (repeated a) t = OnMore t (λ x y. IsTreeWith Is a x × IsTreeWith Is (repeated a) y)
+Parts Is (placed a) t = OnNode t (IsTreeWith Is a)
+Parts Is (reduced u a) t = (x : Tree) × (reduce u x ≡ t) × IsTreeWith Is a x
+Parts Is (bracketed a) t = IsTreeWith Is a t
+Parts Is (enclosed a) t = IsTreeWith Is a t
+Parts Is (part q) t = OnNode t (IsTreeWith Is (rule q))
+
+pub parts : {Is : Wanted → Token → Type 0} {g : Syntax} {t : Tree} → IsTreeWith Is g t → Parts Is g t
 parts of_quoted = tt
-parts (of_kept t) = tt
+parts (of_kept t h) = h
 parts (of_sequence h k) = (h, k)
 parts (of_left h) = h
 parts (of_right h) = h

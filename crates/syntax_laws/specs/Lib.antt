@@ -1,2 +1,4 @@
 pub mod Alike
 pub mod Laws
+pub mod NameLaws
+pub mod Tokens

@@ -6,12 +6,12 @@ ghost use Rattle.spec_core.specs.Ready.{IsReady};
 use crate::program::{expand_at, program};
 use crate::rules::{above, rules};
 use board_tree::tree::Tree;
+use node_trees::origin::Gen;
 use rule_model::rules::Rules;
 use spec_core::code::Checked;
 use spec_core::memory::Memory;
 use std::alloc::Global;
 use std::test::Fail;
-use tree_nodes::origin::Gen;
 
 // How many of the generations below this one live, and how many the last step ended and began.
 fn count(tree: &Tree, below: u128) -> (u128, usize, usize) {

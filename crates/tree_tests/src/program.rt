@@ -5,16 +5,16 @@ ghost use Rattle.spec_core.specs.Code.{program_of};
 ghost use Rattle.spec_core.specs.Ready.{IsReady};
 
 use board_tree::tree::Tree;
-use marked_values::stop::Stop;
-use node_expansion::node::expand_node;
-use sample_programs::accepted;
+use node_trees::expansion::Expansion;
+use node_trees::node::Node;
+use node_trees::origin::Gen;
+use node_values::stop::Stop;
+use node_work::node::expand_node;
 use sort_windows::windows;
 use spec_core::code::Checked;
 use spec_core::memory::Memory;
 use std::alloc::Global;
-use tree_nodes::expansion::Expansion;
-use tree_nodes::node::Node;
-use tree_nodes::origin::Gen;
+use test_programs::accepted;
 
 /// The specification with this functionality and this behaviour, over five gates. None where it is refused.
 pub fn program(alloc: Global, ends: &str, behaviour: &str) -> Result<Option<Checked>, Memory>

@@ -7,11 +7,11 @@ use crate::printing::put_behaviour;
 use crate::program::{expand_at, program};
 use crate::rules::rules;
 use board_tree::tree::Tree;
+use node_trees::origin::Gen;
 use spec_core::code::Checked;
 use spec_core::memory::Memory;
 use std::alloc::Global;
 use std::test::Fail;
-use tree_nodes::origin::Gen;
 
 fn put_ended(out: &mut String, generations: &[Gen]) -> Result<(), Memory> {
     out.push_str(" -")?;

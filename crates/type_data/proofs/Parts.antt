@@ -8,12 +8,12 @@ use Rattle.spec_core.specs.Theories.{Operation, ConditionalEquation, Theory}
 use Rattle.type_contents.specs.FormalTypes.{formal_types, is_formal_from}
 use Rattle.type_contents.specs.Items.{Described}
 use Rattle.type_contents.proofs.Settled.{rounds_length}
-use Rattle.equation_images.specs.Images.{NewNumbers}
-use Rattle.equation_copies.specs.declared.equations.TypeEquations.{TypeEquations}
-use Rattle.equation_copies.specs.Copies.{image_numbers}
-use Rattle.equation_copies.specs.Contents.{no_equations, made_from, equations}
-use Rattle.equation_copies.specs.Views.{made_at, stated_by}
-use Rattle.equation_copies.proofs.Schedules.{zip_size}
+use Rattle.type_images.specs.Images.{NewNumbers}
+use Rattle.type_equation_copies.specs.declared.equations.TypeEquations.{TypeEquations}
+use Rattle.type_equation_copies.specs.Copies.{image_numbers}
+use Rattle.type_equation_copies.specs.Contents.{no_equations, made_from, equations}
+use Rattle.type_equation_copies.specs.Views.{made_at, stated_by}
+use Rattle.type_equation_copies.proofs.Schedules.{zip_size}
 
 -- as many as there are types
 pub as_many : (types : List TypeDef) (own : List (Vec Equation Global)) (formal : List Bool) (found : List (Option TypeEquations)) → length own ≡ length types → formal ≡ formal_types types → map made_at found ≡ equations types (stated_by own) → length formal ≡ length found

@@ -9,10 +9,10 @@ use Rattle.type_contents.specs.Items.{Described, is_same_kind}
 use Rattle.type_contents.specs.Own.{sort_item}
 use Rattle.type_contents.specs.FormalTypes.{formal_types}
 use Rattle.type_contents.specs.Numbering.{all_sorts, all_operations, number_among, is_data}
-use Rattle.equation_images.specs.Same.{is_in, firsts}
-use Rattle.equation_images.specs.Images.{NewNumbers, equation_image}
-use Rattle.equation_copies.specs.Copies.{image_numbers}
-use Rattle.equation_copies.specs.Contents.{Equations, equations}
+use Rattle.type_images.specs.Same.{is_in, firsts}
+use Rattle.type_images.specs.Images.{NewNumbers, equation_image}
+use Rattle.type_equation_copies.specs.Copies.{image_numbers}
+use Rattle.type_equation_copies.specs.Contents.{Equations, equations}
 
 abbrev pub data_sorts : List TypeDef → List Described
 data_sorts types = filter (λ d. is_data types d.item) (all_sorts types)

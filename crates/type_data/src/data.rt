@@ -2,29 +2,29 @@
 
 ghost use Rattle.std.specs.Prelude.{◌≡◌, IfOk, length, map};
 ghost use Rattle.spec_core.specs.Theories.{equation_of, theory_of};
-ghost use Rattle.equation_images.specs.Images.{equation_image};
-ghost use Rattle.equation_images.specs.Views.{numbers_of};
+ghost use Rattle.type_images.specs.Images.{equation_image};
+ghost use Rattle.type_images.specs.Views.{numbers_of};
 ghost use Rattle.type_contents.specs.Contents as contents;
 ghost use Rattle.type_contents.specs.FormalTypes.{formal_types};
 ghost use Rattle.type_contents.specs.Numbering.{all_sorts, all_operations};
 ghost use Rattle.type_contents.specs.Views.{described_of};
-ghost use Rattle.equation_copies.specs.Contents.{equations};
-ghost use Rattle.equation_copies.specs.Views.{made_at, stated_by};
+ghost use Rattle.type_equation_copies.specs.Contents.{equations};
+ghost use Rattle.type_equation_copies.specs.Views.{made_at, stated_by};
 ghost use Rattle.type_data.specs.Data as data_specs;
 
 use crate::equations::data_equations;
 use crate::items::{numbers_among, those_of_data};
 use crate::signature::signature;
-use equation_copies::equations::TypeEquations;
-use equation_copies::made::Prepared;
-use equation_copies::schedule::equations_of;
-use equation_images::numbers::Renumbering;
 use lotos_ast::types::TypeDef;
 use spec_core::equation::{DataSpec, Equation};
 use spec_core::memory::Memory;
 use std::alloc::Global;
 use type_contents::flat::FlatData;
 use type_contents::own::Declared;
+use type_equation_copies::equations::TypeEquations;
+use type_equation_copies::made::Prepared;
+use type_equation_copies::schedule::equations_of;
+use type_images::numbers::Renumbering;
 
 // The equations of each type.
 fn type_equations(

@@ -3,22 +3,22 @@
 ghost use Rattle.std.specs.Prelude.{◌≡◌, ◌++◌, [], IfOk, OnOk, length, map, slice_index_or, if◌then◌else◌};
 ghost use Rattle.std.specs.List.{filter, flat_map};
 ghost use Rattle.spec_core.specs.Theories.{equation_of};
-ghost use Rattle.equation_images.specs.Same.{is_in};
-ghost use Rattle.equation_images.specs.Groups.{equations_of, IsGrouped};
-ghost use Rattle.equation_images.specs.Images as images;
-ghost use Rattle.equation_images.specs.Views.{numbers_of, shared_of};
-ghost use Rattle.equation_copies.specs.Contents.{no_equations};
-ghost use Rattle.equation_copies.specs.Views.{made_at};
+ghost use Rattle.type_images.specs.Same.{is_in};
+ghost use Rattle.type_images.specs.Groups.{equations_of, IsGrouped};
+ghost use Rattle.type_images.specs.Images as images;
+ghost use Rattle.type_images.specs.Views.{numbers_of, shared_of};
+ghost use Rattle.type_equation_copies.specs.Contents.{no_equations};
+ghost use Rattle.type_equation_copies.specs.Views.{made_at};
 ghost use Rattle.type_data.specs.Data as data_specs;
 
-use equation_copies::equations::{TypeEquations, add_shared, all_at};
-use equation_images::image::equation_image;
-use equation_images::numbers::Renumbering;
-use equation_images::set::{EquationSet, firsts, grouped};
-use equation_images::shared::SharedEquation;
 use spec_core::equation::Equation;
 use spec_core::memory::Memory;
 use std::alloc::Global;
+use type_equation_copies::equations::{TypeEquations, add_shared, all_at};
+use type_images::image::equation_image;
+use type_images::numbers::Renumbering;
+use type_images::set::{EquationSet, firsts, grouped};
+use type_images::shared::SharedEquation;
 
 // Adds the equations of a type, unless it is formal.
 fn add_type(

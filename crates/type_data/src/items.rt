@@ -7,12 +7,10 @@ ghost use Rattle.type_contents.specs.Items.{is_in};
 ghost use Rattle.type_contents.specs.Numbering.{number_among};
 ghost use Rattle.type_contents.specs.Contents.{no_content};
 ghost use Rattle.type_contents.specs.Views.{item_of, described_of, items_at, AreWithin};
-ghost use Rattle.equation_copies.specs.Copies.{image_numbers};
-ghost use Rattle.equation_copies.specs.Indexes.{item_at, items_in, IsIndexOf};
+ghost use Rattle.type_equation_copies.specs.Copies.{image_numbers};
+ghost use Rattle.type_equation_copies.specs.Indexes.{item_at, items_in, IsIndexOf};
 ghost use Rattle.type_data.specs.Data.{of_data};
 
-use equation_copies::item_index::ItemIndex;
-use equation_copies::new_numbers::small_number;
 use spec_core::memory::Memory;
 use std::alloc::Global;
 use type_contents::contents::Contents;
@@ -20,6 +18,8 @@ use type_contents::described::copied;
 use type_contents::item::Item;
 use type_contents::item_table::ItemTable;
 use type_contents::own::Declared;
+use type_equation_copies::item_index::ItemIndex;
+use type_equation_copies::new_numbers::small_number;
 
 // Adds items by their numbers in a table.
 fn add_items<'c>(

@@ -7,11 +7,10 @@ ghost use Rattle.type_contents.specs.Items.{Described};
 ghost use Rattle.type_contents.specs.Own.{sort_item};
 ghost use Rattle.type_contents.specs.Numbering.{number_among};
 ghost use Rattle.type_contents.specs.Views.{described_of};
-ghost use Rattle.equation_copies.specs.Indexes.{items_in, IsIndexOf};
+ghost use Rattle.type_equation_copies.specs.Indexes.{items_in, IsIndexOf};
 ghost use Rattle.type_data.specs.Data as data_specs;
 
 use crate::items::item_number;
-use equation_copies::item_index::ItemIndex;
 use spec_core::items::Sort;
 use spec_core::memory::Memory;
 use spec_core::name::Name;
@@ -20,6 +19,7 @@ use std::alloc::Global;
 use type_contents::item::Item;
 use type_contents::item_kind::ItemKind;
 use type_contents::own::Declared;
+use type_equation_copies::item_index::ItemIndex;
 
 // The number of the sort of a name.
 fn sort_number(alloc: Global, index: &ItemIndex<'_>, name: &str) -> Result<u32, Memory>

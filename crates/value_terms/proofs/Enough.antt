@@ -7,7 +7,7 @@ use Rattle.spec_core.specs.Sorts.{OnSome, HasSort, HaveSorts, no_variables}
 use Rattle.spec_core.specs.Terms.{TermTree, TermTrees, variable, apply, no_terms, and_term, preorder, preorders, width}
 use Rattle.spec_core.specs.Theories.{Operation, Theory}
 use Rattle.data_laws.proofs.Fit.{on_use}
-use Rattle.data_laws.proofs.Sorted.{on_map}
+use Rattle.spec_core.proofs.Instances.{on_map}
 use Rattle.value_terms.specs.Stacks.{HasArguments, HaveArguments}
 
 -- how many arguments an operation has

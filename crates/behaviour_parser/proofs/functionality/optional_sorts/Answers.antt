@@ -1,5 +1,5 @@
 use Rattle.std.proofs.Common.{arith, rules}
-use Rattle.token_cursor.proofs.Steps.{steps}
+use Rattle.syntax_cursor.proofs.Steps.{steps}
 use Rattle.behaviour_parser.proofs.functionality.optional_sorts.Goals as goal
 
 pub returns-in_err-inner-clause-halts : goal.returns-in_err-inner-clause-halts

@@ -1,7 +1,7 @@
 use Rattle.std.proofs.Common.{rules, arith}
 use Rattle.lotos_ast.specs.SpecTrees.{where_item_tree}
-use Rattle.token_cursor.proofs.Loops.{repeats_next, loop_steps}
-use Rattle.token_cursor.proofs.Steps.{steps}
+use Rattle.syntax_cursor.proofs.Loops.{repeats_next, loop_steps}
+use Rattle.syntax_cursor.proofs.Steps.{steps}
 use Rattle.behaviour_parser.proofs.Items.{where_halts, type_reads, process_item_reads}
 use Rattle.behaviour_parser.proofs.process.+process.Goals as goal
 

@@ -2,7 +2,7 @@ use Rattle.std.proofs.Common.{length, map, ◌+◌, ◌*◌, ◌≤◌}
 use Rattle.lotos_ast.specs.Notation.{part, where_item}
 use Rattle.lotos_ast.specs.SpecTrees.{where_item_tree}
 use Rattle.lotos_ast.specs.Nesting.{nesting_of}
-use Rattle.token_cursor.specs.Loops.{Repeats}
+use Rattle.syntax_cursor.specs.Loops.{Repeats}
 use Rattle.behaviour_parser.proofs.process.+process.Given as goal
 
 abbrev pub decreases-items : goal.decreases-items

@@ -1,9 +1,9 @@
 use Rattle.std.proofs.Common.{map, refl, rules}
 use Rattle.spec_core.specs.Code.{program_of}
 use Rattle.rule_model.specs.Derivations.{derivation_of}
-use Rattle.open_composites.specs.OpenPlans.{open_plan_of}
-use Rattle.tree_nodes.specs.Rests.{way_of}
-use Rattle.tree_nodes.specs.Shapes.{held_of, leaf}
+use Rattle.symbolic_plans.specs.OpenPlans.{open_plan_of}
+use Rattle.node_trees.specs.Rests.{way_of}
+use Rattle.node_trees.specs.Shapes.{held_of, leaf}
 use Rattle.board_tree.proofs.Moving.{moves_node}
 use Rattle.board_tree.proofs.leaf.advance_expanded.Goals as goal
 

@@ -1,5 +1,5 @@
 use Rattle.std.proofs.Common.{refl, rules}
-use Rattle.tree_nodes.specs.Shapes.{held_of}
+use Rattle.node_trees.specs.Shapes.{held_of}
 use Rattle.board_tree.proofs.Moving.{moves_waiting}
 use Rattle.board_tree.proofs.leaf.advance_node.Goals as goal
 

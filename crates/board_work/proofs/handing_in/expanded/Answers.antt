@@ -1,6 +1,6 @@
 use Rattle.std.proofs.Common.{◌≡◌, subst}
 use Rattle.candidates.specs.Jobs.{to_expand}
-use Rattle.tree_nodes.specs.Origins.{source_of}
+use Rattle.node_trees.specs.Origins.{source_of}
 use Rattle.board_core.specs.Views.{program, windows}
 use Rattle.board_work.specs.declared.outcome.Outcome.{Outcome}
 use Rattle.board_work.specs.Outcomes.{ComesOf}

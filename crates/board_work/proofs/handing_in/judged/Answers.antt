@@ -1,9 +1,9 @@
 use Rattle.std.proofs.Common.{◌≡◌, option_map, refl, subst, sym}
 use Rattle.rule_model.specs.Derivations.{derivation_of}
 use Rattle.candidates.specs.Jobs.{to_judge}
-use Rattle.known_shows.specs.Known.{node_part}
-use Rattle.shown_actions.specs.Models.{show_of}
-use Rattle.tree_nodes.specs.Origins.{source_of}
+use Rattle.candidate_verdicts.specs.Known.{node_part}
+use Rattle.symbolic_actions.specs.Models.{show_of}
+use Rattle.node_trees.specs.Origins.{source_of}
 use Rattle.board_core.specs.Views.{program, tree, windows}
 use Rattle.board_work.specs.declared.outcome.Outcome.{Outcome}
 use Rattle.board_work.specs.Handed.{IsTakenIn}

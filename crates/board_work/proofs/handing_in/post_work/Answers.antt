@@ -1,6 +1,6 @@
 use Rattle.std.proofs.Common.{◌≡◌}
-use Rattle.tree_nodes.specs.Origins.{source_of}
-use Rattle.tree_nodes.specs.Rests.{expansion_of}
+use Rattle.node_trees.specs.Origins.{source_of}
+use Rattle.node_trees.specs.Rests.{expansion_of}
 use Rattle.board_core.specs.Views.{program, tree, windows}
 use Rattle.board_work.proofs.Taking.{work_of_node}
 use Rattle.board_work.proofs.handing_in.post_work.Goals as goal

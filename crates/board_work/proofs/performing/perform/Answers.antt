@@ -1,10 +1,10 @@
 use Rattle.std.proofs.Common.{◌≡◌, subst, sym}
 use Rattle.candidates.specs.declared.job.NodeJob.{NodeJob}
 use Rattle.candidates.specs.Models.{job_of}
-use Rattle.numbered_trees.proofs.Trees.{if_ok_so}
+use Rattle.board_core.proofs.Trees.{if_ok_so}
 use Rattle.spec_core.specs.Code.{program_of}
-use Rattle.tree_nodes.specs.Origins.{source_of}
-use Rattle.window_tables.specs.Tables.{windows_in}
+use Rattle.node_trees.specs.Origins.{source_of}
+use Rattle.candidate_verdicts.specs.Tables.{windows_in}
 use Rattle.board_work.specs.Outcomes.{ComesOf}
 use Rattle.board_work.proofs.performing.perform.Goals as goal
 

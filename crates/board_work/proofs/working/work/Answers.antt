@@ -1,6 +1,6 @@
 use Rattle.std.proofs.Common.{◌≡◌, subst, sym}
 use Rattle.candidates.specs.Models.{job_of}
-use Rattle.sort_windows.specs.Found.{AreBySorts}
+use Rattle.board_core.specs.Found.{AreBySorts}
 use Rattle.spec_core.specs.Code.{program_of}
 use Rattle.board_core.proofs.Entries.{on_ok_alone}
 use Rattle.board_work.proofs.Taking.{done_by, needed_is_free}

@@ -1,9 +1,9 @@
 use Rattle.std.proofs.Common.{◌≡◌, option_map}
 use Rattle.std.proofs.lemmas.Result.{IfOk-weaker}
 use Rattle.rule_model.specs.Derivations.{derivation_of}
-use Rattle.settling.specs.Numbered.{entry_with, waiting_with}
-use Rattle.settling.specs.Rules.{next_decided}
-use Rattle.settling.specs.Searches.{settled_of, waiting_of}
+use Rattle.decision_order.specs.Numbered.{entry_with, waiting_with}
+use Rattle.decision_order.specs.Rules.{next_decided}
+use Rattle.decision_order.specs.Searches.{settled_of, waiting_of}
 use Rattle.candidates.specs.KnownTrees.{offer_in, numbered, first_in, all_in, first_of_those, all_of_those, trees_for}
 use Rattle.candidates.proofs.Numbering.{entry_known}
 use Rattle.candidates.proofs.entry.next_entry.Goals as goal

@@ -1,9 +1,9 @@
 use Rattle.std.proofs.Common.{◌≡◌, option_map}
 use Rattle.std.proofs.lemmas.Result.{IfOk-weaker}
-use Rattle.settling.specs.Jobs.{first_not_out}
-use Rattle.settling.specs.Needed.{next_needed}
-use Rattle.settling.specs.Numbered.{waiting_with}
-use Rattle.settling.specs.Searches.{waiting_of}
+use Rattle.decision_order.specs.Jobs.{first_not_out}
+use Rattle.decision_order.specs.Needed.{next_needed}
+use Rattle.decision_order.specs.Numbered.{waiting_with}
+use Rattle.decision_order.specs.Searches.{waiting_of}
 use Rattle.candidates.specs.Models.{job_of}
 use Rattle.candidates.specs.KnownTrees.{offer_in, numbered, is_out_in, jobs_to_first, jobs_to_all, is_held_in, jobs_to_first_of, jobs_to_all_of}
 use Rattle.candidates.specs.KnownTrees.{is_held_among, trees_for}

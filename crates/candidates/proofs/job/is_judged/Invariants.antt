@@ -1,6 +1,6 @@
 use Rattle.std.proofs.Common.{◌≡◌, drop, map}
 use Rattle.rule_model.specs.Derivations.{derivation_of}
-use Rattle.known_shows.specs.Known.{node_part}
+use Rattle.candidate_verdicts.specs.Known.{node_part}
 use Rattle.candidates.specs.Jobs.{to_judge, is_out}
 use Rattle.candidates.specs.Models.{job_of}
 use Rattle.candidates.proofs.job.is_judged.Given as goal

@@ -1,6 +1,6 @@
 use Rattle.std.proofs.Common.{map, refl}
-use Rattle.client_wishes.specs.Views.{wish_of}
-use Rattle.marked_values.proofs.Splitting.{mapped, others}
+use Rattle.rule_model.specs.WishViews.{wish_of}
+use Rattle.board_laws.proofs.Splitting.{mapped, others}
 use Rattle.client_runs.proofs.Running.{all_offered, on_ok}
 use Rattle.client_runs.proofs.run.+offer_all.Goals as goal
 

@@ -1,5 +1,5 @@
 use Rattle.std.proofs.Common.{subst}
-use Rattle.session_record.specs.Records.{IsSession}
+use Rattle.board_record.specs.Records.{IsSession}
 use Rattle.board_core.specs.Views.{program, events, state}
 use Rattle.client_runs.proofs.Running.{begun}
 use Rattle.client_runs.proofs.run.begin.Goals as goal

@@ -1,5 +1,5 @@
 use Rattle.std.proofs.Common.{◌∙◌, subst}
-use Rattle.session_record.specs.Faults.{ExplainsLeave}
+use Rattle.board_record.specs.Faults.{ExplainsLeave}
 use Rattle.board_core.specs.Views.{state}
 use Rattle.client_runs.proofs.Running.{has_left, onward}
 use Rattle.client_runs.proofs.Settled.{idle_on}

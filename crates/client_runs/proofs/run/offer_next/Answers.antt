@@ -1,6 +1,6 @@
 use Rattle.std.proofs.Common.{◌∙◌, subst}
-use Rattle.client_wishes.specs.Views.{wish_of}
-use Rattle.session_record.specs.Faults.{ExplainsPend}
+use Rattle.rule_model.specs.WishViews.{wish_of}
+use Rattle.board_record.specs.Faults.{ExplainsPend}
 use Rattle.board_core.specs.Views.{program, state}
 use Rattle.client_runs.proofs.Running.{offered}
 use Rattle.client_runs.proofs.Settled.{idle_on}

@@ -1,7 +1,7 @@
 use Rattle.std.proofs.Common.{[], refl}
 use Rattle.rule_model.specs.Events.{ending_of}
 use Rattle.rule_model.specs.Logs.{events_of}
-use Rattle.numbered_trees.proofs.Trees.{if_ok_so}
+use Rattle.board_core.proofs.Trees.{if_ok_so}
 use Rattle.client_runs.proofs.Running.{session_of}
 use Rattle.client_runs.proofs.run.run_alone.Goals as goal
 

@@ -1,8 +1,8 @@
 use Rattle.std.proofs.Common.{[], map}
 use Rattle.rule_model.specs.Events.{ending_of}
 use Rattle.rule_model.specs.Logs.{events_of}
-use Rattle.client_wishes.specs.Views.{wish_of}
-use Rattle.numbered_trees.proofs.Trees.{if_ok_so}
+use Rattle.rule_model.specs.WishViews.{wish_of}
+use Rattle.board_core.proofs.Trees.{if_ok_so}
 use Rattle.client_runs.proofs.Running.{ended_there, one_for, session_of}
 use Rattle.client_runs.proofs.run.run_client.Goals as goal
 

@@ -1,8 +1,8 @@
 use Rattle.std.proofs.Common.{◌≡◌, Some}
 use Rattle.lotos_ast.specs.declared.refusal.Refusal.{Refusal}
-use Rattle.pattern_search.specs.Search.{arguments_of}
+use Rattle.cover_search.specs.Search.{arguments_of}
 use Rattle.spec_core.specs.Theories.{operation_of, theory_of}
-use Rattle.full_groups.proofs.Grouping.{some_found}
+use Rattle.cover_groups.proofs.Grouping.{some_found}
 use Rattle.cover_check.specs.Cases.{IsUncoveredBy}
 use Rattle.cover_check.specs.Refused.{IsRefusalOf, refusal_naming}
 use Rattle.cover_check.proofs.check.add_refusal.Goals as goal

@@ -3,7 +3,7 @@ use Rattle.lotos_ast.specs.FirstRefusals.{first_refusal}
 use Rattle.spec_core.specs.declared.signature.OpDecl.{OpDecl}
 use Rattle.spec_core.specs.Theories.{theory_of, operation_of}
 use Rattle.spec_core.proofs.Lists.{all_taken}
-use Rattle.full_groups.proofs.Fullness.{map_more}
+use Rattle.cover_groups.proofs.Fullness.{map_more}
 use Rattle.cover_check.specs.Refused.{AreRefusals, IsAdded, none}
 use Rattle.cover_check.proofs.Refusing.{added_last, all_covered, declared_at, not_all, taken_length}
 use Rattle.cover_check.proofs.check.check_cover.Goals as goal

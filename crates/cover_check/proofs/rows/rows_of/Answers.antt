@@ -1,7 +1,7 @@
 use Rattle.std.proofs.Common.{map, take, sym, subst}
 use Rattle.spec_core.specs.Theories.{equation_of, theory_of}
-use Rattle.full_groups.proofs.Fullness.{map_more}
-use Rattle.pattern_search.specs.Search.{rows_of}
+use Rattle.cover_groups.proofs.Fullness.{map_more}
+use Rattle.cover_search.specs.Search.{rows_of}
 use Rattle.cover_check.specs.Cases.{AreRows}
 use Rattle.cover_check.proofs.Covering.{one_of_at, rows_more}
 use Rattle.cover_check.proofs.rows.rows_of.Goals as goal

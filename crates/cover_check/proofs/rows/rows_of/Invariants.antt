@@ -1,6 +1,6 @@
 use Rattle.std.proofs.Common.{map, take}
 use Rattle.cover_check.specs.Cases.{AreRows}
-use Rattle.pattern_search.specs.Search.{rows_of}
+use Rattle.cover_search.specs.Search.{rows_of}
 use Rattle.spec_core.specs.Theories.{equation_of, theory_of}
 use Rattle.cover_check.proofs.rows.rows_of.Given as goal
 

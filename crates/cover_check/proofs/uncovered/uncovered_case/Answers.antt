@@ -3,11 +3,11 @@ use Rattle.spec_core.specs.declared.items.Sort.{Sort}
 use Rattle.spec_core.specs.Numbers.{sort_number}
 use Rattle.spec_core.specs.Theories.{theory_of, operation_of}
 use Rattle.spec_core.proofs.Lists.{untrue}
-use Rattle.inhabited_sorts.specs.Sorts.{AreIn}
-use Rattle.pattern_search.specs.Search.{variables, rows_of, arguments_of}
-use Rattle.pattern_search.specs.declared.arguments.Arguments.{Arguments}
-use Rattle.pattern_search.proofs.Stacking.{makers_in}
-use Rattle.pattern_search.proofs.Searching.{inhabited_by}
+use Rattle.cover_search.specs.Sorts.{AreIn}
+use Rattle.cover_search.specs.Search.{variables, rows_of, arguments_of}
+use Rattle.cover_search.specs.declared.arguments.Arguments.{Arguments}
+use Rattle.cover_search.proofs.Stacking.{makers_in}
+use Rattle.cover_search.proofs.Searching.{inhabited_by}
 use Rattle.cover_check.specs.Cases.{AreRows}
 use Rattle.cover_check.proofs.Covering.{answers}
 use Rattle.cover_check.proofs.uncovered.uncovered_case.Goals as goal

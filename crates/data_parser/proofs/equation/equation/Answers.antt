@@ -1,8 +1,8 @@
 use Rattle.std.proofs.Common.{rules, arith, refl}
 use Rattle.lotos_ast.specs.Notation.{expression}
 use Rattle.lotos_ast.specs.Reads.{reads_sequence, reads_left, reads_absent, reads_placed, reads_part}
-use Rattle.token_cursor.proofs.Rows.{part_place}
-use Rattle.token_cursor.proofs.Steps.{steps}
+use Rattle.syntax_cursor.proofs.Rows.{part_place}
+use Rattle.syntax_cursor.proofs.Steps.{steps}
 use Rattle.data_parser.proofs.equation.equation.Goals as goal
 
 -- without premisses the left side is the first expression

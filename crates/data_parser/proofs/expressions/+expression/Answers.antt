@@ -2,8 +2,8 @@ use Rattle.std.proofs.Common.{rules, arith}
 use Rattle.lotos_ast.specs.Reads.{reads_sequence}
 use Rattle.lotos_ast.specs.ListTrees.{behind}
 use Rattle.lotos_ast.specs.ExpressionTrees.{expr_tree}
-use Rattle.token_cursor.proofs.Loops.{repeats_next, loop_steps}
-use Rattle.token_cursor.proofs.Steps.{steps}
+use Rattle.syntax_cursor.proofs.Loops.{repeats_next, loop_steps}
+use Rattle.syntax_cursor.proofs.Steps.{steps}
 use Rattle.data_parser.proofs.Chains.{chain_next, chain_steps}
 use Rattle.data_parser.proofs.expressions.+expression.Goals as goal
 

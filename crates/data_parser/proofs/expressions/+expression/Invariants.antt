@@ -4,7 +4,7 @@ use Rattle.lotos_ast.specs.Notation.{quoted, part, expression, ◌▸◌}
 use Rattle.lotos_ast.specs.ListTrees.{behind}
 use Rattle.lotos_ast.specs.ExpressionTrees.{expr_tree, infix_tree}
 use Rattle.lotos_ast.specs.Nesting.{nesting_of}
-use Rattle.token_cursor.specs.Loops.{Repeats}
+use Rattle.syntax_cursor.specs.Loops.{Repeats}
 use Rattle.data_parser.specs.Chains.{ChainsOn}
 use Rattle.data_parser.proofs.expressions.+expression.Given as goal
 

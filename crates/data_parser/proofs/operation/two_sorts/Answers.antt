@@ -1,5 +1,5 @@
 use Rattle.std.proofs.Common.{rules, arith}
-use Rattle.token_cursor.proofs.Steps.{steps}
+use Rattle.syntax_cursor.proofs.Steps.{steps}
 use Rattle.data_parser.proofs.OperationNames.{reads_two_sorts}
 use Rattle.data_parser.proofs.operation.two_sorts.Goals as goal
 

@@ -1,6 +1,6 @@
 use Rattle.std.proofs.Common.{◌≡◌, [], ◌∷◌, ◌++◌, Some, map, take, ◌+◌, subst, sym, ◌∙◌}
 use Rattle.lotos_ast.specs.FirstRefusals.{first_refusal}
-use Rattle.number_sets.proofs.Members.{map_taken}
+use Rattle.equation_sets.proofs.Members.{map_taken}
 use Rattle.spec_core.proofs.Lists.{all_taken}
 use Rattle.spec_core.specs.Theories.{theory_of, equation_of}
 use Rattle.equation_check.specs.Groups.{AreGroups}

@@ -6,7 +6,7 @@ use Rattle.spec_core.specs.Theories.{theory_of, equation_of}
 use Rattle.equation_check.specs.Groups.{seen}
 use Rattle.equation_check.proofs.Grouping.{seen_parted}
 use Rattle.equation_faults.specs.Faults.{IsWellFormed}
-use Rattle.number_sets.proofs.Members.{each_last, each_more, map_taken}
+use Rattle.equation_sets.proofs.Members.{each_last, each_more, map_taken}
 use Rattle.equation_check.proofs.groups.first_overlapped.Goals as goal
 
 pub are_apart-requires-clause-earlier_linear : goal.are_apart-requires-clause-earlier_linear

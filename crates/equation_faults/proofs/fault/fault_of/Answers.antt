@@ -9,7 +9,7 @@ use Rattle.equation_faults.specs.Faults.{loose_variable}
 use Rattle.equation_faults.specs.Firsts.{IsFirstOf, IsFirstRepeated}
 use Rattle.equation_faults.specs.Variables.{variables, asked_variables}
 use Rattle.equation_faults.proofs.Occurrences.{linear, closed, first_loose}
-use Rattle.number_sets.proofs.Members.{Distinct}
+use Rattle.equation_sets.proofs.Members.{Distinct}
 use Rattle.equation_faults.proofs.fault.fault_of.Goals as goal
 
 pub returns-in-Some-clause-fault : goal.returns-in-Some-clause-fault

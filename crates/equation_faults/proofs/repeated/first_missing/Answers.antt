@@ -1,5 +1,5 @@
 use Rattle.std.proofs.Common.{take, drop, ◌+◌}
-use Rattle.number_sets.proofs.Members.{each_more, parted}
+use Rattle.equation_sets.proofs.Members.{each_more, parted}
 use Rattle.spec_core.proofs.Lists.{untrue}
 use Rattle.spec_core.specs.Lists.{IsOneOf}
 use Rattle.equation_faults.proofs.repeated.first_missing.Goals as goal

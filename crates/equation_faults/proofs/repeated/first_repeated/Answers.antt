@@ -1,7 +1,7 @@
 use Rattle.std.proofs.Common.{◌<◌, ◌+◌, [], ◌∷◌, length, take, drop, get_or, subst, sym, refl, inl, inr}
 use Rattle.std.proofs.lemmas.List.{take_more}
-use Rattle.number_sets.proofs.Members.{Distinct, distinct_joined, parted}
-use Rattle.number_sets.proofs.Walks.{exact_next, within_at}
+use Rattle.equation_sets.proofs.Members.{Distinct, distinct_joined, parted}
+use Rattle.equation_sets.proofs.Walks.{exact_next, within_at}
 use Rattle.spec_core.proofs.Lists.{untrue, all_taken}
 use Rattle.spec_core.specs.Lists.{Each, IsOneOf}
 use Rattle.equation_faults.proofs.repeated.first_repeated.Goals as goal

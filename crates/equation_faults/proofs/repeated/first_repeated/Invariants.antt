@@ -1,6 +1,6 @@
 use Rattle.std.proofs.Common.{ℕ, ◌<◌, ◌↔◌, take, length}
-use Rattle.number_sets.proofs.Members.{Distinct}
-use Rattle.number_sets.specs.Members.{IsIn}
+use Rattle.equation_sets.proofs.Members.{Distinct}
+use Rattle.equation_sets.specs.Members.{IsIn}
 use Rattle.spec_core.specs.Lists.{Each, IsOneOf}
 use Rattle.equation_faults.proofs.repeated.first_repeated.Given as goal
 

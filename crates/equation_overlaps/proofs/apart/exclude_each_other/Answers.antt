@@ -1,13 +1,13 @@
 use Rattle.std.proofs.Common.{ℕ, ◌≡◌, ◌∙◌, map, length, refl, sym, subst, ap}
 use Rattle.equation_faults.specs.Variables.{variables}
 use Rattle.equation_faults.proofs.Occurrences.{distinct}
-use Rattle.number_sets.proofs.Members.{Distinct}
+use Rattle.equation_sets.proofs.Members.{Distinct}
 use Rattle.spec_core.proofs.Lists.{untrue}
 use Rattle.spec_core.specs.Orthogonality.{renamed}
 use Rattle.spec_core.specs.Terms.{variable}
 use Rattle.spec_core.specs.Theories.{premise_of, theory_of, equation_of}
-use Rattle.term_shapes.specs.Shapes.{IsOfShape}
-use Rattle.term_shapes.proofs.Linear.{of_shape}
+use Rattle.equation_shapes.specs.Shapes.{IsOfShape}
+use Rattle.equation_shapes.proofs.Linear.{of_shape}
 use Rattle.equation_overlaps.specs.Exclusion.{CannotHold}
 use Rattle.equation_overlaps.specs.Renamings.{new_name, renamed_term}
 use Rattle.equation_overlaps.proofs.Excluding.{excluded, clashing}

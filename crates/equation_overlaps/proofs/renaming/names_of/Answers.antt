@@ -1,6 +1,6 @@
 use Rattle.std.proofs.Common.{◌<◌, ◌≡◌, length, map, take, ◌+◌, get_or, subst, sym, ap, ◌∙◌}
 use Rattle.std.proofs.Math.ListN.{length-set}
-use Rattle.number_sets.proofs.Walks.{within_at}
+use Rattle.equation_sets.proofs.Walks.{within_at}
 use Rattle.spec_core.specs.Lists.{Each}
 use Rattle.equation_overlaps.specs.Renamings.{new_name}
 use Rattle.equation_overlaps.proofs.Naming.{named_next}

@@ -1,8 +1,8 @@
 use Rattle.std.proofs.Common.{rules, ◌≡◌, map, length, sym, ap, ◌∙◌}
 use Rattle.std.proofs.lemmas.List.{length-map}
 use Rattle.spec_core.specs.Code.{program_of, relabelling_of, node_of}
-use Rattle.marked_values.specs.Scopes.{scope_over}
-use Rattle.window_tables.specs.Tables.{windows_in}
+use Rattle.node_values.specs.Scopes.{scope_over}
+use Rattle.symbolic_rules.specs.Tables.{windows_in}
 use Rattle.expand.proofs.Top.{source_asked, source_expanded, source_stops}
 use Rattle.expand.proofs.expansion.composites_at.Goals as goal
 

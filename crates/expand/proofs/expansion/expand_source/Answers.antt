@@ -1,9 +1,9 @@
 use Rattle.std.proofs.Common.{map, sym, subst}
 use Rattle.spec_core.specs.Code.{program_of, relabelling_of}
 use Rattle.sort_windows.specs.Found.{AreBySorts}
-use Rattle.tree_nodes.specs.Origins.{relabelled_by, scoped}
+use Rattle.node_trees.specs.Origins.{relabelled_by, scoped}
 use Rattle.expand.specs.Expansions.{IsStop}
-use Rattle.window_tables.specs.Tables.{windows_in}
+use Rattle.symbolic_rules.specs.Tables.{windows_in}
 use Rattle.expand.proofs.Top.{table_windows, stops_at}
 use Rattle.expand.proofs.expansion.expand_source.Goals as goal
 

@@ -1,10 +1,10 @@
 use Rattle.std.proofs.Common.{map, subst, [], ◌∷◌}
 use Rattle.spec_core.specs.Code.{action_field_of, program_of}
 use Rattle.rule_model.specs.Actions.{at_gate}
-use Rattle.open_composites.specs.Plans.{field_of, prefix}
-use Rattle.marked_values.specs.Found.{FieldsOpen}
-use Rattle.marked_values.specs.Scopes.{marks_of}
-use Rattle.marked_values.proofs.Finding.{of_none, of_some}
+use Rattle.symbolic_plans.specs.Plans.{field_of, prefix}
+use Rattle.node_values.specs.Found.{FieldsOpen}
+use Rattle.node_values.specs.Scopes.{marks_of}
+use Rattle.node_values.proofs.Finding.{of_none, of_some}
 use Rattle.expand.specs.Joins.{Sized}
 use Rattle.expand.proofs.Rows.{action_comes, no_action_comes}
 use Rattle.expand.proofs.leaves.action_at.Goals as goal

@@ -1,10 +1,10 @@
 use Rattle.std.proofs.Common.{map, subst, [], ◌∷◌}
 use Rattle.spec_core.specs.Code.{exit_value_of, program_of}
 use Rattle.rule_model.specs.Actions.{ends}
-use Rattle.open_composites.specs.Plans.{field_of, termination}
-use Rattle.marked_values.specs.Found.{ExitOpen}
-use Rattle.marked_values.specs.Scopes.{marks_of}
-use Rattle.marked_values.proofs.Finding.{of_none, of_some}
+use Rattle.symbolic_plans.specs.Plans.{field_of, termination}
+use Rattle.node_values.specs.Found.{ExitOpen}
+use Rattle.node_values.specs.Scopes.{marks_of}
+use Rattle.node_values.proofs.Finding.{of_none, of_some}
 use Rattle.expand.specs.Joins.{Sized}
 use Rattle.expand.proofs.Rows.{exit_comes, no_exit_comes}
 use Rattle.expand.proofs.leaves.exit_at.Goals as goal

@@ -1,6 +1,6 @@
 use Rattle.std.proofs.Common.{◌≡◌, map, take}
 use Rattle.spec_core.specs.Code.{action_field_of}
-use Rattle.own_plans.specs.OwnPlans.{takes_value}
+use Rattle.symbolic_plans.specs.OwnPlans.{takes_value}
 use Rattle.expand.proofs.leaves.taking.Given as goal
 
 abbrev pub invariant-loop-field : goal.invariant-loop-field

@@ -1,6 +1,6 @@
 use Rattle.std.proofs.Common.{◌≡◌, map, take}
 use Rattle.spec_core.specs.Code.{exit_value_of}
-use Rattle.own_plans.specs.OwnPlans.{takes_any}
+use Rattle.symbolic_plans.specs.OwnPlans.{takes_any}
 use Rattle.expand.proofs.leaves.taking_any.Given as goal
 
 abbrev pub invariant-loop-field : goal.invariant-loop-field

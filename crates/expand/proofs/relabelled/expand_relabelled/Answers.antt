@@ -1,11 +1,11 @@
 use Rattle.std.proofs.Common.{map}
 use Rattle.spec_core.specs.Code.{program_of, relabelling_of}
 use Rattle.rule_model.specs.Substitution.{tidied}
-use Rattle.code_behaviours.specs.Parts.{behaviour_at}
-use Rattle.marked_values.specs.Scopes.{marks_of}
-use Rattle.tree_nodes.specs.Origins.{relabelled_by}
-use Rattle.window_tables.specs.Tables.{windows_in}
-use Rattle.tree_nodes.proofs.Tidying.{none_relabelled, some_relabelled}
+use Rattle.rule_origins.specs.Parts.{behaviour_at}
+use Rattle.node_values.specs.Scopes.{marks_of}
+use Rattle.node_trees.specs.Origins.{relabelled_by}
+use Rattle.symbolic_rules.specs.Tables.{windows_in}
+use Rattle.node_trees.proofs.Tidying.{none_relabelled, some_relabelled}
 use Rattle.expand.proofs.Walking.{of_equal}
 use Rattle.expand.proofs.relabelled.expand_relabelled.Goals as goal
 

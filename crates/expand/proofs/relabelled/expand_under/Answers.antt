@@ -1,8 +1,8 @@
 use Rattle.std.proofs.Common.{map}
 use Rattle.spec_core.specs.Code.{program_of, relabelling_of}
-use Rattle.code_behaviours.specs.Parts.{behaviour_at}
-use Rattle.marked_values.specs.Scopes.{marks_of}
-use Rattle.window_tables.specs.Tables.{windows_in}
+use Rattle.rule_origins.specs.Parts.{behaviour_at}
+use Rattle.node_values.specs.Scopes.{marks_of}
+use Rattle.symbolic_rules.specs.Tables.{windows_in}
 use Rattle.expand.proofs.Rows.{relabel_comes}
 use Rattle.expand.proofs.relabelled.expand_under.Goals as goal
 

@@ -7,17 +7,17 @@ use Rattle.spec_core.specs.Terms.{term_of}
 use Rattle.spec_core.specs.Theories.{premise}
 use Rattle.rule_model.specs.declared.rules.Slot.TheVariants.{Of, Mark}
 use Rattle.rule_model.specs.Behaviours.{stop, exit, bound, gate_choice, call}
-use Rattle.code_behaviours.specs.Parts.{behaviour_at}
-use Rattle.windowed_trees.specs.MarkedTerms.{MarkedAssignment}
-use Rattle.windowed_trees.specs.MarkedFields.{BindingsMayHave, ArgumentsMayHave}
-use Rattle.open_composites.specs.OpenPlans.{open_plan_of, under_relabelling, plan_by_hiding}
-use Rattle.marked_values.specs.declared.scope.Given.TheVariants.{Value}
-use Rattle.marked_values.specs.Scopes.{marks_of, marked_of}
-use Rattle.marked_values.proofs.Finding.{of_none, of_some}
+use Rattle.rule_origins.specs.Parts.{behaviour_at}
+use Rattle.symbolic_rules.specs.MarkedTerms.{MarkedAssignment}
+use Rattle.symbolic_rules.specs.MarkedFields.{BindingsMayHave, ArgumentsMayHave}
+use Rattle.symbolic_plans.specs.OpenPlans.{open_plan_of, under_relabelling, plan_by_hiding}
+use Rattle.node_values.specs.declared.scope.Given.TheVariants.{Value}
+use Rattle.node_values.specs.Scopes.{marks_of, marked_of}
+use Rattle.node_values.proofs.Finding.{of_none, of_some}
 use Rattle.expand.specs.Choosing.{IsChoice, AddsChoice, ExpandsEach}
 use Rattle.expand.specs.Joins.{Turns}
 use Rattle.expand.specs.Outcomes.{Outcome, BelowOutcome}
-use Rattle.window_tables.specs.Tables.{windows_in}
+use Rattle.symbolic_rules.specs.Tables.{windows_in}
 use Rattle.expand.proofs.Calling.{is_definition, nothing_below, call_comes, no_arguments_come, argument_stops, no_definition_comes}
 use Rattle.expand.proofs.Choosing.{added, all_chosen}
 use Rattle.expand.proofs.Rows.{ended_comes, inner_comes, choice_comes, parallel_comes, disable_comes, hide_comes, enable_comes}
@@ -314,8 +314,8 @@ call_at-returns-in-Err t c = record {
       let formal = map gate_number c.in-Some.formal.now in
       let xs = map variable_of c.in-Some.vars.now in
       argument_stops p (windows_in c.args.windows.now) c.args.budget c.args.calls (marks_of p.theory c.args.scope.now) c.args.number
-      (map gate_number c.args.gates.now) formal xs (map term_of c.args.values.now) (behaviour_at p c.in-Some.body.0) c.in-Err.stop
-      (is_definition p c.requires.ready c.args.number formal xs c.in-Some.body.0 c.in-Some.ensures.some) c.in-Err.ensures.fault;
+      (map gate_number c.args.gates.now) formal xs (map term_of c.args.values.now) (behaviour_at p c.in-Some.body) c.in-Err.stop
+      (is_definition p c.requires.ready c.args.number formal xs c.in-Some.body c.in-Some.ensures.some) c.in-Err.ensures.fault;
 }
 
 pub call_at-returns-in-Ok-None : goal.call_at-returns-in-Ok-None
@@ -327,8 +327,8 @@ call_at-returns-in-Ok-None t c = record {
       let xs = map variable_of c.in-Some.vars.now in
       let terms = map term_of c.args.values.now in
       no_arguments_come p (windows_in c.args.windows.now) c.args.budget c.args.calls m c.args.number (map gate_number c.args.gates.now)
-      formal xs terms (behaviour_at p c.in-Some.body.0) c.nothing-in-Ok-None.result
-      (is_definition p c.requires.ready c.args.number formal xs c.in-Some.body.0 c.in-Some.ensures.some)
+      formal xs terms (behaviour_at p c.in-Some.body) c.nothing-in-Ok-None.result
+      (is_definition p c.requires.ready c.args.number formal xs c.in-Some.body c.in-Some.ensures.some)
       (subst (λ z. (l : MarkedAssignment) → ArgumentsMayHave p.theory m z xs terms l → ⊥) (ap (marks_of p.theory) c.new.ensures.items)
       (of_none c.in-Ok-None.field-0 c.in-Ok-None.field-0-is c.in-Ok-None.ensures.none))
       c.nothing-in-Ok-None.ensures.nothing;
@@ -344,13 +344,13 @@ call_at-returns t c = record {
       let actual = map gate_number c.args.gates.now in
       let xs = map variable_of c.in-Some.vars.now in
       let terms = map term_of c.args.values.now in
-      let b = behaviour_at p c.in-Some.body.0 in
+      let b = behaviour_at p c.in-Some.body in
       let l = marks_of p.theory c.in-Ok-Some.inner.items in
       let has = subst (λ z. ArgumentsMayHave p.theory m z xs terms l) (ap (marks_of p.theory) c.new.ensures.items)
       (of_some (λ s. ArgumentsMayHave p.theory m (marks_of p.theory c.new.result.items) xs terms (marks_of p.theory s.items))
       c.in-Ok-Some.field-0 c.in-Ok-Some.inner c.in-Ok-Some.field-0-is c.in-Ok-Some.ensures.some) in
       call_comes p w c.args.budget c.args.calls m l c.args.number actual formal xs terms b
-      (is_definition p c.requires.ready c.args.number formal xs c.in-Some.body.0 c.in-Some.ensures.some) has
+      (is_definition p c.requires.ready c.args.number formal xs c.in-Some.body c.in-Some.ensures.some) has
       c.requires.ready.executable c.enter-part.result c.relabel-relabelled.result c.under_rule.result
       (subst (λ s. BelowOutcome p w c.args.calls c.args.budget (marks_of p.theory s) b c.enter-part.result) c.deref.ensures.value
       c.enter-part.ensures.comes)

@@ -1,11 +1,11 @@
 use Rattle.std.proofs.Common.{◌+◌, ◌*◌, map, take}
 use Rattle.spec_core.specs.Code.{program_of}
 use Rattle.rule_model.specs.declared.rules.Slot.TheVariants.{Of}
-use Rattle.code_behaviours.specs.Parts.{behaviour_at}
-use Rattle.open_composites.specs.OpenPlans.{open_plan_of}
-use Rattle.marked_values.specs.Scopes.{marks_of}
+use Rattle.rule_origins.specs.Parts.{behaviour_at}
+use Rattle.symbolic_plans.specs.OpenPlans.{open_plan_of}
+use Rattle.node_values.specs.Scopes.{marks_of}
 use Rattle.expand.specs.Choosing.{ExpandsEach}
-use Rattle.window_tables.specs.Tables.{windows_in}
+use Rattle.symbolic_rules.specs.Tables.{windows_in}
 use Rattle.expand.proofs.walk.+walk.Given as goal
 
 abbrev pub decreases-enter : goal.decreases-enter

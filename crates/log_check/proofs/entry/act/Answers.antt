@@ -6,8 +6,8 @@ use Rattle.rule_model.specs.Derivations.{derivation_of}
 use Rattle.rule_model.specs.Derives.{Derives}
 use Rattle.rule_walk.specs.Asking.{Asks}
 use Rattle.rule_walk.specs.Bounds.{FaultBounds}
-use Rattle.session_states.proofs.Tests.{true_false}
-use Rattle.session_states.specs.Views.{state_of}
+use Rattle.log_states.proofs.Tests.{true_false}
+use Rattle.log_states.specs.Views.{state_of}
 use Rattle.log_check.proofs.entry.act.Goals as goal
 
 pub returns-in-Ok-clause-next : goal.returns-in-Ok-clause-next

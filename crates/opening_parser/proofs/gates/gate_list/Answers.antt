@@ -1,5 +1,5 @@
 use Rattle.std.proofs.Common.{rules}
-use Rattle.token_cursor.proofs.Steps.{steps}
+use Rattle.syntax_cursor.proofs.Steps.{steps}
 use Rattle.opening_parser.proofs.gates.gate_list.Goals as goal
 
 pub returns-in_err-pass-clause-halts : goal.returns-in_err-pass-clause-halts

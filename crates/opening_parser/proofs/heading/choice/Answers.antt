@@ -1,5 +1,5 @@
 use Rattle.std.proofs.Common.{arith, rules}
-use Rattle.token_cursor.proofs.Steps.{steps}
+use Rattle.syntax_cursor.proofs.Steps.{steps}
 use Rattle.opening_parser.proofs.Chosen.{choice_halts}
 use Rattle.opening_parser.proofs.Openings.{choice_leads}
 use Rattle.opening_parser.proofs.heading.choice.Goals as goal

@@ -1,5 +1,5 @@
 use Rattle.std.proofs.Common.{arith, rules}
-use Rattle.token_cursor.proofs.Steps.{steps}
+use Rattle.syntax_cursor.proofs.Steps.{steps}
 use Rattle.opening_parser.proofs.Chosen.{par_halts}
 use Rattle.opening_parser.proofs.Openings.{par_leads}
 use Rattle.opening_parser.proofs.heading.par.Goals as goal

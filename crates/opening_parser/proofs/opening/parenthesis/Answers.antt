@@ -1,5 +1,5 @@
 use Rattle.std.proofs.Common.{arith, rules}
-use Rattle.token_cursor.proofs.Steps.{steps}
+use Rattle.syntax_cursor.proofs.Steps.{steps}
 use Rattle.opening_parser.proofs.Chosen.{parenthesis_halts}
 use Rattle.opening_parser.proofs.Openings.{parenthesis_leads}
 use Rattle.opening_parser.proofs.opening.parenthesis.Goals as goal

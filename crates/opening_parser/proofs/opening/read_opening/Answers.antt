@@ -1,5 +1,5 @@
 use Rattle.std.proofs.Common.{arith}
-use Rattle.token_cursor.proofs.Steps.{steps}
+use Rattle.syntax_cursor.proofs.Steps.{steps}
 use Rattle.opening_parser.proofs.opening.read_opening.Goals as goal
 
 pub returns-in_err-new-clause-halts : goal.returns-in_err-new-clause-halts

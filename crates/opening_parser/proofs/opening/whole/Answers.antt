@@ -1,5 +1,5 @@
 use Rattle.std.proofs.Common.{rules, arith}
-use Rattle.token_cursor.proofs.Steps.{steps}
+use Rattle.syntax_cursor.proofs.Steps.{steps}
 use Rattle.opening_parser.proofs.Chosen.{last_halts}
 use Rattle.opening_parser.proofs.Openings.{exit_reads, stop_reads}
 use Rattle.opening_parser.proofs.opening.whole.Goals as goal

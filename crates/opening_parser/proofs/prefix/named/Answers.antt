@@ -1,5 +1,5 @@
 use Rattle.std.proofs.Common.{rules, arith}
-use Rattle.token_cursor.proofs.Steps.{steps}
+use Rattle.syntax_cursor.proofs.Steps.{steps}
 use Rattle.opening_parser.proofs.Chosen.{named_halts}
 use Rattle.opening_parser.proofs.Openings.{same_prefix, plain_leads, offered_leads, call_reads}
 use Rattle.opening_parser.proofs.prefix.named.Goals as goal

@@ -1,4 +1,4 @@
-use Rattle.number_sets.specs.Members.{IsIn}
+use Rattle.equation_sets.specs.Members.{IsIn}
 use Rattle.spec_core.specs.Theories.{theory_of}
 use Rattle.path_order.specs.Below.{AllDepend}
 use Rattle.path_order.proofs.dependence.depending_on.Given as goal

@@ -1,7 +1,7 @@
 use Rattle.std.proofs.Common.{map, refl}
 use Rattle.spec_core.specs.Code.{binding_of, program_of}
 use Rattle.spec_core.specs.Terms.{term_of}
-use Rattle.substitution.specs.Scopes.{terms_of}
+use Rattle.rule_substitution.specs.Scopes.{terms_of}
 use Rattle.rule_walk.proofs.Filling.{others, bindings_later, mapped}
 use Rattle.rule_walk.proofs.fields.+bind.Goals as goal
 

@@ -1,7 +1,7 @@
 use Rattle.std.proofs.Common.{map, get_or, refl}
 use Rattle.spec_core.specs.Code.{variable_of, program_of}
 use Rattle.spec_core.specs.Terms.{term_of}
-use Rattle.substitution.specs.Scopes.{terms_of}
+use Rattle.rule_substitution.specs.Scopes.{terms_of}
 use Rattle.rule_walk.proofs.Filling.{others, arguments_later, mapped, mapped_at}
 use Rattle.rule_walk.proofs.fields.+bind_arguments.Goals as goal
 

@@ -1,7 +1,7 @@
 use Rattle.std.proofs.Common.{rules, map}
 use Rattle.spec_core.specs.Code.{action_field_of, program_of}
 use Rattle.spec_core.specs.Terms.{term_of}
-use Rattle.substitution.specs.Scopes.{terms_of}
+use Rattle.rule_substitution.specs.Scopes.{terms_of}
 use Rattle.rule_walk.proofs.Faults.{handed_on}
 use Rattle.rule_walk.proofs.Filling.{others, fields_later, mapped, split_at}
 use Rattle.rule_walk.proofs.fields.+fill.Goals as goal

@@ -1,7 +1,7 @@
 use Rattle.std.proofs.Common.{rules, map, get_or, refl}
 use Rattle.spec_core.specs.Code.{variable_of, program_of}
 use Rattle.spec_core.specs.Terms.{term_of}
-use Rattle.substitution.specs.Scopes.{terms_of}
+use Rattle.rule_substitution.specs.Scopes.{terms_of}
 use Rattle.rule_walk.proofs.Filling.{others, handed_later, mapped_at, split_at}
 use Rattle.rule_walk.proofs.fields.+hand_on.Goals as goal
 

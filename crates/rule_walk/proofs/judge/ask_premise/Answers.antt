@@ -2,7 +2,7 @@ use Rattle.std.proofs.Common.{rules, refl}
 use Rattle.spec_core.specs.Code.{program_of}
 use Rattle.spec_core.specs.Terms.{instance, term_of}
 use Rattle.spec_core.proofs.Lists.{untrue}
-use Rattle.substitution.specs.Scopes.{terms_of}
+use Rattle.rule_substitution.specs.Scopes.{terms_of}
 use Rattle.rule_walk.proofs.Faults.{handed_on, here_explains}
 use Rattle.rule_walk.proofs.Judging.{left_unjudged, right_unjudged}
 use Rattle.value_terms.proofs.Values.{equal_spelled}

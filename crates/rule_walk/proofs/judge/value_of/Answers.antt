@@ -1,6 +1,6 @@
 use Rattle.spec_core.specs.Code.{program_of}
 use Rattle.spec_core.specs.Terms.{instance, term_of}
-use Rattle.substitution.specs.Scopes.{terms_of}
+use Rattle.rule_substitution.specs.Scopes.{terms_of}
 use Rattle.rule_walk.proofs.Faults.{here_explains, of_none}
 use Rattle.value_terms.proofs.Values.{unground_value}
 use Rattle.rule_walk.proofs.judge.value_of.Goals as goal

@@ -1,6 +1,6 @@
 use Rattle.std.proofs.Common.{rules, map}
 use Rattle.spec_core.specs.Code.{program_of, variable_of}
-use Rattle.substitution.specs.Scopes.{terms_of}
+use Rattle.rule_substitution.specs.Scopes.{terms_of}
 use Rattle.rule_walk.proofs.Faults.{handed_on}
 use Rattle.rule_walk.proofs.Misfits.{unhanded}
 use Rattle.rule_walk.proofs.rows.enabled.Goals as goal

@@ -3,7 +3,7 @@ use Rattle.spec_core.specs.Code.{exit_value_of, program_of}
 use Rattle.rewriter.specs.Answers.{IsWithin}
 use Rattle.rule_model.specs.Behaviours.{behaviour_of}
 use Rattle.rule_model.specs.Derivations.{exiting}
-use Rattle.substitution.specs.Scopes.{terms_of}
+use Rattle.rule_substitution.specs.Scopes.{terms_of}
 use Rattle.rule_walk.specs.Asking.{Asks}
 use Rattle.rule_walk.specs.Bounds.{FaultBounds}
 use Rattle.rule_walk.proofs.Bounds.{of_fault}

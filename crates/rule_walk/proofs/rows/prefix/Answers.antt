@@ -3,7 +3,7 @@ use Rattle.spec_core.specs.Code.{action_field_of, guard_of, program_of}
 use Rattle.rewriter.specs.Answers.{IsWithin}
 use Rattle.rule_model.specs.Behaviours.{behaviour_of}
 use Rattle.rule_model.specs.Derivations.{pre}
-use Rattle.substitution.specs.Scopes.{terms_of}
+use Rattle.rule_substitution.specs.Scopes.{terms_of}
 use Rattle.rule_walk.specs.Asking.{Asks}
 use Rattle.rule_walk.specs.Bounds.{FaultBounds}
 use Rattle.rule_walk.proofs.Bounds.{fault_within, of_fault}

@@ -9,7 +9,7 @@ use Rattle.rule_model.specs.Actions.{kind_of, IsAlone, IsJoint, IsUnhidden, IsNo
 use Rattle.rule_model.specs.Behaviours.{behaviour_of, relabel}
 use Rattle.rule_model.specs.Derivations.{Derivation, derivation_of, chl, chr, val, gate, guard, letting, parl, parr, both, hiding, pass}
 use Rattle.rule_model.specs.Derivations.{enstep, enend, disstep, disend, distake, calling, rel}
-use Rattle.substitution.specs.Scopes.{terms_of}
+use Rattle.rule_substitution.specs.Scopes.{terms_of}
 use Rattle.rule_walk.specs.Asking.{Asks}
 use Rattle.rule_walk.specs.Bounds.{FaultBounds, Bounds}
 use Rattle.rule_walk.specs.Ends.{CanHandOn, IsAtHidden}
@@ -297,21 +297,15 @@ by_value-returns-in_ok-more-in-Some-clause-fault t c =
 
 pub by_gate-returns-in_ok-body-in-Some-gate_at-clause-fault : goal.by_gate-returns-in_ok-body-in-Some-gate_at-clause-fault
 by_gate-returns-in_ok-body-in-Some-gate_at-clause-fault t c =
-    let there = c.in-Some-gate_at.ensures.there in
-    let body = behaviour_of c.in-Some.body.now in
+    let there = c.in-Some-gate_at.ensures.some in
     part_faults (program_of c.args.checked.now) c.args.budget (terms_of c.args.scope.now) (behaviour_of c.args.from.now) c.step_in.result
     (gate c.args.place (derivation_of c.args.part.now)) (gate c.args.place (derivation_of c.args.part.now)) _ (terms_of c.args.scope.now)
     (behaviour_of c.in_ok-body-in-Some-gate_at.body) (derivation_of c.args.part.now) refl c.in-Some.ensures.some (
       there.0,
+      c.in-Some-gate_at.actual.0,
       there.1,
       there.2,
-      there.3,
-      (
-        refl,
-        ap (λ (k : ℕ). relabel (record { from = c.in-Some.name.0; to = k } ∷ []) body) (sym there.4)
-            ∙ sym c.in_ok-body-in-Some-gate_at.ensures.made,
-        refl,
-      ),
+      (refl, sym c.in_ok-body-in-Some-gate_at.ensures.made, refl),
     ) c.step_in.ensures.fault
 
 pub by_call-returns-in-None-2-clause-fault : goal.by_call-returns-in-None-2-clause-fault
@@ -615,22 +609,16 @@ by_value-returns-in_ok-more-in-Some-clause-within t c =
 
 pub by_gate-returns-in_ok-body-in-Some-gate_at-clause-within : goal.by_gate-returns-in_ok-body-in-Some-gate_at-clause-within
 by_gate-returns-in_ok-body-in-Some-gate_at-clause-within t c =
-    let there = c.in-Some-gate_at.ensures.there in
-    let body = behaviour_of c.in-Some.body.now in
+    let there = c.in-Some-gate_at.ensures.some in
     part_asked (program_of c.args.checked.now) c.requires.ready.executable (λ x. Bounds (program_of c.args.checked.now).theory
     c.args.budget c.step_in.result x) (terms_of c.args.scope.now) (behaviour_of c.args.from.now) (gate c.args.place (derivation_of
     c.args.part.now)) (gate c.args.place (derivation_of c.args.part.now)) _ (terms_of c.args.scope.now) (behaviour_of
     c.in_ok-body-in-Some-gate_at.body) (derivation_of c.args.part.now) refl c.in-Some.ensures.some (
       there.0,
+      c.in-Some-gate_at.actual.0,
       there.1,
       there.2,
-      there.3,
-      (
-        refl,
-        ap (λ (k : ℕ). relabel (record { from = c.in-Some.name.0; to = k } ∷ []) body) (sym there.4) ∙ sym
-            c.in_ok-body-in-Some-gate_at.ensures.made,
-        refl,
-      ),
+      (refl, sym c.in_ok-body-in-Some-gate_at.ensures.made, refl),
     ) (λ x h. absurd h) (λ x h. absurd h) c.step_in.ensures.within
 
 pub by_call-returns-in-None-2-clause-within : goal.by_call-returns-in-None-2-clause-within
@@ -865,4 +853,4 @@ pub by_gate-returns-in-None-gate_at-clause-within : goal.by_gate-returns-in-None
 by_gate-returns-in-None-gate_at-clause-within t c =
     gate_asked (program_of c.args.checked.now) c.requires.ready.executable (FaultBounds (program_of c.args.checked.now).theory
     c.args.budget c.unfit-in-None-gate_at.result) (terms_of c.args.scope.now) (behaviour_of c.args.from.now) _ _ _ c.args.place
-    (derivation_of c.args.part.now) c.in-Some.ensures.some c.in-None-gate_at.ensures.none
+    (derivation_of c.args.part.now) c.in-Some.ensures.some (λ h. c.in-None-gate_at.ensures.none h.0 h.1 h.2 h.3)

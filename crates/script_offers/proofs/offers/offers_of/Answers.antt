@@ -4,7 +4,7 @@ use Rattle.spec_core.specs.Lists.{Each}
 use Rattle.spec_core.specs.Theories.{theory_of}
 use Rattle.script_text.specs.Wishes.{wished_of}
 use Rattle.script_offers.specs.Given.{all_given}
-use Rattle.client_wishes.specs.Views.{wish_of}
+use Rattle.rule_model.specs.WishViews.{wish_of}
 use Rattle.script_offers.specs.Valued.{AreValued, GivesValues}
 use Rattle.script_offers.proofs.Comings.{ok_implied, gates_known, values_given, complete}
 use Rattle.script_offers.proofs.offers.offers_of.Goals as goal

@@ -6,7 +6,7 @@ use Rattle.spec_core.proofs.Lists.{each-at}
 use Rattle.script_text.specs.Scripts.{WishFits}
 use Rattle.script_text.specs.Wishes.{wished_of}
 use Rattle.script_offers.specs.Given.{given_by, IsValuedWithin}
-use Rattle.client_wishes.specs.Views.{wish_of}
+use Rattle.rule_model.specs.WishViews.{wish_of}
 use Rattle.script_offers.specs.Valued.{IsValuedWish}
 use Rattle.script_offers.proofs.Comings.{handed_on}
 use Rattle.script_offers.proofs.Gathered.{gathered_more, gathered_fault, here_is}

@@ -2,7 +2,7 @@ use Rattle.std.proofs.Common.{map, drop}
 use Rattle.spec_core.specs.Theories.{theory_of}
 use Rattle.script_text.specs.Wishes.{wished_of}
 use Rattle.script_offers.specs.Given.{given_by, IsValuedWithin}
-use Rattle.client_wishes.specs.Views.{wish_of}
+use Rattle.rule_model.specs.WishViews.{wish_of}
 use Rattle.script_offers.specs.Valued.{IsValuedWish}
 use Rattle.script_offers.proofs.Gathered.{Gathered}
 use Rattle.script_offers.proofs.offers.valued.Given as goal

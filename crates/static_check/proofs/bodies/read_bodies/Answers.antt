@@ -3,10 +3,10 @@ use Rattle.std.specs.Prelude.{option_map}
 use Rattle.std.proofs.lemmas.List.{map-append}
 use Rattle.sort_overloads.specs.Readings.{Context}
 use Rattle.spec_core.specs.Code.{node_of}
-use Rattle.behaviour_readings.specs.Views.{output_of}
-use Rattle.behaviour_reader.proofs.Choices.{layers_more}
-use Rattle.call_cycles.specs.AtOnce.{calls_at_once}
-use Rattle.process_table.specs.Views.{entry_of}
+use Rattle.static_readings.specs.Views.{output_of}
+use Rattle.static_compiler.proofs.Choices.{layers_more}
+use Rattle.static_call_cycles.specs.AtOnce.{calls_at_once}
+use Rattle.static_processes.specs.Views.{entry_of}
 use Rattle.static_check.specs.Bodies as bodies
 use Rattle.static_check.specs.Bodies.{body_site, calls_from}
 use Rattle.static_check.specs.Steps.{IsBodyRead, AreReadSoFar}

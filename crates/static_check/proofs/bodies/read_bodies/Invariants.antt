@@ -1,7 +1,7 @@
 use Rattle.std.proofs.Common.{◌≡◌, ◌++◌, map, take, drop}
 use Rattle.std.specs.Prelude.{option_map}
-use Rattle.behaviour_readings.specs.Views.{output_of}
-use Rattle.process_table.specs.Views.{entry_of}
+use Rattle.static_readings.specs.Views.{output_of}
+use Rattle.static_processes.specs.Views.{entry_of}
 use Rattle.spec_core.specs.Code.{node_of}
 use Rattle.static_check.specs.Bodies.{calls_from}
 use Rattle.static_check.specs.Steps.{AreReadSoFar}

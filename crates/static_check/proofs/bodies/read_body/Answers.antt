@@ -1,11 +1,11 @@
 use Rattle.std.proofs.Common.{◌∙◌, ◌++◌, ap, sym, length, pred}
 use Rattle.std.specs.Prelude.{option_map}
-use Rattle.constructs.specs.Views.{construct_of}
+use Rattle.static_constructs.specs.Views.{construct_of}
 use Rattle.spec_core.specs.Code.{node_of}
-use Rattle.behaviour_readings.specs.Views.{functionality_of, heading_of, output_of}
-use Rattle.behaviour_reader.proofs.Whole.{read_as}
-use Rattle.process_table.specs.Views.{entry_of}
-use Rattle.process_table.specs.Headings.{parameter_sorts}
+use Rattle.static_readings.specs.Views.{functionality_of, heading_of, output_of}
+use Rattle.static_compiler.proofs.Whole.{read_as}
+use Rattle.static_processes.specs.Views.{entry_of}
+use Rattle.static_processes.specs.Headings.{parameter_sorts}
 use Rattle.static_check.specs.Bodies.{ending_refusals, unknown_in}
 use Rattle.static_check.specs.Steps.{node_over}
 use Rattle.static_check.specs.Views.{data_of, setting_of}

@@ -4,10 +4,10 @@ use Rattle.std.proofs.lemmas.List.{length-map}
 use Rattle.sort_overloads.specs.Views.{context_of}
 use Rattle.spec_core.specs.Code.{node_of, program_of}
 use Rattle.spec_core.specs.Theories.{theory_of}
-use Rattle.behaviour_readings.specs.Views.{functionality_of, output_of}
-use Rattle.call_cycles.specs.Unguarded.{unguarded_refusals}
-use Rattle.process_table.specs.Headings.{opening_refusals, table_refusals}
-use Rattle.process_table.specs.Views.{entry_of}
+use Rattle.static_readings.specs.Views.{functionality_of, output_of}
+use Rattle.static_call_cycles.specs.Unguarded.{unguarded_refusals}
+use Rattle.static_processes.specs.Headings.{opening_refusals, table_refusals}
+use Rattle.static_processes.specs.Views.{entry_of}
 use Rattle.static_check.specs.Views.{data_of}
 use Rattle.static_check.proofs.Judged.{judged_by}
 use Rattle.static_check.proofs.judgement.judge.Goals as goal

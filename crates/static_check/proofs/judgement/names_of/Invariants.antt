@@ -1,5 +1,5 @@
 use Rattle.std.proofs.Common.{◌≡◌, map, take}
-use Rattle.process_table.specs.Views.{entry_of}
+use Rattle.static_processes.specs.Views.{entry_of}
 use Rattle.static_check.proofs.judgement.names_of.Given as goal
 
 abbrev pub invariant-loop-entry : goal.invariant-loop-entry

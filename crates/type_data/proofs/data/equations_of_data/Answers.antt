@@ -1,7 +1,7 @@
 use Rattle.std.proofs.Common.{map, ap, sym, length, ◌∙◌}
 use Rattle.type_contents.specs.FormalTypes.{formal_types}
-use Rattle.equation_images.specs.Images.{equation_image}
-use Rattle.equation_copies.specs.Views.{made_at}
+use Rattle.type_images.specs.Images.{equation_image}
+use Rattle.type_equation_copies.specs.Views.{made_at}
 use Rattle.type_data.specs.Data as data_specs
 use Rattle.type_data.proofs.Parts.{as_many}
 use Rattle.type_data.proofs.data.equations_of_data.Goals as goal

@@ -1,6 +1,6 @@
 use Rattle.std.proofs.Common.{◌≡◌, IfOk, map, subst}
-use Rattle.equation_copies.specs.Contents.{equations}
-use Rattle.equation_copies.specs.Views.{made_at, stated_by}
+use Rattle.type_equation_copies.specs.Contents.{equations}
+use Rattle.type_equation_copies.specs.Views.{made_at, stated_by}
 use Rattle.type_data.proofs.data.type_equations.Goals as goal
 
 pub returns : goal.returns

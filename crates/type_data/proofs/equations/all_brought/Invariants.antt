@@ -1,7 +1,7 @@
 use Rattle.std.proofs.Common.{◌≡◌, map, take}
 use Rattle.std.specs.List.{flat_map}
-use Rattle.equation_images.specs.Views.{shared_of}
-use Rattle.equation_copies.specs.Views.{made_at}
+use Rattle.type_images.specs.Views.{shared_of}
+use Rattle.type_equation_copies.specs.Views.{made_at}
 use Rattle.type_data.proofs.equations.all_brought.Given as goal
 
 abbrev pub invariant-loop-one : goal.invariant-loop-one

@@ -1,8 +1,8 @@
 use Rattle.std.proofs.Common.{map, sym, ◌∙◌}
 use Rattle.std.proofs.lemmas.List.{length-map}
-use Rattle.equation_images.specs.Views.{shared_of}
-use Rattle.equation_copies.specs.Contents.{no_equations}
-use Rattle.equation_copies.specs.Views.{made_at}
+use Rattle.type_images.specs.Views.{shared_of}
+use Rattle.type_equation_copies.specs.Contents.{no_equations}
+use Rattle.type_equation_copies.specs.Views.{made_at}
 use Rattle.type_data.proofs.Lists.{of_data_next}
 use Rattle.type_data.proofs.equations.all_of_data.Goals as goal
 

@@ -1,6 +1,6 @@
 use Rattle.std.proofs.Common.{◌≡◌, map, take}
-use Rattle.equation_images.specs.Views.{shared_of}
-use Rattle.equation_copies.specs.Views.{made_at}
+use Rattle.type_images.specs.Views.{shared_of}
+use Rattle.type_equation_copies.specs.Views.{made_at}
 use Rattle.type_data.specs.Data.{of_data}
 use Rattle.type_data.proofs.equations.all_of_data.Given as goal
 

@@ -1,10 +1,10 @@
 use Rattle.std.proofs.Common.{◌≡◌, map, take}
 use Rattle.std.specs.List.{filter}
 use Rattle.spec_core.specs.Theories.{equation_of}
-use Rattle.equation_images.specs.Same.{is_in}
-use Rattle.equation_images.specs.Groups.{equations_of}
-use Rattle.equation_images.specs.Images.{equation_image}
-use Rattle.equation_images.specs.Views.{numbers_of, shared_of}
+use Rattle.type_images.specs.Same.{is_in}
+use Rattle.type_images.specs.Groups.{equations_of}
+use Rattle.type_images.specs.Images.{equation_image}
+use Rattle.type_images.specs.Views.{numbers_of, shared_of}
 use Rattle.type_data.proofs.equations.images_in.Given as goal
 
 abbrev pub invariant-loop-equation : goal.invariant-loop-equation

@@ -1,6 +1,6 @@
 use Rattle.std.proofs.Common.{map}
 use Rattle.type_contents.specs.Contents.{no_content}
-use Rattle.equation_copies.specs.Indexes.{item_at}
+use Rattle.type_equation_copies.specs.Indexes.{item_at}
 use Rattle.type_data.proofs.Lists.{of_data_next}
 use Rattle.type_data.proofs.items.data_items.Goals as goal
 

@@ -1,5 +1,5 @@
 use Rattle.std.proofs.Common.{◌≡◌, map, take}
-use Rattle.equation_copies.specs.Indexes.{item_at}
+use Rattle.type_equation_copies.specs.Indexes.{item_at}
 use Rattle.type_data.specs.Data.{of_data}
 use Rattle.type_data.proofs.items.data_items.Given as goal
 

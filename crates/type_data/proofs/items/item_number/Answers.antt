@@ -1,8 +1,8 @@
 use Rattle.std.proofs.Common.{◌∙◌}
 use Rattle.type_contents.specs.Items.{is_same_item}
 use Rattle.type_contents.specs.Views.{item_of}
-use Rattle.equation_copies.specs.Indexes.{items_in}
-use Rattle.equation_copies.proofs.Named.{position_through}
+use Rattle.type_equation_copies.specs.Indexes.{items_in}
+use Rattle.type_equation_copies.proofs.Named.{position_through}
 use Rattle.type_data.proofs.items.item_number.Goals as goal
 
 pub returns : goal.returns

@@ -1,8 +1,8 @@
 use Rattle.std.proofs.Common.{◌≡◌, List, map, take}
 use Rattle.type_contents.specs.Items as items
 use Rattle.type_contents.specs.Views.{described_of}
-use Rattle.equation_copies.specs.Copies.{image_numbers}
-use Rattle.equation_copies.specs.Indexes.{IsIndexOf, items_in}
+use Rattle.type_equation_copies.specs.Copies.{image_numbers}
+use Rattle.type_equation_copies.specs.Indexes.{IsIndexOf, items_in}
 use Rattle.type_data.proofs.items.item_numbers.Given as goal
 
 abbrev pub invariant-loop-one : goal.invariant-loop-one

@@ -2,7 +2,7 @@ use Rattle.std.proofs.Common.{◌≡◌, List, map, take}
 use Rattle.std.specs.List.{filter}
 use Rattle.type_contents.specs.Items as items
 use Rattle.type_contents.specs.Views.{described_of}
-use Rattle.equation_copies.specs.Indexes.{IsIndexOf}
+use Rattle.type_equation_copies.specs.Indexes.{IsIndexOf}
 use Rattle.type_data.proofs.items.those_in.Given as goal
 
 abbrev pub invariant-loop-one : goal.invariant-loop-one

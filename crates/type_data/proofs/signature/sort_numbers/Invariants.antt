@@ -1,7 +1,7 @@
 use Rattle.std.proofs.Common.{◌≡◌, List, map, take, string_bytes}
 use Rattle.spec_core.specs.Numbers.{sort_number}
 use Rattle.type_contents.specs.Items.{Described}
-use Rattle.equation_copies.specs.Indexes.{IsIndexOf, items_in}
+use Rattle.type_equation_copies.specs.Indexes.{IsIndexOf, items_in}
 use Rattle.type_data.specs.Data as data_specs
 use Rattle.type_data.proofs.signature.sort_numbers.Given as goal
 

@@ -1,9 +1,9 @@
 use Rattle.std.proofs.Common.{◌≡◌, subst, Some}
-use Rattle.board_tree.specs.Views as trees
-use Rattle.courses.specs.Rules.{Next}
+use Rattle.candidate_verdicts.specs.Views as trees
+use Rattle.board_laws.specs.Rules.{Next}
 use Rattle.rule_model.specs.Derivations.{Derivation}
 use Rattle.rule_model.specs.States.{PendingOffer}
-use Rattle.tree_nodes.specs.Generations.{AreApart}
+use Rattle.node_trees.specs.Generations.{AreApart}
 use Rattle.board_core.specs.contracts.board.Board.{the_view}
 use Rattle.board_core.specs.Settled.{IsDue}
 use Rattle.board_core.specs.Views.{BoardView, decided_at}

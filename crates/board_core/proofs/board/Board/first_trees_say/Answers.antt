@@ -1,8 +1,8 @@
 use Rattle.std.proofs.Common.{subst}
-use Rattle.board_tree.specs.Views as trees
-use Rattle.needed_jobs.specs.Laws.{FirstTreesSay}
-use Rattle.session_rules.specs.Next.{AreSessionWindows}
-use Rattle.tree_nodes.specs.Generations.{AreApart}
+use Rattle.candidate_verdicts.specs.Views as trees
+use Rattle.board_laws.specs.NeededLaws.{FirstTreesSay}
+use Rattle.board_laws.specs.Next.{AreSessionWindows}
+use Rattle.node_trees.specs.Generations.{AreApart}
 use Rattle.board_core.specs.contracts.board.Board.{the_view}
 use Rattle.board_core.specs.Views.{BoardView, program, tree, pieces, windows}
 use Rattle.board_core.proofs.Due as due

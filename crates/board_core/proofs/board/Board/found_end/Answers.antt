@@ -1,7 +1,7 @@
 use Rattle.std.proofs.Common.{◌∙◌, ap}
-use Rattle.courses.specs.Rules.{any, any_beyond}
+use Rattle.board_laws.specs.Rules.{any, any_beyond}
 use Rattle.candidates.specs.KnownTrees.{first_in}
-use Rattle.numbered_trees.proofs.Trees.{if_ok_so}
+use Rattle.board_laws.proofs.Trees.{if_ok_so}
 use Rattle.board_core.specs.Ends.{end_found}
 use Rattle.board_core.specs.Views.{first_at}
 use Rattle.board_core.proofs.Knowing.{IsOf, first_known}

@@ -2,8 +2,8 @@ use Rattle.std.proofs.Common.{◌≡◌, ◌∙◌, option_map, ap, map, length,
 use Rattle.std.proofs.lemmas.List.{length-map}
 use Rattle.std.specs.List.{slice_get}
 use Rattle.rule_model.specs.Derivations.{derivation_of}
-use Rattle.courses.specs.Rules.{goes_on}
-use Rattle.session_rules.specs.Drawing.{drawn}
+use Rattle.board_laws.specs.Rules.{goes_on}
+use Rattle.board_laws.specs.Drawing.{drawn}
 use Rattle.board_core.specs.Views.{BoardView, state}
 use Rattle.board_core.proofs.Entries.{acts, on_ok_both, same_draw}
 use Rattle.board_core.proofs.board.Board.go_on.Goals as goal

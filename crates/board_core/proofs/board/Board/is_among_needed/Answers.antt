@@ -3,7 +3,7 @@ use Rattle.std.proofs.lemmas.List.{map-append}
 use Rattle.candidates.specs.declared.job.NodeJob as declared
 use Rattle.candidates.specs.Jobs.{NodeJob, is_out}
 use Rattle.candidates.specs.Models.{job_of}
-use Rattle.settling.specs.Jobs.{first_not_out}
+use Rattle.decision_order.specs.Jobs.{first_not_out}
 use Rattle.board_core.specs.Views.{needed_at}
 use Rattle.board_core.proofs.Knowing.{met_is_needed, none_free, passed_by}
 use Rattle.board_core.proofs.board.Board.is_among_needed.Goals as goal

@@ -1,5 +1,5 @@
 use Rattle.std.proofs.Common.{◌≡◌, ◌∙◌, IsTrue, ap, false, not, rules, sym}
-use Rattle.numbered_trees.proofs.Trees.{if_ok_so}
+use Rattle.board_laws.proofs.Trees.{if_ok_so}
 use Rattle.candidates.specs.Models.{job_of}
 use Rattle.board_core.specs.Views.{state}
 use Rattle.board_core.proofs.Needing.{awaiting_needs_none, ended_needs_none, needed_where_asked, not_stopped, stopped_needs_none, unneeded}

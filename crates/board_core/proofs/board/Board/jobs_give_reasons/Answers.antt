@@ -1,7 +1,7 @@
 use Rattle.std.proofs.Common.{subst}
-use Rattle.board_tree.specs.Views as trees
-use Rattle.stop_reasons.specs.Laws.{GiveReasons}
-use Rattle.tree_nodes.specs.Generations.{AreApart}
+use Rattle.candidate_verdicts.specs.Views as trees
+use Rattle.board_laws.specs.StoppingLaws.{GiveReasons}
+use Rattle.node_trees.specs.Generations.{AreApart}
 use Rattle.board_core.specs.contracts.board.Board.{the_view}
 use Rattle.board_core.specs.Views.{BoardView, program, state, tree, pieces, windows}
 use Rattle.board_core.proofs.Due as due

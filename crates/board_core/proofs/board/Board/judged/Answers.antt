@@ -1,8 +1,8 @@
 use Rattle.std.proofs.Common.{◌<◌, IsTrue, map, rules, sym, subst}
 use Rattle.candidates.specs.Models.{job_of}
-use Rattle.tree_nodes.specs.Shapes.{Lives}
-use Rattle.known_shows.specs.Laws.{IsPieceOf}
-use Rattle.known_shows.specs.Stored.{stored}
+use Rattle.node_trees.specs.Shapes.{Lives}
+use Rattle.candidate_verdicts.specs.Laws.{IsPieceOf}
+use Rattle.candidate_verdicts.specs.Stored.{stored}
 use Rattle.board_core.specs.Views.{BoardView, program, tree, pieces, windows}
 use Rattle.board_core.specs.contracts.board.Board.{the_view}
 use Rattle.board_core.proofs.Keeping.{puts}

@@ -1,6 +1,6 @@
 use Rattle.std.proofs.Common.{subst}
 use Rattle.std.specs.Prelude.{IfErr}
-use Rattle.session_record.specs.Faults.{ExplainsLeave}
+use Rattle.board_record.specs.Faults.{ExplainsLeave}
 use Rattle.board_core.specs.Views.{BoardView, state}
 use Rattle.board_core.proofs.board.Board.leave.Goals as goal
 

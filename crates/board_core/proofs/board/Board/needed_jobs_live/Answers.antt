@@ -1,6 +1,6 @@
-use Rattle.needed_jobs.proofs.Living as living
+use Rattle.board_laws.proofs.Living as living
 use Rattle.board_core.specs.Views.{program, state, tree, windows, pieces}
-use Rattle.waiting_offers.specs.Waiting.{waiting_in}
+use Rattle.board_offers.specs.Waiting.{waiting_in}
 use Rattle.board_core.proofs.board.Board.needed_jobs_live.Goals as goal
 
 pub returns : goal.returns

@@ -1,9 +1,9 @@
 use Rattle.std.proofs.Common.{◌≡◌, subst}
-use Rattle.settling.specs.Numbered.{waiting_with}
-use Rattle.settling.specs.Searches.{waiting_of}
-use Rattle.numbered_trees.proofs.Trees.{if_ok_so}
-use Rattle.waiting_offers.specs.Offers.{offer_at}
-use Rattle.waiting_offers.specs.Waiting.{waiting_in}
+use Rattle.decision_order.specs.Numbered.{waiting_with}
+use Rattle.decision_order.specs.Searches.{waiting_of}
+use Rattle.board_laws.proofs.Trees.{if_ok_so}
+use Rattle.board_offers.specs.Offers.{offer_at}
+use Rattle.board_offers.specs.Waiting.{waiting_in}
 use Rattle.board_core.proofs.Knowing.{IsOf, found_next}
 use Rattle.board_core.proofs.board.Board.next.Goals as goal
 

@@ -1,7 +1,7 @@
 use Rattle.std.proofs.Common.{◌∙◌, ap, map, refl, subst, sym}
 use Rattle.spec_core.specs.Code.{program_of}
-use Rattle.tree_nodes.specs.Rests.{expansion_of}
-use Rattle.tree_nodes.specs.Shapes.{Held, IsNodeOf, IsRight, posted}
+use Rattle.node_trees.specs.Rests.{expansion_of}
+use Rattle.node_trees.specs.Shapes.{Held, IsNodeOf, IsRight, posted}
 use Rattle.candidates.specs.Models.{job_of}
 use Rattle.board_core.specs.Boards.{AreOfLiving, IsWorkAt}
 use Rattle.board_core.specs.Views.{BoardView, program, tree, pieces, windows}

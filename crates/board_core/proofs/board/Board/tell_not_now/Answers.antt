@@ -2,9 +2,9 @@ use Rattle.std.proofs.Common.{ap}
 use Rattle.rule_model.specs.Answering.{name_of}
 use Rattle.rule_model.specs.Answers.{not_now}
 use Rattle.rule_model.specs.Events.{replied}
-use Rattle.courses.specs.Rules.{is_not_now}
-use Rattle.waiting_offers.specs.Offers.{offer_at}
-use Rattle.waiting_offers.proofs.Sound.{waiting_is_sound}
+use Rattle.board_laws.specs.Rules.{is_not_now}
+use Rattle.board_offers.specs.Offers.{offer_at}
+use Rattle.board_offers.proofs.Sound.{waiting_is_sound}
 use Rattle.board_core.specs.Views.{state}
 use Rattle.board_core.proofs.Entries.{by_rules, named, on_ok, same_reply}
 use Rattle.board_core.proofs.board.Board.tell_not_now.Goals as goal

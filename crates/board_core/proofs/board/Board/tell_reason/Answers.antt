@@ -1,6 +1,6 @@
 use Rattle.std.proofs.Common.{◌≡◌, ◌∙◌, Some, ap, subst}
 use Rattle.rule_model.specs.Answers.{answer_of}
-use Rattle.session_rules.specs.Stopping.{answer_by}
+use Rattle.board_laws.specs.Stopping.{answer_by}
 use Rattle.board_core.specs.Views.{BoardView}
 use Rattle.board_core.proofs.Entries.{on_ok_alone, told_reason}
 use Rattle.board_core.proofs.board.Board.tell_reason.Goals as goal

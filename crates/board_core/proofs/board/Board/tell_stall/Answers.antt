@@ -1,8 +1,8 @@
 use Rattle.std.proofs.Common.{map, refl}
-use Rattle.courses.specs.Rules.{stalls}
+use Rattle.board_laws.specs.Rules.{stalls}
 use Rattle.rule_model.specs.Answering.{name_of}
 use Rattle.rule_model.specs.Events.{stalled}
-use Rattle.waiting_offers.specs.Waiting.{by_client}
+use Rattle.board_offers.specs.Waiting.{by_client}
 use Rattle.board_core.specs.Views.{program, events, state}
 use Rattle.board_core.proofs.Entries.{by_rules, may_stall, on_ok}
 use Rattle.board_core.proofs.board.Board.tell_stall.Goals as goal

@@ -1,8 +1,8 @@
 use Rattle.std.proofs.Common.{◌≡◌, [], rules, ap, subst, ◌∙◌}
-use Rattle.tree_nodes.specs.Rests.{expansion_of}
-use Rattle.tree_nodes.specs.Shapes.{shape_of, posted, stands_for, IsRight, IsWorkFor}
+use Rattle.node_trees.specs.Rests.{expansion_of}
+use Rattle.node_trees.specs.Shapes.{shape_of, posted, stands_for, IsRight, IsWorkFor}
 use Rattle.board_tree.specs.Views.{shape}
-use Rattle.tree_nodes.proofs.Posts.{post_is_posted, post_stands, post_right, post_sound, post_placed}
+use Rattle.node_trees.proofs.Posts.{post_is_posted, post_stands, post_right, post_sound, post_placed}
 use Rattle.board_tree.proofs.tree.Tree.post.Goals as goal
 
 pub invariant_of-self : goal.invariant_of-self

@@ -1,7 +1,7 @@
 use Rattle.std.proofs.Common.{rules, ◌≡◌, Some, subst, sym}
 use Rattle.spec_core.specs.Code.{program_of}
 use Rattle.rule_model.specs.Derivations.{derivation_of}
-use Rattle.tree_nodes.specs.Shapes.{shape_of}
+use Rattle.node_trees.specs.Shapes.{shape_of}
 use Rattle.board_tree.specs.Views.{shape, IsReserved, IsStep}
 use Rattle.board_tree.proofs.Stepping.{moved_step}
 use Rattle.board_tree.proofs.tree.Tree.step.Goals as goal

@@ -1,5 +1,5 @@
 use Rattle.std.proofs.Common.{rules}
-use Rattle.asked_lists.specs.Searches.{query_of}
+use Rattle.candidate_search.specs.Searches.{query_of}
 use Rattle.candidates.specs.Walks.{met_of, ahead}
 use Rattle.candidates.specs.KnownTrees.{all_of_those, trees_for}
 use Rattle.candidates.proofs.Asking.{all_found}

@@ -1,6 +1,6 @@
 use Rattle.std.proofs.Common.{◌≡◌, length, map}
 use Rattle.rule_model.specs.Derivations.{derivation_of}
-use Rattle.asked_lists.specs.Searches.{query_of}
+use Rattle.candidate_search.specs.Searches.{query_of}
 use Rattle.candidates.specs.Walks.{ahead}
 use Rattle.candidates.specs.KnownTrees.{all_of_those, trees_for}
 use Rattle.candidates.proofs.Stepping.{and_more}

@@ -1,5 +1,5 @@
 use Rattle.std.proofs.Common.{◌≡◌, length}
-use Rattle.asked_lists.specs.Searches.{query_of}
+use Rattle.candidate_search.specs.Searches.{query_of}
 use Rattle.candidates.specs.Walks.{ahead}
 use Rattle.candidates.specs.KnownTrees.{first_of_those, trees_for}
 use Rattle.candidates.proofs.known_tree.KnownTree.first_asked.Given as goal

@@ -1,5 +1,5 @@
 use Rattle.std.proofs.Common.{◌≡◌, ◌||◌, length}
-use Rattle.asked_lists.specs.Searches.{query_of}
+use Rattle.candidate_search.specs.Searches.{query_of}
 use Rattle.candidates.specs.Walks.{ahead}
 use Rattle.candidates.specs.KnownTrees.{left_to_all, is_held_among, trees_for}
 use Rattle.candidates.proofs.known_tree.KnownTree.missing_to_all.Given as goal

@@ -1,6 +1,6 @@
 use Rattle.std.proofs.Common.{subst}
 use Rattle.std.specs.Prelude.{IfOk}
-use Rattle.settling.specs.Jobs.{Tells}
+use Rattle.decision_order.specs.Jobs.{Tells}
 use Rattle.candidates.specs.Models.{job_of}
 use Rattle.candidates.specs.KnownTrees.{left_to_all, is_held_among, trees_for}
 use Rattle.candidates.proofs.lists.KnownTreeAsking.all_missing.Goals as goal

@@ -1,5 +1,5 @@
 use Rattle.std.proofs.Common.{rules}
-use Rattle.token_cursor.proofs.Steps.{steps}
+use Rattle.syntax_cursor.proofs.Steps.{steps}
 use Rattle.data_parser.proofs.type_definition.OneSortPairItem.read.Goals as goal
 
 pub returns-in_err-new-clause-halts : goal.returns-in_err-new-clause-halts

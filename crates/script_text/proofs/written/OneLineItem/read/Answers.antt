@@ -1,5 +1,5 @@
 use Rattle.std.proofs.Common.{rules}
-use Rattle.token_cursor.proofs.Steps.{steps}
+use Rattle.syntax_cursor.proofs.Steps.{steps}
 use Rattle.script_text.proofs.written.OneLineItem.read.Goals as goal
 
 pub returns-in_err-client-clause-halts : goal.returns-in_err-client-clause-halts

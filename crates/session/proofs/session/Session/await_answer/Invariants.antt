@@ -1,5 +1,5 @@
 use Rattle.std.specs.Prelude.{◌≤◌}
-use Rattle.shared_board.specs.Answers.{IsSpot}
+use Rattle.session_board.specs.Answers.{IsSpot}
 use Rattle.session.specs.Calls.{HasSeenMore, StaysSeat}
 use Rattle.session.proofs.session.Session.await_answer.Given as goal
 

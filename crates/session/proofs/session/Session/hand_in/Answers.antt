@@ -1,7 +1,7 @@
 use Rattle.std.proofs.Common.{rules, ◌≡◌, false}
 use Rattle.turn_lock.specs.Entries.{made_by}
-use Rattle.shared_board.specs.Lines.{maker_of}
-use Rattle.shared_board.specs.Shared.{IsMarked, lines}
+use Rattle.session_board.specs.Lines.{maker_of}
+use Rattle.session_board.specs.Shared.{IsMarked, lines}
 use Rattle.session.specs.Passes.{HasHalted}
 use Rattle.session.proofs.Seats.{err_more, halts, has_seen_more, isnt_halted, ok_more, stays_halted}
 use Rattle.session.proofs.session.Session.hand_in.Goals as goal

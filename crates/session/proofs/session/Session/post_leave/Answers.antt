@@ -1,12 +1,12 @@
 use Rattle.std.proofs.Common.{rules, ◌≡◌, ◌∙◌, ◌+◌, refl, sym, ap, subst, false, true, Err, IfErr, OnErr}
 use Rattle.turn_lock.specs.Entries.{Continues, made_by}
 use Rattle.rule_model.specs.Events.{left}
-use Rattle.session_record.specs.declared.faults.LeaveFault.TheVariants.{NotOpen, Pending, Memory}
-use Rattle.shared_board.specs.Faults.{ExplainsNoLeave}
-use Rattle.shared_board.specs.Growing.{GrowsByNone}
-use Rattle.shared_board.specs.Lines.{maker_of}
-use Rattle.shared_board.specs.Shared.{lines}
-use Rattle.shared_board.proofs.Growing.{stays_grown}
+use Rattle.board_record.specs.declared.faults.LeaveFault.TheVariants.{NotOpen, Pending, Memory}
+use Rattle.session_board.specs.Faults.{ExplainsNoLeave}
+use Rattle.session_board.specs.Growing.{GrowsByNone}
+use Rattle.session_board.specs.Lines.{maker_of}
+use Rattle.session_board.specs.Shared.{lines}
+use Rattle.session_board.proofs.Growing.{stays_grown}
 use Rattle.session.specs.Passes.{HasHalted}
 use Rattle.session.proofs.Posting.{gives_either, left_already, may_leave}
 use Rattle.session.proofs.Seats.{gives_none, halts, has_its_answers, has_made, has_seen_more, is_halted, isnt_halted, stays_halted}

@@ -2,10 +2,10 @@ use Rattle.std.proofs.Common.{arith, ◌≡◌, sym, ap, subst, ◌∙◌, false
 use Rattle.std.specs.List.{AllByRecursion}
 use Rattle.turn_lock.specs.Seats.{SeatModel}
 use Rattle.spec_core.specs.Code.{program_of}
-use Rattle.sort_windows.specs.Found.{AreBySorts}
-use Rattle.shared_board.specs.declared.line.Line.{Line}
+use Rattle.board_core.specs.Found.{AreBySorts}
+use Rattle.session_board.specs.declared.line.Line.{Line}
 use Rattle.board_core.specs.Views.{BoardView}
-use Rattle.shared_board.specs.Shared.{fixed_part, lines}
+use Rattle.session_board.specs.Shared.{fixed_part, lines}
 use Rattle.session.specs.Starting.{AreFresh, content_of, pass_of, work_pass_of}
 use Rattle.session.proofs.Manning.{deals, row_is_fresh, row_of_passes, row_of_work_passes, row_rests, well_made}
 use Rattle.session.proofs.session.Session.start.Goals as goal

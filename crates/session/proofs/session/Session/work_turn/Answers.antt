@@ -1,9 +1,9 @@
 use Rattle.std.proofs.Common.{rules, ◌≡◌}
 use Rattle.std.proofs.lemmas.Result.{IfOk-weaker, on_err_weaker, on_ok_weaker}
 use Rattle.turn_lock.specs.Entries.{made_by}
-use Rattle.shared_board.specs.Lines.{maker_of}
-use Rattle.shared_board.specs.Looks.{ComesOfWork}
-use Rattle.shared_board.specs.Shared.{lines}
+use Rattle.session_board.specs.Lines.{maker_of}
+use Rattle.session_board.specs.Looks.{ComesOfWork}
+use Rattle.session_board.specs.Shared.{lines}
 use Rattle.session.specs.Working.{ComesOfSeat}
 use Rattle.session.proofs.Seats.{halts, has_seen_more, isnt_halted, stays_halted}
 use Rattle.session.proofs.Working.{comes_of_seat}

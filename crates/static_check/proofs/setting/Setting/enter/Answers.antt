@@ -1,9 +1,9 @@
 use Rattle.std.proofs.Common.{◌∙◌, ◌∷◌, ap, map}
 use Rattle.sort_overloads.proofs.ByOperations.{ok_implied}
-use Rattle.equation_readings.specs.Variables.{all_variables}
-use Rattle.behaviour_readings.specs.Sites.{with_gates, with_variables}
-use Rattle.process_table.specs.Processes.{visible_in}
-use Rattle.process_table.specs.Views.{entry_of}
+use Rattle.static_equations.specs.Variables.{all_variables}
+use Rattle.static_readings.specs.Sites.{with_gates, with_variables}
+use Rattle.static_processes.specs.Processes.{visible_in}
+use Rattle.static_processes.specs.Views.{entry_of}
 use Rattle.static_check.proofs.Sites.{body_entered}
 use Rattle.static_check.proofs.setting.Setting.enter.Goals as goal
 

@@ -1,4 +1,0 @@
-pub mod Answers
-pub mod Data
-pub mod Ready
-pub mod Texts

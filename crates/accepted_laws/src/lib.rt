@@ -1,4 +1,0 @@
-// Laws of accepted texts.
-#![tactic(auto)]
-
-pub mod laws;

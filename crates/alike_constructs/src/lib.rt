@@ -1,4 +1,0 @@
-// Laws of constructs that are alike.
-#![tactic(auto)]
-
-pub mod laws;

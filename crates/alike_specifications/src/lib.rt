@@ -1,4 +1,0 @@
-// Laws of specifications that are alike.
-#![tactic(auto)]
-
-pub mod laws;

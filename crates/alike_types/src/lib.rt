@@ -1,4 +1,0 @@
-// Laws of types that are alike.
-#![tactic(auto)]
-
-pub mod laws;

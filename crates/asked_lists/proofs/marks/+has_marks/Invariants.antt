@@ -1,5 +1,0 @@
-use Rattle.std.proofs.Common.{length}
-use Rattle.asked_lists.proofs.marks.+has_marks.Given as goal
-
-abbrev pub decreases-has_marks : goal.decreases-has_marks
-decreases-has_marks l = length l.slots.now

@@ -1,5 +1,0 @@
-use Rattle.std.proofs.Common.{◌≡◌, map, take}
-use Rattle.behaviour_reader.proofs.names.chosen_names.Given as goal
-
-abbrev pub invariant-loop-one : goal.invariant-loop-one
-invariant-loop-one l = map (λ t. t.now) l.all.items ≡ map (λ c. c.gate) (take l.one-index l.from)

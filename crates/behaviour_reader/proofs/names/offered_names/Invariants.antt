@@ -1,6 +1,0 @@
-use Rattle.std.proofs.Common.{◌≡◌, map, take}
-use Rattle.behaviour_readings.specs.Offers.{offered_names}
-use Rattle.behaviour_reader.proofs.names.offered_names.Given as goal
-
-abbrev pub invariant-loop-one : goal.invariant-loop-one
-invariant-loop-one l = map (λ t. t.now) l.all.items ≡ offered_names (take l.one-index l.from)

@@ -1,6 +1,0 @@
-use Rattle.std.proofs.Common.{◌≡◌, ◌++◌, take}
-use Rattle.behaviour_readings.specs.Declarations.{unknown_gates}
-use Rattle.behaviour_readings.proofs.declarations.add_unknown_gates.Given as goal
-
-abbrev pub invariant-loop-name : goal.invariant-loop-name
-invariant-loop-name l = l.refusals.items ≡ l.initial.refusals.items ++ unknown_gates l.site (take l.name-index l.names)

@@ -1,6 +1,0 @@
-use Rattle.std.proofs.Common.{◌≡◌, drop}
-use Rattle.behaviour_readings.specs.Declarations.{are_known}
-use Rattle.behaviour_readings.proofs.declarations.are_known.Given as goal
-
-abbrev pub invariant-loop-declaration : goal.invariant-loop-declaration
-invariant-loop-declaration l = are_known l.site (drop l.declaration-index l.declared) ≡ are_known l.site l.declared

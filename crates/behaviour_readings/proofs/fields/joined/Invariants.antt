@@ -1,7 +1,0 @@
-use Rattle.std.proofs.Common.{◌≡◌, map}
-use Rattle.std.specs.List.{flat_map}
-use Rattle.behaviour_readings.specs.Views.{fields_of}
-use Rattle.behaviour_readings.proofs.fields.joined.Given as goal
-
-abbrev pub invariant-loop-one : goal.invariant-loop-one
-invariant-loop-one l = fields_of l.all ≡ flat_map (λ all. all) (map fields_of l.yielded)

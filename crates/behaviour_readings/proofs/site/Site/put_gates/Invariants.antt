@@ -1,6 +1,0 @@
-use Rattle.std.proofs.Common.{◌≡◌, take}
-use Rattle.behaviour_readings.specs.Sites.{with_gates}
-use Rattle.behaviour_readings.proofs.site.Site.put_gates.Given as goal
-
-abbrev pub invariant-loop-gate : goal.invariant-loop-gate
-invariant-loop-gate l = l.self ≡ with_gates l.fn.self (take l.gate-index l.gates)

@@ -1,0 +1,4 @@
+pub mod Acting
+pub mod Asking
+pub mod Crossing
+pub mod Growing

@@ -1,2 +1,0 @@
-pub mod Acyclic
-pub mod Cycles

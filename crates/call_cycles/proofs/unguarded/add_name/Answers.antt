@@ -1,5 +1,0 @@
-use Rattle.call_cycles.proofs.Cycles.{unnamed}
-use Rattle.call_cycles.proofs.unguarded.add_name.Goals as goal
-
-pub returns-else-number-names : goal.returns-else-number-names
-returns-else-number-names c = unnamed (λ n. n.now) c.args.names.now c.args.number c.args.all.now.items c.if-number-names.false

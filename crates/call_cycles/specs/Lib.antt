@@ -1,3 +1,0 @@
-pub mod AtOnce
-pub mod Laws
-pub mod Unguarded

@@ -1,0 +1,5 @@
+pub mod Placed
+pub mod Those
+pub use Rattle.symbolic_composites.proofs.Answers
+pub use Rattle.symbolic_composites.proofs.Lists
+pub use Rattle.symbolic_composites.proofs.Tests

@@ -1,0 +1,14 @@
+use Rattle.std.proofs.Common.{◌≡◌, ◌++◌, map, flat_map, take}
+use Rattle.spec_core.specs.Code.{synchronised_of}
+use Rattle.spec_core.specs.Theories.{theory_of}
+use Rattle.candidate_laws.specs.Sought.{with_another}
+use Rattle.candidate_composites.specs.Known.{placed_of, stepped, placed_partners}
+use Rattle.candidate_composites.proofs.operators.put_all_together.Given as goal
+
+abbrev pub invariant-loop-part : goal.invariant-loop-part
+invariant-loop-part l =
+    map placed_of l.all.items ≡
+    map placed_of l.initial.all.items ++
+    flat_map (stepped (with_another (synchronised_of l.gates))
+    (placed_partners (theory_of l.algebra) (synchronised_of l.gates) (map placed_of l.right)))
+    (map placed_of (take l.part-index l.left))

@@ -1,0 +1,9 @@
+pub mod Known
+pub mod Laws
+pub use Rattle.symbolic_composites.specs.Composites
+pub use Rattle.symbolic_composites.specs.Evaluations
+pub use Rattle.symbolic_composites.specs.Kinds
+pub use Rattle.symbolic_composites.specs.OpenFields
+pub use Rattle.symbolic_rules.specs.MarkedTerms
+pub use Rattle.symbolic_rules.specs.Tables
+pub use Rattle.symbolic_rules.specs.Windows

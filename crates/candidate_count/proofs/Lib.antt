@@ -1,0 +1,8 @@
+pub mod Alike
+pub mod Sums
+pub mod Below
+pub mod Limited
+pub mod Worked
+pub use Rattle.candidate_composites.proofs.Placed
+pub use Rattle.symbolic_composites.proofs.Lists
+pub use Rattle.symbolic_trees.proofs.Trees

@@ -1,0 +1,14 @@
+pub mod Predicates
+pub mod Places
+pub mod Counts
+pub mod Laws
+pub mod Examples
+pub use Rattle.candidate_composites.specs.Known
+pub use Rattle.symbolic_composites.specs.Composites
+pub use Rattle.symbolic_composites.specs.Evaluations
+pub use Rattle.symbolic_composites.specs.Kinds
+pub use Rattle.symbolic_composites.specs.OpenFields
+pub use Rattle.symbolic_rules.specs.MarkedTerms
+pub use Rattle.symbolic_rules.specs.Trees
+pub use Rattle.symbolic_rules.specs.Windows
+pub use Rattle.symbolic_trees.specs.Numbers

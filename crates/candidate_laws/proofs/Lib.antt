@@ -1,0 +1,10 @@
+pub mod Asking
+pub mod Composites
+pub mod Decided
+pub mod ListEntries
+pub mod Listed
+pub mod Lists
+pub mod Sought
+pub mod Testing
+pub mod TreeEntries
+pub use Rattle.symbolic_composites.proofs.Answers

@@ -1,0 +1,15 @@
+pub mod Models
+pub mod Parts
+pub mod Same
+pub mod Known
+pub mod Stored
+pub mod Asked
+pub mod Laws
+pub use Rattle.symbolic_actions.specs.Shows
+pub use Rattle.board_tree.specs.Keeping
+pub use Rattle.board_tree.specs.Steps
+pub use Rattle.board_tree.specs.Views
+pub use Rattle.candidate_search.specs.Searches
+pub use Rattle.symbolic_rules.specs.MarkedTerms
+pub use Rattle.symbolic_rules.specs.Tables
+pub use Rattle.symbolic_rules.specs.Windows

@@ -1,0 +1,13 @@
+pub mod Answered
+pub mod Clients
+pub mod Derivations
+pub mod Ends
+pub mod Justified
+pub mod Moves
+pub mod OneEnd
+pub mod OneNext
+pub mod OnePoint
+pub mod OneRun
+pub mod OneWindow
+pub mod Stopped
+pub use Rattle.log_states.proofs.Members

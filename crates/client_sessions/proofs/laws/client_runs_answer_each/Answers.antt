@@ -1,5 +1,0 @@
-use Rattle.client_sessions.proofs.Clients.{client_runs_answer_each}
-use Rattle.client_sessions.proofs.laws.client_runs_answer_each.Goals as goal
-
-pub returns : goal.returns
-returns c = client_runs_answer_each

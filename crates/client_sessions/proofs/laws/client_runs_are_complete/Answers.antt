@@ -1,5 +1,0 @@
-use Rattle.client_sessions.proofs.Stopped.{client_runs_are_complete}
-use Rattle.client_sessions.proofs.laws.client_runs_are_complete.Goals as goal
-
-pub returns : goal.returns
-returns c = client_runs_are_complete

@@ -1,5 +1,0 @@
-use Rattle.client_sessions.proofs.Clients.{client_runs_are_derivations}
-use Rattle.client_sessions.proofs.laws.client_runs_are_derivations.Goals as goal
-
-pub returns : goal.returns
-returns c = client_runs_are_derivations

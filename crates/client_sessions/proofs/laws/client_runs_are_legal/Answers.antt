@@ -1,5 +1,0 @@
-use Rattle.client_sessions.proofs.Justified.{client_runs_are_legal}
-use Rattle.client_sessions.proofs.laws.client_runs_are_legal.Goals as goal
-
-pub returns : goal.returns
-returns c = client_runs_are_legal

@@ -1,5 +1,0 @@
-use Rattle.client_sessions.proofs.Justified.{justified_logs_are_derivations}
-use Rattle.client_sessions.proofs.laws.justified_logs_are_derivations.Goals as goal
-
-pub returns : goal.returns
-returns c = justified_logs_are_derivations

@@ -1,5 +1,0 @@
-use Rattle.client_sessions.proofs.Justified.{next_events_hold}
-use Rattle.client_sessions.proofs.laws.next_events_hold.Goals as goal
-
-pub returns : goal.returns
-returns c = next_events_hold

@@ -1,5 +1,0 @@
-use Rattle.client_sessions.proofs.OneRun.{no_other_session}
-use Rattle.client_sessions.proofs.laws.no_other_session.Goals as goal
-
-pub returns : goal.returns
-returns c = no_other_session

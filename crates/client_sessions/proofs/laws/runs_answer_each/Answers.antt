@@ -1,5 +1,0 @@
-use Rattle.client_sessions.proofs.Answered.{runs_answer_each}
-use Rattle.client_sessions.proofs.laws.runs_answer_each.Goals as goal
-
-pub returns : goal.returns
-returns c = runs_answer_each

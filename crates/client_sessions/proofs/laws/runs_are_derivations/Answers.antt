@@ -1,5 +1,0 @@
-use Rattle.client_sessions.proofs.Derivations.{runs_are_derivations}
-use Rattle.client_sessions.proofs.laws.runs_are_derivations.Goals as goal
-
-pub returns : goal.returns
-returns c = runs_are_derivations

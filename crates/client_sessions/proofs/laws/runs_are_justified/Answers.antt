@@ -1,5 +1,0 @@
-use Rattle.client_sessions.proofs.Justified.{runs_are_justified}
-use Rattle.client_sessions.proofs.laws.runs_are_justified.Goals as goal
-
-pub returns : goal.returns
-returns c = runs_are_justified

@@ -1,5 +1,0 @@
-use Rattle.client_sessions.proofs.Stopped.{runs_stop_for_reasons}
-use Rattle.client_sessions.proofs.laws.runs_stop_for_reasons.Goals as goal
-
-pub returns : goal.returns
-returns c = runs_stop_for_reasons

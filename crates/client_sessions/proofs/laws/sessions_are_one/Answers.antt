@@ -1,5 +1,0 @@
-use Rattle.client_sessions.proofs.OneRun.{sessions_are_one}
-use Rattle.client_sessions.proofs.laws.sessions_are_one.Goals as goal
-
-pub returns : goal.returns
-returns c = sessions_are_one

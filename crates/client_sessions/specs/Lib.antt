@@ -1,5 +1,0 @@
-pub mod Ends
-pub mod Justified
-pub mod Laws
-pub mod OneRun
-pub mod Runs

@@ -1,6 +1,0 @@
--- What a wish of the program stands for.
-use Rattle.rule_model.specs.Wishes.{Wish}
-use Rattle.client_wishes.specs.declared.ClientWish.{ClientWish}
-
-abbrev pub wish_of : ClientWish → Wish
-wish_of w = record { offer = w.offer; ask = w.ask }

@@ -1,5 +1,0 @@
-pub mod Handing
-pub mod Opening
-pub mod Reading
-pub mod Stacks
-pub mod Standing

@@ -1,8 +1,0 @@
-use Rattle.std.proofs.Common.{◌≡◌, ◌++◌, length, map}
-use Rattle.spec_core.specs.Terms.{term_of}
-use Rattle.code_behaviours.specs.Stacks.{from_top}
-use Rattle.code_behaviours.proofs.stack.take_arguments.Given as goal
-
-abbrev pub invariant-loop-turn : goal.invariant-loop-turn
-invariant-loop-turn l =
-    (from_top l.initial.stack.items ≡ map term_of l.args.items ++ from_top l.stack.items) × (length l.args.items ≡ l._turn)

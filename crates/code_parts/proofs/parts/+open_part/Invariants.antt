@@ -1,4 +1,0 @@
-use Rattle.code_parts.proofs.parts.+open_part.Given as goal
-
-abbrev pub decreases-open_part : goal.decreases-open_part
-decreases-open_part l = l.part

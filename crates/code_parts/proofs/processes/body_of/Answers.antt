@@ -1,4 +1,0 @@
-use Rattle.code_parts.proofs.processes.body_of.Goals as goal
-
-pub open_part-requires-clause-named : goal.open_part-requires-clause-named
-open_part-requires-clause-named c = (c.requires.ready.parts c.args.number _ c.requires.here).names.0

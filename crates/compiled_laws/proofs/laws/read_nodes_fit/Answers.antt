@@ -1,7 +1,0 @@
-use Rattle.compiled_laws.proofs.Parts.{node-fits}
-use Rattle.compiled_laws.proofs.PartsRows.{nodes-fit}
-use Rattle.compiled_laws.proofs.laws.read_nodes_fit.Goals as goal
-
-pub returns : goal.returns
-returns c = λ program processes s from b r refusals read headings at k node e.
-    node-fits program from r.nodes k node ((nodes-fit program processes read headings).nodes at) e

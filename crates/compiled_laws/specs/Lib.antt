@@ -1,4 +1,0 @@
-pub mod Assembled
-pub mod Laws
-pub mod Names
-pub mod Standing

@@ -1,4 +1,0 @@
-// Laws of what behaviour is compiled to.
-#![tactic(auto)]
-
-pub mod laws;

@@ -1,5 +1,0 @@
-use Rattle.composites.proofs.TreeLists.{empty_lists_no_step}
-use Rattle.composites.proofs.laws.empty_lists_no_step.Goals as goal
-
-pub returns : goal.returns
-returns c = empty_lists_no_step

@@ -1,5 +1,0 @@
-use Rattle.composites.proofs.TreeLists.{lists_hold_their_trees}
-use Rattle.composites.proofs.laws.lists_hold_their_trees.Goals as goal
-
-pub returns : goal.returns
-returns c = lists_hold_their_trees

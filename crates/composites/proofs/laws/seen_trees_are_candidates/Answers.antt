@@ -1,5 +1,0 @@
-use Rattle.composites.proofs.TreeLists.{seen_trees_are_candidates}
-use Rattle.composites.proofs.laws.seen_trees_are_candidates.Goals as goal
-
-pub returns : goal.returns
-returns c = seen_trees_are_candidates

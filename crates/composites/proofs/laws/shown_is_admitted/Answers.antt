@@ -1,5 +1,0 @@
-use Rattle.composites.proofs.Shown.{shown_is_admitted}
-use Rattle.composites.proofs.laws.shown_is_admitted.Goals as goal
-
-pub returns : goal.returns
-returns c = shown_is_admitted

@@ -1,5 +1,0 @@
-use Rattle.courses.proofs.Asking as lemmas
-use Rattle.courses.proofs.laws.first_is_asked.Goals as goal
-
-pub returns : goal.returns
-returns g c = lemmas.first_is_asked _ _ _

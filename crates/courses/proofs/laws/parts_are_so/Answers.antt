@@ -1,5 +1,0 @@
-use Rattle.courses.proofs.Gaps as lemmas
-use Rattle.courses.proofs.laws.parts_are_so.Goals as goal
-
-pub returns : goal.returns
-returns g c = lemmas.parts_are_so _ _ _

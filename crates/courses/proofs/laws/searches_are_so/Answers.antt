@@ -1,5 +1,0 @@
-use Rattle.courses.proofs.Searching as lemmas
-use Rattle.courses.proofs.laws.searches_are_so.Goals as goal
-
-pub returns : goal.returns
-returns g c = lemmas.searches_are_so _ _ _ _ _

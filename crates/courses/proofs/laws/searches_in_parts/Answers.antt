@@ -1,5 +1,0 @@
-use Rattle.courses.proofs.Parts as lemmas
-use Rattle.courses.proofs.laws.searches_in_parts.Goals as goal
-
-pub returns : goal.returns
-returns g c = lemmas.searches_in_parts _

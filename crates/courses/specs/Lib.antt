@@ -1,6 +1,0 @@
-pub mod Courses
-pub mod Gaps
-pub mod Known
-pub mod Laws
-pub mod Lazy
-pub mod Rules

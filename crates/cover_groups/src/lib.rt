@@ -1,0 +1,11 @@
+// Whether the equations of one left side decide each call that it matches.
+#![tactic(auto)]
+
+mod constants;
+mod full;
+mod group;
+mod premises;
+mod renaming;
+
+pub use data_fits::fits_data;
+pub use group::has_full_group;

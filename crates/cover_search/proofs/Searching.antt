@@ -1,0 +1,261 @@
+-- What the search answers: nothing only where each tuple is covered, and a pattern only with a tuple that isn't.
+use Rattle.std.proofs.Common.{ℕ, zero, suc, ◌≡◌, ◌+◌, List, [], ◌∷◌, Option, Some, None, refl, sym, ap, subst, ◌∙◌, arith, inl, inr, ◌⊎◌}
+use Rattle.std.specs.List.{slice_get}
+use Rattle.spec_core.specs.Lists.{Each, OneOf}
+use Rattle.spec_core.specs.Terms.{TermTree, TermTrees, variable, apply, no_terms, and_term}
+use Rattle.spec_core.specs.Theories.{Operation, Theory}
+use Rattle.spec_core.specs.Sorts.{OnSome, HasSort, HaveSorts, no_variables}
+use Rattle.spec_core.specs.Constructors.{IsConstructor, IsConstructed, AreConstructed}
+use Rattle.equation_shapes.specs.Shapes.{IsOfShape, AreOfShape, MeetAll}
+use Rattle.equation_shapes.proofs.Linear.{all_shapes}
+use Rattle.cover_search.specs.Sorts.{IsInhabited}
+use Rattle.cover_search.proofs.Options.{both_on, on_some, some_one}
+use Rattle.cover_search.specs.Makers.{IsMaker}
+use Rattle.cover_search.specs.Search.{variables, or_else, faced, faced_any, first_faced, opened, opened_any, OpenBy, Finds, FindsFirst, covered, uncovered, split, in_none, later, here}
+
+mutual
+  pub shape_chain : (r p v : TermTree) → IsOfShape r p → IsOfShape p v → IsOfShape r v
+  shape_chain (variable x) p v h k = tt
+  shape_chain (apply g rs) (variable x) v h k = absurd h
+  shape_chain (apply g rs) (apply f ps) (variable y) h k = absurd k
+  shape_chain (apply g rs) (apply f ps) (apply i vs) h k = (h.0 ∙ k.0, shapes_chain rs ps vs h.1 k.1)
+
+  pub shapes_chain : (rs ps vs : TermTrees) → AreOfShape rs ps → AreOfShape ps vs → AreOfShape rs vs
+  shapes_chain no_terms no_terms vs h k = k
+  shapes_chain no_terms (and_term p ps) vs h k = absurd h
+  shapes_chain (and_term r rs) no_terms vs h k = absurd h
+  shapes_chain (and_term r rs) (and_term p ps) no_terms h k = absurd k
+  shapes_chain (and_term r rs) (and_term p ps) (and_term v vs) h k = (shape_chain r p v h.0 k.0, shapes_chain rs ps vs h.1 k.1)
+
+pub or_else_some : (o q : Option ℕ) (s : ℕ) → or_else o q ≡ Some s → (o ≡ Some s) ⊎ ((o ≡ None) × (q ≡ Some s))
+or_else_some None q s e = inr (refl, e)
+or_else_some (Some x) q s e = inl e
+
+module _ (theory : Theory) where
+  -- the part of a value that stands where the row's first operation faces a variable of the pattern
+  record Faces (r p v : TermTree) (s : ℕ) : Type 0 where
+    pub part : TermTree
+    pub sorted : HasSort theory no_variables part s
+    pub constructed : IsConstructed theory part
+    pub lifts : (u : TermTree) → IsOfShape u part → IsOfShape (opened u r p) v
+
+  record FaceAll (rs ps vs : TermTrees) (s : ℕ) : Type 0 where
+    pub part : TermTree
+    pub sorted : HasSort theory no_variables part s
+    pub constructed : IsConstructed theory part
+    pub lifts : (u : TermTree) → IsOfShape u part → AreOfShape (opened_any u rs ps) vs
+
+  mutual
+    at_faced : (r p v : TermTree) (s sort : ℕ) → faced r p ≡ Some s → HasSort theory Some p sort → HasSort theory no_variables v sort →
+        IsConstructed theory v → IsOfShape p v → Faces r p v s
+    at_faced (variable x) p v s sort e hp hv c h = absurd (cc)
+    at_faced (apply g rs) (variable t) v s sort e hp hv c h =
+        record { part = v; sorted = subst (HasSort theory no_variables v) (some_one (sym hp ∙ e)) hv; constructed = c; lifts = λ u k. k }
+    at_faced (apply g rs) (apply f ps) (variable y) s sort e hp hv c h = absurd c
+    at_faced (apply g rs) (apply f ps) (apply i vs) s sort e hp hv c h =
+        let k = both_on (slice_get theory.operations f) (λ d. (d.result ≡ sort) × HaveSorts theory Some ps d.args) (λ d. (d.result ≡ sort) × HaveSorts theory no_variables vs d.args) hp (subst (λ n. OnSome (slice_get theory.operations n) (λ d. (d.result ≡ sort) × HaveSorts theory no_variables vs d.args)) (sym h.0) hv) in
+        let r = at_faced_any rs ps vs s k.0.args e k.2.1 k.3.1 c.1 h.1 in
+        record { part = r.part; sorted = r.sorted; constructed = r.constructed; lifts = λ u m. (h.0, r.lifts u m) }
+
+    at_faced_any : (rs ps vs : TermTrees) (s : ℕ) (sorts : List ℕ) → faced_any rs ps ≡ Some s → HaveSorts theory Some ps sorts →
+        HaveSorts theory no_variables vs sorts → AreConstructed theory vs → AreOfShape ps vs → FaceAll rs ps vs s
+    at_faced_any no_terms ps vs s sorts e hp hv c h = absurd (cc)
+    at_faced_any (and_term r rs) no_terms vs s sorts e hp hv c h = absurd (cc)
+    at_faced_any (and_term r rs) (and_term p ps) no_terms s sorts e hp hv c h = absurd h
+    at_faced_any (and_term r rs) (and_term p ps) (and_term v vs) s [] e hp hv c h = absurd hp
+    at_faced_any (and_term r rs) (and_term p ps) (and_term v vs) s (sort ∷ sorts) e hp hv c h =
+        elim (or_else_some (faced r p) (faced_any rs ps) s e) [
+          | inl e ↦ let x = at_faced r p v s sort e hp.0 hv.0 c.0 h.0 in
+              record { part = x.part; sorted = x.sorted; constructed = x.constructed; lifts = λ u m. subst (λ o. AreOfShape (first_faced o (and_term (opened u r p) ps) (and_term p (opened_any u rs ps))) (and_term v vs)) (sym e) (x.lifts u m, h.1) }
+          | inr e ↦ let x = at_faced_any rs ps vs s sorts e.1 hp.1 hv.1 c.1 h.1 in
+              record { part = x.part; sorted = x.sorted; constructed = x.constructed; lifts = λ u m. subst (λ o. AreOfShape (first_faced o (and_term (opened u r p) ps) (and_term p (opened_any u rs ps))) (and_term v vs)) (sym e.0) (h.0, x.lifts u m) }
+        ]
+
+  -- opening keeps sorts
+  mutual
+    opened_sort : (u r p : TermTree) (s sort : ℕ) → faced r p ≡ Some s → HasSort theory Some p sort → HasSort theory Some u s →
+        HasSort theory Some (opened u r p) sort
+    opened_sort u (variable x) p s sort e hp hu = absurd (cc)
+    opened_sort u (apply g rs) (variable t) s sort e hp hu = subst (HasSort theory Some u) (some_one (sym e ∙ hp)) hu
+    opened_sort u (apply g rs) (apply f ps) s sort e hp hu =
+        let k = on_some (slice_get theory.operations f) (λ d. (d.result ≡ sort) × HaveSorts theory Some ps d.args) hp in
+        subst (λ o. OnSome o (λ d. (d.result ≡ sort) × HaveSorts theory Some (opened_any u rs ps) d.args)) (sym k.1) (k.2.0, opened_sorts u rs ps s k.0.args e k.2.1 hu)
+
+    opened_sorts : (u : TermTree) (rs ps : TermTrees) (s : ℕ) (sorts : List ℕ) → faced_any rs ps ≡ Some s →
+        HaveSorts theory Some ps sorts → HasSort theory Some u s → HaveSorts theory Some (opened_any u rs ps) sorts
+    opened_sorts u no_terms ps s sorts e hp hu = absurd (cc)
+    opened_sorts u (and_term r rs) no_terms s sorts e hp hu = absurd (cc)
+    opened_sorts u (and_term r rs) (and_term p ps) s [] e hp hu = absurd hp
+    opened_sorts u (and_term r rs) (and_term p ps) s (sort ∷ sorts) e hp hu =
+        elim (or_else_some (faced r p) (faced_any rs ps) s e) [
+          | inl e ↦ subst (λ o. HaveSorts theory Some (first_faced o (and_term (opened u r p) ps) (and_term p (opened_any u rs ps))) (sort ∷ sorts)) (sym e) (opened_sort u r p s sort e hp.0 hu, hp.1)
+          | inr e ↦ subst (λ o. HaveSorts theory Some (first_faced o (and_term (opened u r p) ps) (and_term p (opened_any u rs ps))) (sort ∷ sorts)) (sym e.0) (hp.0, opened_sorts u rs ps s sorts e.1 hp.1 hu)
+        ]
+
+  -- a pattern of constructors, over variables of inhabited sorts
+  abbrev mutual
+    pub IsMade : TermTree → Type 0
+    IsMade (variable s) = IsInhabited theory s
+    IsMade (apply c ts) = IsConstructor theory c × AreMade ts
+
+    pub AreMade : TermTrees → Type 0
+    AreMade no_terms = Unit {0}
+    AreMade (and_term t ts) = IsMade t × AreMade ts
+
+  first_made : (o : Option ℕ) (one other : TermTrees) → AreMade one → AreMade other → AreMade (first_faced o one other)
+  first_made (Some s) one other h k = h
+  first_made None one other h k = k
+
+  mutual
+    opened_made : (u r p : TermTree) → IsMade p → IsMade u → IsMade (opened u r p)
+    opened_made u (variable x) p hp hu = hp
+    opened_made u (apply g rs) (variable t) hp hu = hu
+    opened_made u (apply g rs) (apply f ps) hp hu = (hp.0, all_opened_made u rs ps hp.1 hu)
+
+    all_opened_made : (u : TermTree) (rs ps : TermTrees) → AreMade ps → IsMade u → AreMade (opened_any u rs ps)
+    all_opened_made u no_terms ps hp hu = hp
+    all_opened_made u (and_term r rs) no_terms hp hu = tt
+    all_opened_made u (and_term r rs) (and_term p ps) hp hu =
+        first_made (faced r p) _ _ (opened_made u r p hp.0 hu, hp.1) (hp.0, all_opened_made u rs ps hp.1 hu)
+
+  -- such a pattern has an instance of ground constructor terms
+  mutual
+    pub fill : (t : TermTree) (sort : ℕ) → IsMade t → HasSort theory Some t sort →
+        (v : TermTree) × HasSort theory no_variables v sort × IsConstructed theory v × IsOfShape t v
+    fill (variable s) sort m h = (m.0, subst (HasSort theory no_variables m.0) (some_one h) m.1, m.2, tt)
+    fill (apply c ts) sort m h =
+        let k = on_some (slice_get theory.operations c) (λ d. (d.result ≡ sort) × HaveSorts theory Some ts d.args) h in
+        let r = fill_all ts k.0.args m.1 k.2.1 in
+        (apply c r.0, subst (λ o. OnSome o (λ d. (d.result ≡ sort) × HaveSorts theory no_variables r.0 d.args)) (sym k.1) (k.2.0, r.1), (m.0, r.2), (refl, r.3))
+
+    pub fill_all : (ts : TermTrees) (sorts : List ℕ) → AreMade ts → HaveSorts theory Some ts sorts →
+        (vs : TermTrees) × HaveSorts theory no_variables vs sorts × AreConstructed theory vs × AreOfShape ts vs
+    fill_all no_terms [] m h = (no_terms, tt, tt, tt)
+    fill_all no_terms (s ∷ sorts) m h = absurd h
+    fill_all (and_term t ts) [] m h = absurd h
+    fill_all (and_term t ts) (s ∷ sorts) m h =
+        let a = fill t s m.0 h.0 in
+        let b = fill_all ts sorts m.1 h.1 in
+        (and_term a.0 b.0, (a.1, b.1), (a.2, b.2), (a.3, b.3))
+
+  pub variables_sorts : (sorts : List ℕ) → HaveSorts theory Some (variables sorts) sorts
+  variables_sorts [] = tt
+  variables_sorts (s ∷ sorts) = (refl, variables_sorts sorts)
+
+  pub variables_made : (sorts : List ℕ) → Each (IsInhabited theory) sorts → AreMade (variables sorts)
+  variables_made [] h = tt
+  variables_made (s ∷ sorts) h = (h.0, variables_made sorts h.1)
+
+  pub variables_shape : (vs : TermTrees) (sorts : List ℕ) → HaveSorts theory no_variables vs sorts → AreOfShape (variables sorts) vs
+  variables_shape no_terms [] h = tt
+  variables_shape no_terms (s ∷ sorts) h = absurd h
+  variables_shape (and_term v vs) [] h = absurd h
+  variables_shape (and_term v vs) (s ∷ sorts) h = (tt, variables_shape vs sorts h.1)
+
+  pub inhabited_by : (vs : TermTrees) (sorts : List ℕ) → HaveSorts theory no_variables vs sorts → AreConstructed theory vs →
+      Each (IsInhabited theory) sorts
+  inhabited_by no_terms [] h c = tt
+  inhabited_by no_terms (s ∷ sorts) h c = absurd h
+  inhabited_by (and_term v vs) [] h c = absurd h
+  inhabited_by (and_term v vs) (s ∷ sorts) h c = ((v, h.0, c.0), inhabited_by vs sorts h.1 c.1)
+
+  -- what is opened by a constructor that has values is one of the patterns
+  opened_by : (s : ℕ) (row ps : TermTrees) (n : ℕ) (ds : List Operation) (qs : List TermTrees) → OpenBy theory s row ps n ds qs →
+      (i c : ℕ) (d : Operation) → c ≡ n + i → slice_get ds i ≡ Some d → IsMaker theory s c d →
+      OneOf (λ q. opened_any (apply c (variables d.args)) row ps ≡ q) qs
+  opened_by s row ps n [] qs o i c d e at m = absurd (cc)
+  opened_by s row ps n (x ∷ ds) qs (inl o) zero c d e at m =
+      let a : x ≡ d = some_one at in
+      let b : c ≡ n = omega (arith, e) in
+      subst (OneOf (λ q. opened_any (apply c (variables d.args)) row ps ≡ q)) (sym o.1.1) (inl (ap (λ k. opened_any (apply k (variables d.args)) row ps) b ∙ ap (λ y. opened_any (apply n (variables y.args)) row ps) (sym a)))
+  opened_by s row ps n (x ∷ ds) qs (inr o) zero c d e at m =
+      let a : d ≡ x = some_one (sym at) in
+      let b : c ≡ n = omega (arith, e) in
+      absurd (o.0 (subst (IsMaker theory s n) a (subst (λ k. IsMaker theory s k d) b m)))
+  opened_by s row ps n (x ∷ ds) qs (inl o) (suc i) c d e at m =
+      subst (OneOf (λ q. opened_any (apply c (variables d.args)) row ps ≡ q)) (sym o.1.1) (inr (opened_by s row ps (suc n) ds o.1.0 o.1.2 i c d (omega (arith, e)) at m))
+  opened_by s row ps n (x ∷ ds) qs (inr o) (suc i) c d e at m = opened_by s row ps (suc n) ds qs o.1 i c d (omega (arith, e)) at m
+
+  module _ (rows : List TermTrees) where
+    covers_through : (ps vs : TermTrees) (rs : List TermTrees) → AreOfShape ps vs → OneOf (λ r. AreOfShape r ps) rs →
+        OneOf (λ r. AreOfShape r vs) rs
+    covers_through ps vs [] h o = absurd o
+    covers_through ps vs (r ∷ rs) h (inl o) = inl (shapes_chain r ps vs o h)
+    covers_through ps vs (r ∷ rs) h (inr o) = inr (covers_through ps vs rs h o)
+
+    -- where the search finds nothing, each tuple of the pattern is covered
+    mutual
+      pub all_covered : {ps : TermTrees} {answer : Option TermTrees} → Finds theory rows ps answer → answer ≡ None →
+          (sorts : List ℕ) (vs : TermTrees) → HaveSorts theory Some ps sorts → HaveSorts theory no_variables vs sorts →
+          AreConstructed theory vs → AreOfShape ps vs → OneOf (λ r. AreOfShape r vs) rows
+      all_covered (covered {ps} o) e sorts vs hp hv c h = covers_through ps vs rows h o
+      all_covered (uncovered k) e sorts vs hp hv c h = absurd (cc)
+      all_covered (split {ps} row s qs free first at opens found) e sorts vs hp hv c h =
+          let x = at_faced_any row ps vs s sorts at hp hv c h in
+          by_part x.part x.sorted x.constructed x.lifts (λ q o hq k. all_of found e q o sorts vs hq hv c k)
+        where
+          by_part : (v : TermTree) → HasSort theory no_variables v s → IsConstructed theory v → ((u : TermTree) → IsOfShape u v → AreOfShape (opened_any u row ps) vs) → ((q : TermTrees) → OneOf (λ p. q ≡ p) qs → HaveSorts theory Some q sorts → AreOfShape q vs → OneOf (λ r. AreOfShape r vs) rows) → OneOf (λ r. AreOfShape r vs) rows
+          by_part (variable y) hs hc lift go = absurd hc
+          by_part (apply k ws) hs hc lift go =
+              let d = on_some (slice_get theory.operations k) (λ d. (d.result ≡ s) × HaveSorts theory no_variables ws d.args) hs in
+              let u = apply k (variables d.0.args) in
+              let sorted : HasSort theory Some u s = subst (λ o. OnSome o (λ x. (x.result ≡ s) × HaveSorts theory Some (variables d.0.args) x.args)) (sym d.1) (d.2.0, variables_sorts d.0.args) in
+              let maker : IsMaker theory s k d.0 = (hc.0, d.2.0, inhabited_by ws d.0.args d.2.1 hc.1) in
+              go (opened_any u row ps)
+              (opened_by s row ps 0 theory.operations qs opens k k d.0 (omega arith) d.1 maker)
+              (opened_sorts u row ps s sorts at hp sorted)
+              (lift u (refl, variables_shape ws d.0.args d.2.1))
+
+      all_of : {qs : List TermTrees} {answer : Option TermTrees} → FindsFirst theory rows qs answer → answer ≡ None → (q : TermTrees) →
+          OneOf (λ p. q ≡ p) qs → (sorts : List ℕ) (vs : TermTrees) → HaveSorts theory Some q sorts →
+          HaveSorts theory no_variables vs sorts → AreConstructed theory vs → AreOfShape q vs → OneOf (λ r. AreOfShape r vs) rows
+      all_of in_none e q o sorts vs hq hv c h = absurd o
+      all_of (later f g) e q (inl o) sorts vs hq hv c h =
+          all_covered f refl sorts vs (subst (λ p. HaveSorts theory Some p sorts) o hq) hv c (subst (λ p. AreOfShape p vs) o h)
+      all_of (later f g) e q (inr o) sorts vs hq hv c h = all_of g e q o sorts vs hq hv c h
+      all_of (here f) e q o sorts vs hq hv c h = absurd (cc)
+
+    -- what each of the opened patterns is
+    opens_made : (s : ℕ) (row ps : TermTrees) (n : ℕ) (ds : List Operation) (qs : List TermTrees) (sorts : List ℕ) →
+        ((i : ℕ) → slice_get ds i ≡ slice_get theory.operations (n + i)) → faced_any row ps ≡ Some s → OpenBy theory s row ps n ds qs →
+        HaveSorts theory Some ps sorts → AreMade ps → Each (λ q. HaveSorts theory Some q sorts × AreMade q) qs
+    opens_made s row ps n [] qs sorts at e o hs m = subst (Each (λ q. HaveSorts theory Some q sorts × AreMade q)) (sym o) tt
+    opens_made s row ps n (d ∷ ds) qs sorts at e (inr o) hs m = opens_made s row ps (suc n) ds qs sorts (λ i. at (suc i) ∙ ap (slice_get theory.operations) (let k : n + suc i ≡ suc n + i = omega arith in k)) e o.1 hs m
+    opens_made s row ps n (d ∷ ds) qs sorts at e (inl o) hs m =
+        let u = apply n (variables d.args) in
+        let here : slice_get theory.operations n ≡ Some d = ap (slice_get theory.operations) (let k : n ≡ n + 0 = omega arith in k) ∙ sym (at 0) in
+        let sorted : HasSort theory Some u s = subst (λ o. OnSome o (λ x. (x.result ≡ s) × HaveSorts theory Some (variables d.args) x.args)) (sym here) (o.0.1, variables_sorts d.args) in
+        subst (Each (λ q. HaveSorts theory Some q sorts × AreMade q)) (sym o.1.1) (
+          (opened_sorts u row ps s sorts e hs sorted, all_opened_made u row ps m (o.0.0, variables_made d.args o.0.2)),
+          opens_made s row ps (suc n) ds o.1.0 sorts (λ i. at (suc i) ∙ ap (slice_get theory.operations) (let k : n + suc i ≡ suc n + i = omega arith in k)) e o.1.2 hs m,
+        )
+
+    -- what it finds is a pattern of constructors of those sorts, which no row meets
+    mutual
+      pub none_meets : {ps : TermTrees} {answer : Option TermTrees} → Finds theory rows ps answer → (q : TermTrees) → answer ≡ Some q →
+          (sorts : List ℕ) → HaveSorts theory Some ps sorts → AreMade ps →
+          HaveSorts theory Some q sorts × AreMade q × Each (λ r. MeetAll r q → ⊥) rows
+      none_meets (covered o) q e sorts hs m = absurd (cc)
+      none_meets (uncovered {ps} k) q e sorts hs m =
+          subst (λ p. HaveSorts theory Some p sorts × AreMade p × Each (λ r. MeetAll r p → ⊥) rows) (some_one e) (hs, m, k)
+      none_meets (split {ps} row s qs free first at opens found) q e sorts hs m = first_meets found q e sorts (opens_made s row ps 0 theory.operations qs sorts (λ i. ap (slice_get theory.operations) (let k : i ≡ 0 + i = omega arith in k)) at opens hs m)
+
+      first_meets : {qs : List TermTrees} {answer : Option TermTrees} → FindsFirst theory rows qs answer → (q : TermTrees) →
+          answer ≡ Some q → (sorts : List ℕ) → Each (λ p. HaveSorts theory Some p sorts × AreMade p) qs →
+          HaveSorts theory Some q sorts × AreMade q × Each (λ r. MeetAll r q → ⊥) rows
+      first_meets in_none q e sorts h = absurd (cc)
+      first_meets (later f g) q e sorts h = first_meets g q e sorts h.1
+      first_meets (here f) q e sorts h = none_meets f q e sorts h.0.0 h.0.1
+
+    none_covers : (q vs : TermTrees) (rs : List TermTrees) → AreOfShape q vs → Each (λ r. MeetAll r q → ⊥) rs →
+        OneOf (λ r. AreOfShape r vs) rs → ⊥
+    none_covers q vs [] h k o = o
+    none_covers q vs (r ∷ rs) h k (inl o) = k.0 (all_shapes r q vs o h)
+    none_covers q vs (r ∷ rs) h k (inr o) = none_covers q vs rs h k.1 o
+
+    -- so some tuple of it is covered by no row
+    pub some_uncovered : {ps : TermTrees} {answer : Option TermTrees} → Finds theory rows ps answer → (q : TermTrees) → answer ≡ Some q → (sorts : List ℕ) → HaveSorts theory Some ps sorts → AreMade ps → (vs : TermTrees) × HaveSorts theory no_variables vs sorts × AreConstructed theory vs × AreOfShape q vs × (OneOf (λ r. AreOfShape r vs) rows → ⊥)
+    some_uncovered f q e sorts hs m =
+        let k = none_meets f q e sorts hs m in
+        let v = fill_all q sorts k.1 k.0 in
+        (v.0, v.1, v.2, v.3, none_covers q v.0 rows v.3 k.2)

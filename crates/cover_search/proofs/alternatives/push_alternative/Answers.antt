@@ -1,0 +1,19 @@
+use Rattle.std.proofs.Common.{◌∙◌, ◌∷◌, map, ap, inl}
+use Rattle.spec_core.specs.Numbers.{sort_number}
+use Rattle.spec_core.specs.Terms.{apply, term_of, terms}
+use Rattle.cover_search.specs.Search.{variables, opened_any, stack_of}
+use Rattle.cover_search.proofs.Stacking.{popped}
+use Rattle.cover_search.proofs.alternatives.push_alternative.Goals as goal
+
+pub returns : goal.returns
+returns c =
+    let row = terms (map term_of c.args.row.now) in
+    let ps = terms (map term_of c.args.pattern.now) in
+    let old = stack_of c.args.todo.now.items in
+    inl (
+      c.is_maker.ensures.decides.0 c.if-not-is_maker.false,
+      popped c.push.new.self.items c.args.todo.now.items _ c.in_ok-push.ensures.items
+          ∙ ap (λ x. x ∷ old) c.in_ok-items.ensures
+          ∙ ap (λ t. opened_any t row ps ∷ old) c.in_ok-made.ensures
+          ∙ ap (λ xs. opened_any (apply c.args.op.0 (variables (map sort_number xs))) row ps ∷ old) c.deref.ensures.value,
+    )

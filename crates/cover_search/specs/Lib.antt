@@ -1,0 +1,4 @@
+pub mod Makers
+pub mod Search
+pub mod Sorts
+pub mod Turns

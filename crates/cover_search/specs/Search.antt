@@ -1,0 +1,103 @@
+-- The search for a case that no left side covers. In a pattern here each variable is one of its own, and its number is its sort.
+use Rattle.std.specs.Prelude.{ℕ, suc, ◌≡◌, ◌⊎◌, List, [], ◌∷◌, ◌++◌, drop, map, Option, Some, None}
+use Rattle.spec_core.specs.Lists.{Each, OneOf}
+use Rattle.cover_search.specs.declared.arguments.Arguments.{Arguments}
+use Rattle.spec_core.specs.Terms.{TermTree, TermTrees, variable, apply, no_terms, and_term, terms, term_of}
+use Rattle.spec_core.specs.Theories.{Operation, Theory}
+use Rattle.equation_shapes.specs.Shapes.{AreOfShape, MeetAll}
+use Rattle.cover_search.specs.Makers.{IsMaker}
+
+-- a variable of each sort
+abbrev pub variables : List ℕ → TermTrees
+variables sorts = terms (map variable sorts)
+
+abbrev pub or_else : Option ℕ → Option ℕ → Option ℕ
+or_else None o = o
+or_else (Some s) o = Some s
+
+-- the sort of the leftmost variable of the pattern that faces an operation of the row
+abbrev mutual
+  pub faced : TermTree → TermTree → Option ℕ
+  faced (variable x) p = None
+  faced (apply g rs) (variable s) = Some s
+  faced (apply g rs) (apply f ps) = faced_any rs ps
+
+  pub faced_any : TermTrees → TermTrees → Option ℕ
+  faced_any (and_term r rs) (and_term p ps) = or_else (faced r p) (faced_any rs ps)
+  faced_any no_terms ps = None
+  faced_any (and_term r rs) no_terms = None
+
+-- the first list where there is one, else the second
+abbrev pub first_faced : Option ℕ → TermTrees → TermTrees → TermTrees
+first_faced (Some s) one other = one
+first_faced None one other = other
+
+-- the pattern with u in the place of that variable
+abbrev mutual
+  pub opened : TermTree → TermTree → TermTree → TermTree
+  opened u (variable x) p = p
+  opened u (apply g rs) (variable s) = u
+  opened u (apply g rs) (apply f ps) = apply f (opened_any u rs ps)
+
+  pub opened_any : TermTree → TermTrees → TermTrees → TermTrees
+  opened_any u (and_term r rs) (and_term p ps) = first_faced (faced r p) (and_term (opened u r p) ps) (and_term p (opened_any u rs ps))
+  opened_any u no_terms ps = ps
+  opened_any u (and_term r rs) no_terms = no_terms
+
+-- the patterns in which that variable, of this sort, is replaced by each constructor that has values among these operations, the
+-- first of which has the number c
+abbrev pub OpenBy : Theory → ℕ → TermTrees → TermTrees → ℕ → List Operation → List TermTrees → Type 0
+OpenBy theory s row ps c [] qs = qs ≡ []
+OpenBy theory s row ps c (d ∷ ds) qs =
+    IsMaker theory s c d ×
+    ((rest : List TermTrees) × (qs ≡ opened_any (apply c (variables d.args)) row ps ∷ rest) × OpenBy theory s row ps (suc c) ds rest) ⊎
+    (IsMaker theory s c d → ⊥) × OpenBy theory s row ps (suc c) ds qs
+
+-- the row is the first one that meets the pattern
+abbrev pub IsFirstMeeting : List TermTrees → TermTrees → TermTrees → Type 0
+IsFirstMeeting [] ps row = ⊥
+IsFirstMeeting (r ∷ rows) ps row = MeetAll r ps × (row ≡ r) ⊎ (MeetAll r ps → ⊥) × IsFirstMeeting rows ps row
+
+-- what the search for an uncovered pattern answers, in a pattern and in the first of several patterns in which there is one
+mutual
+  pub data Finds (theory : Theory) (rows : List TermTrees) : TermTrees → Option TermTrees → Type 0 where
+    covered : {ps : TermTrees} → OneOf (λ r. AreOfShape r ps) rows → Finds theory rows ps None
+    uncovered : {ps : TermTrees} → Each (λ r. MeetAll r ps → ⊥) rows → Finds theory rows ps (Some ps)
+    split : {ps : TermTrees} {answer : Option TermTrees} (row : TermTrees) (s : ℕ) (qs : List TermTrees) →
+        (OneOf (λ r. AreOfShape r ps) rows → ⊥) → IsFirstMeeting rows ps row → faced_any row ps ≡ Some s →
+        OpenBy theory s row ps 0 theory.operations qs → FindsFirst theory rows qs answer → Finds theory rows ps answer
+
+  pub data FindsFirst (theory : Theory) (rows : List TermTrees) : List TermTrees → Option TermTrees → Type 0 where
+    in_none : FindsFirst theory rows [] None
+    later : {ps : TermTrees} {qs : List TermTrees} {answer : Option TermTrees} →
+        Finds theory rows ps None → FindsFirst theory rows qs answer → FindsFirst theory rows (ps ∷ qs) answer
+    here : {ps q : TermTrees} {qs : List TermTrees} → Finds theory rows ps (Some q) → FindsFirst theory rows (ps ∷ qs) (Some q)
+
+-- what the program's rows and patterns stand for
+abbrev pub arguments_of : Arguments → TermTrees
+arguments_of a = terms (map term_of a.items.items)
+
+abbrev pub rows_of : List Arguments → List TermTrees
+rows_of rows = map arguments_of rows
+
+-- the patterns of a stack, the last one first
+abbrev pub stack_onto : List Arguments → List TermTrees → List TermTrees
+stack_onto [] done = done
+stack_onto (a ∷ todo) done = stack_onto todo (arguments_of a ∷ done)
+
+abbrev pub stack_of : List Arguments → List TermTrees
+stack_of todo = stack_onto todo []
+
+-- before the stack stands the pattern opened by the operation c, declared as d, if that is a constructor of the sort that has values
+abbrev pub IsAlternative : Theory → ℕ → TermTrees → TermTrees → ℕ → Operation → List TermTrees → List TermTrees → Type 0
+IsAlternative theory s row ps c d old new =
+    IsMaker theory s c d × (new ≡ opened_any (apply c (variables d.args)) row ps ∷ old) ⊎ (IsMaker theory s c d → ⊥) × (new ≡ old)
+
+-- before the stack stand the patterns opened by the operations from c on
+abbrev pub AreAlternatives : Theory → ℕ → TermTrees → TermTrees → ℕ → List TermTrees → List TermTrees → Type 0
+AreAlternatives theory s row ps c old new =
+    (qs : List TermTrees) × OpenBy theory s row ps c (drop c theory.operations) qs × (new ≡ qs ++ old)
+
+-- what the search finds in the new stack it finds in the old one
+abbrev pub LeadsBack : Theory → List TermTrees → List TermTrees → List TermTrees → Type 0
+LeadsBack theory rows old new = (answer : Option TermTrees) → FindsFirst theory rows new answer → FindsFirst theory rows old answer

@@ -1,0 +1,12 @@
+// Which sorts have a value, and the search for a pattern that no row of patterns matches.
+#![tactic(auto)]
+
+mod alternatives;
+mod arguments;
+mod opening;
+mod search;
+mod sorts;
+
+pub use arguments::Arguments;
+pub use search::uncovered_pattern;
+pub use sorts::{are_in, inhabited_sorts};

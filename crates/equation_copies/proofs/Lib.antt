@@ -1,4 +1,0 @@
-pub mod Agreeing
-pub mod Lists
-pub mod Named
-pub mod Schedules

@@ -1,6 +1,0 @@
-use Rattle.std.proofs.Common.{◌≡◌, ◌++◌, map, take}
-use Rattle.equation_images.specs.Views.{shared_of}
-use Rattle.equation_copies.proofs.equations.add_shared.Given as goal
-
-abbrev pub invariant-loop-equation : goal.invariant-loop-equation
-invariant-loop-equation l = map shared_of l.all.items ≡ map shared_of l.initial.all.items ++ map shared_of (take l.equation-index l.more)

@@ -1,8 +1,0 @@
-use Rattle.std.proofs.Common.{◌≡◌, map, take}
-use Rattle.std.specs.List.{flat_map}
-use Rattle.equation_images.specs.Views.{numbers_of, shared_of}
-use Rattle.equation_copies.specs.Contents as contents
-use Rattle.equation_copies.proofs.equations.new_images.Given as goal
-
-abbrev pub invariant-loop-equation : goal.invariant-loop-equation
-invariant-loop-equation l = map shared_of l.all.items ≡ flat_map (contents.new_image (numbers_of l.news)) (map shared_of (take l.equation-index l.equations))

@@ -1,9 +1,0 @@
-use Rattle.std.proofs.Common.{◌≡◌, ◌++◌, map, take}
-use Rattle.std.specs.List.{flat_map}
-use Rattle.equation_images.specs.Views.{shared_of}
-use Rattle.equation_copies.specs.Contents as contents
-use Rattle.equation_copies.specs.Views.{made_at}
-use Rattle.equation_copies.proofs.made.add_all_of.Given as goal
-
-abbrev pub invariant-loop-name : goal.invariant-loop-name
-invariant-loop-name l = map shared_of l.all.items ≡ map shared_of l.initial.all.items ++ flat_map (contents.all_of l.types (map made_at l.found)) (take l.name-index l.names)

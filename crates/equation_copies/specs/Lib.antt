@@ -1,5 +1,0 @@
-pub mod Contents
-pub mod Copies
-pub mod Indexes
-pub mod Needs
-pub mod Views

@@ -1,6 +1,0 @@
-use Rattle.std.proofs.Common.{◌≡◌, map, take}
-use Rattle.equation_readings.specs.Views.{declared_at}
-use Rattle.equation_readings.proofs.numbering.names_of.Given as goal
-
-abbrev pub invariant-loop-variable : goal.invariant-loop-variable
-invariant-loop-variable l = l.all.items ≡ map (λ v. v.name) (map declared_at (take l.variable-index l.variables))

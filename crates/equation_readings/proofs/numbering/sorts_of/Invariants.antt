@@ -1,7 +1,0 @@
-use Rattle.std.proofs.Common.{◌≡◌, map, take}
-use Rattle.spec_core.specs.Numbers.{sort_number}
-use Rattle.equation_readings.specs.Views.{declared_at}
-use Rattle.equation_readings.proofs.numbering.sorts_of.Given as goal
-
-abbrev pub invariant-loop-variable : goal.invariant-loop-variable
-invariant-loop-variable l = map sort_number l.all.items ≡ map (λ v. v.sort) (map declared_at (take l.variable-index l.variables))

@@ -1,6 +1,0 @@
-use Rattle.std.proofs.Common.{◌≡◌, map, take}
-use Rattle.full_groups.specs.Groups.{premises_at, premises_of}
-use Rattle.full_groups.proofs.group.slices_of.Given as goal
-
-abbrev pub invariant-loop-list : goal.invariant-loop-list
-invariant-loop-list l = map premises_at l.all.items ≡ map premises_of (take l.list-index l.lists)

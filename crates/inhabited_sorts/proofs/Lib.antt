@@ -1,2 +1,0 @@
-pub mod Inhabiting
-pub mod Options

@@ -1,5 +1,0 @@
-use Rattle.std.proofs.Common.{length}
-use Rattle.judging.proofs.choosing.+filled_fields.Given as goal
-
-abbrev pub decreases-filled_fields : goal.decreases-filled_fields
-decreases-filled_fields l = length l.fields.now

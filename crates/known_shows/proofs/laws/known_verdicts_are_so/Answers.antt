@@ -1,5 +1,0 @@
-use Rattle.known_shows.proofs.Verdicts.{known_verdicts_are_so}
-use Rattle.known_shows.proofs.laws.known_verdicts_are_so.Goals as goal
-
-pub returns : goal.returns
-returns c = known_verdicts_are_so

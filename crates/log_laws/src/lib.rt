@@ -1,4 +1,0 @@
-// Laws of logs that are derivations, or end being one.
-#![tactic(auto)]
-
-pub mod laws;

@@ -1,0 +1,6 @@
+use Rattle.std.specs.Prelude.{◌≡◌, map, take}
+use Rattle.log_states.specs.Clients as clients
+use Rattle.log_states.proofs.clients.without.Given as goal
+
+abbrev pub invariant-loop-client : goal.invariant-loop-client
+invariant-loop-client l = l.left.items ≡ map (clients.closed l.number) (take l.client-index l.all)

@@ -1,5 +1,0 @@
-use Rattle.loosened_trees.proofs.Marked.{loosened_trees_are_marked}
-use Rattle.loosened_trees.proofs.laws.loosened_trees_are_marked.Goals as goal
-
-pub returns : goal.returns
-returns c = loosened_trees_are_marked

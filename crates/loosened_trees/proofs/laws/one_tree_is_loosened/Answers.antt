@@ -1,5 +1,0 @@
-use Rattle.loosened_trees.proofs.One.{one_tree_is_loosened}
-use Rattle.loosened_trees.proofs.laws.one_tree_is_loosened.Goals as goal
-
-pub returns : goal.returns
-returns c = one_tree_is_loosened

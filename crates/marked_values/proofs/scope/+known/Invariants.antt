@@ -1,5 +1,0 @@
-use Rattle.std.proofs.Common.{length}
-use Rattle.marked_values.proofs.scope.+known.Given as goal
-
-abbrev pub decreases-known : goal.decreases-known
-decreases-known l = length l.values.now

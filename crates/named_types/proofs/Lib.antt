@@ -1,3 +1,0 @@
-mod Trees
-pub mod Types
-pub mod WhereParts

@@ -1,4 +1,0 @@
-// Laws of the names in types that are read.
-#![tactic(auto)]
-
-pub mod laws;

@@ -1,0 +1,12 @@
+pub mod Memory
+pub mod Knowing
+pub mod Bindings
+pub mod Filling
+pub mod Parting
+pub mod Keeping
+pub mod Calls
+pub mod Making
+pub mod Turning
+pub mod Asked
+pub mod Walks
+pub mod Standing

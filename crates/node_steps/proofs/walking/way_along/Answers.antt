@@ -1,0 +1,38 @@
+use Rattle.std.proofs.Common.{rules, ◌≡◌, map, subst}
+use Rattle.spec_core.specs.Code.{program_of, relabelling_of}
+use Rattle.rule_model.specs.Derivations.{derivation_of}
+use Rattle.rule_origins.specs.Parts.{behaviour_at}
+use Rattle.rule_origins.specs.Values.{assignment}
+use Rattle.symbolic_plans.specs.Plans.{plan_of}
+use Rattle.node_steps.specs.Frames.{standing}
+use Rattle.node_steps.specs.Turns.{TurnsOr}
+use Rattle.node_steps.proofs.Standing.{origin_way, no_origin_way}
+use Rattle.node_steps.proofs.Walks.{turned_none, turned_some}
+use Rattle.node_steps.proofs.walking.way_along.Goals as goal
+
+pub returns-in-None-clause-none : goal.returns-in-None-clause-none
+returns-in-None-clause-none c =
+    let program = program_of c.args.checked.now in
+    let values = c.args.origin.now.values.items in
+    let p = plan_of c.args.scheme.now in
+    let q = standing program c.in_ok-site.site in
+    let same : c.deref.result.now ≡ values = search rules in
+    no_origin_way program c.requires.ready.executable values (map relabelling_of c.args.origin.now.relabel.items)
+    (behaviour_at program c.args.origin.now.node) q c.in_ok-site.ensures.stands p
+    (turned_none program c.requires.ready.executable 0 (assignment program.theory values) q p c.in_ok-walk.field-0 c.in-None.is
+    (subst (λ l. TurnsOr program 0 (assignment program.theory l) q p c.in_ok-walk.field-0) same c.in_ok-walk.ensures.turns))
+
+pub returns-clause-way : goal.returns-clause-way
+returns-clause-way c =
+    let program = program_of c.args.checked.now in
+    let values = c.args.origin.now.values.items in
+    let p = plan_of c.args.scheme.now in
+    let q = standing program c.in_ok-site.site in
+    let same : c.deref.result.now ≡ values = search rules in
+    origin_way program c.requires.ready.executable values (map relabelling_of c.args.origin.now.relabel.items)
+    (behaviour_at program c.args.origin.now.node) q c.in_ok-site.ensures.stands p c.in-Some.turn
+    (derivation_of c.in_ok-rules-in-Some.rules)
+    (turned_some program c.requires.ready.executable 0 (assignment program.theory values) q p c.in_ok-walk.field-0 c.in-Some.turn
+    c.in-Some.is
+    (subst (λ l. TurnsOr program 0 (assignment program.theory l) q p c.in_ok-walk.field-0) same c.in_ok-walk.ensures.turns))
+    c.in_ok-rules-in-Some.ensures.tree

@@ -1,0 +1,244 @@
+// The ways in which a node can act.
+
+ghost use Rattle.std.specs.Prelude.{◌≡◌, IfOk, IfErr, IfSome, IfNone, map};
+ghost use Rattle.spec_core.specs.Code.{program_of, relabelling_of, synchronised_of};
+ghost use Rattle.spec_core.specs.Ready.{IsReady};
+ghost use Rattle.rule_model.specs.Behaviours.{parallel};
+ghost use Rattle.rule_model.specs.Constructs.{OnParallel};
+ghost use Rattle.rule_model.specs.Derivations.{derivation_of};
+ghost use Rattle.rule_origins.specs.Parts.{behaviour_at};
+ghost use Rattle.rule_origins.specs.Values.{assignment};
+ghost use Rattle.node_values.specs.Stops.{Stops, Never};
+ghost use Rattle.symbolic_plans.specs.Plans.{below, together, plan_of};
+ghost use Rattle.node_trees.specs.Origins.{meaning, relabelled_by, source_of};
+ghost use Rattle.node_trees.specs.Rests.{way_of, IsWayOf, does_of, remainder_of, left_beside};
+ghost use Rattle.symbolic_reach.specs.Asking.{PlanAsks};
+ghost use Rattle.node_steps.specs.Asking.{WithinAsks};
+ghost use Rattle.node_steps.specs.Blanks.{blank_tree, DoesNothingBy};
+ghost use Rattle.node_steps.specs.Frames.{standing};
+ghost use Rattle.node_steps.specs.Turns.{TurnsOr, WithinOr};
+
+use crate::blanks::{after_row, after_scheme, blank_rules};
+use crate::entering::{enter, enter_ending, enter_hidden};
+use crate::leaves::{acts, acts_inside, terminates};
+use crate::leaving::leave;
+use crate::sites::site_of;
+use crate::turn::{Entered, Site, Turn};
+use node_trees::expansion::Alternative;
+use node_trees::origin::Origin;
+use node_trees::rest::Rest;
+use node_values::stop::Stop;
+use rule_origins::code::construct_at;
+use spec_core::code::{Checked, CodeNode, GateSet};
+use spec_core::memory::Memory;
+use spec_core::value::Value;
+use std::alloc::Global;
+use symbolic_plans::scheme::{Row, Scheme};
+
+// The gates and the numbers of the sides of a parallel composition.
+fn sides<'a>(checked: &'a Checked, site: &Site) -> Option<(&'a GateSet, u32, u32)>
+    requires ready { IsReady (program_of checked.now) }
+    ensures some { IfSome result (λ r. standing (program_of checked.now) site.now ≡
+        parallel (synchronised_of r.0.now) (behaviour_at (program_of checked.now) r.1) (behaviour_at (program_of checked.now) r.2)) }
+    ensures none { IfNone result (OnParallel (standing (program_of checked.now) site.now) (λ gates left right. Unit {0}) → ⊥) }
+{
+    match site {
+        Site::Renamed(_, _) | Site::Called(_, _, _) => None,
+        Site::At(number) => match construct_at(checked, *number) {
+            None => None,
+            Some(construct) => match construct {
+                CodeNode::Par(gates, left, right) => Some((gates, left.0, right.0)),
+                _ => None,
+            },
+        },
+    }
+}
+
+// What is done and left of two sides that act together: both do one action.
+fn side_by_side(alloc: Global, gates: &GateSet, first: Turn, second: Turn) -> Result<Turn, Memory>
+    ensures action { IfOk result (λ t. does_of t.action ≡ does_of first.action) }
+    ensures rest { IfOk result (λ t. remainder_of t.rest ≡
+        left_beside (synchronised_of gates.now) (remainder_of first.rest) (remainder_of second.rest)) }
+{
+    let Turn { action, rest: left } = first;
+    let Turn {
+        action: _,
+        rest: right,
+    } = second;
+    let rest = Rest::parallel(alloc, gates.copy(alloc)?, left, right)?;
+    Ok(Turn { action, rest })
+}
+
+// What is done and left by the trees of a plan, whose chosen values stand in the whole tree from a place on.
+#[cycle(walk)]
+fn walk(
+    alloc: Global,
+    checked: &Checked,
+    site: &Site,
+    values: &[(u32, Value)],
+    scheme: &Scheme,
+    from: u32,
+    budget: u64,
+) -> Result<Option<Turn>, Stop>
+    requires ready { IsReady (program_of checked.now) }
+    ensures turns { IfOk result (TurnsOr (program_of checked.now) from (assignment (program_of checked.now).theory values.now)
+        (standing (program_of checked.now) site.now) (plan_of scheme.now)) }
+    ensures fault { IfErr result (Stops (program_of checked.now).theory budget (PlanAsks (program_of checked.now) (plan_of scheme.now)
+        (assignment (program_of checked.now).theory values.now) (standing (program_of checked.now) site.now)) Never) }
+{
+    match scheme {
+        Scheme::Pre(_) => acts(alloc, checked, site, values, from, budget),
+        Scheme::Int => Ok(acts_inside(alloc, checked, site, values)?),
+        Scheme::Exit(_) => terminates(alloc, checked, site, values, from, budget),
+        Scheme::Under(row, part) => walk_under(
+            alloc, checked, site, values, row, part, from, budget,
+        ),
+        Scheme::Hide(_, part) => {
+            let entered = enter_hidden(alloc, checked, site, values)?;
+            walk_within(alloc, checked, values, entered, part, from, budget)
+        }
+        Scheme::Enend(_, part) => {
+            let entered = enter_ending(alloc, checked, site, values)?;
+            walk_within(alloc, checked, values, entered, part, from, budget)
+        }
+        Scheme::Both(left, right) => {
+            walk_both(alloc, checked, site, values, left, right, from, budget)
+        }
+    }
+}
+
+// The same under a rule.
+#[cycle(walk)]
+fn walk_under(
+    alloc: Global,
+    checked: &Checked,
+    site: &Site,
+    values: &[(u32, Value)],
+    row: &Row,
+    part: &Scheme,
+    from: u32,
+    budget: u64,
+) -> Result<Option<Turn>, Stop>
+    requires ready { IsReady (program_of checked.now) }
+    ensures turns { IfOk result (TurnsOr (program_of checked.now) from (assignment (program_of checked.now).theory values.now)
+        (standing (program_of checked.now) site.now) (below row.now (plan_of part.now))) }
+    ensures fault { IfErr result (Stops (program_of checked.now).theory budget (PlanAsks (program_of checked.now)
+        (below row.now (plan_of part.now)) (assignment (program_of checked.now).theory values.now)
+        (standing (program_of checked.now) site.now)) Never) }
+{
+    let entered = enter(alloc, checked, site, values, row, budget)?;
+    let inner = after_row(row, from)?;
+    walk_within(alloc, checked, values, entered, part, inner, budget)
+}
+
+// The same of a part, if it was entered, and then of the whole.
+#[cycle(walk)]
+fn walk_within(
+    alloc: Global,
+    checked: &Checked,
+    values: &[(u32, Value)],
+    entered: Option<Entered>,
+    part: &Scheme,
+    from: u32,
+    budget: u64,
+) -> Result<Option<Turn>, Stop>
+    requires ready { IsReady (program_of checked.now) }
+    ensures turns { IfOk result (WithinOr (program_of checked.now) from values.now entered (plan_of part.now)) }
+    ensures fault { IfErr result (Stops (program_of checked.now).theory budget
+        (WithinAsks (program_of checked.now) entered (plan_of part.now)) Never) }
+{
+    match entered {
+        None => Ok(None),
+        Some(found) => {
+            let Entered {
+                site,
+                values: inner,
+                frame,
+            } = found;
+            match walk(alloc, checked, &site, &inner, part, from, budget)? {
+                None => Ok(None),
+                Some(turn) => Ok(leave(alloc, checked, values, frame, turn)?),
+            }
+        }
+    }
+}
+
+// The same of two sides that act together.
+#[cycle(walk)]
+fn walk_both(
+    alloc: Global,
+    checked: &Checked,
+    site: &Site,
+    values: &[(u32, Value)],
+    left: &Scheme,
+    right: &Scheme,
+    from: u32,
+    budget: u64,
+) -> Result<Option<Turn>, Stop>
+    requires ready { IsReady (program_of checked.now) }
+    ensures turns { IfOk result (TurnsOr (program_of checked.now) from (assignment (program_of checked.now).theory values.now)
+        (standing (program_of checked.now) site.now) (together (plan_of left.now) (plan_of right.now))) }
+    ensures fault { IfErr result (Stops (program_of checked.now).theory budget (PlanAsks (program_of checked.now)
+        (together (plan_of left.now) (plan_of right.now)) (assignment (program_of checked.now).theory values.now)
+        (standing (program_of checked.now) site.now)) Never) }
+{
+    match sides(checked, site) {
+        None => Ok(None),
+        Some((gates, one, other)) => {
+            match walk(alloc, checked, &Site::At(one), values, left, from, budget)? {
+                None => Ok(None),
+                Some(first) => {
+                    let next = after_scheme(left, from)?;
+                    match walk(
+                        alloc,
+                        checked,
+                        &Site::At(other),
+                        values,
+                        right,
+                        next,
+                        budget,
+                    )? {
+                        None => Ok(None),
+                        Some(second) => Ok(Some(side_by_side(alloc, gates, first, second)?)),
+                    }
+                }
+            }
+        }
+    }
+}
+
+/// The way in which what an origin stands for acts by the trees of a composite: the tree of rules, with a blank in the place of each
+/// value that is left open, the action, and what is left then. None where it does nothing by any of the trees, as where one has a mark.
+/// Each value that is told is found with at most `budget` uses of equations; premises aren't asked. A stop names a term of an expression
+/// along the trees. It recurs as deep as the tree, and the terms, are.
+pub fn way_along(
+    alloc: Global,
+    checked: &Checked,
+    origin: &Origin,
+    scheme: &Scheme,
+    budget: u64,
+) -> Result<Option<Alternative>, Stop>
+    requires ready { IsReady (program_of checked.now) }
+    ensures way { IfOk result (λ o. IfSome o (λ a.
+        IsWayOf (program_of checked.now) (meaning (program_of checked.now) (source_of origin.now)) (way_of a))) }
+    ensures rules { IfOk result (λ o. IfSome o (λ a. derivation_of a.rules ≡ blank_tree (plan_of scheme.now))) }
+    ensures none { IfOk result (λ o. IfNone o
+        (DoesNothingBy (program_of checked.now) (meaning (program_of checked.now) (source_of origin.now)) (plan_of scheme.now))) }
+    ensures stop { IfErr result (Stops (program_of checked.now).theory budget (PlanAsks (program_of checked.now) (plan_of scheme.now)
+        (assignment (program_of checked.now).theory origin.now.values.items)
+        (relabelled_by (map relabelling_of origin.now.relabel.items) (behaviour_at (program_of checked.now) origin.now.node))) Never) }
+{
+    let site = site_of(alloc, checked, origin)?;
+    match walk(alloc, checked, &site, &origin.values, scheme, 0, budget)? {
+        None => Ok(None),
+        Some(turn) => {
+            let rules = blank_rules(alloc, scheme)?;
+            let Turn { action, rest } = turn;
+            Ok(Some(Alternative {
+                rules,
+                action,
+                rest,
+            }))
+        }
+    }
+}

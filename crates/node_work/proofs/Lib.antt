@@ -1,0 +1,3 @@
+pub mod Memory
+pub mod Adding
+pub use Rattle.expand.proofs.Top

@@ -1,6 +1,0 @@
-use Rattle.std.proofs.Common.{◌<◌, take}
-use Rattle.spec_core.specs.Lists.{Each}
-use Rattle.number_sets.proofs.numbers.bound_of.Given as goal
-
-abbrev pub invariant-loop-x : goal.invariant-loop-x
-invariant-loop-x l = Each (λ n. n < l.bound) (take l.x-index l.all)

@@ -1,9 +1,0 @@
-use Rattle.std.proofs.Common.{ℕ, ◌≡◌, length}
-use Rattle.number_sets.specs.Members.{IsIn}
-use Rattle.number_sets.proofs.set.NumberSet.new.Given as goal
-
-abbrev pub invariant-loop : goal.invariant-loop
-invariant-loop l = record {
-  sized : length l.flags.items ≡ l.counter;
-  empty : (n : ℕ) → IsIn n l.flags.items → ⊥;
-}

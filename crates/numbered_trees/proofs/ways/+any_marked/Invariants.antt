@@ -1,5 +1,0 @@
-use Rattle.std.proofs.Common.{length}
-use Rattle.numbered_trees.proofs.ways.+any_marked.Given as goal
-
-abbrev pub decreases-any_marked : goal.decreases-any_marked
-decreases-any_marked l = length l.columns.now

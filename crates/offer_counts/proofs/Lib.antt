@@ -1,5 +1,0 @@
-pub mod Alike
-pub mod Sums
-pub mod Below
-pub mod Limited
-pub mod Worked

@@ -1,5 +1,0 @@
-use Rattle.std.proofs.Common.{length}
-use Rattle.offer_counts.proofs.counting.+tuple_count.Given as goal
-
-abbrev pub decreases-tuple_count : goal.decreases-tuple_count
-decreases-tuple_count l = length l.columns.now

@@ -1,5 +1,0 @@
-use Rattle.open_composites.specs.declared.scheme.Scheme.{size-Scheme}
-use Rattle.offer_counts.proofs.counting.+turned_count.Given as goal
-
-abbrev pub decreases-turned_count : goal.decreases-turned_count
-decreases-turned_count l = size-Scheme l.scheme.now

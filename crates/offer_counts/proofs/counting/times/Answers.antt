@@ -1,8 +1,0 @@
-use Rattle.offer_counts.proofs.Limited.{product_limited}
-use Rattle.offer_counts.proofs.counting.times.Goals as goal
-
-pub returns : goal.returns
-returns c = record {
-  product = λ a b e f.
-      product_limited c.args.one c.args.other c.saturating_mul.result c.limited.result a b c.saturating_mul.ensures c.limited.ensures e f;
-}

@@ -1,5 +1,0 @@
-use Rattle.offer_counts.proofs.Below.{trees_have_no_more_offers}
-use Rattle.offer_counts.proofs.laws.trees_have_no_more_offers.Goals as goal
-
-pub returns : goal.returns
-returns c = trees_have_no_more_offers

@@ -1,5 +1,0 @@
-pub mod Predicates
-pub mod Places
-pub mod Counts
-pub mod Laws
-pub mod Examples

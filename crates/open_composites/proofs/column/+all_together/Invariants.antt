@@ -1,5 +1,0 @@
-use Rattle.std.proofs.Common.{length}
-use Rattle.open_composites.proofs.column.+all_together.Given as goal
-
-abbrev pub decreases-all_together : goal.decreases-all_together
-decreases-all_together l = length l.left.now

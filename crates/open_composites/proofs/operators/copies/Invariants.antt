@@ -1,6 +1,0 @@
-use Rattle.std.proofs.Common.{◌≡◌, map, take}
-use Rattle.open_composites.specs.OpenPlans.{open_plan_of}
-use Rattle.open_composites.proofs.operators.copies.Given as goal
-
-abbrev pub invariant-loop-composite : goal.invariant-loop-composite
-invariant-loop-composite l = map open_plan_of l.all.items ≡ map open_plan_of (take l.composite-index l.composites)

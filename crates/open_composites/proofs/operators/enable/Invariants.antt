@@ -1,6 +1,0 @@
-use Rattle.std.proofs.Common.{◌≡◌, map}
-use Rattle.open_composites.specs.OpenPlans.{open_plan_of, plan_by_enabling}
-use Rattle.open_composites.proofs.operators.enable.Given as goal
-
-abbrev pub invariant-loop-composite : goal.invariant-loop-composite
-invariant-loop-composite l = map open_plan_of l.all.items ≡ map plan_by_enabling (map open_plan_of l.yielded)

@@ -1,3 +1,0 @@
-pub mod Plans
-pub mod OpenPlans
-pub mod Laws

@@ -1,2 +1,0 @@
-pub mod OwnPlans
-pub mod Laws

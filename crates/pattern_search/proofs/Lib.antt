@@ -1,4 +1,0 @@
-pub mod Ending
-pub mod Facing
-pub mod Searching
-pub mod Stacking

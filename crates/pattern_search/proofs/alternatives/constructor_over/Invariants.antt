@@ -1,7 +1,0 @@
-use Rattle.std.proofs.Common.{◌≡◌, map, take}
-use Rattle.spec_core.specs.Numbers.{sort_number}
-use Rattle.spec_core.specs.Terms.{term_of, variable}
-use Rattle.pattern_search.proofs.alternatives.constructor_over.Given as goal
-
-abbrev pub invariant-loop-sort : goal.invariant-loop-sort
-invariant-loop-sort l = map term_of l.all.items ≡ map variable (map sort_number (take l.sort-index l.args))

@@ -1,5 +1,0 @@
-use Rattle.presentation_laws.proofs.Named.{presentations_are_named}
-use Rattle.presentation_laws.proofs.laws.presentations_are_named.Goals as goal
-
-pub returns : goal.returns
-returns c = presentations_are_named c.types_without_a_cycle_are_made_from_each_other.ensures.refused c.types_without_a_cycle_are_made_from_each_other.ensures.made

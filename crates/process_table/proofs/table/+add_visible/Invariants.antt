@@ -1,5 +1,0 @@
-use Rattle.std.proofs.Common.{length}
-use Rattle.process_table.proofs.table.+add_visible.Given as goal
-
-abbrev pub decreases-add_visible : goal.decreases-add_visible
-decreases-add_visible l = length l.around.now

@@ -1,8 +1,0 @@
-use Rattle.std.proofs.Common.{◌≡◌, ◌++◌, map, length, take}
-use Rattle.process_table.specs.Processes.{one_after_another, item_entries}
-use Rattle.process_table.specs.Views.{entry_of}
-use Rattle.process_table.proofs.table.+processes.Given as goal
-
-abbrev pub invariant-put_items-loop-item : goal.invariant-put_items-loop-item
-invariant-put_items-loop-item l = map entry_of l.table.items ≡ map entry_of l.initial.table.items
-    ++ one_after_another (map item_entries (take l.item-index l.items)) (length (map entry_of l.initial.table.items)) l.around

@@ -1,5 +1,0 @@
-pub mod Open
-pub mod Numbers
-pub mod Awaiting
-pub mod OneClient
-mod Others

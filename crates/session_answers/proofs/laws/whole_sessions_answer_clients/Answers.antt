@@ -1,5 +1,0 @@
-use Rattle.session_answers.proofs.Numbers.{whole_sessions_answer_clients}
-use Rattle.session_answers.proofs.laws.whole_sessions_answer_clients.Goals as goal
-
-pub returns : goal.returns
-returns c = whole_sessions_answer_clients

@@ -1,4 +1,0 @@
-// What whole sessions tell their clients.
-#![tactic(auto)]
-
-pub mod laws;

@@ -1,0 +1,11 @@
+pub mod Answering
+pub mod Crossing
+pub mod Finding
+pub mod Growing
+pub mod Leaving
+pub mod Lists
+pub mod Looking
+pub mod Refusing
+pub mod Resting
+pub mod Sharing
+pub mod Stepping

@@ -1,0 +1,10 @@
+pub mod Lines
+pub mod Shared
+pub mod Growing
+pub mod Turning
+pub mod Answers
+pub mod Spots
+pub mod Faults
+pub mod Looks
+pub use Rattle.symbolic_rules.specs.Tables
+pub use Rattle.symbolic_rules.specs.Windows

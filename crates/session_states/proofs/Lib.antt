@@ -1,7 +1,0 @@
-pub mod AllWaiting
-pub mod Derivations
-pub mod Entries
-pub mod Members
-pub mod OpenClients
-pub mod Tests
-pub mod Waiting

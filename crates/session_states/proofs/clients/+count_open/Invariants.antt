@@ -1,5 +1,0 @@
-use Rattle.std.specs.Prelude.{length}
-use Rattle.session_states.proofs.clients.+count_open.Given as goal
-
-abbrev pub decreases-count_open : goal.decreases-count_open
-decreases-count_open l = length l.all.now

@@ -1,5 +1,0 @@
-use Rattle.std.specs.Prelude.{length}
-use Rattle.session_states.proofs.clients.+made.Given as goal
-
-abbrev pub decreases-made : goal.decreases-made
-decreases-made l = length l.all.now

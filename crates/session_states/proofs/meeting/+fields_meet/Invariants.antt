@@ -1,5 +1,0 @@
-use Rattle.std.specs.Prelude.{length}
-use Rattle.session_states.proofs.meeting.+fields_meet.Given as goal
-
-abbrev pub decreases-fields_meet : goal.decreases-fields_meet
-decreases-fields_meet l = length l.values.now

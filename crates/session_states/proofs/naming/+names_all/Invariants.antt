@@ -1,5 +1,0 @@
-use Rattle.std.specs.Prelude.{length}
-use Rattle.session_states.proofs.naming.+names_all.Given as goal
-
-abbrev pub decreases-names_all : goal.decreases-names_all
-decreases-names_all l = length l.all.now

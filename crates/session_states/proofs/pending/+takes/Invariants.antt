@@ -1,5 +1,0 @@
-use Rattle.std.specs.Prelude.{length}
-use Rattle.session_states.proofs.pending.+takes.Given as goal
-
-abbrev pub decreases-takes : goal.decreases-takes
-decreases-takes l = length l.all.now

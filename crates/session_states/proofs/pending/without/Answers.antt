@@ -1,9 +1,0 @@
-use Rattle.std.proofs.Common.{rules, ◌≡◌, ◌+◌, take}
-use Rattle.session_states.proofs.Members.{taken_next}
-use Rattle.session_states.proofs.Waiting.{without_next}
-use Rattle.session_states.proofs.pending.without.Goals as goal
-
-pub loop-waiting-preserved : goal.loop-waiting-preserved
-loop-waiting-preserved c =
-    without_next (c.args.client, c.args.number) (take c.loop-waiting.waiting-index c.args.all.now) (take (c.loop-waiting.waiting-index + 1) c.args.all.now)
-    c.waiting-item.result _ _ (taken_next c.args.all.now c.loop-waiting.waiting-index c.waiting-item.result (search rules) (search rules)) c.loop-waiting.invariant (search rules)

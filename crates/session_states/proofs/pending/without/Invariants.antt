@@ -1,7 +1,0 @@
-use Rattle.std.specs.Prelude.{◌≡◌, map, take}
-use Rattle.rule_model.specs.States as states
-use Rattle.session_states.specs.Views.{pending_of}
-use Rattle.session_states.proofs.pending.without.Given as goal
-
-abbrev pub invariant-loop-waiting : goal.invariant-loop-waiting
-invariant-loop-waiting l = map pending_of l.left.items ≡ states.without (l.client, l.number) (map pending_of (take l.waiting-index l.all))

@@ -1,7 +1,0 @@
-use Rattle.std.proofs.Common.{◌∙◌, sym}
-use Rattle.session_states.proofs.Entries.{is_pending, pending_is}
-use Rattle.session_states.proofs.state.SessionState.is_pending.Goals as goal
-
-pub returns : goal.returns
-returns c =
-    (λ h. is_pending c.args.self.now c.args.client c.args.number (sym c.waits.ensures ∙ h), λ m. c.waits.ensures ∙ pending_is c.args.self.now c.args.client c.args.number m)

@@ -1,5 +1,0 @@
-use Rattle.settling.proofs.Deciding as lemmas
-use Rattle.settling.proofs.laws.decided_by_rules.Goals as goal
-
-pub returns : goal.returns
-returns g c = lemmas.decided_by_rules _ _ _

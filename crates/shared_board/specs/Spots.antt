@@ -1,8 +1,0 @@
--- Answers where they stand.
-use Rattle.session_record.specs.declared.answered.Answered.{Answered}
-use Rattle.session_record.specs.Answered.{answered_of}
-use Rattle.shared_board.specs.declared.spot.Spot.{Spot}
-use Rattle.shared_board.specs.Answers.{Found}
-
-abbrev pub found_at : Spot → Answered → Found
-found_at spot answered = record { entries = spot.lines; actions = spot.actions; answer = answered_of answered }

@@ -1,5 +1,0 @@
-use Rattle.shown_actions.proofs.Folding.{rules_fold_shows}
-use Rattle.shown_actions.proofs.laws.rules_fold_shows.Goals as goal
-
-pub returns : goal.returns
-returns c = rules_fold_shows

@@ -1,5 +1,0 @@
-use Rattle.std.proofs.Common.{length}
-use Rattle.shown_actions.proofs.meeting.+fields_may_meet.Given as goal
-
-abbrev pub decreases-fields_may_meet : goal.decreases-fields_may_meet
-decreases-fields_may_meet l = length l.fields.now

@@ -1,4 +1,0 @@
-// Laws of compiled specifications.
-#![tactic(auto)]
-
-pub mod laws;

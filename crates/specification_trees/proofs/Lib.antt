@@ -1,7 +1,0 @@
-mod Defined
-mod Determined
-mod Meanings
-mod OneMeaning
-mod Parts
-mod Processes
-mod Written

@@ -1,0 +1,5 @@
+use Rattle.std.proofs.Common.{◌≡◌, map, take}
+use Rattle.static_compiler.proofs.names.bound_names.Given as goal
+
+abbrev pub invariant-loop-one : goal.invariant-loop-one
+invariant-loop-one l = map (λ t. t.now) l.all.items ≡ map (λ b. b.name) (take l.one-index l.from)

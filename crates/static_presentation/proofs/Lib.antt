@@ -1,0 +1,4 @@
+pub mod Lists
+pub mod OneEach
+pub mod OwnReadings
+pub mod Uniqueness

@@ -1,0 +1,215 @@
+// What is refused of headings.
+
+ghost use Rattle.std.specs.Prelude.{◌≡◌, ◌++◌, ◌∷◌, [], Some, None, IfOk, OnOk, map, length};
+ghost use Rattle.std.specs.Prelude.{if◌then◌else◌};
+ghost use Rattle.std.specs.List.{flat_map, range_with_len};
+ghost use Rattle.sort_overloads.specs.Refused.{unknown_sort};
+ghost use Rattle.sort_overloads.specs.Views.{context_of};
+ghost use Rattle.type_names.specs.DuplicateNames.{names_twice};
+ghost use Rattle.static_readings.specs.Declarations as declarations;
+ghost use Rattle.static_processes.specs.Headings as headings;
+ghost use Rattle.static_processes.specs.Processes as processes;
+ghost use Rattle.static_processes.specs.Views.{defined, entry_of};
+
+use crate::entry::Entry;
+use crate::heading::{declarations_in, gates_in, sorts_in};
+use crate::table::is_innermost;
+use lotos_ast::declaration::{Declaration, Functionality};
+use lotos_ast::refusal::Refusal;
+use lotos_ast::spec::{Process, Spec};
+use lotos_ast::token::Token;
+use sort_overloads::scope::Scope;
+use spec_core::memory::Memory;
+use static_equations::variables::add_unknown_sort;
+use std::alloc::Global;
+use type_names::duplicates::add_names_twice;
+use type_names::names::add_names;
+
+// Refuses gates that have the name of an earlier one.
+fn add_gates_twice(
+    alloc: Global,
+    gates: &[Token],
+    refusals: &mut Vec<Refusal>,
+) -> Result<(), Memory>
+    ensures { OnOk result (refusals.new.items ≡ refusals.old.items ++ names_twice gates.now) }
+{
+    let mut names = Vec::new(alloc);
+    add_names(&mut names, gates)?;
+    add_names_twice(alloc, &names, refusals)
+}
+
+// Refuses sorts that aren't known.
+fn add_unknown_sorts(
+    alloc: Global,
+    scope: &Scope,
+    sorts: &[Token],
+    refusals: &mut Vec<Refusal>,
+) -> Result<(), Memory>
+    ensures { OnOk result (refusals.new.items ≡ refusals.old.items ++ flat_map (unknown_sort (context_of scope.now)) sorts.now) }
+{
+    for sort in sorts {
+        add_unknown_sort(alloc, scope, sort, refusals)?;
+    }
+    Ok(())
+}
+
+// Refuses the sorts of a functionality that aren't known.
+fn add_functionality_refusals(
+    alloc: Global,
+    scope: &Scope,
+    functionality: &Functionality,
+    refusals: &mut Vec<Refusal>,
+) -> Result<(), Memory>
+    ensures { OnOk result (refusals.new.items
+        ≡ refusals.old.items ++ headings.functionality_refusals (context_of scope.now) functionality.now) }
+{
+    match functionality {
+        Functionality::NoExit { place: _ } => Ok(()),
+        Functionality::Exit { place: _, sorts } => {
+            add_unknown_sorts(alloc, scope, sorts_in(sorts), refusals)
+        }
+    }
+}
+
+// The names that declarations declare.
+fn declared_names<'d>(alloc: Global, declared: &'d [Declaration]) -> Result<Vec<&'d Token>, Memory>
+    ensures { IfOk result (λ all. map (λ t. t.now) all.items ≡ declarations.declared_names declared.now) }
+{
+    let mut all = Vec::new(alloc);
+    for declaration in declared {
+        add_names(&mut all, &declaration.names)?;
+    }
+    Ok(all)
+}
+
+// Refuses the sorts of declarations that aren't known.
+fn add_unknown_sorts_of(
+    alloc: Global,
+    scope: &Scope,
+    declared: &[Declaration],
+    refusals: &mut Vec<Refusal>,
+) -> Result<(), Memory>
+    ensures { OnOk result (refusals.new.items
+        ≡ refusals.old.items ++ flat_map (λ d. unknown_sort (context_of scope.now) d.sort) declared.now) }
+{
+    for declaration in declared {
+        add_unknown_sort(alloc, scope, &declaration.sort, refusals)?;
+    }
+    Ok(())
+}
+
+// Refuses parameters that have the name of an earlier one, and sorts of theirs that aren't known.
+fn add_parameter_refusals(
+    alloc: Global,
+    scope: &Scope,
+    declared: &[Declaration],
+    refusals: &mut Vec<Refusal>,
+) -> Result<(), Memory>
+    ensures { OnOk result (refusals.new.items
+        ≡ refusals.old.items ++ headings.parameter_refusals (context_of scope.now) declared.now) }
+{
+    let names = declared_names(alloc, declared)?;
+    add_names_twice(alloc, &names, refusals)?;
+    add_unknown_sorts_of(alloc, scope, declared, refusals)
+}
+
+// What is refused of the heading of a process.
+fn add_heading_refusals(
+    alloc: Global,
+    scope: &Scope,
+    process: &Process,
+    refusals: &mut Vec<Refusal>,
+) -> Result<(), Memory>
+    ensures { OnOk result (refusals.new.items
+        ≡ refusals.old.items ++ headings.heading_refusals (context_of scope.now) (defined process.now)) }
+{
+    add_gates_twice(alloc, gates_in(&process.gates), refusals)?;
+    add_parameter_refusals(alloc, scope, declarations_in(&process.parameters), refusals)?;
+    add_functionality_refusals(alloc, scope, &process.functionality, refusals)
+}
+
+// Adds the name of a process that stands in one `where` part.
+fn add_name_if<'a>(
+    entry: &Entry<'a>,
+    within: Option<usize>,
+    names: &mut Vec<&'a Token>,
+) -> Result<(), Memory>
+    ensures { OnOk result (map (λ t. t.now) names.new.items ≡ map (λ t. t.now) names.old.items
+        ++ (if processes.stands_in within (entry_of entry.now) then (defined entry.now.process.now).name ∷ [] else [])) }
+{
+    if is_innermost(within, &entry.around) {
+        names.push(&entry.process.name)?;
+    }
+    Ok(())
+}
+
+// The names of those that stand there.
+fn names_in<'a>(
+    alloc: Global,
+    table: &[Entry<'a>],
+    within: Option<usize>,
+) -> Result<Vec<&'a Token>, Memory>
+    ensures { IfOk result (λ names. map (λ t. t.now) names.items ≡ processes.names_in (map entry_of table.now) within) }
+{
+    let mut names = Vec::new(alloc);
+    for entry in table {
+        add_name_if(entry, within, &mut names)?;
+    }
+    Ok(names)
+}
+
+// Refuses the processes of one `where` part that have the name of an earlier one.
+fn add_twice_in(
+    alloc: Global,
+    table: &[Entry<'_>],
+    within: Option<usize>,
+    refusals: &mut Vec<Refusal>,
+) -> Result<(), Memory>
+    ensures { OnOk result (refusals.new.items ≡ refusals.old.items ++ names_twice (processes.names_in (map entry_of table.now) within)) }
+{
+    let names = names_in(alloc, table, within)?;
+    add_names_twice(alloc, &names, refusals)
+}
+
+// Refuses the processes that have the name of an earlier one of the same `where` part.
+fn add_twice(alloc: Global, table: &[Entry<'_>], refusals: &mut Vec<Refusal>) -> Result<(), Memory>
+    ensures { OnOk result (refusals.new.items ≡ refusals.old.items ++ headings.twice_refusals (map entry_of table.now)) }
+{
+    add_twice_in(alloc, table, None, refusals)?;
+    for number in 0..table.len() {
+        add_twice_in(alloc, table, Some(number), refusals)?;
+    }
+    Ok(())
+}
+
+/// Refuses what can't stand in the headings of processes: a process declared twice in one `where` part, a gate or a parameter declared
+/// twice (9 DuplicateName), a sort that isn't known (8 UnknownSort).
+pub fn add_table_refusals(
+    alloc: Global,
+    scope: &Scope,
+    table: &[Entry<'_>],
+    refusals: &mut Vec<Refusal>,
+) -> Result<(), Memory>
+    ensures { OnOk result (refusals.new.items
+        ≡ refusals.old.items ++ headings.table_refusals (context_of scope.now) (map entry_of table.now)) }
+{
+    add_twice(alloc, table, refusals)?;
+    for entry in table {
+        add_heading_refusals(alloc, scope, entry.process, refusals)?;
+    }
+    Ok(())
+}
+
+/// Refuses what can't stand in the heading of the specification: a gate declared twice (9 DuplicateName), a sort that isn't known
+/// (8 UnknownSort).
+pub fn add_opening_refusals(
+    alloc: Global,
+    scope: &Scope,
+    spec: &Spec,
+    refusals: &mut Vec<Refusal>,
+) -> Result<(), Memory>
+    ensures { OnOk result (refusals.new.items ≡ refusals.old.items ++ headings.opening_refusals (context_of scope.now) spec.now) }
+{
+    add_gates_twice(alloc, gates_in(&spec.gates), refusals)?;
+    add_functionality_refusals(alloc, scope, &spec.functionality, refusals)
+}

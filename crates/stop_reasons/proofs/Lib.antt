@@ -1,4 +1,0 @@
-pub mod Below
-pub mod Parts
-pub mod Plans
-pub mod Given

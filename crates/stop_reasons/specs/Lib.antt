@@ -1,4 +1,0 @@
-pub mod Given
-pub mod Participants
-pub mod Reasons
-pub mod Laws

@@ -1,8 +1,0 @@
-// What follows from the definitions: each law is the contract of a function that does nothing.
-
-ghost use Rattle.stop_reasons.specs.Laws.{JobsGiveReasons};
-
-/// Why a job has no answer that a session needs is a reason to stop in its state.
-pub fn jobs_give_reasons()
-    ensures { JobsGiveReasons }
-{}

@@ -1,5 +1,0 @@
-use Rattle.std.proofs.Common.{length}
-use Rattle.substitution.proofs.scope.Scope.+without_accepted.Given as goal
-
-abbrev pub decreases-without_accepted : goal.decreases-without_accepted
-decreases-without_accepted l = length l.fields.now

@@ -1,5 +1,0 @@
-use Rattle.std.proofs.Common.{length}
-use Rattle.substitution.proofs.scope.Scope.+without_variables.Given as goal
-
-abbrev pub decreases-without_variables : goal.decreases-without_variables
-decreases-without_variables l = length l.vars.now

@@ -1,5 +1,0 @@
-pub mod Carrying
-pub mod Closed
-pub mod Nothing
-pub mod Putting
-pub mod Returning

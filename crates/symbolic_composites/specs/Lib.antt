@@ -1,0 +1,10 @@
+pub mod Composites
+pub mod Evaluations
+pub mod Examples
+pub mod Kinds
+pub mod Laws
+pub mod OpenFields
+pub mod ReadyLaws
+pub mod Shown
+pub mod TestableLaws
+pub mod TreeLists

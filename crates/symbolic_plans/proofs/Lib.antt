@@ -1,0 +1,5 @@
+pub mod Crossing
+pub mod Joining
+pub mod Made
+pub mod Origins
+pub mod Own

@@ -1,0 +1,10 @@
+use Rattle.std.proofs.Common.{◌≡◌, ◌++◌, map, flat_map, take}
+use Rattle.spec_core.specs.Code.{synchronised_of}
+use Rattle.symbolic_plans.specs.OpenPlans.{open_plan_of, plans_alone}
+use Rattle.symbolic_plans.proofs.operators.put_alone.Given as goal
+
+abbrev pub invariant-loop-composite : goal.invariant-loop-composite
+invariant-loop-composite l =
+    map open_plan_of l.all.items ≡
+    map open_plan_of l.initial.all.items ++
+    flat_map (plans_alone (synchronised_of l.gates) l.row) (map open_plan_of (take l.composite-index l.composites))

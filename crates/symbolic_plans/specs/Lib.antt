@@ -1,0 +1,5 @@
+pub mod Laws
+pub mod OpenPlans
+pub mod OwnLaws
+pub mod OwnPlans
+pub mod Plans

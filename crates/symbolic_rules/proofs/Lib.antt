@@ -1,0 +1,16 @@
+pub mod Acting
+pub mod Agreeing
+pub mod Complete
+pub mod Dropping
+pub mod Ending
+pub mod Fields
+pub mod Marks
+pub mod Nothing
+pub mod Offering
+pub mod Remarking
+pub mod Seen
+pub mod Shapes
+pub mod Sorts
+pub mod Standing
+pub mod Taking
+pub mod Windows

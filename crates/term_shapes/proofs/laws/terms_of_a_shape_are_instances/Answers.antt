@@ -1,7 +1,0 @@
-use Rattle.std.proofs.Common.{subst}
-use Rattle.term_shapes.specs.Shapes.{IsOfShape}
-use Rattle.term_shapes.proofs.Linear.{filled, of_shape}
-use Rattle.term_shapes.proofs.laws.terms_of_a_shape_are_instances.Goals as goal
-
-pub returns : goal.returns
-returns c p t linear = (filled p t linear, λ r. subst (IsOfShape p) r.1 (of_shape r.0 p))

@@ -1,4 +1,0 @@
-pub mod One
-pub mod Parts
-pub mod Meeting
-pub mod Trees

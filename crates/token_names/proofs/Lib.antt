@@ -1,3 +1,0 @@
-mod Bytes
-pub mod Tokens
-mod Words

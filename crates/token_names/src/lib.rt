@@ -1,4 +1,0 @@
-// Laws of the names in a text.
-#![tactic(auto)]
-
-pub mod laws;

@@ -1,5 +1,0 @@
-use Rattle.tree_composites.proofs.Placed.{sought_plans_are_known}
-use Rattle.tree_composites.proofs.laws.sought_plans_are_known.Goals as goal
-
-pub returns : goal.returns
-returns c = sought_plans_are_known

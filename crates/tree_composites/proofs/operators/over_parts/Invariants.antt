@@ -1,7 +1,0 @@
-use Rattle.std.proofs.Common.{◌≡◌, map}
-use Rattle.tree_nodes.specs.Shapes.{unary_of}
-use Rattle.tree_composites.specs.Known.{placed_of, placed_over_one}
-use Rattle.tree_composites.proofs.operators.over_parts.Given as goal
-
-abbrev pub invariant-loop-part : goal.invariant-loop-part
-invariant-loop-part l = map placed_of l.all.items ≡ map (placed_over_one (unary_of l.operator)) (map placed_of l.yielded)

@@ -1,8 +1,0 @@
-use Rattle.std.proofs.Common.{◌≡◌, not, map, filter, take}
-use Rattle.open_composites.specs.OpenPlans.{kind_in}
-use Rattle.node_lists.specs.Sought.{is_one_kind}
-use Rattle.tree_composites.proofs.sought.without.Given as goal
-
-abbrev pub invariant-loop-kind : goal.invariant-loop-kind
-invariant-loop-kind l =
-    map kind_in l.all.items ≡ filter (λ k. not (is_one_kind k (map kind_in l.others))) (map kind_in (take l.kind-index l.kinds))

@@ -1,5 +1,0 @@
-pub mod Differing
-pub mod Finding
-pub mod Growing
-pub mod Posts
-pub mod Tidying

@@ -1,6 +1,0 @@
-use Rattle.std.proofs.Common.{◌≡◌, map, take}
-use Rattle.tree_nodes.specs.Rests.{known_in}
-use Rattle.tree_nodes.proofs.left.all_known.Given as goal
-
-abbrev pub invariant-loop-known : goal.invariant-loop-known
-invariant-loop-known l = l.values.items ≡ map (known_in l.chosen) (take l.known-index l.all)

@@ -1,0 +1,7 @@
+use Rattle.std.proofs.Common.{◌≡◌, ◌++◌, map, take}
+use Rattle.type_images.specs.Images.{equation_image}
+use Rattle.type_images.specs.Views.{numbers_of, shared_of}
+use Rattle.type_equation_copies.proofs.equations.add_images.Given as goal
+
+abbrev pub invariant-loop-equation : goal.invariant-loop-equation
+invariant-loop-equation l = map shared_of l.all.items ≡ map shared_of l.initial.all.items ++ map (equation_image (numbers_of l.news)) (map shared_of (take l.equation-index l.equations))

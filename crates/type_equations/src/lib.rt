@@ -1,8 +1,0 @@
-// The own equations of types.
-#![tactic(auto)]
-
-mod bodies;
-pub mod laws;
-mod moved;
-pub mod own;
-mod signature;

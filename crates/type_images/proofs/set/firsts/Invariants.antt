@@ -1,0 +1,12 @@
+use Rattle.std.proofs.Common.{◌≡◌, map, take, []}
+use Rattle.std.specs.List.{fold}
+use Rattle.type_images.specs.Views.{shared_of}
+use Rattle.type_images.specs.Same as same
+use Rattle.type_images.specs.Groups.{equations_of, IsGrouped}
+use Rattle.type_images.proofs.set.firsts.Given as goal
+
+abbrev pub invariant-loop-equation : goal.invariant-loop-equation
+invariant-loop-equation l = record {
+  equations : equations_of l.set ≡ fold same.with_equation [] (map shared_of (take l.equation-index l.equations));
+  grouped : IsGrouped l.set;
+}

@@ -1,5 +1,0 @@
-use Rattle.waiting_offers.proofs.Entries as lemmas
-use Rattle.waiting_offers.proofs.laws.entries_are_for_offers.Goals as goal
-
-pub returns : goal.returns
-returns g c = lemmas.entries_are_for_offers _

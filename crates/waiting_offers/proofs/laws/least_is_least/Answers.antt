@@ -1,5 +1,0 @@
-use Rattle.waiting_offers.proofs.Order.{least_is_least}
-use Rattle.waiting_offers.proofs.laws.least_is_least.Goals as goal
-
-pub returns : goal.returns
-returns c = least_is_least

@@ -1,5 +1,0 @@
-use Rattle.waiting_offers.proofs.Derivations.{pending_clients_differ}
-use Rattle.waiting_offers.proofs.laws.pending_clients_differ.Goals as goal
-
-pub returns : goal.returns
-returns c = pending_clients_differ

@@ -1,5 +1,0 @@
-use Rattle.std.proofs.Common.{length}
-use Rattle.waiting_offers.proofs.waiting.+least.Given as goal
-
-abbrev pub decreases-least : goal.decreases-least
-decreases-least l = length l.all.now

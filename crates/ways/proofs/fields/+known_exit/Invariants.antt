@@ -1,5 +1,0 @@
-use Rattle.std.proofs.Common.{length}
-use Rattle.ways.proofs.fields.+known_exit.Given as goal
-
-abbrev pub decreases-known_exit : goal.decreases-known_exit
-decreases-known_exit l = length l.fields.now

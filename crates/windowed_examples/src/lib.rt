@@ -1,4 +1,0 @@
-// Worked examples of windowed and beyond trees.
-#![tactic(auto)]
-
-pub mod laws;

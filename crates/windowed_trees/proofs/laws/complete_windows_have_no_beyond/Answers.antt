@@ -1,5 +1,0 @@
-use Rattle.windowed_trees.proofs.Complete.{complete_windows_have_no_beyond}
-use Rattle.windowed_trees.proofs.laws.complete_windows_have_no_beyond.Goals as goal
-
-pub returns : goal.returns
-returns c = complete_windows_have_no_beyond

@@ -1,5 +1,0 @@
-use Rattle.windowed_trees.proofs.Seen.{each_step_is_seen}
-use Rattle.windowed_trees.proofs.laws.each_step_is_seen.Goals as goal
-
-pub returns : goal.returns
-returns c = each_step_is_seen

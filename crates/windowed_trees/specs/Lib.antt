@@ -1,6 +1,0 @@
-pub mod Windows
-pub mod MarkedTerms
-pub mod MarkedFields
-pub mod MayDerive
-pub mod Trees
-pub mod Laws
