@@ -1,4 +1,6 @@
-"""What a release and an installation consist of: the built program, the documents that a user reads, the examples, and what it was proved from."""
+"""What a release and an installation consist of: the built program, its page of the manual and completions, the documents that a user reads,
+the examples, and what it was proved from."""
+import commands
 import program
 
 DOCUMENTS = ["README.md", "docs/TUTORIAL.md", "docs/LANGUAGE.md", "docs/SEMANTICS.md", "docs/FORMATS.md", "docs/PROMISES.md"]
@@ -14,6 +16,8 @@ def parts():
     files = "".join(f"{row.removeprefix('file ')}\n" for row in rows if row.startswith("file "))
     crates = "".join(f"{row.removeprefix('crate ')}\n" for row in rows if row.startswith("crate "))
     yield "bin/lotos", program.PROGRAM.read_bytes(), True
+    yield "share/man/man1/lotos.1", commands.page().encode(), False
+    yield "share/bash-completion/completions/lotos", commands.completions().encode(), False
     for name in DOCUMENTS:
         yield f"{SHARE}/{name}", (program.TOP / name).read_bytes(), False
     for path in program.files_below(program.TOP / "examples"):

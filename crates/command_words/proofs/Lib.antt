@@ -1,3 +1,3 @@
 mod Choices
-mod Short
+mod Rows
 mod Values

@@ -1,15 +1,15 @@
--- The commands, and the words that name them (this profile): the command, then names of files or terms, none of which begins with -, and
--- then options.
-use Rattle.std.specs.Prelude.{ℕ, ◌==◌, ◌≤◌, List, [], ◌∷◌, Bool, true, not, if◌then◌else◌, Option, None, option_map, codes}
-use Rattle.std.specs.List.{list_all}
+-- The commands, and the words that name them (this profile): the command, and behind it what `clap` has matches of, each option with a number
+-- in its range.
+use Rattle.std.specs.Prelude.{ℕ, ◌≤◌, List, [], ◌∷◌, if◌then◌else◌, Option, Some, None, option_map, option_and_then, unwrap_or, codes}
 use Rattle.std.specs.Str.{bytes_eq}
+use Rattle.clap.specs.Walk.{Row, first_of}
 use Rattle.spec_core.specs.declared.settings.Settings.{Settings}
 use Rattle.command_words.specs.declared.command.Command as words
 use Rattle.command_words.specs.declared.command.Command.TheVariants.{Run, Check, Equal, Replay}
 use Rattle.command_words.specs.declared.option.Choices.{Choices}
-use Rattle.command_words.specs.declared.option.OptionName.{OptionName}
 use Rattle.command_words.specs.declared.option.OptionName.TheVariants.{Budget, Values, Steps, Seed, Workers}
 use Rattle.command_words.specs.Options.{choices_of}
+use Rattle.command_words.specs.Readers.{run_reader, check_reader, equal_reader, replay_reader, found_in}
 
 pub data Command : Type 0 where
   -- a session of the specification in the first file, whose clients make the offers of the script in the second, by these settings and with
@@ -22,37 +22,41 @@ pub data Command : Type 0 where
   -- whether the trace in the second file is a derivation of the specification in the first, with so many uses of equations for each term
   replay : List ℕ → List ℕ → ℕ → Command
 
--- a word doesn't begin with -
-abbrev pub is_name : List ℕ → Bool
-is_name [] = true
-is_name (byte ∷ bytes) = not (byte == 45)
+-- the word that `clap` finds under a name; it finds each word that a command names, so the empty text stands for none
+abbrev pub word_at : List ℕ → List Row → List ℕ
+word_at id rows = unwrap_or (first_of id rows) []
 
--- what options choose, behind words that are names
-abbrev pub chosen_behind : List (List ℕ) → List OptionName → List (List ℕ) → Option Choices
-chosen_behind names options words = if list_all is_name names then choices_of options words else None
+-- what each command is told by what `clap` finds
+
+abbrev pub run_by : List Row → Option Command
+run_by rows = option_map (λ (c : Choices). run (word_at (codes "SPEC") rows) (word_at (codes "SCRIPT") rows) c.settings c.workers)
+    (choices_of (Workers ∷ Budget ∷ Values ∷ Steps ∷ Seed ∷ []) rows)
+
+abbrev pub check_by : List Row → Option Command
+check_by rows = Some (check (word_at (codes "SPEC") rows))
+
+abbrev pub equal_by : List Row → Option Command
+equal_by rows = option_map (λ (c : Choices).
+    equal (word_at (codes "SPEC") rows) (word_at (codes "FIRST") rows) (word_at (codes "SECOND") rows) c.settings.budget)
+    (choices_of (Budget ∷ []) rows)
+
+abbrev pub replay_by : List Row → Option Command
+replay_by rows = option_map (λ (c : Choices). replay (word_at (codes "SPEC") rows) (word_at (codes "TRACE") rows) c.settings.budget)
+    (choices_of (Budget ∷ []) rows)
 
 -- what each command is told by the words behind it
 
 abbrev pub run_of : List (List ℕ) → Option Command
-run_of (specification ∷ script ∷ words) =
-    option_map (λ (c : Choices). run specification script c.settings c.workers)
-    (chosen_behind (specification ∷ script ∷ []) (Budget ∷ Values ∷ Steps ∷ Seed ∷ Workers ∷ []) words)
-run_of _ = None
+run_of words = option_and_then run_by (found_in run_reader words)
 
 abbrev pub check_of : List (List ℕ) → Option Command
-check_of (specification ∷ words) = option_map (λ (c : Choices). check specification) (chosen_behind (specification ∷ []) [] words)
-check_of _ = None
+check_of words = option_and_then check_by (found_in check_reader words)
 
 abbrev pub equal_of : List (List ℕ) → Option Command
-equal_of (specification ∷ first ∷ second ∷ words) =
-    option_map (λ (c : Choices). equal specification first second c.settings.budget)
-    (chosen_behind (specification ∷ first ∷ second ∷ []) (Budget ∷ []) words)
-equal_of _ = None
+equal_of words = option_and_then equal_by (found_in equal_reader words)
 
 abbrev pub replay_of : List (List ℕ) → Option Command
-replay_of (specification ∷ trace ∷ words) =
-    option_map (λ (c : Choices). replay specification trace c.settings.budget) (chosen_behind (specification ∷ trace ∷ []) (Budget ∷ []) words)
-replay_of _ = None
+replay_of words = option_and_then replay_by (found_in replay_reader words)
 
 -- the command that words name, if they name one
 abbrev pub command_of : List (List ℕ) → Option Command

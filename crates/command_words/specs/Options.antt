@@ -1,20 +1,20 @@
--- Options behind the words of a command (this profile): two words each, as `--budget` and a number; each option at most once, in any order.
-use Rattle.std.specs.Prelude.{ℕ, ◌+◌, ◌*◌, ◌-◌, ◌≤◌, List, [], ◌∷◌, Bool, false, ◌&&◌, ◌||◌, nat_le, if◌then◌else◌}
-use Rattle.std.specs.Prelude.{Option, Some, None, codes}
+-- Options of a command and their numbers (this profile).
+use Rattle.std.specs.Prelude.{ℕ, ◌+◌, ◌*◌, ◌-◌, ◌≤◌, List, [], ◌∷◌, Bool, false, ◌&&◌, nat_le, if◌then◌else◌}
+use Rattle.std.specs.Prelude.{Option, Some, None, option_map, option_and_then, codes}
 use Rattle.std.specs.Char.{is_ascii_digit}
 use Rattle.std.specs.List.{list_all}
-use Rattle.std.specs.Str.{bytes_eq}
+use Rattle.clap.specs.Walk.{Row, first_of}
 use Rattle.command_words.specs.declared.option.Choices.{Choices}
 use Rattle.command_words.specs.declared.option.OptionName.{OptionName}
 use Rattle.command_words.specs.declared.option.OptionName.TheVariants.{Budget, Values, Steps, Seed, Workers}
 
--- how an option is written
-abbrev pub word_of : OptionName → List ℕ
-word_of Budget = codes "--budget"
-word_of Values = codes "--values"
-word_of Steps = codes "--steps"
-word_of Seed = codes "--seed"
-word_of Workers = codes "--workers"
+-- what stands behind the two hyphens of an option
+abbrev pub name_of : OptionName → List ℕ
+name_of Budget = codes "budget"
+name_of Values = codes "values"
+name_of Steps = codes "steps"
+name_of Seed = codes "seed"
+name_of Workers = codes "workers"
 
 -- the least and the greatest number that it may be given
 abbrev pub least : OptionName → ℕ
@@ -59,31 +59,15 @@ number_of option word =
     if is_number word && (nat_le (least option) (value_behind 0 word) && nat_le (value_behind 0 word) (greatest option))
     then Some (value_behind 0 word) else None
 
--- the option among these that is written so
-abbrev pub option_named : List OptionName → List ℕ → Option OptionName
-option_named [] word = None
-option_named (option ∷ options) word = if bytes_eq word (word_of option) then Some option else option_named options word
+-- the choices with what a word gives the option; they stay where no word does
+abbrev pub chosen_by : OptionName → Option (List ℕ) → Choices → Option Choices
+chosen_by option None choices = Some choices
+chosen_by option (Some word) choices = option_map (choosing option choices) (number_of option word)
 
--- whether the option is given by these words
-abbrev pub is_given : List ℕ → List (List ℕ) → Bool
-is_given option (other ∷ number ∷ words) = bytes_eq other option || is_given option words
-is_given option _ = false
-
--- the choices with what the option is given, where the word is a number for it
-abbrev pub choose : OptionName → Option ℕ → Option Choices → Option Choices
-choose option (Some number) (Some choices) = Some (choosing option choices number)
-choose option _ _ = None
-
-abbrev pub choose_named : Option OptionName → List ℕ → Option Choices → Option Choices
-choose_named (Some option) word choices = choose option (number_of option word) choices
-choose_named None word choices = None
-
--- the choices that words give a command which has these options
-abbrev pub choices_of : List OptionName → List (List ℕ) → Option Choices
-choices_of options [] = Some usual
-choices_of options (word ∷ []) = None
-choices_of options (word ∷ number ∷ words) =
-    if is_given word words then None else choose_named (option_named options word) number (choices_of options words)
+-- the choices by what `clap` finds for these options, where each word is a number for its option
+abbrev pub choices_of : List OptionName → List Row → Option Choices
+choices_of [] rows = Some usual
+choices_of (option ∷ options) rows = option_and_then (chosen_by option (first_of (name_of option) rows)) (choices_of options rows)
 
 -- the number of workers is in its range
 abbrev pub HasFewWorkers : Choices → Type 0

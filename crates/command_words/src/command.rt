@@ -1,11 +1,16 @@
-// The words of a call.
+// The commands, and the words that name them.
 
-ghost use Rattle.std.specs.Prelude.{◌≡◌, [], ◌∷◌, IfSome, map, option_map, string_bytes};
+ghost use Rattle.std.specs.Prelude.{◌≡◌, IfOk, IfSome, map, option_map, string_bytes};
+ghost use Rattle.clap.specs.Words.{found_of, rows_of};
 ghost use Rattle.command_words.specs.Commands as commands;
 ghost use Rattle.command_words.specs.Commands.{check_of, command_named, command_of, equal_of, replay_of, run_of, HasFewWorkers};
 
 use crate::option::{Choices, OptionName, choices_of};
+use crate::reader::{check_reader, equal_reader, find, replay_reader, run_reader, word_at};
+use clap::ArgMatches;
+use spec_core::memory::Memory;
 use spec_core::settings::Settings;
+use std::alloc::Global;
 
 /// A command with the names of its files, its terms and its numbers.
 #[derive(Drop)]
@@ -40,131 +45,113 @@ pub enum Command<'w> {
     },
 }
 
-// Whether a word is a name: it doesn't begin with -.
-fn is_name(word: &str) -> bool
-    ensures { result ≡ commands.is_name word.now }
-{
-    match word.as_bytes() {
-        [] => true,
-        [byte, ..] => *byte != b'-',
-    }
-}
-
-// The options of `run`.
-const RUN_OPTIONS: [OptionName; 5] = [
-    OptionName::Budget,
-    OptionName::Values,
-    OptionName::Steps,
-    OptionName::Seed,
-    OptionName::Workers,
-];
-
-// What `run` is told by the words behind it.
-#[tactic(auto, using(crate::proofs::Short::no_run))]
-fn run(words: &[String]) -> Option<Command<'_>>
-    ensures command { option_map command_named result ≡ run_of (map string_bytes words.now) }
+// What `run` is told by what `clap` finds.
+fn run_by<'w>(matches: &ArgMatches<'w>) -> Option<Command<'w>>
+    ensures command { option_map command_named result ≡ commands.run_by (rows_of (found_of matches.now)) }
     ensures workers { IfSome result HasFewWorkers }
 {
-    match words {
-        [specification, script, options @ ..] => {
-            let specification = specification.as_str();
-            let script = script.as_str();
-            if !is_name(specification) || !is_name(script) {
-                return None;
-            }
-            let Choices { settings, workers } = choices_of(&RUN_OPTIONS, options)?;
-            Some(Command::Run {
-                specification,
-                script,
-                settings,
-                workers,
-            })
-        }
-        _ => None,
+    let known = [
+        OptionName::Workers,
+        OptionName::Budget,
+        OptionName::Values,
+        OptionName::Steps,
+        OptionName::Seed,
+    ];
+    let Choices { settings, workers } = choices_of(&known, matches)?;
+    Some(Command::Run {
+        specification: word_at(matches, "SPEC"),
+        script: word_at(matches, "SCRIPT"),
+        settings,
+        workers,
+    })
+}
+
+// What `run` is told by the words behind it.
+fn run(alloc: Global, words: &[String]) -> Result<Option<Command<'_>>, Memory>
+    ensures command { IfOk result (λ r. option_map command_named r ≡ run_of (map string_bytes words.now)) }
+    ensures workers { IfOk result (λ r. IfSome r HasFewWorkers) }
+{
+    match find(run_reader(alloc)?, words)? {
+        Some(matches) => Ok(run_by(&matches)),
+        None => Ok(None),
     }
 }
 
 // What `check` is told by the words behind it.
-fn check(words: &[String]) -> Option<Command<'_>>
-    ensures command { option_map command_named result ≡ check_of (map string_bytes words.now) }
+fn check(alloc: Global, words: &[String]) -> Result<Option<Command<'_>>, Memory>
+    ensures command { IfOk result (λ r. option_map command_named r ≡ check_of (map string_bytes words.now)) }
+    ensures workers { IfOk result (λ r. IfSome r HasFewWorkers) }
+{
+    let Some(matches) = find(check_reader(alloc)?, words)? else {
+        return Ok(None);
+    };
+    Ok(Some(Command::Check {
+        specification: word_at(&matches, "SPEC"),
+    }))
+}
+
+// What `equal` is told by what `clap` finds.
+fn equal_by<'w>(matches: &ArgMatches<'w>) -> Option<Command<'w>>
+    ensures command { option_map command_named result ≡ commands.equal_by (rows_of (found_of matches.now)) }
     ensures workers { IfSome result HasFewWorkers }
 {
-    match words {
-        [specification, options @ ..] => {
-            let specification = specification.as_str();
-            if !is_name(specification) {
-                return None;
-            }
-            choices_of(&[], options)?;
-            Some(Command::Check { specification })
-        }
-        [] => None,
-    }
+    let budget = choices_of(&[OptionName::Budget], matches)?.settings.budget;
+    Some(Command::Equal {
+        specification: word_at(matches, "SPEC"),
+        first: word_at(matches, "FIRST"),
+        second: word_at(matches, "SECOND"),
+        budget,
+    })
 }
 
 // What `equal` is told by the words behind it.
-#[tactic(auto, using(crate::proofs::Short::no_equal))]
-fn equal(words: &[String]) -> Option<Command<'_>>
-    ensures command { option_map command_named result ≡ equal_of (map string_bytes words.now) }
-    ensures workers { IfSome result HasFewWorkers }
+fn equal(alloc: Global, words: &[String]) -> Result<Option<Command<'_>>, Memory>
+    ensures command { IfOk result (λ r. option_map command_named r ≡ equal_of (map string_bytes words.now)) }
+    ensures workers { IfOk result (λ r. IfSome r HasFewWorkers) }
 {
-    match words {
-        [specification, first, second, options @ ..] => {
-            let specification = specification.as_str();
-            let first = first.as_str();
-            let second = second.as_str();
-            if !is_name(specification) || !is_name(first) || !is_name(second) {
-                return None;
-            }
-            let budget = choices_of(&[OptionName::Budget], options)?.settings.budget;
-            Some(Command::Equal {
-                specification,
-                first,
-                second,
-                budget,
-            })
-        }
-        _ => None,
+    match find(equal_reader(alloc)?, words)? {
+        Some(matches) => Ok(equal_by(&matches)),
+        None => Ok(None),
     }
 }
 
-// What `replay` is told by the words behind it.
-#[tactic(auto, using(crate::proofs::Short::no_replay))]
-fn replay(words: &[String]) -> Option<Command<'_>>
-    ensures command { option_map command_named result ≡ replay_of (map string_bytes words.now) }
+// What `replay` is told by what `clap` finds.
+fn replay_by<'w>(matches: &ArgMatches<'w>) -> Option<Command<'w>>
+    ensures command { option_map command_named result ≡ commands.replay_by (rows_of (found_of matches.now)) }
     ensures workers { IfSome result HasFewWorkers }
 {
-    match words {
-        [specification, trace, options @ ..] => {
-            let specification = specification.as_str();
-            let trace = trace.as_str();
-            if !is_name(specification) || !is_name(trace) {
-                return None;
-            }
-            let budget = choices_of(&[OptionName::Budget], options)?.settings.budget;
-            Some(Command::Replay {
-                specification,
-                trace,
-                budget,
-            })
-        }
-        _ => None,
+    let budget = choices_of(&[OptionName::Budget], matches)?.settings.budget;
+    Some(Command::Replay {
+        specification: word_at(matches, "SPEC"),
+        trace: word_at(matches, "TRACE"),
+        budget,
+    })
+}
+
+// What `replay` is told by the words behind it.
+fn replay(alloc: Global, words: &[String]) -> Result<Option<Command<'_>>, Memory>
+    ensures command { IfOk result (λ r. option_map command_named r ≡ replay_of (map string_bytes words.now)) }
+    ensures workers { IfOk result (λ r. IfSome r HasFewWorkers) }
+{
+    match find(replay_reader(alloc)?, words)? {
+        Some(matches) => Ok(replay_by(&matches)),
+        None => Ok(None),
     }
 }
 
 /// The command that words name, if they name one.
-pub fn read_command(words: &[String]) -> Option<Command<'_>>
-    ensures command { option_map command_named result ≡ command_of (map string_bytes words.now) }
-    ensures workers { IfSome result HasFewWorkers }
+pub fn read_command(alloc: Global, words: &[String]) -> Result<Option<Command<'_>>, Memory>
+    ensures command { IfOk result (λ r. option_map command_named r ≡ command_of (map string_bytes words.now)) }
+    ensures workers { IfOk result (λ r. IfSome r HasFewWorkers) }
 {
     match words {
         [name, words @ ..] => match name.as_str() {
-            "run" => run(words),
-            "check" => check(words),
-            "equal" => equal(words),
-            "replay" => replay(words),
-            _ => None,
+            "run" => run(alloc, words),
+            "check" => check(alloc, words),
+            "equal" => equal(alloc, words),
+            "replay" => replay(alloc, words),
+            _ => Ok(None),
         },
-        [] => None,
+        [] => Ok(None),
     }
 }

@@ -3,5 +3,6 @@
 
 mod command;
 mod option;
+mod reader;
 
 pub use command::{Command, read_command};

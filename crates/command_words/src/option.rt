@@ -1,11 +1,14 @@
-// Options behind the words of a command.
+// Options of a command and their numbers.
 
-ghost use Rattle.std.specs.Prelude.{◌≡◌, ◌≤◌, ◌<◌, ◌^◌, ◌&&◌, nat_le, if◌then◌else◌, Some, None, IfSome, map, string_bytes};
+ghost use Rattle.std.specs.Prelude.{◌≡◌, ◌≤◌, ◌<◌, ◌^◌, ◌&&◌, nat_le, if◌then◌else◌, Some, None, IfSome, option_map, option_and_then};
 ghost use Rattle.std.specs.Char.{is_ascii_digit};
 ghost use Rattle.std.specs.List.{list_all};
+ghost use Rattle.clap.specs.Words.{first_of, found_of, rows_of};
 ghost use Rattle.command_words.specs.Options as options;
 ghost use Rattle.command_words.specs.Options.{value_behind, HasFewWorkers};
 
+use crate::reader::text_at;
+use clap::ArgMatches;
 use spec_core::settings::Settings;
 
 /// An option that a command may have.
@@ -33,16 +36,16 @@ pub struct Choices {
 }
 
 impl OptionName {
-    // How the option is written.
-    fn word(self) -> &'static str
-        ensures { result.now ≡ options.word_of self }
+    // What stands behind its two hyphens.
+    fn name(self) -> &'static str
+        ensures { result.now ≡ options.name_of self }
     {
         match self {
-            OptionName::Budget => "--budget",
-            OptionName::Values => "--values",
-            OptionName::Steps => "--steps",
-            OptionName::Seed => "--seed",
-            OptionName::Workers => "--workers",
+            OptionName::Budget => "budget",
+            OptionName::Values => "values",
+            OptionName::Steps => "steps",
+            OptionName::Seed => "seed",
+            OptionName::Workers => "workers",
         }
     }
 
@@ -170,59 +173,42 @@ fn number_of(option: OptionName, word: &str) -> Option<u64>
     }
 }
 
-// The option among these that is written so.
-fn option_named(known: &[OptionName], word: &str) -> Option<OptionName>
-    ensures { result ≡ options.option_named known.now word.now }
+// The choices with what a word gives the option, where the word is a number for it.
+fn choose_by(option: OptionName, word: Option<&str>, choices: Choices) -> Option<Choices>
+    ensures choices { result ≡ options.chosen_by option (option_map (λ w. w.now) word.entry) choices }
+    ensures workers { HasFewWorkers choices → IfSome result HasFewWorkers }
 {
-    match known {
-        [] => None,
-        [option, others @ ..] => if word == option.word() {
-            Some(*option)
-        } else {
-            option_named(others, word)
-        },
+    match word {
+        None => Some(choices),
+        Some(word) => {
+            let number = number_of(option, word)?;
+            Some(option.choose(choices, number))
+        }
     }
 }
 
-// Whether the option is given by these words.
-fn is_given(option: &str, words: &[String]) -> bool
-    ensures { result ≡ options.is_given option.now (map string_bytes words.now) }
-{
-    match words {
-        [other, _, rest @ ..] => other.as_str() == option || is_given(option, rest),
-        _ => false,
-    }
-}
-
-// The choices with what the option is given, where the word is a number for it.
-fn choose_named(option: Option<OptionName>, word: &str, choices: Option<Choices>) -> Option<Choices>
-    ensures choices { result ≡ options.choose_named option word.now choices }
+// The choices with what `clap` found for the option.
+fn choose_found(
+    option: OptionName,
+    matches: &ArgMatches<'_>,
+    choices: Option<Choices>,
+) -> Option<Choices>
+    ensures choices { result ≡ option_and_then (options.chosen_by option (first_of (options.name_of option) (rows_of (found_of matches.now)))) choices }
     ensures workers { IfSome choices HasFewWorkers → IfSome result HasFewWorkers }
 {
-    let option = option?;
-    let number = number_of(option, word)?;
-    let choices = choices?;
-    Some(option.choose(choices, number))
+    match choices {
+        None => None,
+        Some(choices) => choose_by(option, text_at(matches, option.name()), choices),
+    }
 }
 
-/// The choices that words give a command which has these options: each is two words, `--name` and a number in decimal digits, each option
-/// at most once, in any order. None where the words aren't such options, or a number isn't in its range.
-pub fn choices_of(known: &[OptionName], words: &[String]) -> Option<Choices>
-    ensures choices { result ≡ options.choices_of known.now (map string_bytes words.now) }
+/// The choices by what `clap` found for these options. None where one of its words isn't a number in the option's range.
+pub fn choices_of(known: &[OptionName], matches: &ArgMatches<'_>) -> Option<Choices>
+    ensures choices { result ≡ options.choices_of known.now (rows_of (found_of matches.now)) }
     ensures workers { IfSome result HasFewWorkers }
 {
-    match words {
+    match known {
         [] => Some(USUAL),
-        [word, behind @ ..] => match behind {
-            [] => None,
-            [number, rest @ ..] => {
-                if is_given(word.as_str(), rest) {
-                    None
-                } else {
-                    let option = option_named(known, word.as_str());
-                    choose_named(option, number.as_str(), choices_of(known, rest))
-                }
-            }
-        },
+        [option, others @ ..] => choose_found(*option, matches, choices_of(others, matches)),
     }
 }

@@ -20,6 +20,7 @@ use std::thread::Threads;
 use worker_drive::Probe;
 
 /// What is due for the words.
+#[tactic(auto, using(crate::proofs::Fetches::asked_nothing))]
 pub fn due_answer<R: Threads + Wait + Sync, F: Shelf, P: Probe + Sync>(
     rt: &R,
     alloc: Global,
@@ -31,7 +32,7 @@ pub fn due_answer<R: Threads + Wait + Sync, F: Shelf, P: Probe + Sync>(
         (command_of (map string_bytes words.now)) a.status a.text.items) }
     ensures asked { IsAskedFor F.fetches (named_files (command_of (map string_bytes words.now))) shelf.old shelf.new }
 {
-    match read_command(words) {
+    match read_command(alloc, words)? {
         None => with_text(alloc, Status::Usage, b"usage\n"),
         Some(
             Command::Run {
