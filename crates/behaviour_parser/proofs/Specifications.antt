@@ -1,5 +1,6 @@
 -- What is read, or fails, is what the call is to answer.
 use Rattle.std.proofs.Common.{List, [], ◌∷◌, Some, true, ◌≡◌, sym, subst, ◌∙◌, ◌⊎◌, inl, inr}
+use Rattle.std.proofs.lemmas.Option.{same_Some}
 use Rattle.lotos_ast.specs.declared.token.Token.{Token}
 use Rattle.lotos_ast.specs.declared.refusal.FrontFault.{FrontFault}
 use Rattle.lotos_ast.specs.declared.refusal.FrontFault.TheVariants.{Refused, Memory}
@@ -14,7 +15,6 @@ use Rattle.lotos_ast.proofs.Parsing.{parsed, refused}
 use Rattle.lotos_ast.proofs.GrammarLaws.{rules_are_well_formed}
 use Rattle.syntax_cursor.specs.declared.parse_fault.ParseFault.{ParseFault}
 use Rattle.syntax_cursor.specs.Parsers.{reason_of, Halts, Tells}
-use Rattle.syntax_cursor.proofs.Rows.{some_equal}
 use Rattle.behaviour_parser.specs.Specifications.{IsNoSpecification, stopped, followed, IsFollowed, Fails}
 
 pub fails_halting : (e : ParseFault) (s r : List Token) → Halts e outermost (part specification) s r → Fails e s r
@@ -24,7 +24,7 @@ pub fails_followed : (e : ParseFault) (s m u : List Token) (x : Tree) (t : Token
     Reads outermost (part specification) s x m → m ≡ t ∷ u → reason_of e ≡ Some (fault_at true (mark_of t)) →
     Fails e s m
 fails_followed e s m u x t h i k = record {
-  stops = λ f j. inr (record { tree = x; token = t; others = u; left = i; read = h; reason = some_equal (sym j ∙ k) });
+  stops = λ f j. inr (record { tree = x; token = t; others = u; left = i; read = h; reason = same_Some _ _ (sym j ∙ k) });
 }
 
 pub whole_parsed : (s : List Token) (x : Tree) → Reads outermost (part specification) s x [] → IsParsed (part specification) s x []

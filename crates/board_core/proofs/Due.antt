@@ -1,7 +1,7 @@
 -- What the rules decide on a board is due.
-use Rattle.std.proofs.Common.{◌≡◌, ◌∙◌, inl, inr, List, [], ◌∷◌, length, refl, sym, ap, subst, Option, None, Some}
-use Rattle.spec_core.specs.Lists.{Each, IsOneOf}
+use Rattle.std.proofs.Common.{◌≡◌, ◌∙◌, length, refl, sym, ap, subst, Option, None, Some}
 use Rattle.spec_core.specs.Ready.{IsReady}
+use Rattle.spec_core.proofs.Members.{each_from, contains_one}
 use Rattle.rule_model.specs.declared.action.Action.{Action}
 use Rattle.rule_model.specs.Answering.{name_of}
 use Rattle.rule_model.specs.Behaviours.{Behaviour}
@@ -30,7 +30,6 @@ use Rattle.board_laws.specs.NeededLaws.{FirstTreesSay}
 use Rattle.board_laws.proofs.Steps.{first_trees_are_so}
 use Rattle.board_laws.specs.Next.{AreSessionWindows, IsNextOf}
 use Rattle.board_offers.specs.Waiting.{waiting_in}
-use Rattle.board_offers.proofs.Members.{held}
 use Rattle.board_offers.proofs.Sound.{waiting_is_sound}
 use Rattle.board_laws.specs.StoppingLaws.{GiveReasons}
 use Rattle.board_laws.proofs.StoppingGiven as given
@@ -39,11 +38,6 @@ use Rattle.board_core.specs.Settled.{IsDue, MayBeDone, MayFollow}
 use Rattle.board_core.specs.Views.{BoardView, program, state, tree, windows, pieces, decided_at, first_at, all_at}
 use Rattle.board_core.proofs.Found.{IsFound, decided_is_found}
 use Rattle.board_core.proofs.Tables.{table_of_session}
-
--- what holds of each element that is one of the list holds of each
-each_of : {A : Type 0} (P : A → Type 0) (xs : List A) → ((x : A) → IsOneOf x xs → P x) → Each P xs
-each_of P [] h = tt
-each_of P (x ∷ xs) h = (h x (inl refl), each_of P xs (λ y k. h y (inr k)))
 
 module _ (v : BoardView) (is : IsBoard v) (ready : IsReady (program v)) (apart : AreApart (tree v))
     (reached : (state v).behaviour ≡ stands_for (program v) (tree v)) where
@@ -112,10 +106,10 @@ module _ (v : BoardView) (is : IsBoard v) (ready : IsReady (program v)) (apart :
   done (takes p d) found h =
       may_follow (Some (name_of p)) (meeting p) d h.action h.rest
       ((found_trees_are_searched (program v).theory (windows v) (pieces v) (tree v) (meeting p) d).first found) h.derives
-      (record { waits = p; among = held (state v).pending p h.pending; client = refl; number = refl; holds = h.meets })
+      (record { waits = p; among = contains_one p (state v).pending h.pending; client = refl; number = refl; holds = h.meets })
   done (goes_on trees) found h = (
     found.0,
-    each_of (MayFollow (program v) (state v) (tree v) None) trees (λ d among.
+    each_from (MayFollow (program v) (state v) (tree v) None) trees (λ d among.
         let acts = h.acts d among in
         may_follow None unseen d acts.0 acts.1
         ((found_trees_are_searched (program v).theory (windows v) (pieces v) (tree v) unseen d).all trees found.1 among) acts.2 acts.3),

@@ -1,10 +1,10 @@
 -- How entries are appended.
-use Rattle.std.proofs.Common.{ℕ, zero, suc, ◌≡◌, ◌∙◌, ◌≤◌, List, [], ◌∷◌, ◌++◌, refl, sym, ap, subst, map, Option, Some, None, Bool, true, false}
+use Rattle.std.proofs.Common.{ℕ, ◌≡◌, ◌∙◌, ◌≤◌, List, [], ◌∷◌, ◌++◌, refl, sym, ap, subst, map, Option, Some, None, Bool, true, false}
 use Rattle.std.proofs.Common.{option_map, Contains, nat_lt, if◌then◌else◌, inl, inr}
 use Rattle.std.specs.Prelude.{Result, Ok, Err, OnOk}
-use Rattle.std.specs.List.{slice_get}
 use Rattle.spec_core.specs.Code.{Program}
-use Rattle.spec_core.specs.Lists.{Each, IsOneOf}
+use Rattle.spec_core.specs.Lists.{IsOneOf}
+use Rattle.spec_core.proofs.Members.{contains_one}
 use Rattle.rule_model.specs.declared.action.Action.{Action}
 use Rattle.rule_model.specs.Answering.{name_of}
 use Rattle.rule_model.specs.declared.reply.LimitKind.TheVariants.{Steps}
@@ -31,7 +31,6 @@ use Rattle.node_trees.specs.Shapes.{stands_for}
 use Rattle.board_offers.specs.Offers.{offer_at}
 use Rattle.board_offers.specs.Waiting.{by_client, insert_by_client}
 use Rattle.board_offers.proofs.Derivations.{pending_clients_differ}
-use Rattle.board_offers.proofs.Members.{held}
 use Rattle.board_offers.proofs.Order.{least_is_least}
 use Rattle.board_offers.proofs.Stalls.{stalls_name_all}
 use Rattle.board_core.specs.Entries.{entry_of, OfAct}
@@ -47,16 +46,6 @@ pub on_ok_both : {A E : Type 0} {P Q R : Type 0} (r : Result A E) → (P → Q �
 on_ok_both (Ok x) f p q = f p q
 on_ok_both (Err e) f p q = tt
 
-pub on_ok_alone : {A E : Type 0} {P R : Type 0} (r : Result A E) → (P → R) → OnOk r P → OnOk r R
-on_ok_alone (Ok x) f p = f p
-on_ok_alone (Err e) f p = tt
-
--- what holds of each holds of the one with a number
-pub each_at : {A : Type 0} (P : A → Type 0) (xs : List A) (n : ℕ) (x : A) → Each P xs → slice_get xs n ≡ Some x → P x
-each_at P [] n x h e = absurd (let no : ⊥ = cc in no)
-each_at P (y ∷ xs) zero x h e = let same : y ≡ x = cc in subst P same h.0
-each_at P (y ∷ xs) (suc n) x h e = each_at P xs n x h.1 e
-
 own_name : (s : State) (p : PendingOffer) → Contains s.pending p → IsPending s (name_of p)
 own_name s p h = record { waits = p; among = h; client = refl; number = refl; holds = tt }
 
@@ -66,7 +55,7 @@ same_reply name other a b e f = ap (λ (n : OfferName). replied n.0 n.1 a) e ∙
 
 -- an offer that is pending is so by its name
 pub named : (s : State) (p : PendingOffer) (name : OfferName) → name ≡ name_of p → IsOneOf p s.pending → IsPending s name
-named s p name e h = subst (IsPending s) (sym e) (own_name s p (held s.pending p h))
+named s p name e h = subst (IsPending s) (sym e) (own_name s p (contains_one p s.pending h))
 
 module _ (old new : BoardView) (entry : Next PendingOffer Derivation) (due : IsDue old entry) (rules : GoesByRules (state old))
     (running : old.stop ≡ None) (same : new.stop ≡ old.stop) where

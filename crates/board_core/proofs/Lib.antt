@@ -9,7 +9,6 @@ pub mod Needing
 pub mod Origins
 pub mod Quiet
 pub mod Tables
-pub use Rattle.board_laws.proofs.Trees
 pub use Rattle.board_offers.proofs.AllWait
 pub use Rattle.board_offers.proofs.Members
 pub use Rattle.candidate_composites.proofs.Lists

@@ -2,7 +2,9 @@
 use Rattle.std.proofs.Common.{ℕ, ◌≡◌, ◌==◌, ◌||◌, ◌∙◌, ◌⊎◌, inl, inr, refl, sym, ap, subst, List, [], ◌∷◌, ◌++◌, filter, not, cond, map, Option, Some, None}
 use Rattle.std.proofs.Common.{Bool, true, false, if◌then◌else◌, option_map}
 use Rattle.std.proofs.lemmas.Bool.Decides.{Decides-eqb}
+use Rattle.std.proofs.lemmas.Bool.{true≢false}
 use Rattle.spec_core.specs.Lists.{Each, IsOneOf}
+use Rattle.spec_core.proofs.Lists.{each_filter, each_push, each_implied}
 use Rattle.rule_model.specs.Derivations.{Derivation}
 use Rattle.node_trees.specs.declared.origin.Gen.{Gen}
 use Rattle.node_trees.specs.Differences.{IsDifference}
@@ -29,14 +31,6 @@ lives_or_not t g = by_test (is_there (node_at g t)) refl
 
 -- lists of jobs
 
-each_kept : {A : Type 0} (P : A → Type 0) (p : A → Bool) (xs : List A) → Each P xs → Each P (filter p xs)
-each_kept P p [] h = tt
-each_kept {A = A} P p (x ∷ xs) h = by_test (p x) (each_kept P p xs h.1)
-  where
-    by_test : (b : Bool) → Each P (filter p xs) → Each P (cond b (x ∷ filter p xs) (filter p xs))
-    by_test true k = (h.0, k)
-    by_test false k = k
-
 each_passing : {A : Type 0} (P Q : A → Type 0) (p : A → Bool) (xs : List A) → ((x : A) → p x ≡ true → P x → Q x) → Each P xs → Each Q (filter p xs)
 each_passing P Q p [] f h = tt
 each_passing {A = A} P Q p (x ∷ xs) f h = by_test (p x) refl (each_passing P Q p xs f h.1)
@@ -44,14 +38,6 @@ each_passing {A = A} P Q p (x ∷ xs) f h = by_test (p x) refl (each_passing P Q
     by_test : (b : Bool) → p x ≡ b → Each Q (filter p xs) → Each Q (cond b (x ∷ filter p xs) (filter p xs))
     by_test true e k = (f x e h.0, k)
     by_test false e k = k
-
-each_more : {A : Type 0} (P : A → Type 0) (xs : List A) (y : A) → Each P xs → P y → Each P (xs ++ y ∷ [])
-each_more P [] y h l = (l, tt)
-each_more P (x ∷ xs) y h l = (h.0, each_more P xs y h.1 l)
-
-each_so : {A : Type 0} (P Q : A → Type 0) (xs : List A) → ((x : A) → P x → Q x) → Each P xs → Each Q xs
-each_so P Q [] f h = tt
-each_so P Q (x ∷ xs) f h = (f x h.0, each_so P Q xs f h.1)
 
 -- every node is as it was
 
@@ -61,11 +47,11 @@ begins_living t pieces none = record { known = λ g d dead. none g d; jobs = tt 
 module _ (t : Shape) (pieces : Pieces) (out : List NodeJob) (h : AreOfLiving t pieces out) where
   -- one more job is out
   pub handed_living : (job : NodeJob) → Lives t (generation_of job) → AreOfLiving t pieces (out ++ job ∷ [])
-  handed_living job lives = record { known = h.known; jobs = each_more (λ j. Lives t (generation_of j)) out job h.jobs lives }
+  handed_living job lives = record { known = h.known; jobs = each_push (λ j. Lives t (generation_of j)) out job h.jobs lives }
 
   -- some jobs aren't out any more
   pub left_living : (stays : NodeJob → Bool) → AreOfLiving t pieces (filter stays out)
-  left_living stays = record { known = h.known; jobs = each_kept (λ j. Lives t (generation_of j)) stays out h.jobs }
+  left_living stays = record { known = h.known; jobs = each_filter (λ j. Lives t (generation_of j)) stays out h.jobs }
 
   -- one more piece is known
   pub put_living : (p : Piece) (others : Pieces) → Lives t p.generation.0 →
@@ -110,7 +96,7 @@ pub posted_living : (g : ℕ) (work : Work) (t : Shape) (pieces : Pieces) (out :
     AreOfLiving (posted g work t) pieces out
 posted_living g work t pieces out h = record {
   known = λ i d dead. h.known i d (λ l. dead (lives_then g work t i l));
-  jobs = each_so (λ j. Lives t (generation_of j)) (λ j. Lives (posted g work t) (generation_of j)) out (λ j l. lives_then g work t (generation_of j) l) h.jobs;
+  jobs = each_implied (λ j. Lives t (generation_of j)) (λ j. Lives (posted g work t) (generation_of j)) out (λ j l. lives_then g work t (generation_of j) l) h.jobs;
 }
 
 -- a step
@@ -124,9 +110,6 @@ gone_is (h ∷ gone) g (inr more) = by_test (h.0 == g.0) (gone_is gone g more)
     by_test true k = refl
     by_test false k = k
 
-differ : {P : Type 0} → true ≡ false → P
-differ e = absurd (let never : ⊥ = cc in never)
-
 module _ (old new : Shape) (gone : List Gen) (ended : IsDifference gone old new) where
   -- what lived and isn't gone lives
   lives_on : (g : ℕ) → is_gone gone g ≡ false → Lives old g → Lives new g
@@ -134,7 +117,7 @@ module _ (old new : Shape) (gone : List Gen) (ended : IsDifference gone old new)
     where
       by_living : Lives new g ⊎ (Lives new g → ⊥) → Lives new g
       by_living (inl lives) = lives
-      by_living (inr dead) = differ (sym (gone_is gone (record { 0 = g }) ((ended (record { 0 = g })).1 (lived, dead))) ∙ stays)
+      by_living (inr dead) = absurd (true≢false (sym (gone_is gone (record { 0 = g }) ((ended (record { 0 = g })).1 (lived, dead))) ∙ stays))
 
   pub stepped_living : (pieces others : Pieces) (out : List NodeJob) → ((g : ℕ) (d : Derivation) → others g d ≡ without gone pieces g d) →
       AreOfLiving old pieces out → AreOfLiving new others (jobs_left gone out)
@@ -145,7 +128,7 @@ module _ (old new : Shape) (gone : List Gen) (ended : IsDifference gone old new)
   }
     where
       isnt : (b : Bool) → not b ≡ true → b ≡ false
-      isnt true e = differ (sym e)
+      isnt true e = absurd (true≢false (sym e))
       isnt false e = refl
 
       nothing : (g : ℕ) (d : Derivation) → (Lives new g → ⊥) → (b : Bool) → is_gone gone g ≡ b → (if b then None else pieces g d) ≡ None

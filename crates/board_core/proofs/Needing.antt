@@ -1,17 +1,12 @@
 -- Whether the rules still need a job.
-use Rattle.std.proofs.Common.{◌≡◌, ◌↔◌, [], refl, ap, Option, Some, None, is_some, Bool, IsTrue, true, false}
+use Rattle.std.proofs.Common.{◌≡◌, ◌↔◌, [], ap, None, is_some, Bool, IsTrue, true, false}
 use Rattle.spec_core.specs.Lists.{IsOneOf}
 use Rattle.candidates.specs.Jobs.{NodeJob}
-use Rattle.board_laws.specs.declared.stop_reason.StopReason.{StopReason}
 use Rattle.board_laws.specs.Next.{HasEnded}
 use Rattle.board_laws.specs.Reasons.{LooksForTrees}
 use Rattle.board_core.specs.Awaiting.{AwaitsClients}
 use Rattle.board_core.specs.Views.{BoardView, needed_at, state}
 use Rattle.board_core.specs.Working.{IsNeeded}
-
-pub not_stopped : (o : Option StopReason) → is_some o ≡ false → o ≡ None
-not_stopped None e = refl
-not_stopped (Some reason) e = let never : ⊥ = cc in absurd never
 
 module _ (v : BoardView) (job : NodeJob) where
   pub unneeded : (IsNeeded v job → ⊥) → IsTrue false ↔ IsNeeded v job

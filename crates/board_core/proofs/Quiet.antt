@@ -1,5 +1,6 @@
 -- Where nothing comes next, whatever the behaviour may do.
 use Rattle.std.proofs.Common.{◌≡◌, ◌↔◌, List, [], refl, sym, ap, ◌∙◌, inl, inr, Option, Some, None, is_some, Bool, true, false, not, IsTrue}
+use Rattle.std.proofs.lemmas.Bool.{false_from_ne_true}
 use Rattle.spec_core.specs.declared.settings.Settings.{Settings}
 use Rattle.spec_core.specs.Code.{Program}
 use Rattle.rule_model.specs.Derivations.{Derivation}
@@ -34,13 +35,6 @@ nothing_waits : (lists : TreeQuery → List Derivation) (by : List PendingOffer)
     nothing ≡ next_of lists (record { pending = []; asks = []; by_client = by; all_wait = false })
 nothing_waits lists by = always_nothing (first (lists any)) (first (lists any_beyond))
 
-not_all : (b : Bool) → (b ≡ true → ⊥) → b ≡ false
-not_all b never = by_case b refl
-  where
-    by_case : (x : Bool) → b ≡ x → b ≡ false
-    by_case true e = absurd (never e)
-    by_case false e = e
-
 -- whether a session waits for its clients
 pub awaits_by : (s : State) (b : Bool) → s.pending ≡ [] → (IsTrue b ↔ AllWait s) →
     (IsTrue (not b) → AwaitsClients s) × (AwaitsClients s → IsTrue (not b))
@@ -51,7 +45,7 @@ awaits_by s false none waits = (λ h. record { none = none; some = λ all. let e
 asked_awaiting : (s : State) → AwaitsClients s →
     waiting_in s ≡ record { pending = []; asks = []; by_client = by_client s.pending; all_wait = false }
 asked_awaiting s awaits =
-    let waits = not_all (waiting_in s).all_wait (λ h. awaits.some ((all_wait_is_decided s).0 h)) in
+    let waits = false_from_ne_true (waiting_in s).all_wait (λ h. awaits.some ((all_wait_is_decided s).0 h)) in
     ap (λ (ps : List PendingOffer). record {
       pending = ps;
       asks = only_asks (by_client ps);

@@ -1,8 +1,10 @@
 -- What searches find is among the trees where they look.
 use Rattle.std.proofs.Common.{◌≡◌, inl, inr, List, [], ◌∷◌, map, refl, subst, Option, Some, None, option_map}
-use Rattle.std.proofs.Common.{Bool, true, false, not, if◌then◌else◌}
+use Rattle.std.proofs.Common.{Bool, true, false, if◌then◌else◌}
+use Rattle.std.proofs.lemmas.Bool.{not-true}
 use Rattle.spec_core.specs.Lists.{IsOneOf}
 use Rattle.spec_core.specs.Theories.{Theory}
+use Rattle.spec_core.proofs.Members.{from_filter, from_flat_map}
 use Rattle.rule_model.specs.Derivations.{Derivation}
 use Rattle.candidate_count.specs.Windows.{Windows}
 use Rattle.candidate_count.specs.Trees.{has_mark}
@@ -21,7 +23,7 @@ use Rattle.candidate_count.proofs.Placed.{sought_plans_are_known}
 use Rattle.candidates.specs.Listed.{kinds_sought, tree_verdict, known_trees}
 use Rattle.board_laws.specs.Complete.{AsksUnmarked, IsSearched}
 use Rattle.board_laws.specs.FollowedLaws.{FoundTreesAreSearched}
-use Rattle.board_laws.proofs.FollowedLists.{from_flat, from_some, from_filter, from_elements, from_places}
+use Rattle.board_laws.proofs.FollowedLists.{from_some, from_elements, from_places}
 use Rattle.board_laws.proofs.FollowedParts.{IsTreeIn}
 
 module _ {A : Type 0} (verdict : A → Option Bool) where
@@ -83,7 +85,7 @@ module _ (theory : Theory) (w : Windows) (t : Shape) (q : TreeQuery) (d : Deriva
       let p = l.plan in
       let f = from_filter (is_wanted (for_offer q)) d (trees_searched theory w (for_offer q) p) l.wanted in
       let o = from_some (slots_asked theory w (for_offer q) p) (λ choices. trees_at_once theory w p.fields p.plan choices) d f.0 in
-      let r = from_flat (λ own. trees_of theory w p.plan own) d (choices_at_once p.fields o.0) o.1 in
+      let r = from_flat_map (λ own. trees_of theory w p.plan own) (choices_at_once p.fields o.0) d o.1 in
       record { plan = p; slots = r.0; known = l.known; tree = r.2 }
 
   searched_is_wanted : IsSearched theory w t q d → is_wanted (for_offer q) d ≡ true
@@ -91,14 +93,10 @@ module _ (theory : Theory) (w : Windows) (t : Shape) (q : TreeQuery) (d : Deriva
       let l = looked_at h in
       (from_filter (is_wanted (for_offer q)) d (trees_searched theory w (for_offer q) l.plan) l.wanted).1
 
-not_marked : (b : Bool) → not b ≡ true → b ≡ false
-not_marked true e = let no : ⊥ = cc in absurd no
-not_marked false e = refl
-
 wanted_unmarked : (q : TreeQuery) (d : Derivation) → AsksUnmarked q → is_wanted (for_offer q) d ≡ true → has_mark d ≡ false
-wanted_unmarked (meeting p) d u e = not_marked (has_mark d) e
-wanted_unmarked any d u e = not_marked (has_mark d) e
-wanted_unmarked unseen d u e = not_marked (has_mark d) e
+wanted_unmarked (meeting p) d u e = not-true (has_mark d) e
+wanted_unmarked any d u e = not-true (has_mark d) e
+wanted_unmarked unseen d u e = not-true (has_mark d) e
 wanted_unmarked (beyond p) d u e = absurd u
 wanted_unmarked any_beyond d u e = absurd u
 wanted_unmarked (beyond_or_unseen p) d u e = absurd u

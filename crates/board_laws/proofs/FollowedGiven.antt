@@ -1,9 +1,10 @@
 -- A tree by which a behaviour does something chooses values alone.
-use Rattle.std.proofs.Common.{ℕ, List, [], ◌∷◌, ◌++◌}
+use Rattle.std.proofs.Common.{ℕ, List, [], ◌∷◌}
 use Rattle.spec_core.specs.Lists.{Each}
 use Rattle.spec_core.specs.Theories.{Theory}
 use Rattle.spec_core.specs.Terms.{variable}
 use Rattle.spec_core.specs.Code.{Program, ExitValue, exit_given, exit_any, ActionField, give, accept}
+use Rattle.spec_core.proofs.Lists.{each_append}
 use Rattle.rule_model.specs.declared.action.Action.{Action}
 use Rattle.rule_model.specs.declared.action.Action.TheVariants.{Exit}
 use Rattle.rule_model.specs.declared.rules.Slot.{Slot}
@@ -19,10 +20,6 @@ use Rattle.rule_model.specs.Substitution.{Assignment, with_term}
 use Rattle.node_work.specs.Laws.{IsGiven}
 use Rattle.node_trees.specs.Rests.{slots_of}
 use Rattle.board_laws.specs.FollowedLaws.{StepsChooseValues}
-
-each_join : {A : Type 0} (P : A → Type 0) (xs ys : List A) → Each P xs → Each P ys → Each P (xs ++ ys)
-each_join P [] ys h k = k
-each_join P (x ∷ xs) ys h k = (h.0, each_join P xs ys h.1 k)
 
 given_fields : (theory : Theory) (s t : Assignment) (fields : List ActionField) (slots : List Slot) (values : List (List ℕ))
     (u : Assignment) → FieldsHave theory s t fields slots values u → Each IsGiven slots
@@ -56,7 +53,7 @@ module _ (program : Program) where
   given (parl d) s (parallel gates x y) a c h = given d s x a h.0 h.1
   given (parr d) s (parallel gates x y) a c h = given d s y a h.0 h.1
   given (both d e) s (parallel gates x y) a c h =
-      each_join IsGiven (slots_of d) (slots_of e) (given d s x a h.0 h.2) (given e s y a h.1 h.3)
+      each_append IsGiven (slots_of d) (slots_of e) (given d s x a h.0 h.2) (given e s y a h.1 h.3)
   given (hiding d) s (hide gates body) a c h = given d s body (doing h.0 h.1) h.2 h.3
   given (pass d) s (hide gates body) a c h = given d s body a h.0 h.1
   given (enstep d) s (enable x xs y) a c h = given d s x a h.0 h.1

@@ -4,6 +4,7 @@ use Rattle.std.proofs.Common.{if◌then◌else◌}
 use Rattle.spec_core.specs.Lists.{IsOneOf}
 use Rattle.spec_core.specs.Theories.{Theory}
 use Rattle.spec_core.specs.Code.{Relabelling, Synchronised}
+use Rattle.spec_core.proofs.Members.{from_flat_map, one_parts, from_map}
 use Rattle.rule_model.specs.declared.rules.Slot.{Slot}
 use Rattle.rule_model.specs.Derivations.{Derivation, chl, chr, parl, parr, both, hiding, pass, enstep, enend, disstep, disend, distake, rel}
 use Rattle.candidate_count.specs.Windows.{Windows}
@@ -18,7 +19,7 @@ use Rattle.symbolic_plans.specs.OpenPlans.{OpenPlan, under_row, under_relabellin
 use Rattle.symbolic_plans.specs.OpenPlans.{turned_by, plan_by_enabling, plan_by_disabling}
 use Rattle.node_trees.specs.Shapes.{choosing, beside, disabling}
 use Rattle.candidate_count.specs.Known.{PlanOrGap, turned, each_turned, partners, over_two}
-use Rattle.board_laws.proofs.FollowedLists.{from_join, from_map, from_flat, from_some, from_test, only_one, from_elements, from_places}
+use Rattle.board_laws.proofs.FollowedLists.{from_some, from_test, only_one, from_elements, from_places}
 use Rattle.board_laws.proofs.FollowedLists.{same_element, no_gap}
 
 module _ (theory : Theory) (w : Windows) where
@@ -44,7 +45,7 @@ module _ (theory : Theory) (w : Windows) where
     pub among_right : IsTreeIn qs right
 
   in_either : (ps qs : List PlanOrGap) (d : Derivation) → IsTreeIn (ps ++ qs) d → IsTreeIn ps d ⊎ IsTreeIn qs d
-  in_either ps qs d h = by_side (from_join (element h.plan) ps qs h.known)
+  in_either ps qs d h = by_side (one_parts (element h.plan) ps qs h.known)
     where
       by_side : IsOneOf (element h.plan) ps ⊎ IsOneOf (element h.plan) qs → IsTreeIn ps d ⊎ IsTreeIn qs d
       by_side (inl i) = inl (record { plan = h.plan; slots = h.slots; known = i; tree = h.tree })
@@ -54,7 +55,7 @@ module _ (theory : Theory) (w : Windows) where
   below_is : (row : Row) (ps : List PlanOrGap) (q : OpenPlan) (slots : List (List Slot)) (d : Derivation) → IsOneOf (element q) ps →
       IsOneOf d (trees_of theory w (below row q.plan) slots) → IsOver (put_row row) ps d
   below_is row ps q slots d i h =
-      let r = from_map (put_row row) d (trees_of theory w q.plan slots) h in
+      let r = from_map (put_row row) (trees_of theory w q.plan slots) d h in
       record { part = r.0; same = r.2; among = record { plan = q; slots = slots; known = i; tree = r.1 } }
 
   -- below a rule that closes open fields
@@ -64,8 +65,8 @@ module _ (theory : Theory) (w : Windows) where
       IsOver rule ps d
   closed_is rule ps q d i h =
       let those = choices_at_once q.fields (all_choices theory w [] q.fields) in
-      let r = from_map rule d (flat_map (λ choices. trees_of theory w q.plan choices) those) h in
-      let s = from_flat (λ choices. trees_of theory w q.plan choices) r.0 those r.1 in
+      let r = from_map rule (flat_map (λ choices. trees_of theory w q.plan choices) those) d h in
+      let s = from_flat_map (λ choices. trees_of theory w q.plan choices) those r.0 r.1 in
       record { part = r.0; same = r.2; among = record { plan = q; slots = s.0; known = i; tree = s.2 } }
 
   -- the plan in whose place another stands
@@ -180,8 +181,8 @@ module _ (theory : Theory) (w : Windows) where
       (from_option (all_together theory p.fields q.fields) (λ fields. paired_plan p q fields ∷ [])) h.plan made) in
       let same = only_one h.plan (paired_plan p q joint.0) joint.1 in
       let tree = joint_tree p q h.plan joint.0 h.slots d same h.tree in
-      let left = from_flat (λ left. map (both left) (trees_of theory w q.plan h.slots)) d (trees_of theory w p.plan h.slots) tree in
-      let right = from_map (both left.0) d (trees_of theory w q.plan h.slots) left.2 in
+      let left = from_flat_map (λ left. map (both left) (trees_of theory w q.plan h.slots)) (trees_of theory w p.plan h.slots) d tree in
+      let right = from_map (both left.0) (trees_of theory w q.plan h.slots) d left.2 in
       record {
         left = left.0;
         right = right.0;

@@ -2,6 +2,7 @@
 use Rattle.std.proofs.Common.{◌≡◌, ◌⊎◌, inl, inr, List, [], ◌∷◌, refl, sym, subst, Option, Some, None}
 use Rattle.spec_core.specs.Lists.{OneOf}
 use Rattle.spec_core.specs.Code.{Program}
+use Rattle.spec_core.proofs.Members.{each_one}
 use Rattle.rule_model.specs.declared.action.Action.{Action}
 use Rattle.rule_model.specs.declared.action.Action.TheVariants.{Exit}
 use Rattle.rule_model.specs.Actions.{doing}
@@ -19,7 +20,7 @@ use Rattle.candidate_count.specs.Known.{PlanOrGap, plans_at, known_plans}
 use Rattle.node_work.specs.Ways.{HasWays}
 use Rattle.board_laws.specs.Complete.{IsComplete, AreComplete}
 use Rattle.board_laws.specs.FollowedLaws.{SearchedTreesFollow}
-use Rattle.board_laws.proofs.FollowedLists.{each_has, from_elements, no_gap, only_one}
+use Rattle.board_laws.proofs.FollowedLists.{from_elements, no_gap, only_one}
 use Rattle.board_laws.proofs.FollowedGiven.{steps_choose_values}
 use Rattle.board_laws.proofs.FollowedParts.{IsTreeIn, IsOver, IsBoth, over_hiding, over_enabling, over_relabelling, over_choice, over_disabling}
 use Rattle.board_laws.proofs.FollowedParts.{over_parallel}
@@ -48,7 +49,7 @@ module _ (program : Program) (w : Windows) where
       Derives program (meaning program n.source) d a c → IsDone o d
   at_node n None complete d a c h k = no_gap h.plan n.generation (only_one (element h.plan) (gap n.generation) h.known)
   at_node n (Some x) complete d a c h k =
-      let ways = each_has (HasWays program (meaning program n.source) x.ways) h.plan x.plans (complete x refl)
+      let ways = each_one (HasWays program (meaning program n.source) x.ways) x.plans h.plan (complete x refl)
       (from_elements h.plan x.plans h.known) in
       filled x.ways d (ways w h.slots d a c h.tree (steps_choose_values program (meaning program n.source) d a c k) k)
 

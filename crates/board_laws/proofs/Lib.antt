@@ -17,7 +17,6 @@ pub mod Steps
 pub mod StoppingGiven
 pub mod StoppingParts
 pub mod Those
-pub use Rattle.candidate_count.proofs.Trees
 pub use Rattle.node_values.proofs.Splitting
 pub use Rattle.node_work.proofs.Top
 pub use Rattle.symbolic_plans.proofs.Own

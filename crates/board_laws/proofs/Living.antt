@@ -4,6 +4,8 @@ use Rattle.std.proofs.Common.{if◌then◌else◌}
 use Rattle.spec_core.specs.Lists.{Each, IsOneOf}
 use Rattle.spec_core.specs.Theories.{Theory}
 use Rattle.spec_core.specs.Code.{Synchronised}
+use Rattle.spec_core.proofs.Members.{each_one}
+use Rattle.spec_core.proofs.Lists.{each_flat_map, each_append, each_implied}
 use Rattle.rule_model.specs.Derivations.{Derivation}
 use Rattle.rule_model.specs.States.{PendingOffer}
 use Rattle.candidate_count.specs.Windows.{Windows}
@@ -31,7 +33,7 @@ use Rattle.candidates.specs.Jobs.{NodeJob, to_expand, to_judge, jobs_of, all_job
 use Rattle.board_laws.specs.Needed.{jobs_needed, generation_of, Waits, IsOfRules, IsGapOfQuery, IsPartOfTree, IsUndone}
 use Rattle.board_laws.specs.NeededLaws.{NeededJobsLive, NeededJobsAreUndone, NeededNodesAreGaps, NeededPartsAreOfTrees}
 use Rattle.board_laws.proofs.Elements.{AreElements, elements_listed}
-use Rattle.board_laws.proofs.NeededLists.{each_join, each_flat, each_map, each_more, each_listed, at_element}
+use Rattle.board_laws.proofs.NeededLists.{each_map, each_listed}
 
 -- P holds of the number of each gap
 abbrev AreGaps : {A : Type 0} → (ℕ → Type 0) → List (OrGap A) → Type 0
@@ -180,7 +182,7 @@ module _ {P J : Type 0} (Q : J → Type 0) (missing every_missing : Query P → 
 
   -- a search, and what comes behind it
   search : (b : Bool) (js xs ys : List J) → Each Q js → Each Q xs → Each Q ys → Each Q (js ++ when b xs ys)
-  search b js xs ys g h k = each_join Q js (when b xs ys) g (chosen b xs ys h k)
+  search b js xs ys g h k = each_append Q js (when b xs ys) g (chosen b xs ys h k)
 
   in_turn : (query : P → Query P) (ps : List P) (rest : List J) → Each (λ p. IsOfRules w (query p)) ps → Each Q rest →
       Each Q (first_needed missing every_missing is_there w query ps rest)
@@ -194,7 +196,7 @@ module _ {P J : Type 0} (Q : J → Type 0) (missing every_missing : Query P → 
       search (is_there unseen) (every_missing unseen) [] (first_needed missing every_missing is_there w beyond_or_unseen w.by_client [])
       (alls unseen (none, all)) tt
       (in_turn beyond_or_unseen w.by_client []
-      (each_more (λ p. IsOneOf p w.by_client) (λ p. IsOfRules w (beyond_or_unseen p)) (λ p i. (i, none, all)) w.by_client
+      (each_implied (λ p. IsOneOf p w.by_client) (λ p. IsOfRules w (beyond_or_unseen p)) w.by_client (λ p i. (i, none, all))
       (each_listed w.by_client)) tt)
 
   asks : (ps : List P) → w.asks ≡ ps → Each Q (asked_needed missing every_missing is_there w ps)
@@ -256,7 +258,7 @@ module _ (theory : Theory) (w : Windows) (t : Shape) (pieces : Pieces) (state : 
         })
 
     all_are : (xs : List (Question Derivation)) → Each (OfQuestion Awaited Listed) xs → Each IsIts (all_jobs pieces t xs)
-    all_are xs h = each_flat IsIts (OfQuestion Awaited Listed) (jobs_of pieces t) jobs_are xs h
+    all_are xs h = each_flat_map (OfQuestion Awaited Listed) IsIts (jobs_of pieces t) xs jobs_are h
 
     trees_wait : AreGaps Awaited (known_trees theory w t q)
     trees_wait =
@@ -280,7 +282,7 @@ module _ (theory : Theory) (w : Windows) (t : Shape) (pieces : Pieces) (state : 
 
   each_is_its : (job : NodeJob) → IsOneOf job (jobs_needed theory w t pieces state) → IsIts job
   each_is_its job i =
-      at_element IsIts job (jobs_needed theory w t pieces state)
+      each_one IsIts (jobs_needed theory w t pieces state) job
       (each_needed IsIts (λ q. all_jobs pieces t (asked_for_first theory w pieces t q))
       (λ q. all_jobs pieces t (asked_for_all theory w pieces t q)) (is_known_to_hold theory w pieces t) state first_are every_are) i
 

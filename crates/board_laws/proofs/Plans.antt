@@ -4,6 +4,8 @@ use Rattle.std.proofs.Common.{true, false, length, if◌then◌else◌}
 use Rattle.spec_core.specs.Code.{Program, Synchronised}
 use Rattle.spec_core.specs.Lists.{Each, IsOneOf}
 use Rattle.spec_core.specs.Theories.{Theory}
+use Rattle.spec_core.proofs.Lists.{each_implied}
+use Rattle.spec_core.proofs.Members.{one_flat_map, one_map, one_left, one_parts, one_right}
 use Rattle.rule_model.specs.Derivations.{Derivation}
 use Rattle.candidate_count.specs.Windows.{Windows}
 use Rattle.candidate_count.specs.MarkedTerms.{unmarked}
@@ -28,20 +30,13 @@ use Rattle.candidate_count.specs.Known.{sought_plans}
 use Rattle.candidate_count.proofs.Placed.{sought_plans_are_known}
 use Rattle.candidates.specs.Listed.{kinds_sought, known_trees}
 use Rattle.board_laws.proofs.Elements.{AreElements, elements_more, elements_listed, element_holds}
-use Rattle.board_laws.proofs.NeededLists.{each_more, each_listed}
-use Rattle.candidates.proofs.Members.{mapped}
+use Rattle.board_laws.proofs.NeededLists.{each_listed}
 use Rattle.candidate_count.specs.Laws.{AreOwnPlans}
 use Rattle.candidate_count.proofs.Sums.{plans_or, all_over_two, all_plans}
 use Rattle.candidate_count.proofs.Below.{own, whole_own}
 use Rattle.symbolic_plans.proofs.Own.{own_plans_are_those}
-use Rattle.board_laws.proofs.StoppingParts.{one_left, one_right, one_part}
 
 -- elements of lists that are made of others
-
-in_flat : {A B : Type 0} (f : A → List B) (x : A) (xs : List A) → IsOneOf x xs → (y : B) → IsOneOf y (f x) → IsOneOf y (flat_map f xs)
-in_flat f x [] i y j = absurd i
-in_flat f x (z ∷ xs) (inl e) y j = one_left y (f z) (flat_map f xs) (subst (λ u. IsOneOf y (f u)) e j)
-in_flat f x (z ∷ xs) (inr i) y j = one_right y (f z) (flat_map f xs) (in_flat f x xs i y j)
 
 of_element : {A : Type 0} (x : A) (xs : List A) → IsOneOf (element x) (map element xs) → IsOneOf x xs
 of_element x [] i = absurd i
@@ -77,7 +72,7 @@ module _ (R S : OpenPlan → Type 0) where
       (ps : List PlanOrGap) → AreElements R ps → AreElements S (each_turned f ps)
   elements_each f h ps k =
       elements_placed R S (λ p. map element (f p))
-      (λ p r. elements_of S (f p) (each_more (λ q. IsOneOf q (f p)) S (h p r) (f p) (each_listed (f p)))) ps k
+      (λ p r. elements_of S (f p) (each_implied (λ q. IsOneOf q (f p)) S (f p) (h p r) (each_listed (f p)))) ps k
 
 -- this plan is one of these
 abbrev Among : List OpenPlan → OpenPlan → Type 0
@@ -105,8 +100,8 @@ module _ (theory : Theory) where
         by_test true =
             elements_each (Among every) both_sides (plans_joint theory gates p)
             (λ q j r m. one_right r lefts (rights ++ joints) (one_right r rights joints
-            (in_flat (λ p. flat_map (plans_joint theory gates p) every) p all i r
-            (in_flat (plans_joint theory gates p) q every j r m)))) qs k
+            (one_flat_map (λ p. flat_map (plans_joint theory gates p) every) p all r i
+            (one_flat_map (plans_joint theory gates p) q every r j m)))) qs k
         by_test false = tt
 
     beside_each_other : AreElements both_sides (over_two theory (beside gates) ps qs)
@@ -116,10 +111,10 @@ module _ (theory : Theory) where
         let both = flat_map (in_its_place (partners theory gates qs)) ps in
         elements_join both_sides left (right ++ both)
         (elements_each (Among all) both_sides (plans_alone gates Parl)
-        (λ p i r m. one_left r lefts (rights ++ joints) (in_flat (plans_alone gates Parl) p all i r m)) ps h)
+        (λ p i r m. one_left r lefts (rights ++ joints) (one_flat_map (plans_alone gates Parl) p all r i m)) ps h)
         (elements_join both_sides right both
         (elements_each (Among every) both_sides (plans_alone gates Parr)
-        (λ q i r m. one_right r lefts (rights ++ joints) (one_left r rights joints (in_flat (plans_alone gates Parr) q every i r m))) qs k)
+        (λ q i r m. one_right r lefts (rights ++ joints) (one_left r rights joints (one_flat_map (plans_alone gates Parr) q every r i m))) qs k)
         (elements_placed (Among all) both_sides (partners theory gates qs) with_partners ps h))
 
   apart : (f g : OpenPlan → OpenPlan) (all every : List OpenPlan) (ps qs : List PlanOrGap) → AreElements (Among all) ps →
@@ -127,8 +122,8 @@ module _ (theory : Theory) where
   apart f g all every ps qs h k =
       let whole = Among (map f all ++ map g every) in
       elements_join whole (map (turned f) ps) (map (turned g) qs)
-      (elements_turned (Among all) whole f (λ p i. one_left (f p) (map f all) (map g every) (mapped f all p i)) ps h)
-      (elements_turned (Among every) whole g (λ q i. one_right (g q) (map f all) (map g every) (mapped g every q i)) qs k)
+      (elements_turned (Among all) whole f (λ p i. one_left (f p) (map f all) (map g every) (one_map f p all i)) ps h)
+      (elements_turned (Among every) whole g (λ q i. one_right (g q) (map f all) (map g every) (one_map g q every i)) qs k)
 
   two : (o : Binary) (all every : List OpenPlan) (ps qs : List PlanOrGap) → AreElements (Among all) ps → AreElements (Among every) qs →
       AreElements (Among (all_over_two theory o all every)) (over_two theory o ps qs)
@@ -147,7 +142,7 @@ module _ (theory : Theory) where
     known_among ended = tt
     known_among (over o x) =
         let all = all_plans theory of_node x in
-        elements_turned (Among all) (Among (map (over_one o) all)) (over_one o) (λ p i. mapped (over_one o) all p i) (known_plans theory x)
+        elements_turned (Among all) (Among (map (over_one o) all)) (over_one o) (λ p i. one_map (over_one o) p all i) (known_plans theory x)
         (known_among x)
     known_among (between o x y) =
         two o (all_plans theory of_node x) (all_plans theory of_node y) (known_plans theory x) (known_plans theory y) (known_among x)
@@ -178,7 +173,7 @@ module _ (theory : Theory) (w : Windows) (q : TreeQuery) where
   of_plans R (gap g ∷ ps) h d (inl e) = let never : ⊥ = cc in absurd never
   of_plans R (gap g ∷ ps) h d (inr i) = of_plans R ps h d i
   of_plans R (element p ∷ ps) h d i =
-      by_part (one_part (element d) (map element (looked_at p)) (flat_map (in_its_place (λ p. map element (looked_at p))) ps) i)
+      by_part (one_parts (element d) (map element (looked_at p)) (flat_map (in_its_place (λ p. map element (looked_at p))) ps) i)
       (λ j. of_plans R ps h.1 d j)
     where
       by_part : IsOneOf (element d) (map element (looked_at p)) ⊎
@@ -205,6 +200,6 @@ listed_of_composite program e w q t origins d i =
           subst (λ (cs : List Composite). IsOneOf (composite_of program.theory w x.plan) cs)
           (ap (composites_of program.theory w) (whole_own program e w t origins)
           ∙ own_plans_are_those program.theory e w (length program.code) unmarked (stands_for program t))
-          (mapped (composite_of program.theory w) all x.plan x.holds);
+          (one_map (composite_of program.theory w) x.plan all x.holds);
       tree = subst (λ (ds : List Derivation). IsOneOf d ds) (searches_find_all program.theory w q x.plan) x.tree;
     }

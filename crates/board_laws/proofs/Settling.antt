@@ -3,6 +3,8 @@ use Rattle.std.proofs.Common.{ℕ, ◌≡◌, List, [], ◌∷◌, flat_map, ref
 use Rattle.std.proofs.Common.{if◌then◌else◌}
 use Rattle.std.specs.Prelude.{is_some}
 use Rattle.spec_core.specs.Theories.{Theory}
+use Rattle.spec_core.proofs.Lists.{left_empty}
+use Rattle.spec_core.proofs.Options.{not_mapped}
 use Rattle.rule_model.specs.Derivations.{Derivation}
 use Rattle.rule_model.specs.States.{PendingOffer}
 use Rattle.candidate_count.specs.Windows.{Windows}
@@ -21,7 +23,7 @@ use Rattle.candidates.specs.Listed.{tree_verdict, known_trees, first_tree, all_t
 use Rattle.candidates.specs.Jobs.{to_judge, jobs_of, all_jobs}
 use Rattle.board_laws.specs.Needed.{jobs_needed, entry_decided}
 use Rattle.board_laws.specs.NeededLaws.{NothingNeededIsDecided}
-use Rattle.board_laws.proofs.NeededLists.{left_empty, map_empty}
+use Rattle.board_laws.proofs.NeededLists.{map_empty}
 use Rattle.board_laws.proofs.Settled.{IsDecided, IsFirst, AreAll, settled}
 
 -- A search that asks nothing, where each question that it may ask has a job.
@@ -57,10 +59,6 @@ module _ {A J : Type 0} (verdict : A → Option Bool) (jobs : Question A → Lis
       by_verdict (Some true) t h n =
           let r = h n in record { found = a ∷ r.found; is = ap (option_map (λ xs. a ∷ xs)) r.is; same = refl }
       by_verdict (Some false) t h n = h n
-
-not_mapped : {A B : Type 0} (f : A → B) (o : Option A) → option_map f o ≡ None → o ≡ None
-not_mapped f None e = refl
-not_mapped f (Some a) e = let no : ⊥ = cc in absurd no
 
 module _ (theory : Theory) (w : Windows) (t : Shape) (pieces : Pieces) where
   gaps_have_jobs : (g : ℕ) → jobs_of pieces t (expand g) ≡ [] → ⊥

@@ -1,7 +1,8 @@
 -- The parts of a tree of rules that are missing at nodes are those by which the origins of these nodes act.
-use Rattle.std.proofs.Common.{◌≡◌, ◌⊎◌, inl, inr, ⊎_elim, List, [], ◌∷◌, ◌++◌, refl, sym, ap, subst, Some, None}
+use Rattle.std.proofs.Common.{◌≡◌, inl, inr, ⊎_elim, List, [], ◌∷◌, refl, sym, ap, subst, Some, None}
 use Rattle.spec_core.specs.Code.{Program}
 use Rattle.spec_core.specs.Lists.{IsOneOf}
+use Rattle.spec_core.proofs.Members.{one_parts}
 use Rattle.rule_model.specs.Behaviours.{Behaviour}
 use Rattle.rule_model.specs.Derivations.{Derivation, chl, chr, parl, parr, both, hiding, pass, enstep, enend, disstep, disend, distake, rel}
 use Rattle.decision_trees.specs.Known.{unless_known}
@@ -12,20 +13,6 @@ use Rattle.candidate_verdicts.specs.Parts.{part_under, sides_under}
 use Rattle.candidate_verdicts.specs.Known.{KnownShow, Pieces, NodePart, node_part, parts_under, parts_between, missing_parts}
 use Rattle.board_laws.specs.Participants as acting
 use Rattle.board_laws.specs.Participants.{ActsIn, itself}
-
-pub one_left : {A : Type 0} (x : A) (xs ys : List A) → IsOneOf x xs → IsOneOf x (xs ++ ys)
-one_left x [] ys i = absurd i
-one_left x (y ∷ xs) ys (inl e) = inl e
-one_left x (y ∷ xs) ys (inr i) = inr (one_left x xs ys i)
-
-pub one_right : {A : Type 0} (x : A) (xs ys : List A) → IsOneOf x ys → IsOneOf x (xs ++ ys)
-one_right x [] ys i = i
-one_right x (y ∷ xs) ys i = inr (one_right x xs ys i)
-
-pub one_part : {A : Type 0} (x : A) (xs ys : List A) → IsOneOf x (xs ++ ys) → IsOneOf x xs ⊎ IsOneOf x ys
-one_part x [] ys i = inr i
-one_part x (z ∷ xs) ys (inl e) = inl (inl e)
-one_part x (z ∷ xs) ys (inr i) = ⊎_elim (λ l. inl (inr l)) (λ r. inr r) (one_part x xs ys i)
 
 module _ (program : Program) where
   -- by the tree d of rules the origin of the part's node acts by the part
@@ -108,7 +95,7 @@ module _ (program : Program) where
     under_two (beside gates) (both d e) q i =
         ⊎_elim (λ l. at_first (beside gates) x y d (both d e) q (λ c a. acting.first_of_both gates left right d e a) (h d q l))
         (λ r. at_second (beside gates) x y e (both d e) q (λ c a. acting.second_of_both gates left right d e a) (k e q r))
-        (one_part q (parts d) (others e) i)
+        (one_parts q (parts d) (others e) i)
     under_two disabling (disstep d) q i = at_first disabling x y d (disstep d) q (λ c a. acting.undisabled left right d a) (h d q i)
     under_two disabling (disend d) q i = at_first disabling x y d (disend d) q (λ c a. acting.undisabled_end left right d a) (h d q i)
     under_two disabling (distake d) q i = at_second disabling x y d (distake d) q (λ c a. acting.disabling left right d a) (k d q i)

@@ -2,23 +2,24 @@
 use Rattle.std.proofs.Common.{◌≡◌, ◌∙◌, sym, ap, subst, List, [], ◌∷◌, ◌++◌, Contains, Bool, Some, None}
 use Rattle.std.proofs.Common.{if◌then◌else◌}
 use Rattle.std.specs.List.{filter}
+use Rattle.std.proofs.lemmas.List.Elements.{Contains-push_cases}
 use Rattle.spec_core.specs.Code.{Program}
+use Rattle.spec_core.proofs.Members.{contains_first, contains_later, contains_none}
 use Rattle.rule_model.specs.Events.{Event, pended, acted, replied, stalled, left}
 use Rattle.rule_model.specs.Legal.{IsPossible}
 use Rattle.rule_model.specs.States.{PendingOffer, State}
-use Rattle.log_states.proofs.Members.{none_in, first_in, later_in}
 use Rattle.log_states.proofs.Tests.{by_cases, on_either}
 use Rattle.board_offers.specs.Laws.{PendingClientsDiffer}
 use Rattle.board_offers.specs.Waiting.{AreOfDifferentClients}
-use Rattle.board_offers.proofs.Members.{in_behind, in_filtered}
+use Rattle.board_offers.proofs.Members.{in_filtered}
 
 -- one more offer, of another client
 behind_differ : (ps : List PendingOffer) (p : PendingOffer) → AreOfDifferentClients ps →
     ((q : PendingOffer) → Contains ps q → q.client ≡ p.client → ⊥) → AreOfDifferentClients (ps ++ p ∷ [])
-behind_differ [] p d h = (λ q k e. none_in q k, tt)
+behind_differ [] p d h = (λ q k e. contains_none q k, tt)
 behind_differ (q ∷ qs) p d h = (
-  λ x k e. on_either (in_behind qs p x k) (λ m. d.0 x m e) (λ f. h q (first_in q qs) (sym (ap (λ z. z.client) f ∙ e))),
-  behind_differ qs p d.1 (λ x k. h x (later_in q x qs k)),
+  λ x k e. on_either (Contains-push_cases qs p x k) (λ m. d.0 x m e) (λ f. h q (contains_first q qs) (sym (ap (λ z. z.client) f ∙ e))),
+  behind_differ qs p d.1 (λ x k. h x (contains_later q x qs k)),
 )
 
 -- some of the offers

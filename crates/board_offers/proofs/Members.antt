@@ -1,46 +1,25 @@
 -- Elements of lists of offers.
 use Rattle.std.proofs.Common.{◌≡◌, refl, sym, ap, subst}
-use Rattle.std.proofs.Common.{List, [], ◌∷◌, ◌++◌, map, Contains, Bool, true, false, nat_lt, if◌then◌else◌, ◌⊎◌, inl, inr}
+use Rattle.std.proofs.Common.{List, [], ◌∷◌, map, Contains, Bool, true, false, nat_lt, if◌then◌else◌, ◌⊎◌, inl, inr}
 use Rattle.std.specs.List.{filter}
 use Rattle.spec_core.specs.Lists.{IsOneOf}
+use Rattle.spec_core.proofs.Members.{contains_first, contains_one, contains_later, one_contained, contains_none}
 use Rattle.rule_model.specs.States.{PendingOffer}
-use Rattle.log_states.proofs.Members.{none_in, first_in, later_in, in_cases}
+use Rattle.log_states.proofs.Members.{in_cases}
 use Rattle.log_states.proofs.Tests.{by_cases, on_either}
 use Rattle.board_offers.specs.Waiting.{insert_by_client, by_client, only_asks}
 
--- the two ways to say that x is an element
-
-pub listed : {X : Type 0} (xs : List X) (x : X) → Contains xs x → IsOneOf x xs
-listed [] x h = absurd (none_in x h)
-listed (y ∷ ys) x h = on_either (in_cases y x ys h) (λ e. inl (sym e)) (λ k. inr (listed ys x k))
-
-pub held : {X : Type 0} (xs : List X) (x : X) → IsOneOf x xs → Contains xs x
-held [] x h = absurd h
-held (y ∷ ys) x (inl e) = subst (λ z. Contains (y ∷ ys) z) (sym e) (first_in y ys)
-held (y ∷ ys) x (inr k) = later_in y x ys (held ys x k)
-
 -- elements of lists that are made from others
 
-pub in_behind : {X : Type 0} (ys : List X) (x y : X) → Contains (ys ++ x ∷ []) y → Contains ys y ⊎ (x ≡ y)
-in_behind [] x y h = on_either (in_cases x y [] h) (λ e. inr e) (λ k. absurd (none_in y k))
-in_behind (z ∷ zs) x y h = on_either (in_cases z y (zs ++ x ∷ []) h)
-    (λ e. inl (subst (λ u. Contains (z ∷ zs) u) e (first_in z zs)))
-    (λ k. on_either (in_behind zs x y k) (λ m. inl (later_in z y zs m)) (λ e. inr e))
-
 pub in_filtered : {X : Type 0} (test : X → Bool) (xs : List X) (x : X) → Contains (filter test xs) x → Contains xs x
-in_filtered test [] x h = absurd (none_in x h)
+in_filtered test [] x h = absurd (contains_none x h)
 in_filtered test (y ∷ ys) x h = by_cases (test y)
     (λ e. on_either (in_cases y x (filter test ys)
     (subst (λ zs. Contains zs x) (ap (λ b. if b then y ∷ filter test ys else filter test ys) e) h))
-    (λ f. subst (λ z. Contains (y ∷ ys) z) f (first_in y ys))
-    (λ k. later_in y x ys (in_filtered test ys x k)))
-    (λ e. later_in y x ys (in_filtered test ys x
+    (λ f. subst (λ z. Contains (y ∷ ys) z) f (contains_first y ys))
+    (λ k. contains_later y x ys (in_filtered test ys x k)))
+    (λ e. contains_later y x ys (in_filtered test ys x
     (subst (λ zs. Contains zs x) (ap (λ b. if b then y ∷ filter test ys else filter test ys) e) h)))
-
-pub mapped : {X Y : Type 0} (f : X → Y) (xs : List X) (x : X) → IsOneOf x xs → IsOneOf (f x) (map f xs)
-mapped f [] x h = absurd h
-mapped f (y ∷ ys) x (inl e) = inl (ap f e)
-mapped f (y ∷ ys) x (inr k) = inr (mapped f ys x k)
 
 pub record ComesFrom {X Y : Type 0} (f : X → Y) (xs : List X) (y : Y) : Type 0 where
   pub element : X
@@ -87,4 +66,4 @@ by_client_in [] x h = h
 by_client_in (p ∷ ps) x h = inserted_in p x (by_client ps) (on_either h (λ e. inl e) (λ k. inr (by_client_in ps x k)))
 
 pub in_asks : (ps : List PendingOffer) (x : PendingOffer) → IsOneOf x (only_asks ps) → IsOneOf x ps
-in_asks ps x h = listed ps x (in_filtered (λ p. p.ask) ps x (held (only_asks ps) x h))
+in_asks ps x h = one_contained x ps (in_filtered (λ p. p.ask) ps x (contains_one x (only_asks ps) h))

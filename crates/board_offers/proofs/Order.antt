@@ -3,15 +3,15 @@ use Rattle.std.proofs.Common.{◌≤◌, ◌≡◌, ◌∙◌, refl, sym, ap, su
 use Rattle.std.proofs.Common.{if◌then◌else◌, inl, Some, option_map}
 use Rattle.std.proofs.lemmas.Bool.{ltb-true, ltb-false}
 use Rattle.spec_core.specs.Lists.{IsOneOf}
+use Rattle.spec_core.proofs.Members.{contains_first, contains_one, contains_later, one_contained, contains_none}
 use Rattle.decision_trees.specs.Lazy.{first}
 use Rattle.rule_model.specs.Answering.{name_of}
 use Rattle.rule_model.specs.States.{PendingOffer}
-use Rattle.log_states.proofs.Members.{none_in, first_in, later_in}
 use Rattle.log_states.proofs.Tests.{by_cases, on_either}
 use Rattle.board_offers.specs.Laws.{LeastIsLeast}
 use Rattle.board_offers.specs.Numbering.{lesser_name}
 use Rattle.board_offers.specs.Waiting.{insert_by_client, by_client, AreOfDifferentClients}
-use Rattle.board_offers.proofs.Members.{listed, held, goes_behind, goes_before, in_inserted, in_by_client, by_client_in}
+use Rattle.board_offers.proofs.Members.{goes_behind, goes_before, in_inserted, in_by_client, by_client_in}
 
 -- each offer's client is at most that of each later one
 abbrev pub Ascends : List PendingOffer → Type 0
@@ -40,10 +40,10 @@ by_client_ascends (p ∷ ps) = insert_ascends p (by_client ps) (by_client_ascend
 
 pub least_is_least : LeastIsLeast
 least_is_least s p ps e = (
-  held s.pending p (in_by_client s.pending p (subst (λ zs. IsOneOf p zs) (sym e) (inl refl))),
+  contains_one p s.pending (in_by_client s.pending p (subst (λ zs. IsOneOf p zs) (sym e) (inl refl))),
   λ q k.
       let ascends = subst Ascends e (by_client_ascends s.pending) in
-      on_either (subst (λ zs. IsOneOf q zs) e (by_client_in s.pending q (listed s.pending q k)))
+      on_either (subst (λ zs. IsOneOf q zs) e (by_client_in s.pending q (one_contained q s.pending k)))
       (λ f. omega (arith, ap (λ z. z.client) f))
       (λ m. ascends.0 q m),
 )
@@ -52,22 +52,22 @@ least_is_least s p ps e = (
 
 insert_differs : (p : PendingOffer) (qs : List PendingOffer) → AreOfDifferentClients qs →
     ((q : PendingOffer) → Contains qs q → q.client ≡ p.client → ⊥) → AreOfDifferentClients (insert_by_client p qs)
-insert_differs p [] d h = (λ q k e. none_in q k, tt)
+insert_differs p [] d h = (λ q k e. contains_none q k, tt)
 insert_differs p (q ∷ qs) d h = by_cases (nat_lt q.client p.client)
     (λ e. subst AreOfDifferentClients (sym (goes_behind p q qs e))
-    (others, insert_differs p qs d.1 (λ x k. h x (later_in q x qs k))))
+    (others, insert_differs p qs d.1 (λ x k. h x (contains_later q x qs k))))
     (λ e. subst AreOfDifferentClients (sym (goes_before p q qs e)) (h, d))
   where
     others : (x : PendingOffer) → Contains (insert_by_client p qs) x → x.client ≡ q.client → ⊥
-    others x k f = on_either (in_inserted p x qs (listed (insert_by_client p qs) x k))
-        (λ m. h q (first_in q qs) (sym f ∙ ap (λ z. z.client) m))
-        (λ m. d.0 x (held qs x m) f)
+    others x k f = on_either (in_inserted p x qs (one_contained x (insert_by_client p qs) k))
+        (λ m. h q (contains_first q qs) (sym f ∙ ap (λ z. z.client) m))
+        (λ m. d.0 x (contains_one x qs m) f)
 
 pub by_client_differs : (ps : List PendingOffer) → AreOfDifferentClients ps → AreOfDifferentClients (by_client ps)
 by_client_differs [] d = tt
 by_client_differs (p ∷ ps) d =
     insert_differs p (by_client ps) (by_client_differs ps d.1)
-    (λ q k. d.0 q (held ps q (in_by_client ps q (listed (by_client ps) q k))))
+    (λ q k. d.0 q (contains_one q ps (in_by_client ps q (one_contained q (by_client ps) k))))
 
 -- the name of the first one
 

@@ -5,8 +5,8 @@ use Rattle.std.specs.List.{insert}
 use Rattle.std.proofs.lemmas.List.{map-append}
 use Rattle.std.proofs.lemmas.List.Elements.{filter-append}
 use Rattle.spec_core.specs.Lists.{Each}
+use Rattle.spec_core.proofs.Lists.{each_insert, take_next}
 use Rattle.rule_model.specs.States.{PendingOffer}
-use Rattle.log_states.proofs.Members.{taken_next}
 use Rattle.log_states.proofs.Tests.{by_cases}
 use Rattle.board_offers.specs.Laws.{NumbersAreOfOffers}
 use Rattle.board_offers.specs.Numbering.{place_by_client, AreNumbers}
@@ -66,22 +66,12 @@ module _ (offer : ℕ → PendingOffer) where
   asks_next ns i n old new within at e f =
       f ∙ ap (λ qs. qs ++ only_asks (offer n ∷ [])) e ∙ sym (filter-append (λ p. p.ask) (map offer (take i ns)) (offer n ∷ []))
       ∙ ap only_asks (sym (map-append offer (take i ns) (n ∷ [])))
-      ∙ ap (λ ms. only_asks (map offer ms)) (sym (taken_next ns i n within at))
+      ∙ ap (λ ms. only_asks (map offer ms)) (sym (take_next ns i n within at))
 
 -- numbers of offers
 
-pub each_behind : {X : Type 0} (P : X → Type 0) (xs : List X) (x : X) → Each P xs → P x → Each P (xs ++ x ∷ [])
-each_behind P [] x h k = (k, tt)
-each_behind P (y ∷ ys) x h k = (h.0, each_behind P ys x h.1 k)
-
-each_inserted : {X : Type 0} (P : X → Type 0) (xs : List X) (k : ℕ) (x : X) → Each P xs → P x → Each P (insert xs k x)
-each_inserted P [] zero x h p = (p, tt)
-each_inserted P [] (suc k) x h p = (p, tt)
-each_inserted P (y ∷ ys) zero x h p = (p, h)
-each_inserted P (y ∷ ys) (suc k) x h p = (h.0, each_inserted P ys k x h.1 p)
-
 pub inserted_numbers : (count n k : ℕ) (old new : List ℕ) → new ≡ insert old k n → n < count → AreNumbers count old → AreNumbers count new
-inserted_numbers count n k old new e below h = subst (AreNumbers count) (sym e) (each_inserted (λ m. m < count) old k n h below)
+inserted_numbers count n k old new e below h = subst (AreNumbers count) (sym e) (each_insert (λ m. m < count) old k n h below)
 
 pub each_at : {X : Type 0} (P : X → Type 0) (xs : List X) (i : ℕ) (x : X) → Each P xs → i < length xs → x ≡ get_or xs i x → P x
 each_at P [] i x h within at = absurd (omega (arith, within))

@@ -1,5 +1,5 @@
 -- An offer that may be taken may still be, once all was made ready for it.
-use Rattle.std.proofs.Common.{ℕ, ◌≡◌, ◌∙◌, ◌<◌, Bool, true, false, refl, Option, None, Some, is_some, ap, subst, sym}
+use Rattle.std.proofs.Common.{ℕ, ◌≡◌, ◌∙◌, ◌<◌, Bool, true, Some, ap, subst, sym}
 use Rattle.spec_core.specs.declared.settings.Settings.{Settings}
 use Rattle.spec_core.specs.Code.{Program, program_of}
 use Rattle.rule_model.specs.Answering.{name_of}
@@ -7,17 +7,11 @@ use Rattle.rule_model.specs.Derivations.{Derivation}
 use Rattle.rule_model.specs.Events.{OfferName}
 use Rattle.rule_model.specs.States.{State}
 use Rattle.board_laws.specs.Next.{GoesByRules}
-use Rattle.board_laws.specs.declared.stop_reason.StopReason.{StopReason}
 use Rattle.node_trees.specs.Shapes.{Shape}
 use Rattle.board_core.specs.Offers.{offer_at}
 use Rattle.board_core.specs.Settled.{MayFollow}
 use Rattle.board_core.specs.Views.{BoardView, program, state, tree, SameLog, SameNodes, SameSession}
 use Rattle.board_tests.specs.Taking.{MayTake}
-
--- nothing has stopped the session
-pub none_there : (stop : Option StopReason) → is_some stop ≡ false → stop ≡ None
-none_there None e = refl
-none_there (Some reason) e = absurd (let never : ⊥ = cc in never)
 
 module _ (old mid : BoardView) (session : SameSession old mid) (log : SameLog old mid) (nodes : SameNodes old mid)
     (number : ℕ) (d : Derivation) (h : MayTake old number d) where

@@ -1,10 +1,10 @@
 -- Sessions that go on by themselves.
-use Rattle.std.proofs.Common.{ℕ, ◌≡◌, ◌∙◌, refl, sym, ap, subst, List, [], ◌∷◌, ◌++◌, map, append_assoc, append-nil, Option, Some, None, is_some, Bool, false, true, inl, inr}
+use Rattle.std.proofs.Common.{ℕ, ◌≡◌, ◌∙◌, refl, sym, ap, subst, [], ◌∷◌, ◌++◌, map, append_assoc, append-nil, Option, Some, None, is_some, Bool, false, true, inl, inr}
 use Rattle.std.specs.Prelude.{IfSome, IfNone}
 use Rattle.std.proofs.lemmas.List.{append_cancel_left, map-append}
 use Rattle.spec_core.specs.declared.settings.Settings.{Settings}
 use Rattle.spec_core.specs.Code.{Program}
-use Rattle.spec_core.specs.Lists.{Each}
+use Rattle.spec_core.proofs.Lists.{each_append}
 use Rattle.rule_model.specs.declared.log.Entry.{Entry}
 use Rattle.rule_model.specs.declared.reply.LimitKind.TheVariants.{Steps}
 use Rattle.rule_model.specs.Derivations.{Derivation}
@@ -51,10 +51,6 @@ settled_is_own : (old new : BoardView) (event : Event) → IsSettled old new eve
 settled_is_own old new event (settled_next e f next known) = next_is_own (program old) old.settings (state old) event next
 settled_is_own old new event (settled_stopped reason e f told) = told_is_own (state old) reason event told
 settled_is_own old new event (settled_limit e f limit told) = told_is_own (state old) (Limit Steps) event told
-
-each_behind : {A : Type 0} (P : A → Type 0) (xs ys : List A) → Each P xs → Each P ys → Each P (xs ++ ys)
-each_behind P [] ys h k = k
-each_behind P (x ∷ xs) ys h k = (h.0, each_behind P xs ys h.1 k)
 
 -- an entry that the board settles
 pub settles : (old new : BoardView) → SameSetting old new → HasSettled old new → GoesOn old new
@@ -109,7 +105,7 @@ onward a b c x y = record {
   );
   more = x.more ++ y.more;
   log = y.log ∙ ap (λ l. l ++ y.more) x.log ∙ append_assoc a.session.entries x.more y.more;
-  own = each_behind Own x.more y.more x.own y.own;
+  own = each_append Own x.more y.more x.own y.own;
   driven = driving.onward a b c x.driven y.driven;
 }
 

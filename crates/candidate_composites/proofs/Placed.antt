@@ -1,5 +1,6 @@
 -- Without the steps from gaps up to the whole, the plans of a tree are those that are known.
 use Rattle.std.proofs.Common.{◌≡◌, inl, inr, ◌++◌, ◌∙◌, List, [], ◌∷◌, map, flat_map, refl, ap, subst, Bool, true, false, if◌then◌else◌, Option, Some, None}
+use Rattle.std.proofs.lemmas.List.{map-append}
 use Rattle.spec_core.specs.Lists.{IsOneOf}
 use Rattle.spec_core.specs.Theories.{Theory}
 use Rattle.spec_core.specs.Code.{Synchronised}
@@ -17,10 +18,6 @@ use Rattle.candidate_composites.specs.Known.{plans_at, partners, over_two, known
 use Rattle.candidate_composites.specs.Known.{placed_at, placed_partners, placed_over_two, placed_plans}
 use Rattle.candidate_composites.specs.Laws.{SoughtPlansAreKnown}
 
-pub map_join : {A B : Type 0} (f : A → B) (xs ys : List A) → map f (xs ++ ys) ≡ map f xs ++ map f ys
-map_join f [] ys = refl
-map_join f (x ∷ xs) ys = ap (λ z. f x ∷ z) (map_join f xs ys)
-
 abbrev bare : List PlacedPlan → List PlanOrGap
 bare ps = map plan_or_gap ps
 
@@ -32,7 +29,7 @@ bare_stepped : (step : Step) (f : OpenPlan → List PlacedPlan) (g : OpenPlan �
     (ps : List PlacedPlan) → bare (flat_map (stepped step f) ps) ≡ flat_map (in_its_place g) (bare ps)
 bare_stepped step f g h [] = refl
 bare_stepped step f g h (made p ∷ ps) =
-    map_join plan_or_gap (f p) (flat_map (stepped step f) ps)
+    map-append plan_or_gap (f p) (flat_map (stepped step f) ps)
     ∙ ap (λ z. z ++ bare (flat_map (stepped step f) ps)) (h p) ∙ ap (λ z. g p ++ z) (bare_stepped step f g h ps)
 bare_stepped step f g h (awaited n steps ∷ ps) = ap (λ z. gap n ∷ z) (bare_stepped step f g h ps)
 
@@ -53,7 +50,7 @@ bare_alone gates row ps =
     (λ p. bare_plans (plans_alone gates row p)) ps
 
 join : (ps qs : List PlacedPlan) (ks ls : List PlanOrGap) → bare ps ≡ ks → bare qs ≡ ls → bare (ps ++ qs) ≡ ks ++ ls
-join ps qs ks ls e f = map_join plan_or_gap ps qs ∙ ap (λ z. z ++ bare qs) e ∙ ap (λ z. ks ++ z) f
+join ps qs ks ls e f = map-append plan_or_gap ps qs ∙ ap (λ z. z ++ bare qs) e ∙ ap (λ z. ks ++ z) f
 
 module _ (theory : Theory) where
   bare_partners : (gates : Synchronised) (qs : List PlacedPlan) (p : OpenPlan) →

@@ -1,8 +1,11 @@
 -- The plans of a tree make its composites, with the same gaps.
 use Rattle.std.proofs.Common.{ℕ, ◌≡◌, ◌++◌, ◌&&◌, ◌∙◌, List, [], ◌∷◌, map, flat_map, refl, sym, ap, Bool, true, false, cond}
 use Rattle.std.proofs.Common.{if◌then◌else◌, Option, Some, None, option_map}
+use Rattle.std.proofs.lemmas.List.Concat.{flat_map-append}
+use Rattle.std.proofs.lemmas.List.{map-append}
 use Rattle.spec_core.specs.Theories.{Theory}
 use Rattle.spec_core.specs.Code.{Synchronised}
+use Rattle.spec_core.proofs.Lists.{filter_none}
 use Rattle.rule_model.specs.Actions.{Kind, inside}
 use Rattle.rule_model.specs.Derivations.{chl, chr, parl, parr, distake}
 use Rattle.symbolic_rules.specs.Windows.{Windows}
@@ -26,7 +29,7 @@ use Rattle.symbolic_plans.specs.Laws.{PlansAreOfComposites}
 use Rattle.symbolic_plans.proofs.Made.{plans_make_composites}
 use Rattle.candidate_laws.specs.Sought.{Sought, is_sought, seeks_some, Step, under_one, by_itself, with_another, as_another, sought_below, sought_at}
 use Rattle.candidate_laws.specs.Waiting.{sought_of, each_as, where_asked, together, waiting_composites}
-use Rattle.candidate_laws.proofs.Sought.{kinds_same, below_is_above, none_is_sought, none_beside, all_dropped}
+use Rattle.candidate_laws.proofs.Sought.{kinds_same, below_is_above, none_is_sought, none_beside}
 use Rattle.node_trees.specs.Rests.{Work}
 use Rattle.node_trees.specs.Shapes as nodes
 use Rattle.node_trees.specs.Shapes.{Held, Shape, leaf, ended, over, between, Unary, hidden, enabled, Binary, choosing, beside, disabling}
@@ -34,15 +37,6 @@ use Rattle.node_trees.specs.Shapes.{under as above_one, first_of, second_of}
 use Rattle.candidate_composites.specs.Known.{PlanOrGap, PlacedPlan, made, awaited, plans_sought, over_one, stepped, turned_there, placed_over_one}
 use Rattle.candidate_composites.specs.Known.{placed_alone, placed_at, placed_partners, placed_plans}
 use Rattle.candidate_composites.specs.Laws.{composite_or_gap, AreExpanded, KnownPlansAreThose}
-use Rattle.candidate_composites.proofs.Placed.{map_join}
-
-flat_join : {A B : Type 0} (f : A → List B) (xs ys : List A) → flat_map f (xs ++ ys) ≡ flat_map f xs ++ flat_map f ys
-flat_join f [] ys = refl
-flat_join f (x ∷ xs) ys = ap (λ z. f x ++ z) (flat_join f xs ys) ∙ sym (joins (f x) (flat_map f xs) (flat_map f ys))
-  where
-    joins : {B : Type 0} (xs ys zs : List B) → (xs ++ ys) ++ zs ≡ xs ++ (ys ++ zs)
-    joins [] ys zs = refl
-    joins (x ∷ xs) ys zs = ap (λ z. x ∷ z) (joins xs ys zs)
 
 -- the last step is looked at first
 at_last : (steps : List Step) (step : Step) (v : Sought) → sought_at (steps ++ step ∷ []) v ≡ sought_at steps (sought_below step v)
@@ -66,7 +60,7 @@ sift_stepped : (step : Step) (v : Sought) (f : OpenPlan → List PlacedPlan) (g 
     (ps : List PlacedPlan) → sift v (flat_map (stepped step f) ps) ≡ fill g (sift (sought_below step v) ps)
 sift_stepped step v f g h [] = refl
 sift_stepped step v f g h (made p ∷ ps) =
-    flat_join (plans_sought v) (f p) (flat_map (stepped step f) ps)
+    flat_map-append (plans_sought v) (f p) (flat_map (stepped step f) ps)
     ∙ ap (λ z. z ++ sift v (flat_map (stepped step f) ps)) (h p)
     ∙ by_test (is_sought (sought_below step v) p.kind) (sift_stepped step v f g h ps)
   where
@@ -260,7 +254,7 @@ module _ (theory : Theory) (w : Windows) (items : ℕ → Option (List Composite
       (ps : List PlanOrGap) → map turn (flat_map (in_its_place f) ps) ≡ flat_map (in_its_place g) (map turn ps)
   placed f g h [] = refl
   placed f g h (element p ∷ ps) =
-      map_join turn (f p) (flat_map (in_its_place f) ps)
+      map-append turn (f p) (flat_map (in_its_place f) ps)
       ∙ ap (λ z. z ++ map turn (flat_map (in_its_place f) ps)) (h p) ∙ ap (λ z. g (of p) ++ z) (placed f g h ps)
   placed f g h (gap n ∷ ps) = ap (λ z. gap n ∷ z) (placed f g h ps)
 
@@ -286,8 +280,8 @@ module _ (theory : Theory) (w : Windows) (items : ℕ → Option (List Composite
   join : (ps qs : List PlacedPlan) (v : Sought) (l k : Lazy Composite Composite) → map turn (sift v ps) ≡ gaps l →
       map turn (sift v qs) ≡ gaps k → map turn (sift v (ps ++ qs)) ≡ gaps (joined l k)
   join ps qs v l k e f =
-      ap (map turn) (flat_join (plans_sought v) ps qs)
-      ∙ map_join turn (sift v ps) (sift v qs)
+      ap (map turn) (flat_map-append (plans_sought v) ps qs)
+      ∙ map-append turn (sift v ps) (sift v qs)
       ∙ ap (λ z. z ++ map turn (sift v qs)) e ∙ ap (λ z. gaps l ++ z) f ∙ sym (laws.joins items l k)
 
   turns : (f : OpenPlan → OpenPlan) (k : Composite → Composite) → ((p : OpenPlan) → of (f p) ≡ k (of p)) →
@@ -411,7 +405,7 @@ module _ (theory : Theory) (w : Windows) (items : ℕ → Option (List Composite
       those_made v x.plans ∙ ap (λ z. map element (sought_of v z)) (sym same) ∙ sym (laws.listed items (sought_of v cs))
   at_node v g (Some x) (Some cs) e false f =
       those_made v x.plans
-      ∙ ap (map element) (all_dropped (λ (c : Composite). is_sought v c.kind) (map of x.plans) (λ c. none_is_sought v c.kind f))
+      ∙ ap (map element) (filter_none (λ (c : Composite). is_sought v c.kind) (map of x.plans) (λ c. none_is_sought v c.kind f))
 
   if_asked : (b : Bool) (l : Lazy Composite Composite) → gaps (where_asked b l) ≡ (if b then gaps l else [])
   if_asked true l = refl

@@ -5,4 +5,3 @@ pub mod Limited
 pub mod Worked
 pub use Rattle.candidate_composites.proofs.Placed
 pub use Rattle.symbolic_composites.proofs.Lists
-pub use Rattle.symbolic_trees.proofs.Trees

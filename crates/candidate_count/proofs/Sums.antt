@@ -1,7 +1,7 @@
 -- Sums over the plans of a tree that are known, and over all of them.
 use Rattle.std.proofs.Common.{ℕ, ◌≡◌, ◌≤◌, ◌+◌, ◌++◌, ◌∙◌, List, [], ◌∷◌, map, flat_map, refl, sym, ap, arith, Bool, true, false}
 use Rattle.std.proofs.Common.{sum_by, Option, Some, None, if◌then◌else◌}
-use Rattle.std.proofs.lemmas.List.Sums.{sum_by-append, sum_by-cons}
+use Rattle.std.proofs.lemmas.List.Sums.{sum_by-append, sum_by-cons, sum_by-le-sum_by}
 use Rattle.spec_core.specs.Theories.{Theory}
 use Rattle.spec_core.specs.Code.{Synchronised}
 use Rattle.decision_trees.specs.Gaps.{OrGap, element, gap, in_its_place}
@@ -41,9 +41,6 @@ known_part f (gap g) = 0
 sum_cons : {A : Type 0} (f : A → ℕ) (x : A) (xs : List A) → sum_by f (x ∷ xs) ≡ f x + sum_by f xs
 sum_cons f x xs = sum_by-cons f x xs
 
-sum_join : {A : Type 0} (f : A → ℕ) (xs ys : List A) → sum_by f (xs ++ ys) ≡ sum_by f xs + sum_by f ys
-sum_join f xs ys = sum_by-append f xs ys
-
 sum_map : {A B : Type 0} (f : B → ℕ) (g : A → B) (xs : List A) → sum_by f (map g xs) ≡ sum_by (λ x. f (g x)) xs
 sum_map f g [] = refl
 sum_map f g (x ∷ xs) =
@@ -52,19 +49,10 @@ sum_map f g (x ∷ xs) =
 sum_flat : {A B : Type 0} (f : B → ℕ) (g : A → List B) (xs : List A) → sum_by f (flat_map g xs) ≡ sum_by (λ x. sum_by f (g x)) xs
 sum_flat f g [] = refl
 sum_flat f g (x ∷ xs) =
-    sum_join f (g x) (flat_map g xs) ∙ ap (λ z. sum_by f (g x) + z) (sum_flat f g xs) ∙ sym (sum_cons (λ x. sum_by f (g x)) x xs)
+    sum_by-append f (g x) (flat_map g xs) ∙ ap (λ z. sum_by f (g x) + z) (sum_flat f g xs) ∙ sym (sum_cons (λ x. sum_by f (g x)) x xs)
 
 sum_same : {A : Type 0} (f g : A → ℕ) → ((x : A) → f x ≡ g x) → (xs : List A) → sum_by f xs ≡ sum_by g xs
 sum_same f g h xs = λ i. sum_by (λ x. h x i) xs
-
-sum_below : {A : Type 0} (f g : A → ℕ) → ((x : A) → f x ≤ g x) → (xs : List A) → sum_by f xs ≤ sum_by g xs
-sum_below f g h [] = omega arith
-sum_below f g h (x ∷ xs) =
-    let a = sum_cons f x xs in
-    let b = sum_cons g x xs in
-    let c = sum_below f g h xs in
-    let d = h x in
-    omega (arith, a, b, c, d)
 
 -- what is put in the places of elements
 part_turned : (f : OpenPlan → ℕ) (g : OpenPlan → OpenPlan) (x : PlanOrGap) → known_part f (turned g x) ≡ known_part (λ p. f (g p)) x
@@ -123,8 +111,8 @@ each_no_more g ks ps h f =
 
 joined_no_more : (ks ls : List PlanOrGap) (ps qs : List OpenPlan) → IsNoMore ks ps → IsNoMore ls qs → IsNoMore (ks ++ ls) (ps ++ qs)
 joined_no_more ks ls ps qs h k f =
-    let a = sum_join (known_part f) ks ls in
-    let b = sum_join f ps qs in
+    let a = sum_by-append (known_part f) ks ls in
+    let b = sum_by-append f ps qs in
     let c = h f in
     let d = k f in
     omega (arith, a, b, c, d)
@@ -145,8 +133,8 @@ module _ (theory : Theory) where
   together_no_more gates ks ls ps qs h k f =
       let a = sum_placed f (partners theory gates ls) ks in
       let b = h (λ p. sum_by (known_part f) (partners theory gates ls p)) in
-      let c = sum_below (λ p. sum_by (known_part f) (partners theory gates ls p)) (λ p. sum_by f (flat_map (plans_joint theory gates p) qs))
-      (λ p. partners_no_more gates ls qs k p f) ps in
+      let c = sum_by-le-sum_by (λ p. sum_by (known_part f) (partners theory gates ls p)) (λ p. sum_by f (flat_map (plans_joint theory gates p) qs))
+      ps (λ p. partners_no_more gates ls qs k p f) in
       let d = sum_flat f (λ p. flat_map (plans_joint theory gates p) qs) ps in
       omega (arith, a, b, c, d)
 

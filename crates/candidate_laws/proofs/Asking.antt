@@ -2,9 +2,11 @@
 use Rattle.std.proofs.Common.{ℕ, ◌≡◌, ◌==◌, ◌⊎◌, inl, inr, ◌&&◌, ◌||◌, not, List, [], ◌∷◌, refl, sym, ap, ◌∙◌, Some, None, Bool}
 use Rattle.std.proofs.Common.{true, false, length, filter}
 use Rattle.std.specs.Str.{bytes_eq}
+use Rattle.std.proofs.lemmas.Bool.{and_right, and_from, or_left, or_parts, or_from, or_right}
 use Rattle.spec_core.specs.Lists.{IsOneOf}
 use Rattle.spec_core.specs.Theories.{Theory}
 use Rattle.spec_core.specs.Code.{Program}
+use Rattle.spec_core.proofs.Lists.{filter_none}
 use Rattle.rule_model.specs.declared.offer.Field.{Field}
 use Rattle.rule_model.specs.declared.offer.Field.TheVariants.{Give, Take}
 use Rattle.rule_model.specs.declared.offer.Offer.{Offer}
@@ -25,19 +27,18 @@ use Rattle.symbolic_composites.specs.Composites.{Composite, composites}
 use Rattle.symbolic_composites.specs.TreeLists.{offered}
 use Rattle.symbolic_composites.specs.Shown.{IsAdmitted, AreAdmitted}
 use Rattle.symbolic_composites.proofs.Shown.{shown_is_admitted}
-use Rattle.symbolic_composites.proofs.Tests.{both_true, left_true, right_true, neither_true, same_value, same_number, same_kind_so}
+use Rattle.symbolic_composites.proofs.Tests.{same_value, same_number, same_kind_so}
 use Rattle.candidate_laws.specs.Asked.{TreeQuery, IsAsked, IsUnseenKind, offer_in}
 use Rattle.candidate_laws.specs.Sought.{is_sought}
 use Rattle.candidate_laws.specs.Waiting.{sought_by, is_slot, is_unseen, may_meet, all_may_meet, may_take, may_be_asked, trees_asked}
 use Rattle.candidate_laws.proofs.Lists.{flat_none}
-use Rattle.candidate_laws.proofs.Sought.{all_dropped}
 
 slot_is : (u v : List ℕ) (slots : List Slot) → v ≡ u → IsOneOf (Of v) slots → is_slot u slots ≡ true
 slot_is u v [] e h = absurd h
 slot_is u v (Of x ∷ slots) e (inl q) =
     let same : x ≡ u = cc (q, e) in
-    left_true (bytes_eq x u) (is_slot u slots) (same_value x u same)
-slot_is u v (Of x ∷ slots) e (inr i) = right_true (bytes_eq x u) (is_slot u slots) (slot_is u v slots e i)
+    or_left (bytes_eq x u) (is_slot u slots) (same_value x u same)
+slot_is u v (Of x ∷ slots) e (inr i) = or_right (bytes_eq x u) (is_slot u slots) (slot_is u v slots e i)
 slot_is u v (Mark ∷ slots) e (inl q) = absurd (cc)
 slot_is u v (Mark ∷ slots) e (inr i) = slot_is u v slots e i
 slot_is u v (Blank ∷ slots) e (inl q) = absurd (cc)
@@ -55,10 +56,10 @@ module _ (theory : Theory) (w : Windows) where
   one_may_meet (fixed m v) slots (told u) (Take sort) p h =
       same_number (sort_of_value theory v) sort.0 (ap (sort_of_value theory) p ∙ h.0)
   one_may_meet (blank m s) slots (chosen v) (Give u) p h =
-      right_true (m && sort_of_value theory u == s) (is_slot u slots) (slot_is u v slots h p.1)
+      or_right (m && sort_of_value theory u == s) (is_slot u slots) (slot_is u v slots h p.1)
   one_may_meet (blank m s) slots (given other) (Give u) p h =
-      left_true (m && sort_of_value theory u == s) (is_slot u slots)
-      (both_true m (sort_of_value theory u == s) p.0 (same_number (sort_of_value theory u) s (h ∙ p.1)))
+      or_left (m && sort_of_value theory u == s) (is_slot u slots)
+      (and_from m (sort_of_value theory u == s) p.0 (same_number (sort_of_value theory u) s (h ∙ p.1)))
   one_may_meet (blank m s) slots (free other) (Give u) p h = absurd h
   one_may_meet (blank m s) slots (chosen v) (Take sort) p h = same_number s sort.0 (sym p.0 ∙ h.0)
   one_may_meet (blank m s) slots (given other) (Take sort) p h = same_number s sort.0 (sym p.1 ∙ h.0)
@@ -72,7 +73,7 @@ module _ (theory : Theory) (w : Windows) where
       AreAdmitted theory cs choices fs → FieldsMayMeet theory w fs fields → all_may_meet theory cs choices fields ≡ true
   fields_may_meet [] choices [] [] p h = refl
   fields_may_meet (c ∷ cs) (slots ∷ choices) (f ∷ fs) (field ∷ fields) p h =
-      both_true (may_meet theory c slots field) (all_may_meet theory cs choices fields) (one_may_meet c slots f field p.0 h.0)
+      and_from (may_meet theory c slots field) (all_may_meet theory cs choices fields) (one_may_meet c slots f field p.0 h.0)
       (fields_may_meet cs choices fs fields p.1 h.1)
   fields_may_meet [] choices [] (field ∷ fields) p h = absurd h
   fields_may_meet [] choices (f ∷ fs) fields p h = absurd p
@@ -89,7 +90,7 @@ module _ (program : Program) (e : Evaluation) (exact : IsExact program e) (w : W
   may_take_it : (offer : Offer) (k : Kind) → IsSeen program w b (Some offer) d k → may_take program.theory offer c choices ≡ true
   may_take_it offer k h =
       let s = shown (Some offer) k h in
-      both_true (same_kind c.kind (at_gate offer.gate.0)) (all_may_meet program.theory c.fields choices offer.fields)
+      and_from (same_kind c.kind (at_gate offer.gate.0)) (all_may_meet program.theory c.fields choices offer.fields)
       (same_kind_so c.kind (at_gate offer.gate.0) (s.0 ∙ h.meets.0))
       (fields_may_meet program.theory w c.fields choices h.fields offer.fields s.1 h.meets.1)
 
@@ -98,12 +99,12 @@ module _ (program : Program) (e : Evaluation) (exact : IsExact program e) (w : W
 
   pub asked_may_be : (q : TreeQuery) → IsAsked program w b q d → may_be_asked program.theory w q c choices d ≡ true
   asked_may_be (meeting p) h =
-      both_true (not (has_mark d)) (may_take program.theory p.offer c choices) (ap not h.1.1) (may_take_it p.offer h.0 h.1.0)
+      and_from (not (has_mark d)) (may_take program.theory p.offer c choices) (ap not h.1.1) (may_take_it p.offer h.0 h.1.0)
   asked_may_be any h = ap not h.1.1
   asked_may_be unseen h =
-      both_true (not (has_mark d)) (is_unseen c.kind) (ap not h.1.1) (is_unseen_it h.0 h.1.0 h.2)
+      and_from (not (has_mark d)) (is_unseen c.kind) (ap not h.1.1) (is_unseen_it h.0 h.1.0 h.2)
   asked_may_be (beyond p) h =
-      both_true (has_mark d) (may_take program.theory p.offer c choices) h.1.1 (may_take_it p.offer h.0 h.1.0)
+      and_from (has_mark d) (may_take program.theory p.offer c choices) h.1.1 (may_take_it p.offer h.0 h.1.0)
   asked_may_be any_beyond h = h.1.1
   asked_may_be (beyond_or_unseen p) h = by_case h
     where
@@ -113,19 +114,11 @@ module _ (program : Program) (e : Evaluation) (exact : IsExact program e) (w : W
       by_case : ((k : Kind) × IsBeyond program w b (Some p.offer) d k) ⊎ ((k : Kind) × IsBeyond program w b None d k × IsUnseenKind k) →
           has_mark d && either ≡ true
       by_case (inl i) =
-          both_true (has_mark d) either i.1.1
-          (left_true (may_take program.theory p.offer c choices) (is_unseen c.kind) (may_take_it p.offer i.0 i.1.0))
+          and_from (has_mark d) either i.1.1
+          (or_left (may_take program.theory p.offer c choices) (is_unseen c.kind) (may_take_it p.offer i.0 i.1.0))
       by_case (inr i) =
-          both_true (has_mark d) either i.1.1
-          (right_true (may_take program.theory p.offer c choices) (is_unseen c.kind) (is_unseen_it i.0 i.1.0 i.2))
-
-and_false : (a b : Bool) → b ≡ false → a && b ≡ false
-and_false true b e = e
-and_false false b e = refl
-
-pub neither : (a b : Bool) → a || b ≡ false → (a ≡ false) × (b ≡ false)
-neither true b e = let n : true ≡ false = e in absurd cc
-neither false b e = (refl, e)
+          and_from (has_mark d) either i.1.1
+          (or_right (may_take program.theory p.offer c choices) (is_unseen c.kind) (is_unseen_it i.0 i.1.0 i.2))
 
 pub seen_is : (k : Kind) → same_kind k inside || (same_kind k ends || false) ≡ false → is_unseen k ≡ false
 seen_is inside e = let n : true ≡ false = e in absurd cc
@@ -141,21 +134,21 @@ module _ (theory : Theory) (w : Windows) (c : Composite) where
   not_asked : (q : TreeQuery) (choices : List (List Slot)) (d : Derivation) → is_sought (sought_by q) c.kind ≡ false →
       may_be_asked theory w q c choices d ≡ false
   not_asked (meeting p) choices d e =
-      and_false (not (has_mark d)) (may_take theory p.offer c choices)
-      (not_taken p.offer choices (neither (same_kind c.kind (at_gate p.offer.gate.0)) false e).0)
+      and_right (not (has_mark d)) (may_take theory p.offer c choices)
+      (not_taken p.offer choices (or_parts (same_kind c.kind (at_gate p.offer.gate.0)) false e).0)
   not_asked any choices d e = let n : true ≡ false = e in absurd cc
-  not_asked unseen choices d e = and_false (not (has_mark d)) (is_unseen c.kind) (seen_is c.kind e)
+  not_asked unseen choices d e = and_right (not (has_mark d)) (is_unseen c.kind) (seen_is c.kind e)
   not_asked (beyond p) choices d e =
-      and_false (has_mark d) (may_take theory p.offer c choices)
-      (not_taken p.offer choices (neither (same_kind c.kind (at_gate p.offer.gate.0)) false e).0)
+      and_right (has_mark d) (may_take theory p.offer c choices)
+      (not_taken p.offer choices (or_parts (same_kind c.kind (at_gate p.offer.gate.0)) false e).0)
   not_asked any_beyond choices d e = let n : true ≡ false = e in absurd cc
   not_asked (beyond_or_unseen p) choices d e =
-      let n = neither (same_kind c.kind (at_gate p.offer.gate.0)) (same_kind c.kind inside || (same_kind c.kind ends || false)) e in
-      and_false (has_mark d) (may_take theory p.offer c choices || is_unseen c.kind)
-      (neither_true (may_take theory p.offer c choices) (is_unseen c.kind) (not_taken p.offer choices n.0) (seen_is c.kind n.1))
+      let n = or_parts (same_kind c.kind (at_gate p.offer.gate.0)) (same_kind c.kind inside || (same_kind c.kind ends || false)) e in
+      and_right (has_mark d) (may_take theory p.offer c choices || is_unseen c.kind)
+      (or_from (may_take theory p.offer c choices) (is_unseen c.kind) (not_taken p.offer choices n.0) (seen_is c.kind n.1))
 
   pub none_asked : (q : TreeQuery) → is_sought (sought_by q) c.kind ≡ false → trees_asked theory w q c ≡ []
   none_asked q e =
       flat_none (λ choices. filter (may_be_asked theory w q c choices) (c.trees choices))
       (choices_at_once c.fields (all_choices theory w (offered (offer_in q)) c.fields))
-      (λ choices. all_dropped (may_be_asked theory w q c choices) (c.trees choices) (λ d. not_asked q choices d e))
+      (λ choices. filter_none (may_be_asked theory w q c choices) (c.trees choices) (λ d. not_asked q choices d e))

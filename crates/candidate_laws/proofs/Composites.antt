@@ -1,8 +1,10 @@
 -- The composites of a tree of nodes are those of what it stands for.
 use Rattle.std.proofs.Common.{◌≡◌, ◌++◌, ◌&&◌, ◌∙◌, List, [], ◌∷◌, map, flat_map, refl, sym, ap, Bool, true, false, length}
 use Rattle.std.proofs.Common.{if◌then◌else◌, Option, Some, None}
+use Rattle.std.proofs.lemmas.List.Elements.{filter-append}
 use Rattle.spec_core.specs.Theories.{Theory}
 use Rattle.spec_core.specs.Code.{Program, Synchronised}
+use Rattle.spec_core.proofs.Lists.{filter_none, flat_map_same}
 use Rattle.rule_model.specs.Actions.{Kind, inside}
 use Rattle.rule_model.specs.Behaviours.{Behaviour}
 use Rattle.rule_model.specs.Derivations.{Derivation, chl, chr, parl, parr, hiding, pass, enstep, enend, disstep, disend, distake}
@@ -25,8 +27,8 @@ use Rattle.node_trees.specs.Shapes.{Stands, stands_for, under as above_one, firs
 use Rattle.candidate_laws.specs.Sought.{Sought, is_sought, seeks_some, under_one, by_itself, with_another, as_another, sought_below}
 use Rattle.candidate_laws.specs.Waiting.{sought_of, each_as, where_asked, together, waiting_composites, AreItemsOf}
 use Rattle.candidate_laws.specs.ListLaws.{CompositesAreThose}
-use Rattle.candidate_laws.proofs.Lists.{flat_same, flat_ones, flat_none, filter_join, filter_flat, map_passed, flat_passed}
-use Rattle.candidate_laws.proofs.Sought.{kinds_same, below_is_above, none_is_sought, all_dropped}
+use Rattle.candidate_laws.proofs.Lists.{flat_ones, flat_none, filter_flat, map_passed, flat_passed}
+use Rattle.candidate_laws.proofs.Sought.{kinds_same, below_is_above, none_is_sought}
 
 -- what no two may do together makes no composite
 no_partner : (theory : Theory) (gates : Synchronised) (c d : Composite) → is_joint gates c.kind ≡ false → joint theory gates c d ≡ []
@@ -142,7 +144,7 @@ module _ (theory : Theory) (w : Windows) (s : Answers Composite Composite) where
       whole s (each (λ c. of_list (f c)) l) ≡ flat_map f cs
   by_lists f l cs h =
       laws.flat s s (λ g. refl) (λ c. of_list (f c)) l ∙
-      flat_same (λ c. whole s (of_list {I = Composite} (f c))) f (whole s l) (λ c. laws.listed s (f c)) ∙ ap (flat_map f) h
+      flat_map_same (λ c. whole s (of_list {I = Composite} (f c))) f (whole s l) (λ c. laws.listed s (f c)) ∙ ap (flat_map f) h
 
   by_ones : (f : Composite → Composite) (l : Lazy Composite Composite) (cs : List Composite) → whole s l ≡ cs →
       whole s (each_as f l) ≡ map f cs
@@ -160,7 +162,7 @@ module _ (theory : Theory) (w : Windows) (s : Answers Composite Composite) where
   sought_join : (v : Sought) (l k : Lazy Composite Composite) (cs ds : List Composite) → whole s l ≡ sought_of v cs →
       whole s k ≡ sought_of v ds → whole s (joined l k) ≡ sought_of v (cs ++ ds)
   sought_join v l k cs ds h i =
-      join l k (sought_of v cs) (sought_of v ds) h i ∙ sym (filter_join (λ (c : Composite). is_sought v c.kind) cs ds)
+      join l k (sought_of v cs) (sought_of v ds) h i ∙ sym (filter-append (λ (c : Composite). is_sought v c.kind) cs ds)
 
   sought_alone : (gates : Synchronised) (row : Derivation → Derivation) (v : Sought) (l : Lazy Composite Composite) (cs : List Composite) →
       whole s l ≡ sought_of (sought_below (by_itself gates) v) cs →
@@ -189,7 +191,7 @@ module _ (theory : Theory) (w : Windows) (s : Answers Composite Composite) where
       λ c. where_asked (is_joint gates c.kind) (each (λ d. of_list (joint theory gates c d)) (k c.kind)) in
       let others : Composite → List Composite = λ c. flat_map (joint theory gates c) (sought_of (sought_below (as_another c.kind) v) ds) in
       laws.flat s s (λ g. refl) f l ∙
-      flat_same (λ c. whole s (f c)) others (whole s l)
+      flat_map_same (λ c. whole s (f c)) others (whole s l)
       (λ c. partners gates c (k c.kind) (sought_of (sought_below (as_another c.kind) v) ds) (i c.kind)) ∙
       ap (flat_map others) h ∙
       flat_passed (λ c. is_sought u c.kind) (λ c. is_sought v c.kind) others (λ c. flat_map (joint theory gates c) ds) cs
@@ -263,7 +265,7 @@ module _ (program : Program) (e : Evaluation) (w : Windows) (s : Answers Composi
           whole s (where_asked b (waits n.generation (λ cs. of_list (sought_of v cs)))) ≡ sought_of v (of (stands_for program (leaf n)))
       at_node true f = (laws program.theory w s).listed s (sought_of v (s.items n.generation)) ∙ ap (sought_of v) (h [] n refl)
       at_node false f =
-          sym (all_dropped (λ (c : Composite). is_sought v c.kind) (of (stands_for program (leaf n))) (λ c. none_is_sought v c.kind f))
+          sym (filter_none (λ (c : Composite). is_sought v c.kind) (of (stands_for program (leaf n))) (λ c. none_is_sought v c.kind f))
   whole_composites ended h v = refl
   whole_composites (over o x) h v = under_one_part o x (whole_composites x (λ up n i. h (above_one o ∷ up) n (refl, i))) v
   whole_composites (between o x y) h v =

@@ -1,6 +1,7 @@
 -- What is decided from what is known is the next entry of the behaviour that the tree stands for.
 use Rattle.std.proofs.Common.{◌≡◌, ◌∙◌, List, filter, flat_map, map, refl, sym, ap, subst, Bool, true, length}
 use Rattle.spec_core.specs.Lists.{IsOneOf}
+use Rattle.spec_core.proofs.Lists.{flat_map_same}
 use Rattle.rule_model.specs.declared.rules.Slot.{Slot}
 use Rattle.rule_model.specs.Derivations.{Derivation}
 use Rattle.rule_model.specs.States.{PendingOffer}
@@ -21,7 +22,7 @@ use Rattle.candidate_laws.proofs.TreeEntries.{next_entries_hold}
 use Rattle.candidate_laws.specs.Sought.{is_sought}
 use Rattle.candidate_laws.specs.Waiting.{Candidate, candidate, with_trees, sought_by, may_be_asked, trees_asked, waiting_composites, waiting_trees}
 use Rattle.candidate_laws.specs.ListLaws.{answers_by, ListsAreThose, DecidedEntriesHold}
-use Rattle.candidate_laws.proofs.Lists.{flat_same, flat_same_in, filter_flat, filter_passed, filter_back, map_flat, flat_left}
+use Rattle.candidate_laws.proofs.Lists.{flat_same_in, filter_flat, filter_passed, filter_back, map_flat, flat_left}
 use Rattle.candidate_laws.proofs.Composites.{whole_composites}
 use Rattle.candidate_laws.proofs.Asking.{asked_may_be, none_asked}
 use Rattle.candidate_laws.proofs.ListEntries.{next_same}
@@ -39,14 +40,14 @@ lists_are_those program e size w t is_asked answered items h q =
     let choices : Composite → List (List Slot) = λ c. all_choices program.theory w (offered (offer_in q)) c.fields in
     let whole_is : whole s (waiting_trees program.theory w t q) ≡ flat_map f cs =
     searches.flat r s (λ g. refl) (λ c. of_list (f c)) (waiting_composites program.theory w t (sought_by q)) ∙
-    flat_same (λ c. whole s (of_list {I = Composite} (f c))) f (whole r (waiting_composites program.theory w t (sought_by q)))
+    flat_map_same (λ c. whole s (of_list {I = Composite} (f c))) f (whole r (waiting_composites program.theory w t (sought_by q)))
     (λ c. lists.listed s (f c)) ∙
     ap (flat_map f) (whole_composites program e w r t h (sought_by q)) ∙
     flat_left (λ (c : Composite). is_sought (sought_by q) c.kind) f cs (λ c i. ap (map (candidate q)) (none_asked program.theory w c q i)) in
     let each_one : (c : Composite) → IsOneOf c cs → filter asked (trees_asked program.theory w q c) ≡ filter asked (filled c (choices c)) =
     λ c i.
     sym (filter_flat asked (λ z. filter (may_be_asked program.theory w q c z) (c.trees z)) (choices_at_once c.fields (choices c))) ∙
-    flat_same (λ z. filter asked (filter (may_be_asked program.theory w q c z) (c.trees z))) (λ z. filter asked (c.trees z))
+    flat_map_same (λ z. filter asked (filter (may_be_asked program.theory w q c z) (c.trees z))) (λ z. filter asked (c.trees z))
     (choices_at_once c.fields (choices c))
     (λ z. filter_passed (may_be_asked program.theory w q c z) asked (c.trees z)
     (λ d there k. asked_may_be program e answered.exact w (stands_for program t) c i z d there q ((answered.tests q d).0 k))) ∙
@@ -54,7 +55,7 @@ lists_are_those program e size w t is_asked answered items h q =
     ap (λ z. map back (filter s.verdict z)) whole_is ∙
     ap (map back) (sym (filter_flat s.verdict f cs)) ∙
     map_flat back (λ c. filter s.verdict (f c)) cs ∙
-    flat_same (λ c. map back (filter s.verdict (f c))) (λ c. filter asked (trees_asked program.theory w q c)) cs
+    flat_map_same (λ c. map back (filter s.verdict (f c))) (λ c. filter asked (trees_asked program.theory w q c)) cs
     (λ c. filter_back (candidate q) back s.verdict (trees_asked program.theory w q c) (λ d. refl)) ∙
     flat_same_in (λ c. filter asked (trees_asked program.theory w q c)) (λ c. filter asked (filled c (choices c))) cs each_one ∙
     filter_flat asked (λ c. filled c (choices c)) cs

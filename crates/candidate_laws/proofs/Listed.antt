@@ -2,6 +2,7 @@
 use Rattle.std.proofs.Common.{ℕ, ◌⊎◌, inl, inr, Option, Some, None, Bool, length}
 use Rattle.spec_core.specs.Lists.{IsOneOf}
 use Rattle.spec_core.specs.Code.{Program}
+use Rattle.spec_core.proofs.Members.{one_filter, one_flat_map}
 use Rattle.rule_model.specs.declared.offer.Offer.{Offer}
 use Rattle.rule_model.specs.Actions.{Kind}
 use Rattle.rule_model.specs.Behaviours.{Behaviour}
@@ -14,7 +15,7 @@ use Rattle.symbolic_composites.specs.Evaluations.{Evaluation, IsExact}
 use Rattle.symbolic_composites.specs.OpenFields.{all_choices}
 use Rattle.symbolic_composites.specs.Composites.{Composite, filled, composites}
 use Rattle.symbolic_composites.specs.TreeLists.{Nests, candidates, offered}
-use Rattle.symbolic_composites.proofs.Lists.{one_flat, filter_keeps, filter_passes}
+use Rattle.symbolic_composites.proofs.Lists.{filter_passes}
 use Rattle.symbolic_composites.proofs.Listing.{all_listed, filled_one}
 use Rattle.symbolic_composites.proofs.OpenFields.{all_within_suffice}
 use Rattle.symbolic_composites.proofs.TreeLists.{seen_trees_are_candidates}
@@ -27,7 +28,7 @@ seen_is_candidate : (program : Program) (e : Evaluation) (w : Windows) → IsExa
     (d : Derivation) (k : Kind) → Nests n d → IsSeen program w b None d k → IsOneOf d (candidates program.theory e w n b o)
 seen_is_candidate program e w exact n b o d k nests h =
     let c = all_listed program e exact w d n b unmarked k h.fields nests h.derives in
-    one_flat (λ (c : Composite). filled c (all_choices program.theory w (offered o) c.fields)) c.composite
+    one_flat_map (λ (c : Composite). filled c (all_choices program.theory w (offered o) c.fields)) c.composite
     (composites program.theory e w n unmarked b) d c.listed
     (filled_one program e exact w (composites program.theory e w n unmarked b) d k h.fields c
     (all_choices program.theory w (offered o) c.composite.fields)
@@ -63,6 +64,6 @@ pub asked_trees_are_listed : AskedTreesAreListed
 asked_trees_are_listed program e size w b is_asked answered q d = (
   λ h. (answered.tests q d).0
       (filter_passes (is_asked q) d (candidates program.theory e w (length program.code) b (offer_in q)) h),
-  λ h. filter_keeps (is_asked q) d (candidates program.theory e w (length program.code) b (offer_in q))
+  λ h. one_filter (is_asked q) d (candidates program.theory e w (length program.code) b (offer_in q))
       (asked_is_candidate program e size w b is_asked answered q d h) ((answered.tests q d).1 h),
 )

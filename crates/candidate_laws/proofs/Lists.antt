@@ -1,11 +1,9 @@
 -- Lists in the places of elements, and filters.
 use Rattle.std.proofs.Common.{◌≡◌, inl, inr, ◌++◌, ◌∙◌, List, [], ◌∷◌, map, filter, flat_map, refl, sym, ap, Bool, true, false, cond}
 use Rattle.std.proofs.Common.{if◌then◌else◌}
+use Rattle.std.proofs.lemmas.List.Elements.{filter-append}
+use Rattle.std.proofs.lemmas.List.{map-append}
 use Rattle.spec_core.specs.Lists.{IsOneOf}
-
-pub flat_same : {A B : Type 0} (f g : A → List B) (xs : List A) → ((x : A) → f x ≡ g x) → flat_map f xs ≡ flat_map g xs
-flat_same f g [] h = refl
-flat_same f g (x ∷ xs) h = ap (λ z. z ++ flat_map f xs) (h x) ∙ ap (λ z. g x ++ z) (flat_same f g xs h)
 
 pub flat_ones : {A B : Type 0} (f : A → B) (xs : List A) → flat_map (λ x. f x ∷ []) xs ≡ map f xs
 flat_ones f [] = refl
@@ -15,32 +13,19 @@ pub flat_none : {A B : Type 0} (f : A → List B) (xs : List A) → ((x : A) →
 flat_none f [] h = refl
 flat_none f (x ∷ xs) h = ap (λ z. z ++ flat_map f xs) (h x) ∙ flat_none f xs h
 
-pub filter_join : {A : Type 0} (p : A → Bool) (xs ys : List A) → filter p (xs ++ ys) ≡ filter p xs ++ filter p ys
-filter_join p [] ys = refl
-filter_join p (x ∷ xs) ys = by_test (p x) (filter_join p xs ys)
-  where
-    by_test : (b : Bool) → filter p (xs ++ ys) ≡ filter p xs ++ filter p ys →
-        cond b (x ∷ filter p (xs ++ ys)) (filter p (xs ++ ys)) ≡ cond b (x ∷ filter p xs) (filter p xs) ++ filter p ys
-    by_test true h = ap (λ z. x ∷ z) h
-    by_test false h = h
-
 pub filter_flat : {A B : Type 0} (p : B → Bool) (f : A → List B) (xs : List A) →
     flat_map (λ x. filter p (f x)) xs ≡ filter p (flat_map f xs)
 filter_flat p f [] = refl
-filter_flat p f (x ∷ xs) = ap (λ z. filter p (f x) ++ z) (filter_flat p f xs) ∙ sym (filter_join p (f x) (flat_map f xs))
+filter_flat p f (x ∷ xs) = ap (λ z. filter p (f x) ++ z) (filter_flat p f xs) ∙ sym (filter-append p (f x) (flat_map f xs))
 
 pub flat_same_in : {A B : Type 0} (f g : A → List B) (xs : List A) → ((x : A) → IsOneOf x xs → f x ≡ g x) → flat_map f xs ≡ flat_map g xs
 flat_same_in f g [] h = refl
 flat_same_in f g (x ∷ xs) h =
     ap (λ z. z ++ flat_map f xs) (h x (inl refl)) ∙ ap (λ z. g x ++ z) (flat_same_in f g xs (λ y i. h y (inr i)))
 
-pub map_join : {A B : Type 0} (f : A → B) (xs ys : List A) → map f (xs ++ ys) ≡ map f xs ++ map f ys
-map_join f [] ys = refl
-map_join f (x ∷ xs) ys = ap (λ z. f x ∷ z) (map_join f xs ys)
-
 pub map_flat : {A B C : Type 0} (f : B → C) (g : A → List B) (xs : List A) → map f (flat_map g xs) ≡ flat_map (λ x. map f (g x)) xs
 map_flat f g [] = refl
-map_flat f g (x ∷ xs) = map_join f (g x) (flat_map g xs) ∙ ap (λ z. map f (g x) ++ z) (map_flat f g xs)
+map_flat f g (x ∷ xs) = map-append f (g x) (flat_map g xs) ∙ ap (λ z. map f (g x) ++ z) (map_flat f g xs)
 
 -- a filter that lets pass whatever a second one lets pass changes nothing for the second one
 pub filter_passed : {A : Type 0} (p q : A → Bool) (xs : List A) → ((x : A) → IsOneOf x xs → q x ≡ true → p x ≡ true) →
@@ -90,7 +75,7 @@ map_passed p q f (x ∷ xs) h = by_test (p x) (q (f x)) (h x) (map_passed p q f 
 pub flat_passed : {A B : Type 0} (p : A → Bool) (q : B → Bool) (f g : A → List B) (xs : List A) →
     ((x : A) → (if p x then f x else []) ≡ filter q (g x)) → flat_map f (filter p xs) ≡ filter q (flat_map g xs)
 flat_passed p q f g [] h = refl
-flat_passed p q f g (x ∷ xs) h = by_test (p x) (h x) (flat_passed p q f g xs h) ∙ sym (filter_join q (g x) (flat_map g xs))
+flat_passed p q f g (x ∷ xs) h = by_test (p x) (h x) (flat_passed p q f g xs h) ∙ sym (filter-append q (g x) (flat_map g xs))
   where
     by_test : (b : Bool) → (if b then f x else []) ≡ filter q (g x) → flat_map f (filter p xs) ≡ filter q (flat_map g xs) →
         flat_map f (cond b (x ∷ filter p xs) (filter p xs)) ≡ filter q (g x) ++ filter q (flat_map g xs)

@@ -2,10 +2,12 @@
 use Rattle.std.proofs.Common.{ℕ, ◌≡◌, ◌==◌, ◌++◌, ◌&&◌, ◌||◌, ◌∙◌, not, List, [], ◌∷◌, map, filter, refl, sym, ap, Option, Some, None}
 use Rattle.std.proofs.Common.{Bool, true, false, cond, if◌then◌else◌}
 use Rattle.std.proofs.lemmas.Bool.Decides.{Decides-eqb}
+use Rattle.std.proofs.lemmas.Bool.{or_left}
 use Rattle.spec_core.specs.Code.{Relabelling}
+use Rattle.spec_core.proofs.Lists.{filter_none}
 use Rattle.rule_model.specs.Actions.{Kind, inside, ends, at_gate, among, renamed}
 use Rattle.symbolic_composites.specs.Kinds.{is_alone, is_joint, same_kind}
-use Rattle.symbolic_composites.proofs.Tests.{same_kind_so, left_true}
+use Rattle.symbolic_composites.proofs.Tests.{same_kind_so}
 use Rattle.node_trees.specs.Shapes.{hidden, relabelled, enabled}
 use Rattle.candidate_laws.specs.Sought.{Sought, every_kind, these_kinds, is_one_kind, is_sought, seeks_some, Step, under_one, by_itself, with_another}
 use Rattle.candidate_laws.specs.Sought.{as_another, kind_above, changing, is_one_above, becomes_one, sought_below, sought_at, ComesUp}
@@ -141,7 +143,7 @@ below_is_above (with_another gates) every_kind k j h = refl
 below_is_above (as_another i) every_kind k j h = by_test (same_kind i k) refl h
   where
     by_test : (b : Bool) → same_kind i k ≡ b → (if b then Some k else None) ≡ Some j → same_kind k i || false ≡ true
-    by_test true e f = left_true (same_kind k i) false (same_kind_so k i (sym (kinds_same i k e)))
+    by_test true e f = or_left (same_kind k i) false (same_kind_so k i (sym (kinds_same i k e)))
     by_test false e f = let no : ⊥ = cc in absurd no
 
 -- where nothing is sought, no kind is
@@ -149,10 +151,6 @@ pub none_is_sought : (v : Sought) (k : Kind) → seeks_some v ≡ false → is_s
 none_is_sought every_kind k e = let n : true ≡ false = e in absurd cc
 none_is_sought (these_kinds []) k e = refl
 none_is_sought (these_kinds (j ∷ ks)) k e = let n : true ≡ false = e in absurd cc
-
-pub all_dropped : {A : Type 0} (p : A → Bool) (xs : List A) → ((x : A) → p x ≡ false) → filter p xs ≡ []
-all_dropped p [] h = refl
-all_dropped p (x ∷ xs) h = ap (λ z. cond z (x ∷ filter p xs) (filter p xs)) (h x) ∙ all_dropped p xs h
 
 nothing_above : (o : Option Kind) → is_one_above [] o ≡ false
 nothing_above None = refl
@@ -162,14 +160,14 @@ nothing_below : (steps : List Step) → sought_at steps (these_kinds []) ≡ the
 nothing_below [] = refl
 nothing_below (step ∷ steps) =
     ap (sought_below step) (nothing_below steps)
-    ∙ ap these_kinds (all_dropped (becomes_one step []) (filter (λ k. not (is_one_kind k [])) (changing step)) (λ k. nothing_above (kind_above step k)))
+    ∙ ap these_kinds (filter_none (becomes_one step []) (filter (λ k. not (is_one_kind k [])) (changing step)) (λ k. nothing_above (kind_above step k)))
 
 -- beside an action that isn't sought nothing is
 pub none_beside : (steps : List Step) (v : Sought) (j : Kind) → is_sought v j ≡ false →
     seeks_some (sought_at steps (sought_below (as_another j) v)) ≡ false
 none_beside steps every_kind j e = let n : true ≡ false = e in absurd cc
 none_beside steps (these_kinds ks) j e =
-    ap (λ z. seeks_some (sought_at steps z)) (ap these_kinds (all_dropped (becomes_one (as_another j) ks) (ks ++ []) none))
+    ap (λ z. seeks_some (sought_at steps z)) (ap these_kinds (filter_none (becomes_one (as_another j) ks) (ks ++ []) none))
     ∙ ap seeks_some (nothing_below steps)
   where
     none : (k : Kind) → becomes_one (as_another j) ks k ≡ false
@@ -209,7 +207,7 @@ comes_up (step ∷ steps) ks k e =
 
 some_kind : (js : List Kind) → seeks_some (these_kinds js) ≡ true → (k : Kind) × (is_one_kind k js ≡ true)
 some_kind [] e = let n : false ≡ true = e in absurd cc
-some_kind (k ∷ js) e = (k, left_true (same_kind k k) (is_one_kind k js) (same_kind_so k k refl))
+some_kind (k ∷ js) e = (k, or_left (same_kind k k) (is_one_kind k js) (same_kind_so k k refl))
 
 pub sought_is_what_comes_up : SoughtIsWhatComesUp
 sought_is_what_comes_up steps ks = (up, down)

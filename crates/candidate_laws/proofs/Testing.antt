@@ -1,5 +1,6 @@
 -- Which trees are asked for is known.
 use Rattle.std.proofs.Common.{◌≡◌, ◌⊎◌, inl, inr, refl, sym, subst, ◌∙◌, Option, Some, None, Bool, true, false}
+use Rattle.std.proofs.lemmas.Bool.{false≢true}
 use Rattle.spec_core.specs.Code.{Program}
 use Rattle.rule_model.specs.declared.offer.Offer.{Offer}
 use Rattle.rule_model.specs.Actions.{Kind, inside, ends, at_gate}
@@ -11,7 +12,7 @@ use Rattle.symbolic_rules.specs.Trees.{IsSeen, IsWindowed, IsBeyond, has_mark}
 use Rattle.decision_trees.specs.Rules.{meeting, any, unseen, beyond, any_beyond, beyond_or_unseen}
 use Rattle.symbolic_composites.specs.Evaluations.{Evaluation, IsExact}
 use Rattle.symbolic_composites.proofs.One.{IsKnown, known_both, known_as}
-use Rattle.symbolic_composites.proofs.Parts.{no_true, is_true_known, is_false_known}
+use Rattle.symbolic_composites.proofs.Parts.{is_true_known, is_false_known}
 use Rattle.symbolic_composites.proofs.Trees.{trees_show_one_action, seen_can_be_tested}
 use Rattle.candidate_laws.specs.Asked.{TreeQuery, IsUnseenKind, IsAsked}
 use Rattle.candidate_laws.specs.TreeLaws.{AskedCanBeTested}
@@ -52,7 +53,7 @@ module _ (program : Program) (e : Evaluation) (w : Windows) (exact : IsExact pro
 
       by_test : (answer : Bool) → test.0 d ≡ answer → IsKnown ((k : Kind) × IsSeen program w b o d k × R k)
       by_test true q = let h = (test.1 d).0 q in by_kind h.0 h.1 (known h.0)
-      by_test false q = inr (λ h. no_true (sym q ∙ (test.1 d).1 (h.0, h.1)))
+      by_test false q = inr (λ h. false≢true (sym q ∙ (test.1 d).1 (h.0, h.1)))
 
   windowed_known : (o : Option Offer) (d : Derivation) → IsKnown ((k : Kind) × IsWindowed program w b o d k)
   windowed_known o d =
@@ -101,7 +102,7 @@ answer (inr out) = false
 
 answer_so : {Q : Type 0} (known : IsKnown Q) → answer known ≡ true → Q
 answer_so (inl p) e = p
-answer_so (inr out) e = absurd (no_true e)
+answer_so (inr out) e = absurd (false≢true e)
 
 so_answer : {Q : Type 0} (known : IsKnown Q) → Q → answer known ≡ true
 so_answer (inl p) h = refl

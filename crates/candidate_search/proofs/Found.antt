@@ -2,8 +2,10 @@
 use Rattle.std.proofs.Common.{◌≡◌, ◌++◌, ◌∙◌, List, [], ◌∷◌, map, filter, flat_map, refl, sym, ap, Option, Some, None}
 use Rattle.std.proofs.Common.{Bool, true, false, cond, not, ◌&&◌, ◌||◌, if◌then◌else◌}
 use Rattle.std.specs.Prelude.{option_map}
-use Rattle.std.proofs.lemmas.List.Elements.{filter-append}
+use Rattle.std.proofs.lemmas.List.Elements.{filter-append, filter_agree}
 use Rattle.spec_core.specs.Theories.{Theory}
+use Rattle.spec_core.proofs.Lists.{filter_none, flat_map_same}
+use Rattle.spec_core.proofs.Booleans.{or_true}
 use Rattle.rule_model.specs.declared.offer.Field.{Field}
 use Rattle.rule_model.specs.declared.offer.Offer.{Offer}
 use Rattle.rule_model.specs.declared.rules.Slot.{Slot}
@@ -17,7 +19,7 @@ use Rattle.symbolic_composites.specs.OpenFields.{OpenField, all_choices, any_mar
 use Rattle.symbolic_composites.specs.Composites.{from_option}
 use Rattle.symbolic_plans.specs.Plans.{trees_of}
 use Rattle.symbolic_plans.specs.OpenPlans.{OpenPlan, composite_of}
-use Rattle.candidate_laws.proofs.Lists.{flat_none, flat_same, filter_flat}
+use Rattle.candidate_laws.proofs.Lists.{flat_none, filter_flat}
 use Rattle.candidate_laws.specs.Waiting.{is_unseen, may_meet, all_may_meet, may_take}
 use Rattle.symbolic_trees.specs.Numbers.{trees_at_once}
 use Rattle.candidate_search.specs.Searches.{each_meeting, all_meeting, slots_taking}
@@ -31,22 +33,9 @@ and_false : (b : Bool) → b && false ≡ false
 and_false true = refl
 and_false false = refl
 
-or_true : (b : Bool) → b || true ≡ true
-or_true true = refl
-or_true false = refl
-
 or_false : (b : Bool) → b || false ≡ b
 or_false true = refl
 or_false false = refl
-
-filter_same : {A : Type 0} (p q : A → Bool) (xs : List A) → ((x : A) → p x ≡ q x) → filter p xs ≡ filter q xs
-filter_same p q [] e = refl
-filter_same p q (x ∷ xs) e =
-    ap (λ b. cond b (x ∷ filter p xs) (filter p xs)) (e x) ∙ ap (λ z. cond (q x) (x ∷ z) z) (filter_same p q xs e)
-
-filter_none : {A : Type 0} (p : A → Bool) (xs : List A) → ((x : A) → p x ≡ false) → filter p xs ≡ []
-filter_none p [] e = refl
-filter_none p (x ∷ xs) e = ap (λ b. cond b (x ∷ filter p xs) (filter p xs)) (e x) ∙ filter_none p xs e
 
 filter_all : {A : Type 0} (xs : List A) → filter (λ x. true) xs ≡ xs
 filter_all [] = refl
@@ -62,7 +51,7 @@ filter_pieces f t g (x ∷ xs) =
     by_test : (b : Bool) → filter (λ d. f d && b) (g x) ++ filter f (flat_map g (filter t xs)) ≡
         filter f (flat_map g (cond b (x ∷ filter t xs) (filter t xs)))
     by_test true =
-        ap (λ z. z ++ filter f (flat_map g (filter t xs))) (filter_same (λ d. f d && true) f (g x) (λ d. and_true (f d)))
+        ap (λ z. z ++ filter f (flat_map g (filter t xs))) (filter_agree (λ d. f d && true) f (λ d. and_true (f d)) (g x))
         ∙ sym (filter-append f (g x) (flat_map g (filter t xs)))
     by_test false =
         ap (λ z. z ++ filter f (flat_map g (filter t xs))) (filter_none (λ d. f d && false) (g x) (λ d. and_false (f d)))
@@ -220,13 +209,13 @@ module _ (theory : Theory) (w : Windows) (p : OpenPlan) where
           flat_map (λ slots. filter (λ d. has_mark d && true) (trees_of theory w p.plan slots))
           (choices_at_once p.fields (all_choices theory w (given_in offer.fields) p.fields))
       flat_tests e =
-          flat_same (λ slots. filter (λ d. has_mark d && (may_take theory offer (composite_of theory w p) slots || true))
+          flat_map_same (λ slots. filter (λ d. has_mark d && (may_take theory offer (composite_of theory w p) slots || true))
           (trees_of theory w p.plan slots))
           (λ slots. filter (λ d. has_mark d && true) (trees_of theory w p.plan slots))
           (choices_at_once p.fields (all_choices theory w (given_in offer.fields) p.fields))
           (λ slots. ap (λ b. filter (λ d. has_mark d && b) (trees_of theory w p.plan slots)) (e slots))
   beyond_those offer false =
-      flat_same (λ slots. filter (λ d. has_mark d && (may_take theory offer (composite_of theory w p) slots || false))
+      flat_map_same (λ slots. filter (λ d. has_mark d && (may_take theory offer (composite_of theory w p) slots || false))
       (trees_of theory w p.plan slots))
       (λ slots. filter (λ d. has_mark d && may_take theory offer (composite_of theory w p) slots) (trees_of theory w p.plan slots))
       (choices_at_once p.fields (all_choices theory w (given_in offer.fields) p.fields))

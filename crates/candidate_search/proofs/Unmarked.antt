@@ -1,8 +1,11 @@
 -- Trees without marks.
-use Rattle.std.proofs.Common.{ℕ, zero, suc, ◌≡◌, ◌++◌, ◌∙◌, List, [], ◌∷◌, map, drop, filter, flat_map, refl, ap, Bool, true, false}
-use Rattle.std.proofs.Common.{cond, ◌||◌, if◌then◌else◌}
+use Rattle.std.proofs.Common.{ℕ, zero, suc, ◌≡◌, ◌∙◌, List, [], ◌∷◌, map, drop, filter, refl, ap, Bool, true, false}
+use Rattle.std.proofs.Common.{cond, if◌then◌else◌}
+use Rattle.std.proofs.lemmas.Bool.{or_from}
 use Rattle.spec_core.specs.Lists.{Each}
 use Rattle.spec_core.specs.Theories.{Theory}
+use Rattle.spec_core.proofs.Lists.{each_implied, each_image, each_flat_map}
+use Rattle.spec_core.proofs.Booleans.{or_first_false, or_second_false}
 use Rattle.rule_model.specs.declared.rules.Slot.{Slot}
 use Rattle.rule_model.specs.Derivations.{Derivation, pre, exiting, both, hiding, enend}
 use Rattle.symbolic_rules.specs.Windows.{Windows}
@@ -14,31 +17,8 @@ use Rattle.symbolic_plans.specs.declared.scheme.Row.TheVariants.{Disend, Distake
 use Rattle.symbolic_plans.specs.Plans.{Plan, prefix, internal, termination, below, hidden, handed_on, together, taken_slots, trees_of}
 use Rattle.symbolic_plans.specs.Plans.{put_row}
 use Rattle.symbolic_trees.specs.Numbers.{trees_at_once}
-use Rattle.symbolic_trees.proofs.Pieces.{each_image, each_by}
 use Rattle.candidate_search.specs.Marks.{any_mark, row_mark, may_be_marked}
 use Rattle.candidate_search.specs.Searches.{wanted_from}
-
-left_none : (a b : Bool) → a || b ≡ false → a ≡ false
-left_none true b e = e
-left_none false b e = refl
-
-right_none : (a b : Bool) → a || b ≡ false → b ≡ false
-right_none true b e = cc
-right_none false b e = e
-
-none_of : (a b : Bool) → a ≡ false → b ≡ false → a || b ≡ false
-none_of true b e f = e
-none_of false b e f = f
-
--- of pieces, where each element of the list makes a piece of which it holds
-each_pieces : {A B : Type 0} (Q : A → Type 0) (P : B → Type 0) (f : A → List B) (xs : List A) → ((x : A) → Q x → Each P (f x)) → Each Q xs →
-    Each P (flat_map f xs)
-each_pieces Q P f [] e h = tt
-each_pieces Q P f (x ∷ xs) e (q, h) = joined (f x) (flat_map f xs) (e x q) (each_pieces Q P f xs e h)
-  where
-    joined : (ys zs : List _) → Each P ys → Each P zs → Each P (ys ++ zs)
-    joined [] zs h k = k
-    joined (y ∷ ys) zs (p, h) k = (p, joined ys zs h k)
 
 abbrev unmarked_slots : List Slot → Type 0
 unmarked_slots slots = has_marks slots ≡ false
@@ -47,29 +27,29 @@ unmarked_slots slots = has_marks slots ≡ false
 each_slot : (slots : List Slot) → unmarked_slots slots → Each (λ slot. is_mark slot ≡ false) slots
 each_slot [] e = tt
 each_slot (slot ∷ slots) e =
-    (left_none (is_mark slot) (has_marks slots) e, each_slot slots (right_none (is_mark slot) (has_marks slots) e))
+    (or_first_false (is_mark slot) (has_marks slots) e, each_slot slots (or_second_false (is_mark slot) (has_marks slots) e))
 
 taken_unmarked : (takes : List Bool) (choices : List (List Slot)) → any_mark choices ≡ false → Each unmarked_slots
     (taken_slots takes choices)
 taken_unmarked [] choices e = (refl, tt)
 taken_unmarked (taken ∷ takes) [] e = tt
-taken_unmarked (false ∷ takes) (c ∷ choices) e = taken_unmarked takes choices (right_none (has_marks c) (any_mark choices) e)
+taken_unmarked (false ∷ takes) (c ∷ choices) e = taken_unmarked takes choices (or_second_false (has_marks c) (any_mark choices) e)
 taken_unmarked (true ∷ takes) (c ∷ choices) e =
-    each_pieces (λ slot. is_mark slot ≡ false) unmarked_slots (λ slot. map (λ slots. slot ∷ slots) (taken_slots takes choices)) c
+    each_flat_map (λ slot. is_mark slot ≡ false) unmarked_slots (λ slot. map (λ slots. slot ∷ slots) (taken_slots takes choices)) c
     (λ slot q. each_image unmarked_slots unmarked_slots (λ slots. slot ∷ slots) (taken_slots takes choices)
-    (λ slots r. none_of (is_mark slot) (has_marks slots) q r)
-    (taken_unmarked takes choices (right_none (has_marks c) (any_mark choices) e)))
-    (each_slot c (left_none (has_marks c) (any_mark choices) e))
+    (λ slots r. or_from (is_mark slot) (has_marks slots) q r)
+    (taken_unmarked takes choices (or_second_false (has_marks c) (any_mark choices) e)))
+    (each_slot c (or_first_false (has_marks c) (any_mark choices) e))
 
 each_unmarked : (choices : List (List Slot)) → any_mark choices ≡ false → Each (λ own. any_mark own ≡ false) (one_each choices)
 each_unmarked [] e = (refl, tt)
 each_unmarked (c ∷ choices) e =
-    each_pieces (λ slot. is_mark slot ≡ false) (λ own. any_mark own ≡ false)
+    each_flat_map (λ slot. is_mark slot ≡ false) (λ own. any_mark own ≡ false)
     (λ slot. map (λ others. (slot ∷ []) ∷ others) (one_each choices)) c
     (λ slot q. each_image (λ own. any_mark own ≡ false) (λ own. any_mark own ≡ false) (λ others. (slot ∷ []) ∷ others) (one_each choices)
-    (λ others r. none_of (has_marks (slot ∷ [])) (any_mark others) (none_of (is_mark slot) false q refl) r)
-    (each_unmarked choices (right_none (has_marks c) (any_mark choices) e)))
-    (each_slot c (left_none (has_marks c) (any_mark choices) e))
+    (λ others r. or_from (has_marks (slot ∷ [])) (any_mark others) (or_from (is_mark slot) false q refl) r)
+    (each_unmarked choices (or_second_false (has_marks c) (any_mark choices) e)))
+    (each_slot c (or_first_false (has_marks c) (any_mark choices) e))
 
 abbrev unmarked : Derivation → Type 0
 unmarked d = has_mark d ≡ false
@@ -77,7 +57,7 @@ unmarked d = has_mark d ≡ false
 row_unmarked : (row : Row) (d : Derivation) → row_mark row ≡ false → unmarked d → unmarked (put_row row d)
 row_unmarked Chl d e h = h
 row_unmarked Chr d e h = h
-row_unmarked (Val slot) d e h = none_of (is_mark slot) (has_mark d) e h
+row_unmarked (Val slot) d e h = or_from (is_mark slot) (has_mark d) e h
 row_unmarked (Gate place) d e h = h
 row_unmarked Guard d e h = h
 row_unmarked Let d e h = h
@@ -106,7 +86,7 @@ ways_covered given fields choices h = by_mark (any_marked fields)
         each_all_covered [] = tt
         each_all_covered (x ∷ xs) = (record { covers = λ e. cc }, each_all_covered xs)
     each_covered false h =
-        each_by (λ own. any_mark own ≡ false) (λ own. Covers false own) (one_each choices) (λ own e. record { covers = λ q. e })
+        each_implied (λ own. any_mark own ≡ false) (λ own. Covers false own) (one_each choices) (λ own e. record { covers = λ q. e })
         (each_unmarked choices (h.covers refl))
 
     by_mark : (b : Bool) → Each (λ own. Covers given own) (if b then choices ∷ [] else one_each choices)
@@ -123,29 +103,29 @@ module _ (theory : Theory) (w : Windows) where
       each_image unmarked_slots unmarked exiting (taken_slots takes slots) (λ own q. q) (taken_unmarked takes slots (h.covers e))
   trees_unmarked (below row p) given slots e h =
       each_image unmarked unmarked (put_row row) (trees_of theory w p slots)
-      (λ d q. row_unmarked row d (left_none (row_mark row) (may_be_marked theory w p given) e) q)
-      (trees_unmarked p given slots (right_none (row_mark row) (may_be_marked theory w p given) e) h)
+      (λ d q. row_unmarked row d (or_first_false (row_mark row) (may_be_marked theory w p given) e) q)
+      (trees_unmarked p given slots (or_second_false (row_mark row) (may_be_marked theory w p given) e) h)
   trees_unmarked (hidden fields p) given slots e h =
       let own = all_choices theory w [] fields in
       each_image unmarked unmarked hiding (trees_at_once theory w fields p own) (λ d q. q)
-      (each_pieces (λ x. Covers (any_mark own) x) unmarked (λ x. trees_of theory w p x) (choices_at_once fields own)
+      (each_flat_map (λ x. Covers (any_mark own) x) unmarked (λ x. trees_of theory w p x) (choices_at_once fields own)
       (λ x c. trees_unmarked p (any_mark own) x e c) (ways_covered (any_mark own) fields own (record { covers = λ q. q })))
   trees_unmarked (handed_on fields p) given slots e h =
       let own = all_choices theory w [] fields in
       each_image unmarked unmarked enend (trees_at_once theory w fields p own) (λ d q. q)
-      (each_pieces (λ x. Covers (any_mark own) x) unmarked (λ x. trees_of theory w p x) (choices_at_once fields own)
+      (each_flat_map (λ x. Covers (any_mark own) x) unmarked (λ x. trees_of theory w p x) (choices_at_once fields own)
       (λ x c. trees_unmarked p (any_mark own) x e c) (ways_covered (any_mark own) fields own (record { covers = λ q. q })))
   trees_unmarked (together p q) given slots e h =
-      each_pieces unmarked unmarked (λ left. map (both left) (trees_of theory w q slots)) (trees_of theory w p slots)
+      each_flat_map unmarked unmarked (λ left. map (both left) (trees_of theory w q slots)) (trees_of theory w p slots)
       (λ left a. each_image unmarked unmarked (both left) (trees_of theory w q slots)
-      (λ right b. none_of (has_mark left) (has_mark right) a b)
-      (trees_unmarked q given slots (right_none (may_be_marked theory w p given) (may_be_marked theory w q given) e) h))
-      (trees_unmarked p given slots (left_none (may_be_marked theory w p given) (may_be_marked theory w q given) e) h)
+      (λ right b. or_from (has_mark left) (has_mark right) a b)
+      (trees_unmarked q given slots (or_second_false (may_be_marked theory w p given) (may_be_marked theory w q given) e) h))
+      (trees_unmarked p given slots (or_first_false (may_be_marked theory w p given) (may_be_marked theory w q given) e) h)
 
   all_unmarked : (fields : List OpenField) (p : Plan) (choices : List (List Slot)) → may_be_marked theory w p (any_mark choices) ≡ false →
       Each unmarked (trees_at_once theory w fields p choices)
   all_unmarked fields p choices e =
-      each_pieces (λ x. Covers (any_mark choices) x) unmarked (λ x. trees_of theory w p x) (choices_at_once fields choices)
+      each_flat_map (λ x. Covers (any_mark choices) x) unmarked (λ x. trees_of theory w p x) (choices_at_once fields choices)
       (λ x c. trees_unmarked p (any_mark choices) x e c) (ways_covered (any_mark choices) fields choices (record { covers = λ q. q }))
 
   -- where no tree may have a mark, none is wanted by whoever wants marks

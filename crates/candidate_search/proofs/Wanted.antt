@@ -1,16 +1,11 @@
 -- Wanted trees, one after another.
-use Rattle.std.proofs.Common.{ℕ, zero, suc, ◌≡◌, ◌+◌, ◌≤◌, ◌∙◌, List, [], ◌∷◌, drop, filter, length, refl, sym, ap, arith, Bool, true}
+use Rattle.std.proofs.Common.{ℕ, zero, suc, ◌≡◌, ◌+◌, ◌≤◌, ◌∙◌, List, [], ◌∷◌, drop, filter, length, sym, ap, arith, Bool, true}
 use Rattle.std.proofs.Common.{false, cond}
 use Rattle.std.proofs.Common.{Some, None}
 use Rattle.std.specs.List.{slice_get}
+use Rattle.std.proofs.lemmas.List.{drop_all}
 use Rattle.rule_model.specs.Derivations.{Derivation}
 use Rattle.candidate_search.specs.Searches.{wanted_from}
-
-drop_all : {A : Type 0} (xs : List A) (n : ℕ) → length xs ≤ n → drop n xs ≡ []
-drop_all [] zero h = refl
-drop_all [] (suc n) h = refl
-drop_all (x ∷ xs) zero h = absurd (omega arith)
-drop_all (x ∷ xs) (suc n) h = drop_all xs n (omega arith)
 
 -- where the n-th element stands
 drop_at : {A : Type 0} (xs : List A) (n : ℕ) (x : A) → Some x ≡ slice_get xs n → drop n xs ≡ x ∷ drop (suc n) xs
@@ -28,13 +23,13 @@ next n = omega arith
 
 module _ (wanted : Derivation → Bool) (trees : List Derivation) (n : ℕ) where
   pub none_from : length trees ≤ n → wanted_from wanted trees n ≡ []
-  none_from h = ap (filter wanted) (drop_all trees n h)
+  none_from h = ap (filter wanted) (drop_all n trees h)
 
   pub none_at : None ≡ slice_get trees n → wanted_from wanted trees n ≡ wanted_from wanted trees (n + 1)
   none_at e =
       let h : length trees ≤ n = none_behind trees n e in
       let i : length trees ≤ n + 1 = omega arith in
-      ap (filter wanted) (drop_all trees n h ∙ sym (drop_all trees (n + 1) i))
+      ap (filter wanted) (drop_all n trees h ∙ sym (drop_all (n + 1) trees i))
 
   at_tree : (d : Derivation) (b : Bool) → Some d ≡ slice_get trees n → b ≡ wanted d →
       wanted_from wanted trees n ≡ cond b (d ∷ wanted_from wanted trees (n + 1)) (wanted_from wanted trees (n + 1))

@@ -1,5 +1,6 @@
 -- What is shown decides which queries ask for a tree.
-use Rattle.std.proofs.Common.{◌≡◌, ◌↔◌, ◌⊎◌, inl, inr, ◌&&◌, ◌||◌, not, refl, ap, subst, Option, Some, None, Bool, true, false}
+use Rattle.std.proofs.Common.{◌≡◌, ◌↔◌, ◌⊎◌, inl, inr, ◌&&◌, not, refl, ap, subst, Option, Some, None, true}
+use Rattle.std.proofs.lemmas.Bool.{and_from, and_parts, or_cases, or_left, false≢true, not-true, or_right}
 use Rattle.spec_core.specs.Code.{Program}
 use Rattle.rule_model.specs.declared.offer.Offer.{Offer}
 use Rattle.rule_model.specs.Actions.{Kind, inside, ends, at_gate}
@@ -11,12 +12,11 @@ use Rattle.symbolic_rules.specs.MayDerive.{MayDerive}
 use Rattle.symbolic_rules.specs.Trees.{has_mark, MayMeet, IsSeen, IsWindowed, IsBeyond}
 use Rattle.decision_trees.specs.Rules.{meeting, any, unseen, beyond, any_beyond, beyond_or_unseen}
 use Rattle.symbolic_composites.specs.Evaluations.{Evaluation, IsExact}
-use Rattle.symbolic_composites.proofs.Tests.{both_true, each_true, left_true, right_true, not_so}
 use Rattle.symbolic_composites.proofs.Trees.{trees_show_one_action}
 use Rattle.candidate_laws.specs.Asked.{TreeQuery, IsUnseenKind, IsAsked}
 use Rattle.symbolic_actions.specs.Deciding.{may_meet}
 use Rattle.symbolic_actions.specs.Shows.{Show, Shows}
-use Rattle.symbolic_actions.proofs.Deciding.{fields_are_decided, no_true}
+use Rattle.symbolic_actions.proofs.Deciding.{fields_are_decided}
 use Rattle.candidate_laws.specs.Waiting.{is_unseen}
 use Rattle.candidate_search.specs.Searches.{for_offer}
 use Rattle.candidate_verdicts.specs.Asked.{suits, asked_by}
@@ -25,11 +25,7 @@ use Rattle.candidate_verdicts.specs.Laws.{ShowsDecideQueries}
 unseen_is : (k : Kind) → IsUnseenKind k ↔ (is_unseen k ≡ true)
 unseen_is inside = (λ h. refl, λ e. tt)
 unseen_is ends = (λ h. refl, λ e. tt)
-unseen_is (at_gate g) = (λ h. absurd h, λ e. no_true e)
-
-either_true : (x y : Bool) → x || y ≡ true → (x ≡ true) ⊎ (y ≡ true)
-either_true true y e = inl refl
-either_true false y e = inr e
+unseen_is (at_gate g) = (λ h. absurd h, λ e. false≢true e)
 
 module _ (program : Program) (e : Evaluation) (w : Windows) (exact : IsExact program e) (b : Behaviour) (d : Derivation) where
   -- nothing is shown: no query asks for the tree
@@ -70,24 +66,24 @@ module _ (program : Program) (e : Evaluation) (w : Windows) (exact : IsExact pro
     within : (o : Option Offer) → not (has_mark d) && may_meet program.theory w s.kind s.fields o ≡ true →
         IsWindowed program w b o d s.kind
     within o t =
-        let r = each_true (not (has_mark d)) (may_meet program.theory w s.kind s.fields o) t in (seen o r.1, not_so (has_mark d) r.0)
+        let r = and_parts (not (has_mark d)) (may_meet program.theory w s.kind s.fields o) t in (seen o r.1, not-true (has_mark d) r.0)
 
     past : (o : Option Offer) → has_mark d && may_meet program.theory w s.kind s.fields o ≡ true → IsBeyond program w b o d s.kind
-    past o t = let r = each_true (has_mark d) (may_meet program.theory w s.kind s.fields o) t in (seen o r.1, r.0)
+    past o t = let r = and_parts (has_mark d) (may_meet program.theory w s.kind s.fields o) t in (seen o r.1, r.0)
 
     asked_so : (q : TreeQuery) → asked_by program.theory w (for_offer q) d (Some s) ≡ true → IsAsked program w b q d
     asked_so (meeting p) t = (s.kind, within (Some p.offer) t)
     asked_so any t = (s.kind, within None t)
     asked_so unseen t =
-        let r = each_true (not (has_mark d)) (may_meet program.theory w s.kind s.fields None && is_unseen s.kind) t in
-        let m = each_true (may_meet program.theory w s.kind s.fields None) (is_unseen s.kind) r.1 in
-        (s.kind, (seen None m.0, not_so (has_mark d) r.0), (unseen_is s.kind).1 m.1)
+        let r = and_parts (not (has_mark d)) (may_meet program.theory w s.kind s.fields None && is_unseen s.kind) t in
+        let m = and_parts (may_meet program.theory w s.kind s.fields None) (is_unseen s.kind) r.1 in
+        (s.kind, (seen None m.0, not-true (has_mark d) r.0), (unseen_is s.kind).1 m.1)
     asked_so (beyond p) t = (s.kind, past (Some p.offer) t)
     asked_so any_beyond t = (s.kind, past None t)
     asked_so (beyond_or_unseen p) t =
-        let r = each_true (has_mark d) (suits program.theory w (beyond_or_unseen p.offer) s) t in
+        let r = and_parts (has_mark d) (suits program.theory w (beyond_or_unseen p.offer) s) t in
         by_case r.0
-        (either_true (may_meet program.theory w s.kind s.fields (Some p.offer))
+        (or_cases (may_meet program.theory w s.kind s.fields (Some p.offer))
         (may_meet program.theory w s.kind s.fields None && is_unseen s.kind) r.1)
       where
         by_case : has_mark d ≡ true →
@@ -96,34 +92,34 @@ module _ (program : Program) (e : Evaluation) (w : Windows) (exact : IsExact pro
             IsAsked program w b (beyond_or_unseen p) d
         by_case marked (inl m) = inl (s.kind, (seen (Some p.offer) m, marked))
         by_case marked (inr m) =
-            let r = each_true (may_meet program.theory w s.kind s.fields None) (is_unseen s.kind) m in
+            let r = and_parts (may_meet program.theory w s.kind s.fields None) (is_unseen s.kind) m in
             inr (s.kind, (seen None r.0, marked), (unseen_is s.kind).1 r.1)
 
     is_so : (q : TreeQuery) → IsAsked program w b q d → asked_by program.theory w (for_offer q) d (Some s) ≡ true
     is_so (meeting p) h =
-        both_true (not (has_mark d)) (may_meet program.theory w s.kind s.fields (Some p.offer)) (ap not h.1.1)
+        and_from (not (has_mark d)) (may_meet program.theory w s.kind s.fields (Some p.offer)) (ap not h.1.1)
         (meets_it (Some p.offer) h.0 h.1.0)
     is_so any h =
-        both_true (not (has_mark d)) (may_meet program.theory w s.kind s.fields None) (ap not h.1.1) (meets_it None h.0 h.1.0)
+        and_from (not (has_mark d)) (may_meet program.theory w s.kind s.fields None) (ap not h.1.1) (meets_it None h.0 h.1.0)
     is_so unseen h =
-        both_true (not (has_mark d)) (may_meet program.theory w s.kind s.fields None && is_unseen s.kind) (ap not h.1.1)
-        (both_true (may_meet program.theory w s.kind s.fields None) (is_unseen s.kind) (meets_it None h.0 h.1.0)
+        and_from (not (has_mark d)) (may_meet program.theory w s.kind s.fields None && is_unseen s.kind) (ap not h.1.1)
+        (and_from (may_meet program.theory w s.kind s.fields None) (is_unseen s.kind) (meets_it None h.0 h.1.0)
         (unseen_it h.0 h.1.0 h.2))
     is_so (beyond p) h =
-        both_true (has_mark d) (may_meet program.theory w s.kind s.fields (Some p.offer)) h.1.1 (meets_it (Some p.offer) h.0 h.1.0)
-    is_so any_beyond h = both_true (has_mark d) (may_meet program.theory w s.kind s.fields None) h.1.1 (meets_it None h.0 h.1.0)
+        and_from (has_mark d) (may_meet program.theory w s.kind s.fields (Some p.offer)) h.1.1 (meets_it (Some p.offer) h.0 h.1.0)
+    is_so any_beyond h = and_from (has_mark d) (may_meet program.theory w s.kind s.fields None) h.1.1 (meets_it None h.0 h.1.0)
     is_so (beyond_or_unseen p) (inl h) =
-        both_true (has_mark d) (suits program.theory w (beyond_or_unseen p.offer) s) h.1.1
-        (left_true (may_meet program.theory w s.kind s.fields (Some p.offer))
+        and_from (has_mark d) (suits program.theory w (beyond_or_unseen p.offer) s) h.1.1
+        (or_left (may_meet program.theory w s.kind s.fields (Some p.offer))
         (may_meet program.theory w s.kind s.fields None && is_unseen s.kind) (meets_it (Some p.offer) h.0 h.1.0))
     is_so (beyond_or_unseen p) (inr h) =
-        both_true (has_mark d) (suits program.theory w (beyond_or_unseen p.offer) s) h.1.1
-        (right_true (may_meet program.theory w s.kind s.fields (Some p.offer))
+        and_from (has_mark d) (suits program.theory w (beyond_or_unseen p.offer) s) h.1.1
+        (or_right (may_meet program.theory w s.kind s.fields (Some p.offer))
         (may_meet program.theory w s.kind s.fields None && is_unseen s.kind)
-        (both_true (may_meet program.theory w s.kind s.fields None) (is_unseen s.kind) (meets_it None h.0 h.1.0)
+        (and_from (may_meet program.theory w s.kind s.fields None) (is_unseen s.kind) (meets_it None h.0 h.1.0)
         (unseen_it h.0 h.1.0 h.2)))
 
 pub shows_decide_queries : ShowsDecideQueries
-shows_decide_queries program e w exact b d None h q = (λ t. absurd (no_true t), λ i. absurd (none_asked program e w exact b d h q i))
+shows_decide_queries program e w exact b d None h q = (λ t. absurd (false≢true t), λ i. absurd (none_asked program e w exact b d h q i))
 shows_decide_queries program e w exact b d (Some s) h q =
     (asked_so program e w exact b d s h q, is_so program e w exact b d s h q)

@@ -1,8 +1,10 @@
 -- What is missing where it isn't known what a tree of nodes shows.
-use Rattle.std.proofs.Common.{ℕ, ◌≡◌, ◌⊎◌, inl, inr, ⊎_elim, ◌∙◌, List, [], ◌∷◌, ◌++◌, refl, sym, ap, subst, Option, Some, None}
+use Rattle.std.proofs.Common.{ℕ, ◌≡◌, inl, inr, ⊎_elim, ◌∙◌, List, [], ◌∷◌, ◌++◌, refl, sym, ap, subst, Option, Some, None}
 use Rattle.spec_core.specs.Lists.{IsOneOf}
 use Rattle.spec_core.specs.Code.{Synchronised}
 use Rattle.spec_core.specs.Theories.{Theory}
+use Rattle.spec_core.proofs.Lists.{left_empty, right_empty}
+use Rattle.spec_core.proofs.Members.{one_parts}
 use Rattle.rule_model.specs.Derivations.{Derivation}
 use Rattle.symbolic_rules.specs.Windows.{Windows}
 use Rattle.decision_trees.specs.Known.{unless_known}
@@ -24,19 +26,6 @@ lives_left o x y g h =
 lives_right : (o : Binary) (x y : Shape) (g : ℕ) → Lives y g → Lives (between o x y) g
 lives_right o x y g h =
     record { node = h.node; is = record { up = second_of o ∷ h.is.up; stands = (refl, h.is.stands); same = h.is.same } }
-
-one_parts : {A : Type 0} (x : A) (xs ys : List A) → IsOneOf x (xs ++ ys) → IsOneOf x xs ⊎ IsOneOf x ys
-one_parts x [] ys i = inr i
-one_parts x (z ∷ xs) ys (inl e) = inl (inl e)
-one_parts x (z ∷ xs) ys (inr i) = ⊎_elim (λ l. inl (inr l)) (λ r. inr r) (one_parts x xs ys i)
-
-empty_left : {A : Type 0} (xs ys : List A) → xs ++ ys ≡ [] → xs ≡ []
-empty_left [] ys e = refl
-empty_left (x ∷ xs) ys e = absurd cc
-
-empty_right : {A : Type 0} (xs ys : List A) → xs ++ ys ≡ [] → ys ≡ []
-empty_right [] ys e = e
-empty_right (x ∷ xs) ys e = absurd cc
 
 -- where no part is missing, something is known
 abbrev HaveKnown : KnownShow → List NodePart → Type 0
@@ -62,9 +51,9 @@ module _ (theory : Theory) (w : Windows) where
   have_together gates None (Some None) parts others g h = tt
   have_together gates (Some (Some s)) (Some None) parts others g h = tt
   have_together gates (Some (Some s)) (Some (Some t)) parts others g h = tt
-  have_together gates None None parts others g h = λ e. g (empty_left parts others e)
-  have_together gates None (Some (Some t)) parts others g h = λ e. g (empty_left parts others e)
-  have_together gates (Some (Some s)) None parts others g h = λ e. h (empty_right parts others e)
+  have_together gates None None parts others g h = λ e. g (left_empty parts others e)
+  have_together gates None (Some (Some t)) parts others g h = λ e. g (left_empty parts others e)
+  have_together gates (Some (Some s)) None parts others g h = λ e. h (right_empty parts others e)
 
   have_under : (p : Option RuledPart) (part : Derivation → KnownShow) (parts : Derivation → List NodePart) →
       ((d : Derivation) → HaveKnown (part d) (parts d)) → HaveKnown (known_under theory w p part) (parts_under p parts)

@@ -1,12 +1,12 @@
 -- What is known of the nodes of a tree stays so.
 use Rattle.std.proofs.Common.{ℕ, ◌≡◌, ◌==◌, List, [], ◌∷◌, refl, sym, ap, subst, ◌∙◌, Option, Some, None, Bool, true, false}
 use Rattle.std.proofs.Common.{if◌then◌else◌, option_map, arith}
+use Rattle.std.proofs.lemmas.Option.{none-some, same_Some}
 use Rattle.spec_core.specs.Code.{Program}
 use Rattle.rule_model.specs.Derivations.{Derivation}
 use Rattle.symbolic_rules.specs.Windows.{Windows}
 use Rattle.symbolic_actions.specs.Shows.{Show, Shows}
 use Rattle.symbolic_actions.specs.Models.{show_of}
-use Rattle.symbolic_actions.proofs.Deciding.{no_some, some_same}
 use Rattle.node_trees.specs.declared.origin.Gen.{Gen}
 use Rattle.node_trees.specs.Origins.{meaning}
 use Rattle.node_trees.specs.Rests.{Work}
@@ -23,8 +23,8 @@ put_says : (pieces : Pieces) (p : Piece) (g : ℕ) (d : Derivation) (o : Option 
 put_says pieces p g d o P before piece e = by_known (pieces g d) refl e
   where
     by_piece : (b : Bool) → is_about g d p ≡ b → (if b then Some (option_map show_of p.shown) else None) ≡ Some o → P
-    by_piece true h q = piece h (some_same q)
-    by_piece false h q = absurd (no_some q)
+    by_piece true h q = piece h (same_Some _ _ q)
+    by_piece false h q = absurd (none-some _ q)
 
     by_known : (k : KnownShow) → pieces g d ≡ k →
         unless_none k (if is_about g d p then Some (option_map show_of p.shown) else None) ≡ Some o → P
@@ -36,7 +36,7 @@ dropped_says : (gone : List Gen) (pieces : Pieces) (g : ℕ) (d : Derivation) (o
 dropped_says gone pieces g d o e = by_test (is_gone gone g) e
   where
     by_test : (b : Bool) → (if b then None else pieces g d) ≡ Some o → pieces g d ≡ Some o
-    by_test true q = absurd (no_some q)
+    by_test true q = absurd (none-some _ q)
     by_test false q = q
 
 dropped_none : (gone : List Gen) (pieces : Pieces) (g : ℕ) (d : Derivation) → pieces g d ≡ None → without gone pieces g d ≡ None

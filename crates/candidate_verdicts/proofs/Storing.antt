@@ -2,8 +2,9 @@
 use Rattle.std.proofs.Common.{ℕ, ◌≡◌, ◌==◌, not, List, [], ◌∷◌, ◌++◌, refl, sym, ap, subst, ◌∙◌, Option, Some, None, Bool, true}
 use Rattle.std.proofs.Common.{false, if◌then◌else◌, filter, cond, option_map}
 use Rattle.std.proofs.lemmas.Bool.Decides.{Decides-eqb}
+use Rattle.std.proofs.lemmas.Bool.{and_parts}
 use Rattle.rule_model.specs.Derivations.{Derivation, derivation_of}
-use Rattle.symbolic_composites.proofs.Tests.{each_true, if_true, if_false}
+use Rattle.symbolic_composites.proofs.Tests.{if_true, if_false}
 use Rattle.symbolic_actions.specs.Shows.{Show}
 use Rattle.symbolic_actions.specs.Models.{show_of}
 use Rattle.node_trees.specs.declared.origin.Gen.{Gen}
@@ -16,7 +17,7 @@ use Rattle.candidate_verdicts.proofs.Sameness.{rules_are}
 -- a piece that is about a generation and a tree has them
 pub about_is : (g : ℕ) (d : Derivation) (p : Piece) → is_about g d p ≡ true → (p.generation.0 ≡ g) × (derivation_of p.rules ≡ d)
 about_is g d p e =
-    let r = each_true (p.generation.0 == g) (same_rules (derivation_of p.rules) d) e in
+    let r = and_parts (p.generation.0 == g) (same_rules (derivation_of p.rules) d) e in
     ((Decides-eqb p.generation.0 g).0 r.0, rules_are (derivation_of p.rules) d r.1)
 
 -- one more piece at the end

@@ -1,7 +1,8 @@
 -- Verdicts that are known, and what is known after steps.
 use Rattle.std.proofs.Common.{ℕ, ◌≡◌, ◌≤◌, ◌↔◌, ⊎_elim, ◌∙◌, refl, sym, Bool, true, false, arith}
+use Rattle.std.proofs.lemmas.Option.{none-some}
+use Rattle.spec_core.proofs.Options.{map_some}
 use Rattle.candidate_laws.specs.Asked.{IsAsked}
-use Rattle.symbolic_actions.proofs.Deciding.{map_some, no_some}
 use Rattle.node_trees.specs.Shapes.{stands_for}
 use Rattle.candidate_verdicts.specs.Known.{known_show}
 use Rattle.candidate_search.specs.Searches.{for_offer}
@@ -30,7 +31,7 @@ pieces_outlive_steps program w pieces old next rules new later gone came step un
   where
     stay : ArePiecesOf program w pieces new
     stay up n stands d o q =
-        ⊎_elim (λ l. h up n l.0 d o q) (λ r. absurd (no_some (sym (unknown n.generation d r.from) ∙ q))) (step.keeps up n stands)
+        ⊎_elim (λ l. h up n l.0 d o q) (λ r. absurd (none-some _ (sym (unknown n.generation d r.from) ∙ q))) (step.keeps up n stands)
 
     at_least : (g : ℕ) → later ≤ g → next ≤ g
     at_least g l = let m = step.more in omega (arith, l, m)

@@ -7,4 +7,3 @@ pub mod Stepping
 pub mod Asking
 pub mod Numbering
 pub mod Walking
-pub use Rattle.board_offers.proofs.Members

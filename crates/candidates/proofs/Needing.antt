@@ -1,6 +1,7 @@
 -- What searches still ask, as jobs at nodes.
-use Rattle.std.proofs.Common.{◌≡◌, ◌++◌, ◌∙◌, List, [], ◌∷◌, map, flat_map, refl, sym, ap, Bool, true, false, append_assoc}
+use Rattle.std.proofs.Common.{◌≡◌, ◌++◌, ◌∙◌, List, [], ◌∷◌, map, flat_map, refl, sym, ap, Bool, true, false}
 use Rattle.std.specs.Prelude.{is_some}
+use Rattle.std.proofs.lemmas.List.Concat.{flat_map-append}
 use Rattle.spec_core.specs.Theories.{Theory}
 use Rattle.rule_model.specs.States.{PendingOffer}
 use Rattle.candidate_composites.specs.Windows.{Windows}
@@ -25,10 +26,6 @@ use Rattle.candidates.specs.Laws.{JobsAreNeeded}
 use Rattle.candidates.proofs.Listing.{are_those}
 use Rattle.candidates.proofs.Trees.{candidates_are, missing_firsts, missing_alls, held}
 
-flat_join : {A B : Type 0} (f : A → List B) (xs ys : List A) → flat_map f (xs ++ ys) ≡ flat_map f xs ++ flat_map f ys
-flat_join f [] ys = refl
-flat_join f (x ∷ xs) ys = ap (λ z. f x ++ z) (flat_join f xs ys) ∙ sym (append_assoc (f x) (flat_map f xs) (flat_map f ys))
-
 -- What is asked by the rules, each question in parts.
 module _ {P Q R : Type 0} (f : Q → List R) (missing every : Query P → List Q) (is_there : Query P → Bool) (w : Waiting P) where
   abbrev missing_parts : Query P → List R
@@ -39,8 +36,8 @@ module _ {P Q R : Type 0} (f : Q → List R) (missing every : Query P → List Q
 
   behind : (xs ys : List Q) (b : Bool) (zs : List R) → zs ≡ flat_map f ys →
       flat_map f xs ++ when b [] zs ≡ flat_map f (xs ++ when b [] ys)
-  behind xs ys true zs e = sym (flat_join f xs [])
-  behind xs ys false zs e = ap (λ z. flat_map f xs ++ z) e ∙ sym (flat_join f xs ys)
+  behind xs ys true zs e = sym (flat_map-append f xs [])
+  behind xs ys false zs e = ap (λ z. flat_map f xs ++ z) e ∙ sym (flat_map-append f xs ys)
 
   firsts : (query : P → Query P) (ps : List P) (rest : List R) (those : List Q) → rest ≡ flat_map f those →
       first_needed missing_parts every_part is_there w query ps rest ≡ flat_map f (first_needed missing every is_there w query ps those)
@@ -70,14 +67,14 @@ module _ {P Q R : Type 0} (f : Q → List R) (missing every : Query P → List Q
       ap (λ z. flat_map f (missing any_beyond) ++ z)
       (chosen (is_there any_beyond) (asked_needed missing every is_there w w.asks) [] (asked_needed missing_parts every_part is_there w w.asks) []
       (asks w.asks) refl)
-      ∙ sym (flat_join f (missing any_beyond) (when (is_there any_beyond) (asked_needed missing every is_there w w.asks) []))
+      ∙ sym (flat_map-append f (missing any_beyond) (when (is_there any_beyond) (asked_needed missing every is_there w w.asks) []))
 
   unmets : unmet_needed missing_parts every_part is_there w ≡ flat_map f (unmet_needed missing every is_there w)
   unmets =
       ap (λ z. flat_map f (missing any) ++ z)
       (chosen (is_there any) (asked_needed missing every is_there w w.asks) (marked_needed missing every is_there w)
       (asked_needed missing_parts every_part is_there w w.asks) (marked_needed missing_parts every_part is_there w) (asks w.asks) marks)
-      ∙ sym (flat_join f (missing any)
+      ∙ sym (flat_map-append f (missing any)
       (when (is_there any) (asked_needed missing every is_there w w.asks) (marked_needed missing every is_there w)))
 
   pub in_parts : next_needed missing_parts every_part is_there w ≡ flat_map f (next_needed missing every is_there w)

@@ -2,6 +2,7 @@
 use Rattle.std.proofs.Common.{◌≡◌, ◌++◌, ◌∙◌, List, [], ◌∷◌, map, flat_map, refl, ap, Option, Some, None, option_map, Bool, true}
 use Rattle.std.proofs.Common.{false, cond, if◌then◌else◌}
 use Rattle.std.specs.Prelude.{is_some}
+use Rattle.std.proofs.lemmas.List.{map-append}
 use Rattle.spec_core.specs.Theories.{Theory}
 use Rattle.rule_model.specs.Derivations.{Derivation}
 use Rattle.candidate_composites.specs.Windows.{Windows}
@@ -17,10 +18,6 @@ use Rattle.node_trees.specs.Shapes.{Shape}
 use Rattle.candidate_composites.specs.Known.{PlanOrGap, sought_plans}
 use Rattle.candidates.specs.Listed.{kinds_sought, candidates_in, known_candidates, known_trees}
 use Rattle.candidates.specs.Jobs.{of_tree}
-
-map_join : {A B : Type 0} (f : A → B) (xs ys : List A) → map f (xs ++ ys) ≡ map f xs ++ map f ys
-map_join f [] ys = refl
-map_join f (x ∷ xs) ys = ap (λ z. f x ∷ z) (map_join f xs ys)
 
 -- a query seeks what the query for its offer seeks
 pub same_sought : (q : TreeQuery) → kinds_sought (for_offer q) ≡ sought_by q
@@ -51,7 +48,7 @@ module _ (q : TreeQuery) where
     of_plans (element p ∷ ps) =
         let ds = asked_from theory w (for_offer q) p 0 in
         let rest = flat_map (in_its_place (λ p. map element (asked_from theory w (for_offer q) p 0))) ps in
-        map_join with_query (map element ds) rest
+        map-append with_query (map element ds) rest
         ∙ ap (λ z. z ++ map with_query rest) (placed ds) ∙ ap (λ z. map element (map (candidate q) ds) ++ z) (of_plans ps)
     of_plans (gap g ∷ ps) = ap (λ z. gap g ∷ z) (of_plans ps)
 

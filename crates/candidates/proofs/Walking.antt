@@ -1,6 +1,7 @@
 -- What a walk has ahead where it comes to a composite, or to a gap.
 use Rattle.std.proofs.Common.{ℕ, ◌≡◌, ◌++◌, ◌||◌, ◌∙◌, List, [], ◌∷◌, map, filter, drop, flat_map, refl, sym, ap, Option, Some, None}
 use Rattle.std.proofs.Common.{Bool, true, false, if◌then◌else◌}
+use Rattle.std.proofs.lemmas.Bool.{or_parts}
 use Rattle.spec_core.specs.Theories.{Theory}
 use Rattle.rule_model.specs.declared.offer.Offer.{Offer}
 use Rattle.rule_model.specs.declared.rules.Slot.{Slot}
@@ -15,7 +16,7 @@ use Rattle.candidate_composites.proofs.Tests.{if_false}
 use Rattle.symbolic_plans.specs.OpenPlans.{OpenPlan}
 use Rattle.candidate_laws.specs.Sought.{Step, is_sought, seeks_some, sought_at}
 use Rattle.candidate_laws.specs.Waiting.{is_unseen}
-use Rattle.candidate_laws.proofs.Asking.{neither, seen_is}
+use Rattle.candidate_laws.proofs.Asking.{seen_is}
 use Rattle.candidate_search.specs.Numbers.{trees_at_once}
 use Rattle.candidate_search.specs.Searches.{is_wanted, all_meeting, slots_taking, slots_asked, asked_from}
 use Rattle.candidate_composites.specs.Known.{PlacedPlan, made, awaited, plans_sought}
@@ -29,13 +30,13 @@ module _ (theory : Theory) (w : Windows) where
 
   -- a query asks for no tree of a composite whose action isn't sought
   not_sought : (q : Query Offer) (p : OpenPlan) → is_sought (kinds_sought q) p.kind ≡ false → slots_asked theory w q p ≡ None
-  not_sought (meeting offer) p e = not_taking offer p (neither (same_kind p.kind (at_gate offer.gate.0)) false e).0
+  not_sought (meeting offer) p e = not_taking offer p (or_parts (same_kind p.kind (at_gate offer.gate.0)) false e).0
   not_sought any p e = let n : true ≡ false = e in absurd cc
   not_sought unseen p e = if_false (is_unseen p.kind) (Some (all_choices theory w [] p.fields)) None (seen_is p.kind e)
-  not_sought (beyond offer) p e = not_taking offer p (neither (same_kind p.kind (at_gate offer.gate.0)) false e).0
+  not_sought (beyond offer) p e = not_taking offer p (or_parts (same_kind p.kind (at_gate offer.gate.0)) false e).0
   not_sought any_beyond p e = let n : true ≡ false = e in absurd cc
   not_sought (beyond_or_unseen offer) p e =
-      let n = neither (same_kind p.kind (at_gate offer.gate.0)) (same_kind p.kind inside || (same_kind p.kind ends || false)) e in
+      let n = or_parts (same_kind p.kind (at_gate offer.gate.0)) (same_kind p.kind inside || (same_kind p.kind ends || false)) e in
       if_false (is_unseen p.kind) (Some (all_choices theory w (given_in offer.fields) p.fields)) (slots_taking theory w offer p)
       (seen_is p.kind n.1)
       ∙ not_taking offer p n.0

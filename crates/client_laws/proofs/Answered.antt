@@ -1,10 +1,11 @@
 -- Each offer of a run is answered once.
 use Rattle.std.proofs.Common.{ℕ, ◌+◌, ◌≡◌, ◌∙◌, refl, sym, ap, subst, arith, List, [], ◌∷◌, ◌++◌, map, length, Contains, not, nat_eq}
 use Rattle.std.proofs.Common.{if◌then◌else◌, append_assoc, Option, Some, None}
-use Rattle.std.proofs.lemmas.Bool.{eq-eqb}
+use Rattle.std.proofs.lemmas.Bool.{eq-eqb, and_from}
 use Rattle.std.proofs.lemmas.List.{append-nil, length-append, map-append}
 use Rattle.spec_core.specs.declared.settings.Settings.{Settings}
 use Rattle.spec_core.specs.Code.{Program}
+use Rattle.spec_core.proofs.Members.{contains_first, contains_none}
 use Rattle.rule_model.specs.Answering.{name_of, offers_in, answered_in, numbered}
 use Rattle.rule_model.specs.Derivations.{Derivation}
 use Rattle.rule_model.specs.Events.{Event, pended, acted, replied, stalled, left}
@@ -12,8 +13,8 @@ use Rattle.rule_model.specs.Legal.{IsPossible}
 use Rattle.rule_model.specs.Wishes.{Wish}
 use Rattle.rule_model.specs.States.{PendingOffer, State, without}
 use Rattle.decision_trees.specs.Rules.{Next, takes, deadlocks, is_beyond, is_not_now, goes_on, stalls, nothing}
-use Rattle.log_states.proofs.Members.{none_in, first_in, in_cases}
-use Rattle.log_states.proofs.Tests.{and_true, on_either}
+use Rattle.log_states.proofs.Members.{in_cases}
+use Rattle.log_states.proofs.Tests.{on_either}
 use Rattle.board_offers.specs.Waiting.{by_client}
 use Rattle.board_laws.specs.declared.stop_reason.StopReason.{StopReason}
 use Rattle.board_laws.specs.Next.{IsNextEvent, next_ended, next_by_rules, IsEventOf}
@@ -70,14 +71,14 @@ record IsTold (wishes : List Wish) (log : List Event) (s : State) : Type 0 where
 -- the only offer is that which is answered
 only_one : (ps : List PendingOffer) (p : PendingOffer) (client number : ℕ) → AreOfOne ps → Contains ps p → p.client ≡ client →
     p.number ≡ number → ((client, number) ∷ [] ≡ map name_of ps) × (without (client, number) ps ≡ [])
-only_one [] p client number one among e f = absurd (none_in p among)
+only_one [] p client number one among e f = absurd (contains_none p among)
 only_one (q ∷ []) p client number one among e f = on_either (in_cases q p [] among)
     (λ g.
     let c : q.client ≡ client = ap (λ z. z.client) g ∙ e in
     let n : q.number ≡ number = ap (λ z. z.number) g ∙ f in
-    let same = and_true (nat_eq q.client client) (nat_eq q.number number) (eq-eqb q.client client c) (eq-eqb q.number number n) in
+    let same = and_from (nat_eq q.client client) (nat_eq q.number number) (eq-eqb q.client client c) (eq-eqb q.number number n) in
     (λ i. (sym c i, sym n i) ∷ [], ap (λ b. if not b then q ∷ [] else []) same))
-    (λ k. absurd (none_in p k))
+    (λ k. absurd (contains_none p k))
 only_one (q ∷ r ∷ ps) p client number one among e f = absurd one
 
 -- those of at most one are by client already
@@ -89,7 +90,7 @@ by_client_same (p ∷ q ∷ ps) one = absurd one
 -- nothing is pending where client 1 has no offer pending
 idle_none : (ps : List PendingOffer) → AreOfOne ps → ((p : PendingOffer) → Contains ps p → p.client ≡ 1 → ⊥) → ps ≡ []
 idle_none [] one idle = refl
-idle_none (p ∷ []) one idle = absurd (idle p (first_in p []) one)
+idle_none (p ∷ []) one idle = absurd (idle p (contains_first p []) one)
 idle_none (p ∷ q ∷ ps) one idle = absurd one
 
 -- an event that is no offer; a stall is of all that is pending

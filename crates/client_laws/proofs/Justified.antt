@@ -4,6 +4,7 @@ use Rattle.spec_core.specs.declared.settings.Settings.{Settings}
 use Rattle.spec_core.specs.Code.{Program}
 use Rattle.spec_core.specs.Lists.{IsOneOf}
 use Rattle.spec_core.specs.Ready.{IsReady}
+use Rattle.spec_core.proofs.Members.{one_contained}
 use Rattle.rule_model.specs.Derivations.{Derivation}
 use Rattle.rule_model.specs.Events.{Event, pended, replied, left}
 use Rattle.rule_model.specs.Legal.{IsPossible}
@@ -19,7 +20,7 @@ use Rattle.log_states.specs.Clients.{numbers_from}
 use Rattle.log_states.proofs.Tests.{by_cases, on_either}
 use Rattle.board_offers.specs.Waiting.{by_client, only_asks, waiting_in}
 use Rattle.board_offers.proofs.AllWait.{all_wait_is_decided}
-use Rattle.board_offers.proofs.Members.{listed, in_asks, in_by_client}
+use Rattle.board_offers.proofs.Members.{in_asks, in_by_client}
 use Rattle.board_offers.proofs.Sound.{waiting_is_sound}
 use Rattle.board_laws.specs.declared.stop_reason.StopReason.{StopReason}
 use Rattle.board_laws.specs.declared.stop_reason.StopReason.TheVariants.{Spent, TooLarge, Limit}
@@ -65,7 +66,7 @@ module _ (program : Program) (settings : Settings) where
       subst (IsJustified program settings s stop) (sym e) ((all_wait_is_decided s).0 holds.waits)
   entry_justifies s stop w sized stalls event e holds =
       subst (IsJustified program settings s stop) (sym e)
-      ((all_wait_is_decided s).0 holds.waits, holds.unseen, λ p k. holds.never p (listed s.pending p k))
+      ((all_wait_is_decided s).0 holds.waits, holds.unseen, λ p k. holds.never p (one_contained p s.pending k))
   entry_justifies s stop w sized nothing event e holds = absurd e
 
   -- a reason that has stopped the session justifies the reply that gives it

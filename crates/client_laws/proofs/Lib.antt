@@ -10,4 +10,3 @@ pub mod OnePoint
 pub mod OneRun
 pub mod OneWindow
 pub mod Stopped
-pub use Rattle.log_states.proofs.Members

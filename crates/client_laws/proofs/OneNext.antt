@@ -1,5 +1,6 @@
 -- One thing comes next in a state, and it leads to one state.
 use Rattle.std.proofs.Common.{ℕ, ◌≡◌, ◌∙◌, ◌≤◌, sym, ap, subst, arith, List, [], ◌∷◌, map, Option, Some, None}
+use Rattle.std.proofs.lemmas.Option.{same_Some}
 use Rattle.spec_core.specs.declared.settings.Settings.{Settings}
 use Rattle.spec_core.specs.Code.{Program}
 use Rattle.spec_core.specs.Ready.{IsReady}
@@ -33,9 +34,6 @@ one_least s p q (ps, e) (qs, f) = let same : p ∷ ps ≡ q ∷ qs = sym e ∙ f
 
 pub some_least : (s : State) (p : PendingOffer) → IsLeast s p → s.pending ≡ [] → ⊥
 some_least s p (ps, e) none = let same : [] ≡ p ∷ ps = sym (ap by_client none) ∙ e in cc
-
-one_some : {A : Type 0} (x y : A) → Some x ≡ Some y → x ≡ y
-one_some x y e = cc
 
 module _ (program : Program) (settings : Settings) (ready : IsReady program) where
   -- by one tree one action is done, and one behaviour is reached
@@ -83,7 +81,7 @@ module _ (program : Program) (settings : Settings) (ready : IsReady program) whe
   event_of_one s t u (is_beyond p d) event other e f h k = e ∙ sym f
   event_of_one s t u (is_not_now p) event other e f h k = e ∙ sym f
   event_of_one s t u (goes_on trees) event other (few, d, at, a, e) (many, c, at2, x, f) h k =
-      let same : c ≡ d = one_some c d (sym at2 ∙ at) in
+      let same : c ≡ d = same_Some c d (sym at2 ∙ at) in
       same_act s t u d None a x event other e (f ∙ ap (λ z. acted x z None) same) h k
   event_of_one s t u stalls event other e f h k = e ∙ sym f
   event_of_one s t u nothing event other e f h k = absurd e

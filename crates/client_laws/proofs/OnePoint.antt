@@ -5,12 +5,14 @@ use Rattle.std.proofs.lemmas.Bool.{cases_order}
 use Rattle.spec_core.specs.declared.settings.Settings.{Settings}
 use Rattle.spec_core.specs.Code.{Program}
 use Rattle.spec_core.specs.Ready.{IsReady}
+use Rattle.spec_core.proofs.Options.{some_none}
+use Rattle.spec_core.proofs.Members.{contains_none}
 use Rattle.rule_model.specs.declared.reply.LimitKind.TheVariants.{Steps}
 use Rattle.rule_model.specs.Events.{Event, pended, left}
 use Rattle.rule_model.specs.Legal.{IsPossible}
 use Rattle.rule_model.specs.Wishes.{Wish}
 use Rattle.rule_model.specs.States.{State}
-use Rattle.log_states.proofs.Members.{none_in, in_cases}
+use Rattle.log_states.proofs.Members.{in_cases}
 use Rattle.board_laws.specs.declared.stop_reason.StopReason.{StopReason}
 use Rattle.board_laws.specs.declared.stop_reason.StopReason.TheVariants.{Limit}
 use Rattle.board_laws.specs.Next.{IsNextEvent, IsStopReply}
@@ -19,9 +21,6 @@ use Rattle.client_laws.specs.Runs.{IsSettledAt, all_told, none_next}
 use Rattle.client_laws.proofs.Moves.{Point, same_point, Move, offers, leaves, goes_on, stops, tells, Chain, Leads, here, further, first_move, at}
 use Rattle.client_laws.proofs.OneNext.{some_least, one_state, one_next_event, nothing_is_no_event, nothing_is_no_act, at_limit_no_event}
 use Rattle.client_laws.proofs.OneNext.{next_keeps, stop_keeps, one_stop_reply}
-
-differ : (o : Option StopReason) (reason : StopReason) → o ≡ None → o ≡ Some reason → ⊥
-differ o reason e f = cc
 
 same_wish : (xs : List Wish) (w v : Wish) (ws vs : List Wish) → (xs ++ w ∷ []) ++ ws ≡ (xs ++ v ∷ []) ++ vs → w ≡ v
 same_wish [] w v ws vs e = cc
@@ -33,7 +32,7 @@ too_many (x ∷ xs) w ws e = too_many xs w ws cc
 
 -- a client that has left isn't open
 left_out : (xs : List ℕ) → Contains (filter (λ other. not (nat_eq other 1)) xs) 1 → ⊥
-left_out [] c = none_in 1 c
+left_out [] c = contains_none 1 c
 left_out (x ∷ xs) c = by_test (nat_eq x 1) refl (left_out xs) c
   where
     by_test : (b : Bool) → nat_eq x 1 ≡ b → (Contains (filter (λ other. not (nat_eq other 1)) xs) 1 → ⊥) →
@@ -93,7 +92,7 @@ module _ (program : Program) (settings : Settings) (ready : IsReady program) (al
   steps_before b c (offers wish number st e f settled possible) h = λ reason k. h reason (st ∙ k)
   steps_before b c (leaves st e f settled possible) h = λ reason k. h reason (st ∙ k)
   steps_before b c (goes_on event none st e f next possible) h = λ reason k. h reason (st ∙ k)
-  steps_before b c (stops other none st e f g is_so) h = λ reason k. absurd (differ b.stop reason none k)
+  steps_before b c (stops other none st e f g is_so) h = λ reason k. absurd (some_none b.stop k none)
   steps_before b c (tells other event some st e f told possible) h = λ reason k. h reason (st ∙ k)
 
   pub leads_ahead : (b c : Point) → Leads program settings b c → Ahead c → Ahead b
@@ -108,20 +107,20 @@ module _ (program : Program) (settings : Settings) (ready : IsReady program) (al
 
   settled_no_event : (stop : Option StopReason) (s : State) (event : Event) → IsSettledAt program settings stop s → stop ≡ None →
       IsNextEvent program settings s event → ⊥
-  settled_no_event stop s event (all_told reason e none) f next = differ stop reason f e
+  settled_no_event stop s event (all_told reason e none) f next = some_none stop e f
   settled_no_event stop s event (none_next e goes nothing_next) f next =
       nothing_is_no_event program settings ready s event goes nothing_next next
 
   settled_no_stop : (stop : Option StopReason) (s : State) (reason : StopReason) → IsSettledAt program settings stop s → stop ≡ None →
       reason ≡ Limit Steps → IsReasonToStop program settings s reason → ⊥
-  settled_no_stop stop s reason (all_told other e none) f steps is_so = differ stop other f e
+  settled_no_stop stop s reason (all_told other e none) f steps is_so = some_none stop e f
   settled_no_stop stop s reason (none_next e goes nothing_next) f steps is_so =
       nothing_is_no_act program settings ready s nothing_next (subst (IsReasonToStop program settings s) steps is_so)
 
   settled_no_reply : (stop : Option StopReason) (s : State) (reason : StopReason) (event : Event) → IsSettledAt program settings stop s →
       stop ≡ Some reason → IsStopReply s reason event → ⊥
   settled_no_reply stop s reason event (all_told other e none) f (p, least, is) = some_least s p least none
-  settled_no_reply stop s reason event (none_next e goes nothing_next) f told = differ stop reason e f
+  settled_no_reply stop s reason event (none_next e goes nothing_next) f told = some_none stop f e
 
   event_no_stop : (s : State) (event : Event) (reason : StopReason) → IsNextEvent program settings s event → reason ≡ Limit Steps →
       IsReasonToStop program settings s reason → ⊥
@@ -186,7 +185,7 @@ module _ (program : Program) (settings : Settings) (ready : IsReady program) (al
   one_move c d e hd sd he se (goes_on event none ds dm dl next dp) (stops reason none2 es em el eg is_so) =
       absurd (event_no_stop c.state event reason next (se reason es) is_so.0)
   one_move c d e hd sd he se (goes_on event none ds dm dl next dp) (tells reason other some es em el told ep) =
-      absurd (differ c.stop reason none some)
+      absurd (some_none c.stop some none)
   one_move c d e hd sd he se (stops reason none ds dm dl dg is_so) (offers w n es em el settled ep) =
       absurd (settled_no_stop c.stop c.state reason settled none (sd reason ds) is_so.0)
   one_move c d e hd sd he se (stops reason none ds dm dl dg is_so) (leaves es em el settled ep) =
@@ -196,15 +195,15 @@ module _ (program : Program) (settings : Settings) (ready : IsReady program) (al
   one_move c d e hd sd he se (stops reason none ds dm dl dg is_so) (stops other none2 es em el eg is_so2) =
       same_point d e (ds ∙ ap Some (sd reason ds ∙ sym (se other es)) ∙ sym es) (dm ∙ sym em) (dl ∙ sym el) (dg ∙ sym eg)
   one_move c d e hd sd he se (stops reason none ds dm dl dg is_so) (tells other event some es em el told ep) =
-      absurd (differ c.stop other none some)
+      absurd (some_none c.stop some none)
   one_move c d e hd sd he se (tells reason event some ds dm dl told dp) (offers w n es em el settled ep) =
       absurd (settled_no_reply c.stop c.state reason event settled some told)
   one_move c d e hd sd he se (tells reason event some ds dm dl told dp) (leaves es em el settled ep) =
       absurd (settled_no_reply c.stop c.state reason event settled some told)
   one_move c d e hd sd he se (tells reason event some ds dm dl told dp) (goes_on other none es em el next ep) =
-      absurd (differ c.stop reason none some)
+      absurd (some_none c.stop some none)
   one_move c d e hd sd he se (tells reason event some ds dm dl told dp) (stops other none es em el eg is_so) =
-      absurd (differ c.stop reason none some)
+      absurd (some_none c.stop some none)
   one_move c d e hd sd he se (tells reason event some ds dm dl told dp) (tells other answer some2 es em el told2 ep) =
       let same : other ≡ reason = let both : Some other ≡ Some reason = sym some2 ∙ some in cc in
       by_event c d e event answer

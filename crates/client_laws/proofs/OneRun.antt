@@ -1,9 +1,10 @@
 -- Where there is one session.
-use Rattle.std.proofs.Common.{ℕ, ◌≡◌, ◌∙◌, refl, sym, ap, subst, List, [], Option, Some, None}
+use Rattle.std.proofs.Common.{ℕ, ◌≡◌, ◌∙◌, refl, sym, ap, subst, List, [], Option, Some}
 use Rattle.std.proofs.lemmas.List.{append-nil}
 use Rattle.spec_core.specs.declared.settings.Settings.{Settings}
 use Rattle.spec_core.specs.Code.{Program}
 use Rattle.spec_core.specs.Ready.{IsReady}
+use Rattle.spec_core.proofs.Options.{some_none}
 use Rattle.rule_laws.proofs.OneStep.{one_behaviour}
 use Rattle.rule_model.specs.declared.reply.LimitKind.TheVariants.{Steps, Spread, Offers}
 use Rattle.rule_model.specs.Behaviours.{Behaviour}
@@ -24,9 +25,6 @@ use Rattle.client_laws.proofs.Moves.{Point, point, Chain, chained, chain_run, Le
 use Rattle.client_laws.proofs.OneEnd.{one_ending}
 use Rattle.client_laws.proofs.OnePoint.{Ahead, OnlySteps, Final, leads_ahead, on_the_way, one_end}
 
-differ : (o : Option StopReason) (reason : StopReason) → o ≡ None → o ≡ Some reason → ⊥
-differ o reason e f = cc
-
 -- a reason by whose end the session isn't stopped, or by the number of actions, is that
 by_steps : (reason : StopReason) → IsUnstoppedButBySteps (ending_by reason) → reason ≡ Limit Steps
 by_steps (Spent term) h = absurd h
@@ -41,8 +39,8 @@ ends_by_steps : (program : Program) (settings : Settings) (s : State) (stop : Op
 ends_by_steps program settings s stop ending (ends_by_reason other e f) h reason k =
     let same : other ≡ reason = let both : Some other ≡ Some reason = sym e ∙ k in cc in
     by_steps reason (subst IsUnstoppedButBySteps (f ∙ ap ending_by same) h)
-ends_by_steps program settings s stop ending (ends_by_exit e ended f) h reason k = absurd (differ stop reason e k)
-ends_by_steps program settings s stop ending (ends_by_trees e on trees) h reason k = absurd (differ stop reason e k)
+ends_by_steps program settings s stop ending (ends_by_exit e ended f) h reason k = absurd (some_none stop k e)
+ends_by_steps program settings s stop ending (ends_by_trees e on trees) h reason k = absurd (some_none stop k e)
 
 module _ (program : Program) (settings : Settings) (ready : IsReady program) (wishes : List Wish) where
   abbrev start : Behaviour → State
@@ -113,7 +111,7 @@ module _ (program : Program) (settings : Settings) (ready : IsReady program) (wi
           (ahead log ending run) own_steps
           (leads_ahead program settings ready wishes r.place (end other_log other_ending other) r.leads
           (ahead other_log other_ending other))
-          (λ why k. absurd (differ r.place.stop why r.ran k)) c.1 r.chain) reason r.is_so
+          (λ why k. absurd (some_none r.place.stop k r.ran)) c.1 r.chain) reason r.is_so
 
 pub sessions_are_one : SessionsAreOne
 sessions_are_one program settings wishes log other_log ending other_ending ready run h other k =

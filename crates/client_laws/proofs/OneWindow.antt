@@ -8,7 +8,8 @@ use Rattle.spec_core.specs.Lists.{Each, IsOneOf}
 use Rattle.spec_core.specs.Sorts.{IsDeclaredSort}
 use Rattle.spec_core.specs.Theories.{Theory}
 use Rattle.spec_core.specs.Windows.{IsBefore, IsMember, IsWindow}
-use Rattle.sort_windows.proofs.Order.{before_onward, not_before, each_one, same_or_shorter}
+use Rattle.spec_core.proofs.Members.{each_one}
+use Rattle.sort_windows.proofs.Order.{before_onward, not_before, same_or_shorter}
 use Rattle.symbolic_rules.specs.Windows.{Windows}
 use Rattle.board_laws.specs.Next.{AreSessionWindows}
 

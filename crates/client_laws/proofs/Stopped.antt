@@ -1,8 +1,9 @@
 -- A run that has stopped stopped for its reason where this is so.
 use Rattle.std.proofs.Common.{◌≡◌, ◌∙◌, refl, sym, ap, subst, List, [], ◌∷◌, ◌++◌, Option, Some, None}
+use Rattle.std.proofs.lemmas.List.{append-nil}
 use Rattle.spec_core.specs.declared.settings.Settings.{Settings}
 use Rattle.spec_core.specs.Code.{Program}
-use Rattle.spec_core.specs.Lists.{Each}
+use Rattle.spec_core.proofs.Lists.{each_push}
 use Rattle.rule_model.specs.Events.{Event, pended, left, Ending, exits, deadlocked, waiting, ends_beyond, ends_spent, ends_too_large}
 use Rattle.rule_model.specs.Events.{ends_at_limit}
 use Rattle.rule_model.specs.Wishes.{Wish}
@@ -22,14 +23,6 @@ behind_both : {A : Type 0} (xs ys zs : List A) → (xs ++ ys) ++ zs ≡ xs ++ (y
 behind_both [] ys zs = refl
 behind_both (x ∷ xs) ys zs = ap (λ l. x ∷ l) (behind_both xs ys zs)
 
-nothing_behind : {A : Type 0} (xs : List A) → xs ++ [] ≡ xs
-nothing_behind [] = refl
-nothing_behind (x ∷ xs) = ap (λ l. x ∷ l) (nothing_behind xs)
-
-each_behind : {A : Type 0} (P : A → Type 0) (xs : List A) (x : A) → Each P xs → P x → Each P (xs ++ x ∷ [])
-each_behind P [] x h p = (p, tt)
-each_behind P (y ∷ xs) x h p = (h.0, each_behind P xs x h.1 p)
-
 module _ (program : Program) (settings : Settings) (start : State) (reason : StopReason) where
   abbrev Stopped : List Event → Type 0
   Stopped log = StopsFor program settings log start reason
@@ -48,7 +41,7 @@ module _ (program : Program) (settings : Settings) (start : State) (reason : Sto
     leads = h.leads;
     is_so = h.is_so;
     asked = h.asked;
-    comes = each_behind (ComesAfterStop reason) h.after event h.comes comes;
+    comes = each_push (ComesAfterStop reason) h.after event h.comes comes;
   }
 
   stopped : (stop : Option StopReason) (wishes : List Wish) (log : List Event) (s : State) → stop ≡ Some reason →
@@ -64,7 +57,7 @@ module _ (program : Program) (settings : Settings) (start : State) (reason : Sto
       record {
         before = log;
         after = [];
-        parts = sym (nothing_behind log);
+        parts = sym (append-nil log);
         middle = s;
         leads = derives program settings start None wishes log s run;
         is_so = subst (IsReasonToStop program settings s) same is_so;

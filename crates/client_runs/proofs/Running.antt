@@ -1,6 +1,5 @@
 -- How runs go on, on boards.
 use Rattle.std.proofs.Common.{ℕ, inl, inr, ◌≡◌, ◌⊎◌, ◌∙◌, List, [], ◌∷◌, ◌++◌, length, map, refl, sym, ap, subst, Option, Some, None, IfSome, IfNone, is_some, false, append_assoc}
-use Rattle.std.specs.Prelude.{Result, Ok, Err, OnOk}
 use Rattle.spec_core.specs.declared.code.Checked.{Checked}
 use Rattle.spec_core.specs.declared.settings.Settings.{Settings}
 use Rattle.spec_core.specs.Code.{Program, program_of}
@@ -215,10 +214,6 @@ ended_by v m same settled closed continues log e ending ends start wishes run =
       closed = same.1 ∙ closed;
       ends = ends;
     }))
-
-pub on_ok : {A E : Type 0} {P Q : Type 0} (r : Result A E) → (P → Q) → OnOk r P → OnOk r Q
-on_ok (Ok x) f p = f p
-on_ok (Err e) f p = tt
 
 -- the run of a board that began with the clients for these wishes, once it has ended, is a session of the specification
 pub session_of : (v : BoardView) (checked : Checked) (settings : Settings) → v.session.checked ≡ checked → v.settings ≡ settings →

@@ -5,6 +5,7 @@ use Rattle.spec_core.specs.declared.window.Window.{Window}
 use Rattle.spec_core.specs.Code.{Program, program_of}
 use Rattle.spec_core.specs.Theories.{Theory}
 use Rattle.spec_core.specs.Ready.{IsReady}
+use Rattle.spec_core.proofs.Members.{contains_none}
 use Rattle.rule_model.specs.declared.reply.LimitKind.TheVariants.{Steps}
 use Rattle.rule_model.specs.Legal as legal
 use Rattle.rule_model.specs.States.{PendingOffer, State}
@@ -15,7 +16,6 @@ use Rattle.board_core.specs.Jobs.{first_not_out, not_out}
 use Rattle.candidate_laws.specs.TreeLaws.{lists_of}
 use Rattle.candidate_laws.proofs.Testing.{asked_can_be_tested}
 use Rattle.log_states.specs.Possible.{HasPending}
-use Rattle.log_states.proofs.Members.{none_in}
 use Rattle.board_core.specs.Shapes.{Shape}
 use Rattle.symbolic_rules.specs.Windows.{Windows}
 use Rattle.symbolic_rules.specs.Tables.{windows_in}
@@ -189,18 +189,18 @@ module _ (program : Program) (settings : Settings) (ready : IsReady program) (st
 
   -- the client is idle
   pub client_idle : s.open_clients ≡ 1 ∷ [] → legal.IsIdle s 1
-  client_idle e p h f = none_in p (subst (λ (l : List PendingOffer). Contains l p) (none_pending (one_waits s p e h f)) h)
+  client_idle e p h f = contains_none p (subst (λ (l : List PendingOffer). Contains l p) (none_pending (one_waits s p e h f)) h)
 
   -- where no client is open
   pub none_left_pending : s.open_clients ≡ [] → s.pending ≡ []
   none_left_pending e = none_pending (all_wait_where_none e)
     where
       all_wait_where_none : s.open_clients ≡ [] → legal.AllWait s
-      all_wait_where_none f client among = absurd (none_in client (subst (λ (l : List ℕ). Contains l client) f among))
+      all_wait_where_none f client among = absurd (contains_none client (subst (λ (l : List ℕ). Contains l client) f among))
 
 -- where no client is open, a session doesn't wait for its clients
 pub closed_not_awaiting : (s : State) → s.open_clients ≡ [] → AwaitsClients s → ⊥
-closed_not_awaiting s e awaits = awaits.some (λ client among. absurd (none_in client (subst (λ (l : List ℕ). Contains l client) e among)))
+closed_not_awaiting s e awaits = awaits.some (λ client among. absurd (contains_none client (subst (λ (l : List ℕ). Contains l client) e among)))
 
 -- a client that is idle has no offer pending
 pub idle_has_none : (s : State) (client : ℕ) → legal.IsIdle s client → HasPending s client → ⊥

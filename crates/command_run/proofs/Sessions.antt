@@ -7,6 +7,7 @@ use Rattle.spec_core.specs.declared.memory.Memory.{Memory}
 use Rattle.spec_core.specs.declared.settings.Settings.{Settings}
 use Rattle.spec_core.specs.Code.{Program}
 use Rattle.spec_core.specs.Ready.{IsReady}
+use Rattle.spec_core.proofs.Members.{contains_none}
 use Rattle.rule_model.specs.Answering.{name_of, numbered, AnswersEach}
 use Rattle.rule_model.specs.declared.log.Log.{Log}
 use Rattle.rule_model.specs.declared.log.End.{End}
@@ -15,7 +16,6 @@ use Rattle.rule_model.specs.Logs.{events_of}
 use Rattle.rule_model.specs.Wishes.{Wish}
 use Rattle.symbolic_rules.specs.Windows.{Windows}
 use Rattle.client_laws.specs.Next.{AreSessionWindows}
-use Rattle.client_laws.proofs.Members.{none_in}
 use Rattle.rule_model.specs.declared.wish.ClientWish.{ClientWish}
 use Rattle.script_offers.specs.Valued.{all_wishes_of}
 use Rattle.client_laws.specs.Laws.{ClientRunsAnswerEach}
@@ -75,7 +75,7 @@ module _ (program : Program) (settings : Settings) (log : List Event) (ending : 
     is_run [] whole answered wishes e =
         let same : [] ≡ wishes = cc in
         subst (λ ws. IsClientRun program settings ws log ending) same
-        (one_runs program settings w windows [] log ending whole (alone program settings 0 log ending whole 1 (none_in 1)))
+        (one_runs program settings w windows [] log ending whole (alone program settings 0 log ending whole 1 (contains_none 1)))
     is_run ([] ∷ []) whole answered wishes e = let never : ⊥ = cc in absurd never
     is_run ((wish ∷ others) ∷ []) whole answered wishes e =
         let same : wish ∷ others ≡ wishes = cc in

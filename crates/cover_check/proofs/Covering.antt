@@ -1,6 +1,7 @@
 -- A search that finds nothing shows that an operation is covered, and a pattern that it isn't.
 use Rattle.std.proofs.Common.{ℕ, zero, suc, ◌≡◌, ◌<◌, length, map, get_or, arith, List, [], ◌∷◌, ◌++◌, Option, Some, None, Result, Ok, Err, IfOk, MatchOption, option_map, refl, sym, ap, subst, ◌∙◌, inl, inr}
 use Rattle.std.specs.List.{slice_get}
+use Rattle.std.proofs.lemmas.Option.{same_Some}
 use Rattle.spec_core.specs.Lists.{Each, OneOf, IsOneOf}
 use Rattle.spec_core.specs.Terms.{TermTree, TermTrees, variable, apply, no_terms, and_term, instance, instances, Occurs, OccursInAny}
 use Rattle.spec_core.specs.Theories.{Operation, ConditionalEquation, Theory}
@@ -11,7 +12,7 @@ use Rattle.spec_core.specs.Cover.{IsGroup, IsCoveredCall}
 use Rattle.spec_core.proofs.Instances.{bound_sort}
 use Rattle.equation_shapes.specs.Shapes.{AreOfShape}
 use Rattle.equation_shapes.proofs.Linear.{Tells, occurs, filled, are_of_shape}
-use Rattle.cover_search.proofs.Options.{on_some, some_one}
+use Rattle.cover_search.proofs.Options.{on_some}
 use Rattle.cover_search.specs.Sorts.{IsInhabited}
 use Rattle.cover_search.specs.Search.{variables, Finds, arguments_of}
 use Rattle.cover_search.specs.declared.arguments.Arguments.{Arguments}
@@ -113,7 +114,7 @@ module _ (theory : Theory) where
     left_sort e r h l =
         let k : HasSort theory (slice_get e.sorts) (apply f r) h.sides.0 = subst (λ t. HasSort theory (slice_get e.sorts) t h.sides.0) l h.sides.1 in
         let x = on_some (slice_get theory.operations f) (λ x. (x.result ≡ h.sides.0) × HaveSorts theory (slice_get e.sorts) r x.args) k in
-        let same : x.0 ≡ d = some_one (sym x.1 ∙ declared) in
+        let same : x.0 ≡ d = same_Some _ _ (sym x.1 ∙ declared) in
         subst (HasSort theory (slice_get e.sorts) e.left) (sym x.2.0 ∙ ap (λ y. y.result) same) h.sides.1
 
     lefts : (e : ConditionalEquation) (es : List ConditionalEquation) → IsOneOf e es → OneOf (λ y. y.left ≡ e.left) es

@@ -2,7 +2,7 @@
 use Rattle.std.proofs.Common.{ℕ, ◌≡◌, ◌<◌, ◌+◌, List, [], ◌∷◌, ◌++◌, length, map, take, get_or, sym, ap, ◌∙◌, arith}
 use Rattle.spec_core.specs.declared.term.Term.{Term}
 use Rattle.spec_core.specs.Terms.{TermTree, no_terms, and_term, terms, term_of}
-use Rattle.cover_groups.proofs.Fullness.{map_more}
+use Rattle.spec_core.proofs.Lists.{map_next}
 use Rattle.cover_check.specs.PatternTexts.{places, all_places, numbered, all_numbered}
 
 numbered_last : (n : ℕ) (ts : List TermTree) (t : TermTree) (made : List TermTree) (one : TermTree) →
@@ -25,7 +25,7 @@ places_last (u ∷ ts) t =
 
 module _ (xs : List Term) (i : ℕ) (x : Term) (within : i < length xs) (at : x ≡ get_or xs i x) where
   more : terms (map term_of (take (i + 1) xs)) ≡ terms (map term_of (take i xs) ++ term_of x ∷ [])
-  more = ap terms (map_more term_of xs i x within at)
+  more = ap terms (map_next term_of xs i x within at)
 
   pub numbered_next : (n next : ℕ) (made new : List Term) (one : Term) →
       terms (map term_of made) ≡ all_numbered n (terms (map term_of (take i xs))) →

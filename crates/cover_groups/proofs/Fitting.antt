@@ -8,6 +8,7 @@ use Rattle.spec_core.specs.Theories.{Premise, premise, ConditionalEquation, Theo
 use Rattle.spec_core.specs.Sorts.{OnSome, HasSort, HaveSorts, PremiseFits, EquationFits}
 use Rattle.spec_core.specs.Orthogonality.{HasNoLooseVariables, renamed}
 use Rattle.spec_core.specs.Cover.{IsGroup, IsOfGroup}
+use Rattle.spec_core.proofs.Members.{some_of_each}
 use Rattle.cover_groups.specs.Fullness.{AllFit}
 
 abbrev Under : (ℕ → ℕ) → TermTree → TermTree
@@ -66,11 +67,6 @@ module _ (theory : Theory) (vars wars : ℕ → Option ℕ) (r : ℕ → ℕ) wh
       let same = same_sort f ts (instances (λ x. variable (r x)) ts) s q h j' in
       name_sort (apply f ts) s x a h (subst (λ z. HasSort theory wars (apply f (instances (λ x. variable (r x)) ts)) z) same j') o v
 
-both_of : {A : Type 0} (P Q R : A → Type 0) (xs : List A) → Each P xs → Each Q xs → OneOf R xs → (x : A) × P x × Q x × R x
-both_of P Q R [] h k o = absurd o
-both_of P Q R (x ∷ xs) h k (inl r) = (x, h.0, k.0, r)
-both_of P Q R (x ∷ xs) h k (inr o) = both_of P Q R xs h.1 k.1 o
-
 pub group_fits : (theory : Theory) (e : ConditionalEquation) (lists : List (List Premise)) → Each (EquationFits theory) theory.equations →
     Each HasNoLooseVariables theory.equations →
     EquationFits theory e → ((x : ℕ) → e.left ≡ variable x → ⊥) → IsGroup theory e.left lists → AllFit theory (slice_get e.sorts) lists
@@ -78,7 +74,7 @@ group_fits theory e lists fits closed ef n g = all lists g.from_equations
   where
     one : (ps : List Premise) → OneOf (IsOfGroup e.left ps) theory.equations → Each (PremiseFits theory (slice_get e.sorts)) ps
     one ps o =
-        let d = both_of (EquationFits theory) HasNoLooseVariables (IsOfGroup e.left ps) theory.equations fits closed o in
+        let d = some_of_each (EquationFits theory) HasNoLooseVariables (IsOfGroup e.left ps) theory.equations fits closed o in
         let names = left_names theory (slice_get d.0.sorts) (slice_get e.sorts) d.3.0 d.0.left e.left d.1.sides.0 ef.sides.0 n d.3.1 d.1.sides.1 ef.sides.1 in
         subst (Each (PremiseFits theory (slice_get e.sorts))) (sym d.3.2)
         (premises_fit theory (slice_get d.0.sorts) (slice_get e.sorts) d.3.0 d.0.premises (λ x a o. names x a (d.2.premises x o)) d.1.premises)

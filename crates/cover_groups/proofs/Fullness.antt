@@ -1,6 +1,7 @@
 -- Whether lists of premises are full.
-use Rattle.std.proofs.Common.{ℕ, zero, suc, ◌≡◌, ◌<◌, ◌≤◌, ◌+◌, ◌-◌, List, [], ◌∷◌, ◌++◌, Option, Some, option_map, length, map, take, get_or, add-one, refl, sym, ap, subst, ◌∙◌, arith, inl, inr, ◌⊎◌}
+use Rattle.std.proofs.Common.{ℕ, zero, suc, ◌≡◌, ◌<◌, ◌≤◌, ◌+◌, ◌-◌, List, [], ◌∷◌, ◌++◌, Option, Some, option_map, length, map, take, get_or, refl, sym, ap, subst, ◌∙◌, arith, inl, inr, ◌⊎◌}
 use Rattle.std.specs.List.{slice_get}
+use Rattle.std.proofs.lemmas.Option.{same_Some}
 use Rattle.spec_core.specs.declared.term.Term.{Term}
 use Rattle.spec_core.specs.Lists.{OneOf, IsOneOf}
 use Rattle.spec_core.specs.Terms.{TermTree, TermTrees, variable, apply, no_terms, and_term, constant, Occurs, OccursInAny}
@@ -8,7 +9,8 @@ use Rattle.spec_core.specs.Theories.{Premise, premise, Theory, OccursInPremises,
 use Rattle.spec_core.specs.Sorts.{OnSome, HasSort, HaveSorts, PremiseFits}
 use Rattle.spec_core.specs.Orthogonality.{Gives}
 use Rattle.spec_core.specs.Cover.{BeginWithConstants, IsAfter, IsFull, empty_one, by_constants}
-use Rattle.cover_search.proofs.Options.{both_on, on_some, some_one}
+use Rattle.spec_core.proofs.Lists.{map_next}
+use Rattle.cover_search.proofs.Options.{both_on, on_some}
 use Rattle.equation_overlaps.proofs.Giving.{one_constant, gives_to_candidates}
 use Rattle.equation_overlaps.specs.Given.{candidate, under}
 use Rattle.equation_shapes.proofs.Linear.{Tells, number}
@@ -21,20 +23,10 @@ Within ls ms = (l : List Premise) → IsOneOf l ls → IsOneOf l ms
 
 -- a term has one sort
 pub one_sort : (theory : Theory) (vars : ℕ → Option ℕ) (t : TermTree) (s r : ℕ) → HasSort theory vars t s → HasSort theory vars t r → s ≡ r
-one_sort theory vars (variable x) s r h k = some_one (sym h ∙ k)
+one_sort theory vars (variable x) s r h k = same_Some _ _ (sym h ∙ k)
 one_sort theory vars (apply f ts) s r h k =
     let d = both_on (slice_get theory.operations f) (λ d. (d.result ≡ s) × HaveSorts theory vars ts d.args) (λ d. (d.result ≡ r) × HaveSorts theory vars ts d.args) h k in
     sym d.2.0 ∙ d.3.0
-
-pub map_more : {A B : Type 0} (f : A → B) (xs : List A) (i : ℕ) (x : A) → i < length xs → x ≡ get_or xs i x →
-    map f (take (i + 1) xs) ≡ map f (take i xs) ++ f x ∷ []
-map_more f xs i x w a = rw add-one (go f xs i x w a)
-  where
-    go : {A B : Type 0} (f : A → B) (xs : List A) (i : ℕ) (x : A) → i < length xs → x ≡ get_or xs i x →
-        map f (take (suc i) xs) ≡ map f (take i xs) ++ f x ∷ []
-    go f [] i x w a = absurd (omega arith)
-    go f (y ∷ xs) zero x w a = ap (λ z. f z ∷ []) (sym a)
-    go f (y ∷ xs) (suc i) x w a = ap (λ ys. f y ∷ ys) (go f xs i x (omega arith) a)
 
 module _ (theory : Theory) where
   gives : (p : Premise) (t : TermTree) (c d : ℕ) → Gives theory p t d → Tells (Gives theory p t c)
@@ -273,7 +265,7 @@ module _ (theory : Theory) where
 
   pub sorted_found : (vars : ℕ → Option ℕ) (t : TermTree) (s : ℕ) → Some s ≡ head_sort theory vars t → HasSomeSort theory vars t →
       HasSort theory vars t s
-  sorted_found vars t s e h = subst (HasSort theory vars t) (some_one (sym (head_sort_of vars t h.0 h.1) ∙ sym e)) h.1
+  sorted_found vars t s e h = subst (HasSort theory vars t) (same_Some _ _ (sym (head_sort_of vars t h.0 h.1) ∙ sym e)) h.1
 
   -- what the program finds list by list
   pub begins_not : (t : TermTree) (xs : List (Term × Term)) (x : Term × Term) → 1 ≤ length xs → x ≡ get_or xs 0 x →
@@ -303,8 +295,8 @@ module _ (theory : Theory) where
   module _ {A : Type 0} (f : A → List Premise) (t : TermTree) (c : ℕ) (xs : List A) (i : ℕ) (x : A) (within : i < length xs) (at : x ≡ get_or xs i x) where
     pub after_add : (old new : List (List Premise)) (tail : List Premise) → IsAfter theory t c (map f (take i xs)) old →
         BeginsWith theory t c (f x) tail → new ≡ old ++ tail ∷ [] → IsAfter theory t c (map f (take (i + 1) xs)) new
-    after_add old new tail a b e = subst (λ ls. IsAfter theory t c ls new) (sym (map_more f xs i x within at)) (subst (IsAfter theory t c (map f (take i xs) ++ f x ∷ [])) (sym e) (after_last t c (map f (take i xs)) old (f x) tail a b))
+    after_add old new tail a b e = subst (λ ls. IsAfter theory t c ls new) (sym (map_next f xs i x within at)) (subst (IsAfter theory t c (map f (take i xs) ++ f x ∷ [])) (sym e) (after_last t c (map f (take i xs)) old (f x) tail a b))
 
     pub after_leave : (old : List (List Premise)) → IsAfter theory t c (map f (take i xs)) old → BeginWithConstants theory t (map f xs) →
         ((tail : List Premise) → BeginsWith theory t c (f x) tail → ⊥) → IsAfter theory t c (map f (take (i + 1) xs)) old
-    after_leave old a b n = subst (λ ls. IsAfter theory t c ls old) (sym (map_more f xs i x within at)) (after_skip t c (map f (take i xs)) old (f x) a (begin_at f t xs i x within at b) n)
+    after_leave old a b n = subst (λ ls. IsAfter theory t c ls old) (sym (map_next f xs i x within at)) (after_skip t c (map f (take i xs)) old (f x) a (begin_at f t xs i x within at b) n)

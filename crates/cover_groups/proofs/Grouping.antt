@@ -8,6 +8,8 @@ use Rattle.spec_core.specs.Orthogonality.{HasNoLooseVariables, HasPatterns, rena
 use Rattle.spec_core.specs.Cover.{IsFull, IsGroup, IsOfGroup}
 use Rattle.spec_core.specs.Substitutions.{substitution_of}
 use Rattle.spec_core.proofs.OneValue.{agree, same_instance}
+use Rattle.spec_core.proofs.Lists.{each_push}
+use Rattle.spec_core.proofs.Members.{some_left, some_last, some_of_each}
 use Rattle.equation_shapes.specs.Shapes.{IsOfShape, AreOfShape}
 use Rattle.cover_groups.specs.Groups.{HasFullGroup, AllFrom, AllGive, IsListAdded, premise_instance}
 use Rattle.cover_groups.specs.Renamings.{IsRenaming}
@@ -85,11 +87,6 @@ one_list l e ps qs closed a b =
     both : (ps : List Premise) (r : ℕ → ℕ) → map (premise_instance (λ x. variable (r x))) ps ≡ map (renamed r) ps
     both ps r = premises_renamed (λ x. variable (r x)) r ps (λ x o. refl)
 
-pick : {A : Type 0} (P Q R : A → Type 0) (xs : List A) → Each P xs → Each Q xs → OneOf R xs → (x : A) × P x × Q x × R x
-pick P Q R [] h k o = absurd o
-pick P Q R (x ∷ xs) h k (inl r) = (x, h.0, k.0, r)
-pick P Q R (x ∷ xs) h k (inr o) = pick P Q R xs h.1 k.1 o
-
 listed : (l : TermTree) (e : ConditionalEquation) (ps : List Premise) (ms : List (List Premise)) → HasNoLooseVariables e →
     IsOfGroup l ps e → OneOf (λ qs. IsOfGroup l qs e) ms → IsOneOf ps ms
 listed l e ps [] closed g o = absurd o
@@ -100,7 +97,7 @@ pub one_group : (theory : Theory) (l : TermTree) (ls ms : List (List Premise)) �
     IsGroup theory l ls → IsGroup theory l ms → Within ls ms
 one_group theory l ls ms closed a b ps o =
     let g = at ls a.from_equations o in
-    let r = pick HasNoLooseVariables (λ e. (r : ℕ → ℕ) → under r e.left ≡ l → OneOf (λ qs. IsOfGroup l qs e) ms) (IsOfGroup l ps) theory.equations closed b.all_equations g in
+    let r = some_of_each HasNoLooseVariables (λ e. (r : ℕ → ℕ) → under r e.left ≡ l → OneOf (λ qs. IsOfGroup l qs e) ms) (IsOfGroup l ps) theory.equations closed b.all_equations g in
     listed l r.0 ps ms r.1 r.3 (r.2 r.3.0 r.3.1)
   where
     at : (xs : List (List Premise)) → Each (λ qs. OneOf (IsOfGroup l qs) theory.equations) xs → IsOneOf ps xs →
@@ -114,24 +111,10 @@ pub full_group_if : (theory : Theory) (e : ConditionalEquation) (ls : List (List
 full_group_if theory e ls closed g h =
     full_of_same theory (slice_get e.sorts) h.full ls (one_group theory e.left h.lists ls closed h.group g) (one_group theory e.left ls h.lists closed g h.group)
 
--- one more equation
-each_last : {A : Type 0} (P : A → Type 0) (xs : List A) (x : A) → Each P xs → P x → Each P (xs ++ x ∷ [])
-each_last P [] x h p = (p, tt)
-each_last P (y ∷ ys) x h p = (h.0, each_last P ys x h.1 p)
-
-one_before : {A : Type 0} (P : A → Type 0) (xs ys : List A) → OneOf P xs → OneOf P (xs ++ ys)
-one_before P [] ys o = absurd o
-one_before P (x ∷ xs) ys (inl p) = inl p
-one_before P (x ∷ xs) ys (inr o) = inr (one_before P xs ys o)
-
-one_last : {A : Type 0} (P : A → Type 0) (xs : List A) (x : A) → P x → OneOf P (xs ++ x ∷ [])
-one_last P [] x p = inl p
-one_last P (y ∷ ys) x p = inr (one_last P ys x p)
-
 still_give : (l : TermTree) (old : List (List Premise)) (ps : List Premise) (es : List ConditionalEquation) → AllGive l old es →
     AllGive l (old ++ ps ∷ []) es
 still_give l old ps [] h = tt
-still_give l old ps (e ∷ es) h = ((λ r k. one_before (λ qs. IsOfGroup l qs e) old (ps ∷ []) (h.0 r k)), still_give l old ps es h.1)
+still_give l old ps (e ∷ es) h = ((λ r k. some_left (λ qs. IsOfGroup l qs e) old (ps ∷ []) (h.0 r k)), still_give l old ps es h.1)
 
 at_one_of : {A : Type 0} (P : A → Type 0) (x : A) (xs : List A) → IsOneOf x xs → P x → OneOf P xs
 at_one_of P x [] o h = absurd o
@@ -140,18 +123,18 @@ at_one_of P x (y ∷ ys) (inr o) h = inr (at_one_of P x ys o h)
 
 pub from_more : (theory : Theory) (l : TermTree) (e : ConditionalEquation) (old new : List (List Premise)) → IsOneOf e theory.equations →
     IsListAdded l e old new → AllFrom theory l old → AllFrom theory l new
-from_more theory l e old new o (inl a) h = subst (AllFrom theory l) (sym a.2) (each_last (λ ps. OneOf (IsOfGroup l ps) theory.equations) old a.0 h (at_one_of (IsOfGroup l a.0) e theory.equations o a.1))
+from_more theory l e old new o (inl a) h = subst (AllFrom theory l) (sym a.2) (each_push (λ ps. OneOf (IsOfGroup l ps) theory.equations) old a.0 h (at_one_of (IsOfGroup l a.0) e theory.equations o a.1))
 from_more theory l e old new o (inr a) h = subst (AllFrom theory l) (sym a.1) h
 
 pub give_more : (l : TermTree) (e : ConditionalEquation) (old new : List (List Premise)) (es : List ConditionalEquation) →
     IsListAdded l e old new → AllGive l old es → AllGive l new (es ++ e ∷ [])
 give_more l e old new es (inl a) h =
     subst (λ ls. AllGive l ls (es ++ e ∷ [])) (sym a.2)
-    (each_last (λ d. (r : ℕ → ℕ) → under r d.left ≡ l → OneOf (λ ps. IsOfGroup l ps d) (old ++ a.0 ∷ [])) es e (still_give l old a.0 es h)
-    (λ r k. one_last (λ ps. IsOfGroup l ps e) old a.0 a.1))
+    (each_push (λ d. (r : ℕ → ℕ) → under r d.left ≡ l → OneOf (λ ps. IsOfGroup l ps d) (old ++ a.0 ∷ [])) es e (still_give l old a.0 es h)
+    (λ r k. some_last (λ ps. IsOfGroup l ps e) old a.0 a.1))
 give_more l e old new es (inr a) h =
     subst (λ ls. AllGive l ls (es ++ e ∷ [])) (sym a.1)
-    (each_last (λ d. (r : ℕ → ℕ) → under r d.left ≡ l → OneOf (λ ps. IsOfGroup l ps d) old) es e h (λ r k. absurd (a.0 r k)))
+    (each_push (λ d. (r : ℕ → ℕ) → under r d.left ≡ l → OneOf (λ ps. IsOfGroup l ps d) old) es e h (λ r k. absurd (a.0 r k)))
 
 pub match_renames : {V E : Type 0} (items : V → List TermTree) (p k call : TermTree) → IsOfShape k p → call ≡ k →
     (r : Result (Option V) E) →
@@ -161,14 +144,5 @@ match_renames items p k call h e (Ok None) f = tt
 match_renames items p k call h e (Ok (Some b)) f = is_renaming p k (items b) h (f ∙ e)
 match_renames items p k call h e (Err x) f = tt
 
-pub in_each : {A : Type 0} (P : A → Type 0) (x : A) (xs : List A) → IsOneOf x xs → Each P xs → P x
-in_each P x [] o h = absurd o
-in_each P x (y ∷ ys) (inl e) h = subst P (sym e) h.0
-in_each P x (y ∷ ys) (inr o) h = in_each P x ys o h.1
-
 pub no_variable : (theory : Theory) (e : ConditionalEquation) → HasPatterns theory e → (x : ℕ) → e.left ≡ variable x → ⊥
 no_variable theory e h x k = let m : apply h.0 h.1 ≡ variable x = sym h.2 ∙ k in cc
-
-pub some_found : {V : Type 0} (P : V → Type 0) (o : Option V) (v : V) → o ≡ Some v → MatchOption o (Unit {0}) P → P v
-some_found P None v e h = absurd (cc)
-some_found P (Some w) v e h = let k : w ≡ v = cc in subst P k h

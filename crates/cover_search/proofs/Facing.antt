@@ -1,5 +1,5 @@
 -- Lists of rows and patterns from a place on.
-use Rattle.std.proofs.Common.{ℕ, zero, suc, ◌≡◌, ◌<◌, ◌≤◌, ◌+◌, List, [], ◌∷◌, Option, Some, None, length, map, drop, get_or, slice_set, false, true, add-one, inl, inr, ◌⊎◌, refl, ap, sym, subst, ◌∙◌, arith}
+use Rattle.std.proofs.Common.{ℕ, zero, suc, ◌≡◌, ◌<◌, ◌≤◌, ◌+◌, List, [], ◌∷◌, Option, Some, None, length, map, drop, get_or, slice_set, true, add-one, inl, inr, ◌⊎◌, refl, ap, sym, subst, ◌∙◌, arith}
 use Rattle.std.specs.Option.{is_some}
 use Rattle.spec_core.specs.declared.term.Term.{Term}
 use Rattle.spec_core.specs.Terms.{TermTree, TermTrees, variable, apply, and_term, no_terms, terms, term_of}
@@ -40,10 +40,6 @@ faced_over [] patterns (suc i) w = refl
 faced_over (x ∷ rows) patterns zero w = absurd (omega arith)
 faced_over (x ∷ rows) [] (suc i) w = faced_none (from i rows)
 faced_over (x ∷ rows) (y ∷ patterns) (suc i) w = faced_over rows patterns i (omega arith)
-
-pub not_some : {A : Type 0} (o : Option A) → is_some o ≡ false → o ≡ None
-not_some None e = refl
-not_some (Some x) e = absurd (cc)
 
 -- no pattern before this place has a variable that faces an operation
 abbrev pub NotFaced : ℕ → List Term → List Term → Type 0

@@ -9,6 +9,3 @@ both_on (Some d) P Q h k = (d, refl, h, k)
 pub on_some : {A : Type 0} (o : Option A) (P : A → Type 0) → OnSome o P → (d : A) × (o ≡ Some d) × P d
 on_some None P h = absurd h
 on_some (Some d) P h = (d, refl, h)
-
-pub some_one : {A : Type 0} {x y : A} → Some x ≡ Some y → x ≡ y
-some_one e = cc

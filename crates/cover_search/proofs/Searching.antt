@@ -1,6 +1,7 @@
 -- What the search answers: nothing only where each tuple is covered, and a pattern only with a tuple that isn't.
 use Rattle.std.proofs.Common.{ℕ, zero, suc, ◌≡◌, ◌+◌, List, [], ◌∷◌, Option, Some, None, refl, sym, ap, subst, ◌∙◌, arith, inl, inr, ◌⊎◌}
 use Rattle.std.specs.List.{slice_get}
+use Rattle.std.proofs.lemmas.Option.{same_Some}
 use Rattle.spec_core.specs.Lists.{Each, OneOf}
 use Rattle.spec_core.specs.Terms.{TermTree, TermTrees, variable, apply, no_terms, and_term}
 use Rattle.spec_core.specs.Theories.{Operation, Theory}
@@ -9,7 +10,7 @@ use Rattle.spec_core.specs.Constructors.{IsConstructor, IsConstructed, AreConstr
 use Rattle.equation_shapes.specs.Shapes.{IsOfShape, AreOfShape, MeetAll}
 use Rattle.equation_shapes.proofs.Linear.{all_shapes}
 use Rattle.cover_search.specs.Sorts.{IsInhabited}
-use Rattle.cover_search.proofs.Options.{both_on, on_some, some_one}
+use Rattle.cover_search.proofs.Options.{both_on, on_some}
 use Rattle.cover_search.specs.Makers.{IsMaker}
 use Rattle.cover_search.specs.Search.{variables, or_else, faced, faced_any, first_faced, opened, opened_any, OpenBy, Finds, FindsFirst, covered, uncovered, split, in_none, later, here}
 
@@ -50,7 +51,7 @@ module _ (theory : Theory) where
         IsConstructed theory v → IsOfShape p v → Faces r p v s
     at_faced (variable x) p v s sort e hp hv c h = absurd (cc)
     at_faced (apply g rs) (variable t) v s sort e hp hv c h =
-        record { part = v; sorted = subst (HasSort theory no_variables v) (some_one (sym hp ∙ e)) hv; constructed = c; lifts = λ u k. k }
+        record { part = v; sorted = subst (HasSort theory no_variables v) (same_Some _ _ (sym hp ∙ e)) hv; constructed = c; lifts = λ u k. k }
     at_faced (apply g rs) (apply f ps) (variable y) s sort e hp hv c h = absurd c
     at_faced (apply g rs) (apply f ps) (apply i vs) s sort e hp hv c h =
         let k = both_on (slice_get theory.operations f) (λ d. (d.result ≡ sort) × HaveSorts theory Some ps d.args) (λ d. (d.result ≡ sort) × HaveSorts theory no_variables vs d.args) hp (subst (λ n. OnSome (slice_get theory.operations n) (λ d. (d.result ≡ sort) × HaveSorts theory no_variables vs d.args)) (sym h.0) hv) in
@@ -76,7 +77,7 @@ module _ (theory : Theory) where
     opened_sort : (u r p : TermTree) (s sort : ℕ) → faced r p ≡ Some s → HasSort theory Some p sort → HasSort theory Some u s →
         HasSort theory Some (opened u r p) sort
     opened_sort u (variable x) p s sort e hp hu = absurd (cc)
-    opened_sort u (apply g rs) (variable t) s sort e hp hu = subst (HasSort theory Some u) (some_one (sym e ∙ hp)) hu
+    opened_sort u (apply g rs) (variable t) s sort e hp hu = subst (HasSort theory Some u) (same_Some _ _ (sym e ∙ hp)) hu
     opened_sort u (apply g rs) (apply f ps) s sort e hp hu =
         let k = on_some (slice_get theory.operations f) (λ d. (d.result ≡ sort) × HaveSorts theory Some ps d.args) hp in
         subst (λ o. OnSome o (λ d. (d.result ≡ sort) × HaveSorts theory Some (opened_any u rs ps) d.args)) (sym k.1) (k.2.0, opened_sorts u rs ps s k.0.args e k.2.1 hu)
@@ -122,7 +123,7 @@ module _ (theory : Theory) where
   mutual
     pub fill : (t : TermTree) (sort : ℕ) → IsMade t → HasSort theory Some t sort →
         (v : TermTree) × HasSort theory no_variables v sort × IsConstructed theory v × IsOfShape t v
-    fill (variable s) sort m h = (m.0, subst (HasSort theory no_variables m.0) (some_one h) m.1, m.2, tt)
+    fill (variable s) sort m h = (m.0, subst (HasSort theory no_variables m.0) (same_Some _ _ h) m.1, m.2, tt)
     fill (apply c ts) sort m h =
         let k = on_some (slice_get theory.operations c) (λ d. (d.result ≡ sort) × HaveSorts theory Some ts d.args) h in
         let r = fill_all ts k.0.args m.1 k.2.1 in
@@ -165,11 +166,11 @@ module _ (theory : Theory) where
       OneOf (λ q. opened_any (apply c (variables d.args)) row ps ≡ q) qs
   opened_by s row ps n [] qs o i c d e at m = absurd (cc)
   opened_by s row ps n (x ∷ ds) qs (inl o) zero c d e at m =
-      let a : x ≡ d = some_one at in
+      let a : x ≡ d = same_Some _ _ at in
       let b : c ≡ n = omega (arith, e) in
       subst (OneOf (λ q. opened_any (apply c (variables d.args)) row ps ≡ q)) (sym o.1.1) (inl (ap (λ k. opened_any (apply k (variables d.args)) row ps) b ∙ ap (λ y. opened_any (apply n (variables y.args)) row ps) (sym a)))
   opened_by s row ps n (x ∷ ds) qs (inr o) zero c d e at m =
-      let a : d ≡ x = some_one (sym at) in
+      let a : d ≡ x = same_Some _ _ (sym at) in
       let b : c ≡ n = omega (arith, e) in
       absurd (o.0 (subst (IsMaker theory s n) a (subst (λ k. IsMaker theory s k d) b m)))
   opened_by s row ps n (x ∷ ds) qs (inl o) (suc i) c d e at m =
@@ -237,7 +238,7 @@ module _ (theory : Theory) where
           HaveSorts theory Some q sorts × AreMade q × Each (λ r. MeetAll r q → ⊥) rows
       none_meets (covered o) q e sorts hs m = absurd (cc)
       none_meets (uncovered {ps} k) q e sorts hs m =
-          subst (λ p. HaveSorts theory Some p sorts × AreMade p × Each (λ r. MeetAll r p → ⊥) rows) (some_one e) (hs, m, k)
+          subst (λ p. HaveSorts theory Some p sorts × AreMade p × Each (λ r. MeetAll r p → ⊥) rows) (same_Some _ _ e) (hs, m, k)
       none_meets (split {ps} row s qs free first at opens found) q e sorts hs m = first_meets found q e sorts (opens_made s row ps 0 theory.operations qs sorts (λ i. ap (slice_get theory.operations) (let k : i ≡ 0 + i = omega arith in k)) at opens hs m)
 
       first_meets : {qs : List TermTrees} {answer : Option TermTrees} → FindsFirst theory rows qs answer → (q : TermTrees) →

@@ -1,5 +1,6 @@
 -- The stack of the search.
 use Rattle.std.proofs.Common.{ℕ, zero, suc, ◌≡◌, ◌<◌, ◌≤◌, ◌↔◌, List, [], ◌∷◌, ◌++◌, Option, Some, None, Bool, length, map, drop, get_or, refl, ap, sym, subst, ◌∙◌, arith, inl, inr, ◌⊎◌}
+use Rattle.std.proofs.lemmas.List.{drop_all}
 use Rattle.spec_core.specs.declared.signature.OpDecl.{OpDecl}
 use Rattle.spec_core.specs.Lists.{Each, OneOf}
 use Rattle.spec_core.specs.Terms.{TermTrees, apply}
@@ -41,16 +42,10 @@ alternatives_next theory s row ps ops c k d old before new same e w a h i =
     let r = one_more theory s row ps c (operation_of d) (drop (suc c) (map operation_of ops)) h'.0 old before new o h'.2 i in
     (r.0, subst (λ xs. OpenBy theory s row ps c (drop c xs) r.0) (sym same) (subst (λ xs. OpenBy theory s row ps c xs r.0) (sym (drop_at ops c d w a)) r.1), r.2)
 
-drop_all : {A : Type 0} (xs : List A) (i : ℕ) → length xs ≤ i → drop i xs ≡ []
-drop_all [] zero h = refl
-drop_all [] (suc i) h = refl
-drop_all (x ∷ xs) zero h = absurd (omega arith)
-drop_all (x ∷ xs) (suc i) h = drop_all xs i (omega arith)
-
 pub no_alternatives : (theory : Theory) (s : ℕ) (row ps : TermTrees) (c : ℕ) (old : List TermTrees) → length theory.operations ≤ c →
     AreAlternatives theory s row ps c old old
 no_alternatives theory s row ps c old h =
-    ([], subst (λ xs. OpenBy theory s row ps c xs []) (sym (drop_all theory.operations c h)) refl, refl)
+    ([], subst (λ xs. OpenBy theory s row ps c xs []) (sym (drop_all c theory.operations h)) refl, refl)
 
 module _ (theory : Theory) (rows : List TermTrees) where
   first_of : {ls : List TermTrees} {a : Option TermTrees} → FindsFirst theory rows ls a → (p : TermTrees) (rest : List TermTrees) →
@@ -110,7 +105,3 @@ module _ (theory : Theory) (rows : List TermTrees) where
 
 pub popped : (old new : List Arguments) (a : Arguments) → old ≡ new ++ a ∷ [] → stack_of old ≡ arguments_of a ∷ stack_of new
 popped old new a e = ap stack_of e ∙ pushed_onto new a []
-
-pub no_length : {A : Type 0} (xs : List A) → length xs ≡ 0 → xs ≡ []
-no_length [] e = refl
-no_length (x ∷ xs) e = absurd (omega (arith, e))

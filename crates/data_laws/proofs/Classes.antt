@@ -16,6 +16,7 @@ use Rattle.data_laws.proofs.Matching.{either, Tells, number}
 use Rattle.data_laws.proofs.Still.{IsStill, AreStill, own_value, own_values}
 use Rattle.data_laws.proofs.Sorted.{keeps_sort}
 use Rattle.spec_core.proofs.Instances.{on_map, instance_sort}
+use Rattle.spec_core.proofs.Members.{each_one}
 use Rattle.data_laws.proofs.Fit.{IsFit, Fits, fits_sorted, fit_values, on_use}
 use Rattle.data_laws.proofs.Exists.{Settles, CallSettles, constructor_stays, constructor_is_final, constructor_refutes}
 use Rattle.data_laws.proofs.Conditions.{headed_of, bare_of, sorted_of, declared}
@@ -50,11 +51,6 @@ mutual
   occurs_any : (x : ℕ) (ts : TermTrees) → Tells (OccursInAny x ts)
   occurs_any x no_terms = inr (λ h. h)
   occurs_any x (and_term t ts) = either (occurs x t) (occurs_any x ts)
-
-pub element : {A : Type 0} (P : A → Type 0) (x : A) (xs : List A) → IsOneOf x xs → Each P xs → P x
-element P x [] i h = absurd i
-element P x (y ∷ ys) (inl e) h = subst P (sym e) h.0
-element P x (y ∷ ys) (inr i) h = element P x ys i h.1
 
 module _ (theory : Theory) (ex : IsExecutable theory)
     (settles : (t : TermTree) → Fits theory t → Settles theory t)
@@ -171,7 +167,7 @@ module _ (theory : Theory) (ex : IsExecutable theory)
           (subst (λ u. Meet theory (instance s a) u) y h.0) in
           subst (PremiseMeets theory z) (sym q) m
       first (premise a b ∷ ps) e h (inr i) = first ps (λ x o. e x (inr (inr o))) h.1 i
-  among r s z ps qs e hp hq p (inr i) = element (PremiseMeets theory z) p qs i hq
+  among r s z ps qs e hp hq p (inr i) = each_one (PremiseMeets theory z) qs p hq i
 
   -- two equations that are apart don't both apply to one call
   never_both : (e d : ConditionalEquation) → HasNoLooseVariables e → AreApart theory e d → (s z : ℕ → TermTree) →
@@ -230,7 +226,7 @@ module _ (theory : Theory) (ex : IsExecutable theory)
       chosen (unlike h r) (inr o) a t g = chosen r o a.1 t.1 g
       chosen (like {e = d} z q b) (inl p) a t g = same_one z t.0 p (g ∙ sym q) b
       chosen (like {e = d} {es = es} z q b) (inr o) a t g =
-          later b o a.1 t.1 g (λ hz. never_both d e t.0 (element (AreApart theory d) e es o a.0) z s (q ∙ sym g) hz hs)
+          later b o a.1 t.1 g (λ hz. never_both d e t.0 (each_one (AreApart theory d) es e a.0 o) z s (q ∙ sym g) hz hs)
 
       later : {ps : List Premise} {r : TermTree} {z : ℕ → TermTree} {es : List ConditionalEquation} {f : ℕ} {vs : TermTrees}
           {v : TermTree} {k : ℕ} → Asks theory ps r z es f vs v k → IsOneOf e es → AllApart theory es → Each HasNoLooseVariables es →
@@ -246,7 +242,7 @@ module _ (theory : Theory) (ex : IsExecutable theory)
       Each (PremiseIsSame theory z) e.premises → Settles theory (instance z e.right) →
       SameValue theory (instance z e.left) (instance z e.right)
   one_equation e i z still sort fits h r =
-      let p = element (HasPatterns theory) e theory.equations i ex.orthogonal.patterns in
+      let p = each_one (HasPatterns theory) theory.equations e ex.orthogonal.patterns i in
       let a = patterns_are_still z p.1 p.3 (λ x o. still x (subst (Occurs x) (sym p.2) o)) in
       let own = own_values theory (instances z p.1) a in
       let q : instance z e.left ≡ apply p.0 (instances z p.1) = ap (instance z) p.2 in
@@ -267,10 +263,10 @@ module _ (theory : Theory) (ex : IsExecutable theory)
 
   module _ (e : ConditionalEquation) (i : IsOneOf e theory.equations) (s : ℕ → TermTree) (ground : IsGroundFor theory e s) where
     fit : EquationFits theory e
-    fit = element (EquationFits theory) e theory.equations i ex.fits.equations
+    fit = each_one (EquationFits theory) theory.equations e ex.fits.equations i
 
     tight : HasNoLooseVariables e
-    tight = element HasNoLooseVariables e theory.equations i ex.orthogonal.closed
+    tight = each_one HasNoLooseVariables theory.equations e ex.orthogonal.closed i
 
     sort_of : (x : ℕ) → Occurs x e.left → (a : ℕ) × (slice_get e.sorts x ≡ Some a) × HasSort theory no_variables (s x) a
     sort_of x o = let d = declared theory (slice_get e.sorts) e.left fit.sides.0 fit.sides.1 x o in (d.0, d.1, ground x d.0 (inl o) d.1)

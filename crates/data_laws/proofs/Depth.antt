@@ -7,10 +7,8 @@ use Rattle.spec_core.specs.Order.{Mentions, DependsOn, itself, onward, IsAbove}
 use Rattle.std.proofs.lemmas.Bool.Decides.{eqb_tells}
 use Rattle.std.proofs.lemmas.Map.Keys.{IsDistinct-cons}
 use Rattle.std.proofs.lemmas.Map.Steps.{length-le_from_distinct_below}
+use Rattle.std.proofs.lemmas.Bool.{ne_eqb}
 use Rattle.data_laws.proofs.Exists.{EndsAt, ends_at, reaches_on}
-
-not_equal : (a b : ℕ) → (a ≡ b → ⊥) → eqb a b ≡ false
-not_equal a b h = elim (eqb_tells a b) [ inl e ↦ absurd (h e.1) | inr e ↦ e.0 ]
 
 all_small : (n : ℕ) (xs : List ℕ) → AllByRecursion (λ x. x < n) xs → (q : ℕ) → list_any (eqb q) xs ≡ true → q < n
 all_small n [] h q e = cc
@@ -26,7 +24,7 @@ at_most n xs d h = length-le_from_distinct_below xs n d (all_small n xs h)
 module _ (theory : Theory) (n : ℕ) (small : (f g : ℕ) → Mentions theory f g → f < n) where
   apart : (f : ℕ) (done : List ℕ) → AllByRecursion (λ d. IsAbove theory d f) done → AllByRecursion (λ d. eqb f d ≡ false) done
   apart f [] h = tt
-  apart f (d ∷ done) h = (not_equal f d (λ e. h.0.1 (subst (λ z. DependsOn theory f z) e (itself f))), apart f done h.1)
+  apart f (d ∷ done) h = (ne_eqb f d (λ e. h.0.1 (subst (λ z. DependsOn theory f z) e (itself f))), apart f done h.1)
 
   lower : (f g : ℕ) (done : List ℕ) → IsAbove theory f g → AllByRecursion (λ d. IsAbove theory d f) done →
       AllByRecursion (λ d. IsAbove theory d g) done

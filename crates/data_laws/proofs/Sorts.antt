@@ -7,7 +7,7 @@ use Rattle.spec_core.specs.Sorts.{HasSort, HaveSorts, HaveOneSort, no_variables,
 use Rattle.spec_core.specs.Equality.{Equal, AreEqual, none_equal, more_equal, by_reflexivity, by_symmetry, by_transitivity, by_congruence}
 use Rattle.spec_core.specs.Equality.{by_equation}
 use Rattle.spec_core.proofs.Instances.{on_map, on_both, instance_sort}
-use Rattle.data_laws.proofs.Classes.{element}
+use Rattle.spec_core.proofs.Members.{each_one}
 
 -- a ground term has one sort
 one_sort : (theory : Theory) (t : TermTree) (a b : ℕ) → HasSort theory no_variables t a → HasSort theory no_variables t b → a ≡ b
@@ -26,7 +26,7 @@ module _ (theory : Theory) (fits : FitsData theory) where
     have_one_sort (by_congruence {f = f} h p) =
         (h.0, h.1, on_map (slice_get theory.operations f) h.1 (λ d q. (q.0, have_the_sorts p d.args q.1)))
     have_one_sort {a} {b} (by_equation e s i ground premises l r) =
-        let k = element (EquationFits theory) e theory.equations i fits.equations in
+        let k = each_one (EquationFits theory) theory.equations e fits.equations i in
         let left = instance_sort theory (slice_get e.sorts) s e.left k.sides.0 k.sides.1 (λ x c o d. ground x c (inl o) d) in
         let right = instance_sort theory (slice_get e.sorts) s e.right k.sides.0 k.sides.2 (λ x c o d. ground x c (inr (inl o)) d) in (
           k.sides.0,

@@ -17,13 +17,14 @@ use Rattle.data_laws.specs.Laws.{HaveOneValue, PremiseHasOneValue, TermsHaveOneV
 use Rattle.data_laws.specs.Laws.{ValuesHaveThemselves, EquationSidesHaveOneValue}
 use Rattle.data_laws.proofs.Sorted.{keeps_sort}
 use Rattle.spec_core.proofs.Instances.{instance_sort}
+use Rattle.spec_core.proofs.Members.{each_one}
 use Rattle.data_laws.proofs.Still.{AreStill}
 use Rattle.data_laws.proofs.Fit.{IsFit, Fits, fits_sorted}
 use Rattle.data_laws.proofs.Exists.{Settles, CallSettles, settles, by_operation}
 use Rattle.data_laws.proofs.Depth.{all_end}
 use Rattle.data_laws.proofs.Conditions.{widest, headed_of, bare_of, sorted_of, owed_of, numbered_of}
 use Rattle.data_laws.proofs.Covered.{covered_ends}
-use Rattle.data_laws.proofs.Classes.{SameValue, PremiseIsSame, element, one_class, through, by_values}
+use Rattle.data_laws.proofs.Classes.{SameValue, PremiseIsSame, one_class, through, by_values}
 
 module _ (theory : Theory) (ex : IsExecutable theory) where
   value_of : (t : TermTree) → Fits theory t → Settles theory t
@@ -89,7 +90,7 @@ module _ (theory : Theory) (ex : IsExecutable theory) where
       (held : Each (PremiseHasOneValue theory s) e.premises) where
     by_the_equation : HaveOneValue theory (instance s e.left) (instance s e.right)
     by_the_equation =
-        let fit = element (EquationFits theory) e theory.equations i ex.fits.equations in
+        let fit = each_one (EquationFits theory) theory.equations e ex.fits.equations i in
         to_value (instance s e.left) (instance s e.right)
         (fit.sides.0, instance_sort theory (slice_get e.sorts) s e.left fit.sides.0 fit.sides.1 (λ x a o q. ground x a (inl o) q))
         (fit.sides.0, instance_sort theory (slice_get e.sorts) s e.right fit.sides.0 fit.sides.2 (λ x a o q. ground x a (inr (inl o)) q))

@@ -1,22 +1,17 @@
 -- What is decided, and what is found first.
 use Rattle.std.proofs.Common.{◌≡◌, ◌⊎◌, inl, inr, List, [], ◌∷◌, refl, sym, ap, subst, ◌∙◌, Option, Some, None, false}
+use Rattle.std.proofs.lemmas.Option.{none-some, same_Some}
 use Rattle.spec_core.specs.Lists.{IsOneOf}
 use Rattle.decision_trees.specs.Decisions.{Question, expand, judge, ends, asks_items, asks_verdict, result, asked}
 use Rattle.decision_trees.specs.Known.{where_known, decided, known_or, unless_known, found}
 use Rattle.decision_trees.specs.Laws.{DecidedIsSo, DecidedOrFound, FirstIsAsked}
 
-none_some : {R : Type 0} {r : R} → None ≡ Some r → ⊥
-none_some e = cc
-
-some_same : {R : Type 0} {r s : R} → Some r ≡ Some s → r ≡ s
-some_same e = cc
-
 pub known_case : {X R : Type 0} (o : Option X) (k : X → Option R) (r : R) → where_known o k ≡ Some r → (x : X) × (o ≡ Some x) × (k x ≡ Some r)
-known_case None k r e = absurd (none_some e)
+known_case None k r e = absurd (none-some _ e)
 known_case (Some x) k r e = (x, refl, e)
 
 pub decided_is_so : (I A R : Type 0) → DecidedIsSo I A R
-decided_is_so I A R known (ends r) q s x e = some_same e
+decided_is_so I A R known (ends r) q s x e = same_Some _ _ e
 decided_is_so I A R known (asks_items g k) q s x e =
     let c = known_case (known.items g) (λ xs. decided known (k xs)) q e in
     ap (λ xs. result s (k xs)) (x.items g c.0 c.1) ∙ decided_is_so I A R known (k c.0) q s x c.2

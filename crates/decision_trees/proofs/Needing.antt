@@ -1,6 +1,7 @@
 -- What the walk finds is needed, and it finds something where anything is needed.
 use Rattle.std.proofs.Common.{◌≡◌, inl, inr, List, [], ◌∷◌, ◌++◌, refl, sym, ap, subst, Option, Some, None, false}
 use Rattle.spec_core.specs.Lists.{IsOneOf}
+use Rattle.spec_core.proofs.Options.{some_none}
 use Rattle.decision_trees.specs.Decisions.{Question, expand, judge, Answers, Decision, ends, asks_items, asks_verdict, result, asked, after}
 use Rattle.decision_trees.specs.Known.{Knowledge, Extends, decided, IsMissing, known_or, unless_known, found, completed}
 use Rattle.decision_trees.specs.Laws.{FoundAreNeeded, NeededIsFound, FoundAfter}
@@ -31,9 +32,6 @@ found_are_needed I A R known c q m =
       possible = record { items = λ g xs e. ap (λ o. known_or o []) e; verdict = λ a b e. ap (λ o. known_or o false) e };
       asks = n.1;
     }
-
-some_none : {X : Type 0} {x : X} (o : Option X) → o ≡ Some x → o ≡ None → ⊥
-some_none o e f = cc
 
 -- where the result is decided, every question that is asked has a known answer
 all_known : {I A R : Type 0} (known : Knowledge I A) (c : Decision I A R) (r : R) (s : Answers I A) → Extends s known →

@@ -5,17 +5,18 @@ use Rattle.lotos_ast.specs.FirstRefusals.{first_refusal}
 use Rattle.spec_core.specs.Lists.{Each, IsOneOf}
 use Rattle.spec_core.specs.Orthogonality.{HeadIsUnmarked, HasPatterns, IsLinear, HasNoLooseVariables, AreApart, AllApart, IsOrthogonal}
 use Rattle.spec_core.specs.Theories.{ConditionalEquation, Theory}
+use Rattle.spec_core.proofs.Lists.{each_push, each_implied}
+use Rattle.spec_core.proofs.Members.{each_one, one_right}
 use Rattle.equation_faults.specs.Faults.{IsWellFormed, IsFaultOf, constructor_has_equation, pattern_has_defined, not_left_linear}
 use Rattle.equation_faults.specs.Faults.{loose_variable}
 use Rattle.equation_faults.proofs.Occurrences.{distinct, not_distinct, not_closed}
 use Rattle.equation_check.specs.Shape.{IsRefusalOf, IsAccepted, IsAnswerOf, AreRefusals, IsFirstRefusal, listed, none, next}
 use Rattle.equation_check.specs.Shape.{fault, overlap}
-use Rattle.equation_sets.proofs.Members.{each_last, each_more, each_one, one_right}
 
 last_apart : (theory : Theory) (es : List ConditionalEquation) (e : ConditionalEquation) → AllApart theory es →
     Each (λ d. AreApart theory d e) es → AllApart theory (es ++ e ∷ [])
 last_apart theory [] e h all = (tt, tt)
-last_apart theory (d ∷ es) e h all = (each_last (AreApart theory d) es e h.0 all.0, last_apart theory es e h.1 all.1)
+last_apart theory (d ∷ es) e h all = (each_push (AreApart theory d) es e h.0 all.0, last_apart theory es e h.1 all.1)
 
 parts_apart : (theory : Theory) (es : List ConditionalEquation) (e : ConditionalEquation) → AllApart theory (es ++ e ∷ []) →
     AllApart theory es × Each (λ d. AreApart theory d e) es
@@ -42,7 +43,7 @@ module _ (theory : Theory) where
   accepted : (before : List ConditionalEquation) (e : ConditionalEquation) → Fine before → IsAccepted theory before e →
       Fine (before ++ e ∷ [])
   accepted before e fine a = record {
-    formed = each_last (IsWellFormed theory) before e fine.formed a.formed;
+    formed = each_push (IsWellFormed theory) before e fine.formed a.formed;
     apart = last_apart theory before e fine.apart (together before fine.formed a.apart);
   }
     where
@@ -69,10 +70,10 @@ module _ (theory : Theory) where
   orthogonal h =
       let fine = all_fine theory.equations [] h refl in
       record {
-        unmarked = each_more (IsWellFormed theory) (HeadIsUnmarked theory) theory.equations (λ e w. w.unmarked) fine.formed;
-        patterns = each_more (IsWellFormed theory) (HasPatterns theory) theory.equations (λ e w. w.patterns) fine.formed;
-        linear = each_more (IsWellFormed theory) (λ e. IsLinear e.left) theory.equations (λ e w. w.linear) fine.formed;
-        closed = each_more (IsWellFormed theory) HasNoLooseVariables theory.equations (λ e w. w.closed) fine.formed;
+        unmarked = each_implied (IsWellFormed theory) (HeadIsUnmarked theory) theory.equations (λ e w. w.unmarked) fine.formed;
+        patterns = each_implied (IsWellFormed theory) (HasPatterns theory) theory.equations (λ e w. w.patterns) fine.formed;
+        linear = each_implied (IsWellFormed theory) (λ e. IsLinear e.left) theory.equations (λ e w. w.linear) fine.formed;
+        closed = each_implied (IsWellFormed theory) HasNoLooseVariables theory.equations (λ e w. w.closed) fine.formed;
         apart = fine.apart;
       }
 

@@ -4,9 +4,11 @@ use Rattle.spec_core.specs.Lists.{Each, IsOneOf}
 use Rattle.spec_core.specs.Orthogonality.{IsLinear, AreLinear, HasNoLooseVariables}
 use Rattle.spec_core.specs.Terms.{TermTree, TermTrees, variable, apply, no_terms, and_term, Occurs, OccursInAny}
 use Rattle.spec_core.specs.Theories.{Premise, premise, ConditionalEquation, OccursInPremises}
+use Rattle.spec_core.proofs.Lists.{each_implied}
+use Rattle.spec_core.proofs.Members.{each_one, one_left, one_parts, one_right}
 use Rattle.equation_faults.specs.Firsts.{IsFirstOf, IsFirstRepeated}
 use Rattle.equation_faults.specs.Variables.{variables, all_variables, premises_variables, asked_variables}
-use Rattle.equation_sets.proofs.Members.{each_one, each_more, one_left, one_right, one_parts, Distinct, distinct_joined}
+use Rattle.equation_sets.proofs.Members.{Distinct, distinct_joined}
 use Rattle.equation_sets.proofs.Members.{distinct_left, distinct_right, distinct_apart}
 
 mutual
@@ -93,7 +95,7 @@ first_loose e x f = record {
   behind = f.behind;
   parts = f.parts;
   holds = λ o. f.holds (listed x e.left o);
-  none_before = each_more (λ y. (IsOneOf y (variables e.left) → ⊥) → ⊥) (λ y. (Occurs y e.left → ⊥) → ⊥) f.before
+  none_before = each_implied (λ y. (IsOneOf y (variables e.left) → ⊥) → ⊥) (λ y. (Occurs y e.left → ⊥) → ⊥) f.before
       (λ y h k. h (λ o. k (occurring y e.left o))) f.none_before;
 }
 

@@ -11,8 +11,9 @@ use Rattle.spec_core.specs.Constructors.{IsPattern, ArePatterns}
 use Rattle.spec_core.specs.Lists.{OneOf, IsOneOf}
 use Rattle.spec_core.specs.Terms.{terms, term_of}
 use Rattle.spec_core.specs.Theories.{Theory, Premise, ConditionalEquation, Heads, premise_of, equation_of}
+use Rattle.spec_core.proofs.Lists.{map_next}
+use Rattle.spec_core.proofs.Members.{one_left, one_parts, one_right, some_left, some_parts, some_right}
 use Rattle.equation_faults.specs.Variables.{variables, all_variables, premise_variables, premises_variables}
-use Rattle.equation_sets.proofs.Members.{one_left, one_right, one_parts, some_left, some_right, some_parts, map_taken}
 use Rattle.equation_shapes.proofs.TermLists.{each_at, each_more}
 
 module _ (theory : Theory) where
@@ -56,7 +57,7 @@ pub premises_next : (xs : List (Term × Term)) (i : ℕ) (x : Term × Term) (sta
 premises_next xs i x start old middle new w a before one other =
     let before_it = premises_variables (map premise_of (take i xs)) in
     let e : premises_variables (map premise_of (take (i + 1) xs)) ≡ before_it ++ (variables (term_of x.0) ++ variables (term_of x.1)) =
-    ap premises_variables (map_taken premise_of xs i x w a) ∙ premises_last (map premise_of (take i xs)) (premise_of x) in
+    ap premises_variables (map_next premise_of xs i x w a) ∙ premises_last (map premise_of (take i xs)) (premise_of x) in
     other ∙ ap (λ z. z ++ variables (term_of x.1)) (one ∙ ap (λ z. z ++ variables (term_of x.0)) before)
     ∙ append_assoc (start ++ before_it) (variables (term_of x.0)) (variables (term_of x.1))
     ∙ append_assoc start before_it (variables (term_of x.0) ++ variables (term_of x.1)) ∙ ap (λ z. start ++ z) (sym e)
@@ -70,7 +71,7 @@ pub heads_more : (xs : List Equation) (i : ℕ) (x : Equation) (g : ℕ) (old ne
     Listed old (map equation_of (take i xs)) → Listed new (map equation_of (take (i + 1) xs))
 heads_more xs i x g old new w a heads only pushed before f =
     let es = map equation_of (take i xs) in
-    let e : map equation_of (take (i + 1) xs) ≡ es ++ equation_of x ∷ [] = map_taken equation_of xs i x w a in (
+    let e : map equation_of (take (i + 1) xs) ≡ es ++ equation_of x ∷ [] = map_next equation_of xs i x w a in (
       λ o. subst (OneOf (Heads f)) (sym e) (elim (one_parts f old (g ∷ []) (subst (IsOneOf f) pushed o)) [
         | inl k ↦ some_left (Heads f) es (equation_of x ∷ []) ((before f).0 k)
         | inr k ↦ some_right (Heads f) es (equation_of x ∷ [])
@@ -86,7 +87,7 @@ pub heads_same : (xs : List Equation) (i : ℕ) (x : Equation) (all : List ℕ) 
     ((f : ℕ) → Heads f (equation_of x) → ⊥) → Listed all (map equation_of (take i xs)) → Listed all (map equation_of (take (i + 1) xs))
 heads_same xs i x all w a none before f =
     let es = map equation_of (take i xs) in
-    let e : map equation_of (take (i + 1) xs) ≡ es ++ equation_of x ∷ [] = map_taken equation_of xs i x w a in (
+    let e : map equation_of (take (i + 1) xs) ≡ es ++ equation_of x ∷ [] = map_next equation_of xs i x w a in (
       λ o. subst (OneOf (Heads f)) (sym e) (some_left (Heads f) es (equation_of x ∷ []) ((before f).0 o)),
       λ o. elim (some_parts (Heads f) es (equation_of x ∷ []) (subst (OneOf (Heads f)) e o)) [
         | inl k ↦ (before f).1 k

@@ -1,6 +1,7 @@
 -- The first element of a list of which something holds is one.
 use Rattle.std.proofs.Common.{ℕ, ◌≡◌, ◌⊎◌, List, [], ◌∷◌, ◌++◌, sym, subst, ◌∙◌, inl, inr}
 use Rattle.spec_core.specs.Lists.{Each, IsOneOf, NoTwo}
+use Rattle.spec_core.proofs.Lists.{each_middle}
 use Rattle.equation_faults.specs.Firsts.{IsFirstOf, IsFirstRepeated}
 
 -- of two elements at which a list is parted, both are one, or one stands before the other
@@ -21,22 +22,18 @@ parted {A} (a ∷ as') bs (c ∷ cs) ds x y e =
     further l (inr (inl p)) = let k : c ∷ cs ≡ a ∷ (as' ++ x ∷ p.0) = let q = p.1 in cc in inr (inl (p.0, k))
     further l (inr (inr p)) = let k : a ∷ as' ≡ c ∷ (cs ++ y ∷ p.0) = let q = p.1 in cc in inr (inr (p.0, k))
 
-pub each-middle : {A : Type 0} (P : A → Type 0) (as' bs : List A) (x : A) → Each P (as' ++ x ∷ bs) → P x
-each-middle P [] bs x h = h.0
-each-middle P (a ∷ as') bs x h = each-middle P as' bs x h.1
-
 pub first-one : {A : Type 0} (P : A → Type 0) (xs : List A) (x y : A) → IsFirstOf P xs x → IsFirstOf P xs y → x ≡ y
 first-one {A} P xs x y h k = by-parts (parted h.before h.behind k.before k.behind x y (sym h.parts ∙ k.parts))
   where
     by-parts : Parted h.before k.before x y → x ≡ y
     by-parts (inl e) = e
-    by-parts (inr (inl p)) = absurd (each-middle (λ z. P z → ⊥) h.before p.0 x (subst (Each (λ z. P z → ⊥)) p.1 k.none_before) h.holds)
-    by-parts (inr (inr p)) = absurd (each-middle (λ z. P z → ⊥) k.before p.0 y (subst (Each (λ z. P z → ⊥)) p.1 h.none_before) k.holds)
+    by-parts (inr (inl p)) = absurd (each_middle (λ z. P z → ⊥) h.before p.0 x (subst (Each (λ z. P z → ⊥)) p.1 k.none_before) h.holds)
+    by-parts (inr (inr p)) = absurd (each_middle (λ z. P z → ⊥) k.before p.0 y (subst (Each (λ z. P z → ⊥)) p.1 h.none_before) k.holds)
 
 -- an element that stands again isn't behind elements of which no two are equal
 twice : (as' bs : List ℕ) (x : ℕ) → NoTwo (λ y z. y ≡ z) (as' ++ x ∷ bs) → IsOneOf x as' → ⊥
 twice [] bs x h o = o
-twice (a ∷ as') bs x h (inl e) = each-middle (λ y. a ≡ y → ⊥) as' bs x h.0 (sym e)
+twice (a ∷ as') bs x h (inl e) = each_middle (λ y. a ≡ y → ⊥) as' bs x h.0 (sym e)
 twice (a ∷ as') bs x h (inr o) = twice as' bs x h.1 o
 
 pub repeated-one : (xs : List ℕ) (x y : ℕ) → IsFirstRepeated xs x → IsFirstRepeated xs y → x ≡ y

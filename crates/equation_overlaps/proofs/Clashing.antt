@@ -4,7 +4,6 @@ use Rattle.std.proofs.Common.{subst, ◌∙◌}
 use Rattle.std.proofs.Common.{inl, inr, ◌⊎◌, arith}
 use Rattle.std.proofs.Common.{Bool, true, false, refl}
 use Rattle.std.proofs.lemmas.Bool.{eqb-true, eqb-false}
-use Rattle.equation_sets.proofs.Members.{map_taken, some_parts}
 use Rattle.equation_overlaps.proofs.Giving.{gives_to_candidates}
 use Rattle.equation_overlaps.specs.Given.{candidate}
 use Rattle.spec_core.specs.declared.term.Term.{Term}
@@ -12,6 +11,8 @@ use Rattle.spec_core.specs.Lists.{OneOf}
 use Rattle.spec_core.specs.Orthogonality.{Gives}
 use Rattle.spec_core.specs.Terms.{TermTree}
 use Rattle.spec_core.specs.Theories.{Premise, Theory, premise_of}
+use Rattle.spec_core.proofs.Lists.{map_next}
+use Rattle.spec_core.proofs.Members.{some_parts}
 use Rattle.equation_overlaps.specs.Exclusion.{ClashAt, Clash}
 
 untrue_not : (b : Bool) → IsTrue (not b) → b ≡ false
@@ -52,7 +53,7 @@ module _ (P : Premise → Type 0) where
   pub none_next : (xs : List (Term × Term)) (i : ℕ) (x : Term × Term) → i < length xs → x ≡ get_or xs i x →
       (OneOf P (map premise_of (take i xs)) → ⊥) → (P (premise_of x) → ⊥) → OneOf P (map premise_of (take (i + 1) xs)) → ⊥
   none_next xs i x w a before here o =
-      elim (some_parts P (map premise_of (take i xs)) (premise_of x ∷ []) (subst (OneOf P) (map_taken premise_of xs i x w a) o)) [
+      elim (some_parts P (map premise_of (take i xs)) (premise_of x ∷ []) (subst (OneOf P) (map_next premise_of xs i x w a) o)) [
         | inl k ↦ before k
         | inr k ↦ elim k [ inl h ↦ here h | inr nil ↦ nil ]
       ]

@@ -1,11 +1,9 @@
 -- Instances of terms, one by one.
-use Rattle.std.proofs.Common.{ℕ, ◌≡◌, ◌<◌, ◌≤◌, ◌+◌, List, [], ◌∷◌, ◌++◌, length, map, take, get_or, refl, sym, ap, ◌∙◌, IfOk}
-use Rattle.std.proofs.Common.{Result, Ok, Err}
-use Rattle.std.proofs.lemmas.List.{map-append}
-use Rattle.equation_sets.proofs.Members.{map_taken}
+use Rattle.std.proofs.Common.{ℕ, ◌≡◌, ◌<◌, ◌≤◌, ◌+◌, List, [], ◌∷◌, ◌++◌, length, map, take, get_or, refl, sym, ap, ◌∙◌}
+use Rattle.std.proofs.lemmas.List.{map-append, take_all}
 use Rattle.spec_core.specs.declared.term.Term.{Term}
 use Rattle.spec_core.specs.Terms.{TermTree, TermTrees, and_term, instance, instances, terms, term_of}
-use Rattle.spec_core.proofs.Lists.{all_taken}
+use Rattle.spec_core.proofs.Lists.{map_next}
 
 abbrev Trees : List Term → TermTrees
 Trees xs = terms (map term_of xs)
@@ -34,14 +32,10 @@ instances_next s xs i x old new t w a before here pushed =
     ap (map term_of) pushed ∙ map-append term_of old (t ∷ []) ∙ ap (λ zs. zs ++ term_of t ∷ []) listed
     ∙ ap (λ z. map (instance s) (map term_of (take i xs)) ++ z ∷ []) here in
     let all : map (instance s) (map term_of (take (i + 1) xs)) ≡ map (instance s) (map term_of (take i xs)) ++ instance s (term_of x) ∷ [] =
-    ap (map (instance s)) (map_taken term_of xs i x w a) ∙ map-append (instance s) (map term_of (take i xs)) (term_of x ∷ []) in
+    ap (map (instance s)) (map_next term_of xs i x w a) ∙ map-append (instance s) (map term_of (take i xs)) (term_of x ∷ []) in
     ap terms (more ∙ sym all) ∙ sym (instances_listed s (map term_of (take (i + 1) xs)))
 
 pub instances_end : (s : ℕ → TermTree) (xs ys : List Term) (i : ℕ) (made : List Term) → length xs ≤ i → xs ≡ ys →
     Trees made ≡ instances s (Trees (take i xs)) → Trees made ≡ instances s (Trees ys)
 instances_end s xs ys i made w same h =
-    h ∙ ap (λ zs. instances s (Trees zs)) (all_taken xs i w ∙ same)
-
-pub on_ok : {A M : Type 0} (answer : Result A M) (P Q : A → Type 0) → ((x : A) → P x → Q x) → IfOk answer P → IfOk answer Q
-on_ok (Ok x) P Q h p = h x p
-on_ok (Err fault) P Q h p = tt
+    h ∙ ap (λ zs. instances s (Trees zs)) (take_all i xs w ∙ same)

@@ -1,8 +1,8 @@
 -- Terms that are equal up to the names of their variables.
-use Rattle.std.proofs.Common.{ℕ, suc, ◌≡◌, ◌<◌, ◌+◌, List, [], ◌∷◌, ◌++◌, length, map, take, get_or, set, refl, sym, subst, ap}
+use Rattle.std.proofs.Common.{ℕ, ◌≡◌, ◌<◌, ◌+◌, List, [], ◌∷◌, ◌++◌, length, map, take, get_or, set, refl, sym, subst, ap}
 use Rattle.std.proofs.Common.{◌∙◌}
 use Rattle.std.proofs.Common.{arith, inl, inr, length-append}
-use Rattle.std.proofs.lemmas.List.{get_or-set_same, get_or-set_other, take_more, map-append}
+use Rattle.std.proofs.lemmas.List.{get_or-set_same, get_or-set_other, take_more, map-append, length-map}
 use Rattle.equation_faults.specs.Variables.{variables, all_variables}
 use Rattle.equation_sets.proofs.Members.{Distinct, distinct_apart, parted}
 use Rattle.spec_core.specs.Lists.{IsOneOf}
@@ -55,10 +55,6 @@ second_part (x ∷ xs) [] ys vs n e = absurd (omega (arith, n))
 second_part (x ∷ xs) (u ∷ us) ys vs n e =
     let tail : xs ++ ys ≡ us ++ vs = cc in second_part xs us ys vs (omega (arith, n)) tail
 
-length_map : (n : ℕ → ℕ) (xs : List ℕ) → length (map n xs) ≡ length xs
-length_map n [] = refl
-length_map n (x ∷ xs) = ap suc (length_map n xs)
-
 -- a term whose variables' new names are the other's variables is renamed to it
 mutual
   pub renamed_to : (n : ℕ → ℕ) (p q : TermTree) → IsOfShape p q → IsOfShape q p → map n (variables p) ≡ variables q → renamed_term n p ≡ q
@@ -76,7 +72,7 @@ mutual
   all_renamed_to n (and_term p ps) (and_term q qs) h k e =
       let joined : map n (variables p) ++ map n (all_variables ps) ≡ variables q ++ all_variables qs =
       sym (map-append n (variables p) (all_variables ps)) ∙ e in
-      let counts : length (map n (variables p)) ≡ length (variables q) = length_map n (variables p) ∙ as_many p q h.0 k.0 in
+      let counts : length (map n (variables p)) ≡ length (variables q) = length-map (variables p) n ∙ as_many p q h.0 k.0 in
       let one = renamed_to n p q h.0 k.0 (first_part (map n (variables p)) (variables q) (map n (all_variables ps)) (all_variables qs) counts joined) in
       let others = all_renamed_to n ps qs h.1 k.1
       (second_part (map n (variables p)) (variables q) (map n (all_variables ps)) (all_variables qs) counts joined) in

@@ -1,6 +1,6 @@
 -- Being apart is symmetric.
 use Rattle.std.proofs.Common.{ℕ, ◌≡◌, List, [], ◌∷◌, length, map, refl, sym, subst, ap, ◌∙◌, inl, inr, ◌⊎◌, arith}
-use Rattle.std.proofs.Math.Decide.{ℕ_discrete}
+use Rattle.std.proofs.lemmas.Bool.{cases_eq}
 use Rattle.equation_sets.proofs.Members.{Distinct}
 use Rattle.spec_core.specs.Lists.{Each, OneOf, IsOneOf}
 use Rattle.spec_core.specs.Orthogonality.{IsLinear, HasNoLooseVariables, Gives, renamed, IsAmong, ExcludeEachOther}
@@ -19,13 +19,10 @@ abbrev back_by : {A : Type 0} → (A ⊎ (A → ⊥)) → ℕ → ℕ → ℕ
 back_by (inl e) y n = y
 back_by (inr h) y n = n
 
-decided : (x y : ℕ) → (x ≡ y) ⊎ (x ≡ y → ⊥)
-decided x y = elim (ℕ_discrete x y) [ yes e ↦ inl e | no h ↦ inr h ]
-
 abbrev back : List ℕ → List ℕ → ℕ → ℕ
 back [] ys z = z
 back (x ∷ xs) [] z = z
-back (x ∷ xs) (y ∷ ys) z = back_by (decided z x) y (back xs ys z)
+back (x ∷ xs) (y ∷ ys) z = back_by (cases_eq z x) y (back xs ys z)
 
 by_same : {A : Type 0} (d : A ⊎ (A → ⊥)) (y n : ℕ) → A → back_by d y n ≡ y
 by_same (inl e) y n a = refl
@@ -41,14 +38,14 @@ same_map n m (x ∷ xs) h = ap (λ k. k ∷ map n xs) h.0 ∙ ap (λ ks. m x ∷
 
 apart_names : (x y : ℕ) (xs ys zs : List ℕ) → Each (λ z. x ≡ z → ⊥) zs → Each (λ z. back (x ∷ xs) (y ∷ ys) z ≡ back xs ys z) zs
 apart_names x y xs ys [] h = tt
-apart_names x y xs ys (z ∷ zs) h = (by_other (decided z x) y (back xs ys z) (λ e. h.0 (sym e)), apart_names x y xs ys zs h.1)
+apart_names x y xs ys (z ∷ zs) h = (by_other (cases_eq z x) y (back xs ys z) (λ e. h.0 (sym e)), apart_names x y xs ys zs h.1)
 
 backwards : (xs ys : List ℕ) → Distinct xs → length xs ≡ length ys → map (back xs ys) xs ≡ ys
 backwards [] [] d n = refl
 backwards [] (y ∷ ys) d n = absurd (omega (arith, n))
 backwards (x ∷ xs) [] d n = absurd (omega (arith, n))
 backwards (x ∷ xs) (y ∷ ys) d n =
-    ap (λ k. k ∷ map (back (x ∷ xs) (y ∷ ys)) xs) (by_same (decided x x) y (back xs ys x) refl)
+    ap (λ k. k ∷ map (back (x ∷ xs) (y ∷ ys)) xs) (by_same (cases_eq x x) y (back xs ys x) refl)
     ∙ ap (λ ks. y ∷ ks) (same_map (back (x ∷ xs) (y ∷ ys)) (back xs ys) xs (apart_names x y xs ys xs d.0)
     ∙ backwards xs ys d.1 (omega (arith, n)))
 

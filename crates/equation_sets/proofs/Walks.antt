@@ -3,14 +3,15 @@ use Rattle.std.proofs.Common.{ℕ, ◌≡◌, ◌<◌, ◌≤◌, ◌+◌, ◌�
 use Rattle.std.proofs.Common.{zero, suc, refl}
 use Rattle.std.proofs.lemmas.List.{take_more}
 use Rattle.spec_core.specs.Lists.{Each, IsOneOf}
+use Rattle.spec_core.proofs.Lists.{each_push, each_implied}
+use Rattle.spec_core.proofs.Members.{one_left, one_parts, one_right}
 use Rattle.equation_sets.specs.Members.{IsIn}
-use Rattle.equation_sets.proofs.Members.{each_more, each_last, each_one, one_left, one_right, one_parts}
 
 pub bound_next : (low high : ℕ) (xs : List ℕ) (i : ℕ) → low ≤ high → get_or xs i 0 < high → i < length xs →
     Each (λ n. n < low) (take i xs) → Each (λ n. n < high) (take (i + 1) xs)
 bound_next low high xs i le here w before =
     subst (Each (λ n. n < high)) (sym (take_more xs i 0 w))
-    (each_last (λ n. n < high) (take i xs) (get_or xs i 0) (each_more (λ n. n < low) (λ n. n < high) (take i xs) (λ n h. omega arith) before) here)
+    (each_push (λ n. n < high) (take i xs) (get_or xs i 0) (each_implied (λ n. n < low) (λ n. n < high) (take i xs) (λ n h. omega arith) before) here)
 
 -- a set to which the next number is put
 pub exact_next : (old new : List Bool) (xs : List ℕ) (i : ℕ) → i < length xs →

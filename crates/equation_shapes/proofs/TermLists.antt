@@ -1,9 +1,9 @@
 -- Lists of terms, one by one.
 use Rattle.std.proofs.Common.{ℕ, zero, suc, ◌≡◌, ◌<◌, ◌≤◌, ◌+◌, List, [], ◌∷◌, length, map, take, get_or, add-one, sym, subst, arith, inl}
 use Rattle.std.proofs.Common.{inr, ◌⊎◌}
+use Rattle.std.proofs.lemmas.List.{take_all}
 use Rattle.spec_core.specs.declared.term.Term.{Term}
 use Rattle.spec_core.specs.Terms.{TermTree, TermTrees, no_terms, and_term, terms, term_of}
-use Rattle.spec_core.proofs.Lists.{all_taken}
 
 -- L says that P holds of some term
 module _ (P : TermTree → Type 0) (L : TermTrees → Type 0) (nil : L no_terms → ⊥)
@@ -26,7 +26,7 @@ module _ (P : TermTree → Type 0) (L : TermTrees → Type 0) (nil : L no_terms 
   none_next xs i x w a n h l = none_suc xs i x w a n h (rw (← add-one) l)
 
   pub none_end : (xs : List Term) (i : ℕ) → length xs ≤ i → (L (terms (map term_of (take i xs))) → ⊥) → L (terms (map term_of xs)) → ⊥
-  none_end xs i w n l = n (subst (λ zs. L (terms (map term_of zs))) (sym (all_taken xs i w)) l)
+  none_end xs i w n l = n (subst (λ zs. L (terms (map term_of zs))) (sym (take_all i xs w)) l)
 
 -- L says that P holds of each term
 module _ (P : TermTree → Type 0) (L : TermTrees → Type 0) (nil : L no_terms)
@@ -49,4 +49,4 @@ module _ (P : TermTree → Type 0) (L : TermTrees → Type 0) (nil : L no_terms)
   each_more xs i x w a l h = rw add-one (each_suc xs i x w a l h)
 
   pub each_end : (xs : List Term) (i : ℕ) → length xs ≤ i → L (terms (map term_of (take i xs))) → L (terms (map term_of xs))
-  each_end xs i w l = subst (λ zs. L (terms (map term_of zs))) (all_taken xs i w) l
+  each_end xs i w l = subst (λ zs. L (terms (map term_of zs))) (take_all i xs w) l

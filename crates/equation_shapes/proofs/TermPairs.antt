@@ -1,9 +1,9 @@
 -- Two lists of terms, pair by pair.
 use Rattle.std.proofs.Common.{ℕ, zero, suc, ◌≡◌, ◌<◌, ◌≤◌, ◌+◌, List, [], ◌∷◌, length, map, take, get_or, add-one, refl, ap, sym, subst}
 use Rattle.std.proofs.Common.{arith}
+use Rattle.std.proofs.lemmas.List.{take_all}
 use Rattle.spec_core.specs.declared.term.Term.{Term}
 use Rattle.spec_core.specs.Terms.{TermTree, TermTrees, no_terms, and_term, terms, term_of}
-use Rattle.spec_core.proofs.Lists.{all_taken}
 
 module _ (R : TermTree → TermTree → Type 0) (L : TermTrees → TermTrees → Type 0) (nil : L no_terms no_terms)
     (cons : (t u : TermTree) (ts us : TermTrees) → R t u → L ts us → L (and_term t ts) (and_term u us))
@@ -39,4 +39,4 @@ module _ (R : TermTree → TermTree → Type 0) (L : TermTrees → TermTrees →
 
   pub pairs_end : (xs ys : List Term) (i : ℕ) → L (terms (map term_of (take i xs))) (terms (map term_of (take i ys))) → length xs ≤ i →
       length xs ≡ length ys → L (terms (map term_of xs)) (terms (map term_of ys))
-  pairs_end xs ys i h w e = subst (λ zs. L (terms (map term_of zs)) (terms (map term_of ys))) (all_taken xs i w) (subst (λ zs. L (terms (map term_of (take i xs))) (terms (map term_of zs))) (all_taken ys i (omega (arith, e))) h)
+  pairs_end xs ys i h w e = subst (λ zs. L (terms (map term_of zs)) (terms (map term_of ys))) (take_all i xs w) (subst (λ zs. L (terms (map term_of (take i xs))) (terms (map term_of zs))) (take_all i ys (omega (arith, e))) h)

@@ -1,9 +1,11 @@
 -- What exact answers say of what was found, and of what wasn't.
 use Rattle.std.proofs.Common.{◌≡◌, List, [], ◌∷◌, refl, sym, ap, ◌∙◌, Option, Some, None, Bool, true, false}
 use Rattle.std.proofs.Common.{option_map, option_and_then}
+use Rattle.std.proofs.lemmas.Option.{same_Some}
 use Rattle.spec_core.specs.Terms.{TermTree}
 use Rattle.spec_core.specs.Theories.{Premise, premise}
 use Rattle.spec_core.specs.Code.{Program, Variable, Binding, ExitValue, exit_given, exit_any, ActionField, give, accept}
+use Rattle.spec_core.proofs.Options.{map_some, then_some}
 use Rattle.symbolic_rules.specs.MarkedTerms.{MarkedTerm, plain, mark, MarkedAssignment, with_marked, marked_instance, MayHaveValue}
 use Rattle.symbolic_rules.specs.MarkedTerms.{MayBeEqual, PremiseMayHold}
 use Rattle.symbolic_rules.specs.MarkedFields.{BindingsMayHave, ArgumentsMayHave}
@@ -16,24 +18,12 @@ pub none_of : {A : Type 0} (o : Option A) → ((a : A) → o ≡ Some a → ⊥)
 none_of None h = refl
 none_of (Some a) h = absurd (h a refl)
 
-then_some : {A B : Type 0} (o : Option A) (f : A → Option B) (b : B) → option_and_then f o ≡ Some b →
-    (a : A) × (o ≡ Some a) × (f a ≡ Some b)
-then_some None f b e = let n : ⊥ = cc in absurd n
-then_some (Some a) f b e = (a, refl, e)
-
-map_some : {A B : Type 0} (o : Option A) (f : A → B) (b : B) → option_map f o ≡ Some b → (a : A) × (o ≡ Some a) × (f a ≡ b)
-map_some None f b e = let n : ⊥ = cc in absurd n
-map_some (Some a) f b e = let s : f a ≡ b = cc in (a, refl, s)
-
-of_some : {A : Type 0} {a b : A} → Some a ≡ Some b → a ≡ b
-of_some e = cc
-
 module _ (program : Program) (e : Evaluation) (exact : IsExact program e) where
   value_back : (k n : MarkedTerm) → marked_value program.theory e k ≡ Some n → MayHaveValue program.theory k n
   value_back (plain t) n h =
       let r = map_some (e.value t) plain n h in
       (r.0, (exact.value t r.0).1 r.1, sym r.2)
-  value_back (mark sort) n h = sym (of_some h)
+  value_back (mark sort) n h = sym (same_Some _ _ h)
 
   equal_back : (k l : MarkedTerm) → may_be_equal program.theory e k l ≡ true → MayBeEqual program.theory k l
   equal_back (plain a) (plain b) h = (exact.equal a b).1 h
@@ -53,7 +43,7 @@ module _ (program : Program) (e : Evaluation) (exact : IsExact program e) where
 
   bindings_back : (m l r : MarkedAssignment) (bindings : List Binding) → with_bindings program.theory e m l bindings ≡ Some r →
       BindingsMayHave program.theory m l bindings r
-  bindings_back m l r [] h = sym (of_some h)
+  bindings_back m l r [] h = sym (same_Some _ _ h)
   bindings_back m l r (b ∷ bindings) h =
       let v = marked_instance program.theory m b.term in
       let t = then_some (marked_value program.theory e v)
@@ -67,7 +57,7 @@ module _ (program : Program) (e : Evaluation) (exact : IsExact program e) where
 
   arguments_back : (m l r : MarkedAssignment) (xs : List Variable) (terms : List TermTree) →
       with_arguments program.theory e m l xs terms ≡ Some r → ArgumentsMayHave program.theory m l xs terms r
-  arguments_back m l r [] [] h = sym (of_some h)
+  arguments_back m l r [] [] h = sym (same_Some _ _ h)
   arguments_back m l r [] (u ∷ terms) h = let n : ⊥ = cc in absurd n
   arguments_back m l r (x ∷ xs) [] h = let n : ⊥ = cc in absurd n
   arguments_back m l r (x ∷ xs) (u ∷ terms) h =
@@ -94,7 +84,7 @@ module _ (program : Program) (e : Evaluation) (exact : IsExact program e) where
 
   fields_back : (m : MarkedAssignment) (fields : List ActionField) (cs : List OpenField) →
       open_fields program.theory e m fields ≡ Some cs → FieldsOpen program.theory m fields cs
-  fields_back m [] cs h = sym (of_some h)
+  fields_back m [] cs h = sym (same_Some _ _ h)
   fields_back m (give t ∷ fields) cs h =
       let v = marked_instance program.theory m t in
       let a = then_some (marked_value program.theory e v)
@@ -122,7 +112,7 @@ module _ (program : Program) (e : Evaluation) (exact : IsExact program e) where
 
   exit_back : (m : MarkedAssignment) (fields : List ExitValue) (cs : List OpenField) →
       open_exit program.theory e m fields ≡ Some cs → ExitOpen program.theory m fields cs
-  exit_back m [] cs h = sym (of_some h)
+  exit_back m [] cs h = sym (same_Some _ _ h)
   exit_back m (exit_given t ∷ fields) cs h =
       let v = marked_instance program.theory m t in
       let a = then_some (marked_value program.theory e v)

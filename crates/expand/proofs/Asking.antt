@@ -7,6 +7,7 @@ use Rattle.spec_core.specs.Terms.{TermTree, variable}
 use Rattle.spec_core.specs.Theories.{Premise}
 use Rattle.spec_core.specs.Code.{Program, Variable, Binding, Relabelling, ExitValue, exit_given, exit_any, ActionField, give, accept}
 use Rattle.spec_core.specs.Code.{Synchronised}
+use Rattle.spec_core.proofs.Lists.{each_append, each_flat_map, each_image}
 use Rattle.rule_laws.proofs.OneStep.{one_binding, one_argument, one_definition}
 use Rattle.rule_model.specs.declared.rules.Slot.{Slot}
 use Rattle.rule_model.specs.declared.rules.Slot.TheVariants.{Of, Mark, Blank}
@@ -35,20 +36,6 @@ use Rattle.symbolic_reach.specs.Asking.{PlanAsks, binding_asks, term_asks, field
 use Rattle.symbolic_reach.specs.Reached.{FieldAsks, ExitAsks, BindingAsks, ArgumentAsks, ReachesBelow}
 use Rattle.expand.specs.Choosing.{IsChoice}
 use Rattle.expand.specs.Outcomes.{AsksReached, IsReached}
-
-pub each_append : {A : Type 0} (P : A → Type 0) (xs ys : List A) → Each P xs → Each P ys → Each P (xs ++ ys)
-each_append P [] ys h k = k
-each_append P (x ∷ xs) ys h k = (h.0, each_append P xs ys h.1 k)
-
-each_image : {A B : Type 0} (Q : A → Type 0) (P : B → Type 0) (f : A → B) (xs : List A) → ((x : A) → Q x → P (f x)) → Each Q xs →
-    Each P (map f xs)
-each_image Q P f [] h k = tt
-each_image Q P f (x ∷ xs) h k = (h x k.0, each_image Q P f xs h k.1)
-
-each_flat : {A B : Type 0} (Q : A → Type 0) (P : B → Type 0) (f : A → List B) (xs : List A) → ((x : A) → Q x → Each P (f x)) → Each Q xs →
-    Each P (flat_map f xs)
-each_flat Q P f [] h k = tt
-each_flat Q P f (x ∷ xs) h k = each_append P (f x) (flat_map f xs) (h x k.0) (each_flat Q P f xs h k.1)
 
 some_of : {A : Type 0} (P Q : A → Type 0) (xs : List A) → ((x : A) → P x → Q x) → OneOf P xs → OneOf Q xs
 some_of P Q [] h k = k
@@ -117,13 +104,13 @@ module _ (program : Program) (w : Windows) (n : ℕ) where
       (all : AllPlain m s) (a : PlanAsks program (paired_plan p q fields).plan s b t). either_side p q i j s t all a in
       each_append (Asked m b) (flat_map (plans_alone gates Parl) ps)
       (flat_map (plans_alone gates Parr) qs ++ flat_map (λ p. flat_map (plans_joint program.theory gates p) qs) ps)
-      (each_flat (Asked m x) (Asked m b) (plans_alone gates Parl) ps
+      (each_flat_map (Asked m x) (Asked m b) (plans_alone gates Parl) ps
       (λ p i. only_if (Asked m b) (is_alone gates p.kind) (under_row Parl p) (λ s t all a. inl (i s t all (part_of a)))) h)
       (each_append (Asked m b) (flat_map (plans_alone gates Parr) qs) (flat_map (λ p. flat_map (plans_joint program.theory gates p) qs) ps)
-      (each_flat (Asked m y) (Asked m b) (plans_alone gates Parr) qs
+      (each_flat_map (Asked m y) (Asked m b) (plans_alone gates Parr) qs
       (λ p i. only_if (Asked m b) (is_alone gates p.kind) (under_row Parr p) (λ s t all a. inr (i s t all (part_of a)))) k)
-      (each_flat (Asked m x) (Asked m b) (λ p. flat_map (plans_joint program.theory gates p) qs) ps
-      (λ p i. each_flat (Asked m y) (Asked m b) (plans_joint program.theory gates p) qs
+      (each_flat_map (Asked m x) (Asked m b) (λ p. flat_map (plans_joint program.theory gates p) qs) ps
+      (λ p i. each_flat_map (Asked m y) (Asked m b) (plans_joint program.theory gates p) qs
       (λ q j. each_made (Asked m b) (same_kind p.kind q.kind && is_joint gates p.kind) (all_together program.theory p.fields q.fields)
       (paired_plan p q) (both_asked p q i j)) k) h))
     where

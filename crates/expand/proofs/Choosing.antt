@@ -4,6 +4,7 @@ use Rattle.std.proofs.Common.{append_assoc, Result, Ok, Err, sum_by}
 use Rattle.std.proofs.lemmas.List.{append-nil}
 use Rattle.std.proofs.lemmas.List.Sums.{sum_by-append}
 use Rattle.spec_core.specs.Code.{Program, Variable}
+use Rattle.spec_core.proofs.Lists.{each_append}
 use Rattle.rule_model.specs.declared.rules.Slot.{Slot}
 use Rattle.rule_model.specs.Behaviours.{Behaviour, value_choice}
 use Rattle.symbolic_rules.specs.Windows.{Windows}
@@ -21,7 +22,7 @@ use Rattle.expand.specs.declared.outcome.Expanded.{Expanded}
 use Rattle.expand.specs.Outcomes.{plans_in, AsksReached, plans_with, spread_with, Expands, IsReached, Stopped, Outcome}
 use Rattle.expand.specs.Joins.{Adds}
 use Rattle.expand.specs.Choosing.{plans_at, spread_at, ExpandsEach, IsChoice, IsPrefix, Added}
-use Rattle.expand.proofs.Asking.{each_append, asked_chosen}
+use Rattle.expand.proofs.Asking.{asked_chosen}
 use Rattle.expand.proofs.Rows.{wide_above, part_stops}
 
 flat_more : {A B : Type 0} (f : A → List B) (xs : List A) (x : A) → flat_map f (xs ++ x ∷ []) ≡ flat_map f xs ++ f x

@@ -1,12 +1,12 @@
 -- The expansion of code with values for its variables is that of the closed behaviour.
 use Rattle.std.proofs.Common.{ℕ, zero, suc, ◌≡◌, ◌<◌, ◌≤◌, List, [], ◌∷◌, length, map, refl, sym, ap, subst, ◌∙◌, arith, Some, Ok, Err}
 use Rattle.std.specs.List.{slice_get}
-use Rattle.spec_core.specs.Lists.{Each}
 use Rattle.spec_core.specs.Terms.{TermTree}
 use Rattle.spec_core.specs.Code.{Program, Relabelling}
 use Rattle.spec_core.specs.Theories.{Theory}
 use Rattle.spec_core.specs.Windows.{IsWindow}
 use Rattle.spec_core.specs.declared.window.Window.{Window}
+use Rattle.spec_core.proofs.Lists.{each_implied}
 use Rattle.sort_windows.specs.Found.{AreBySorts}
 use Rattle.rule_model.specs.Behaviours.{Behaviour}
 use Rattle.rule_model.specs.Substitution.{put}
@@ -35,10 +35,6 @@ use Rattle.expand.specs.Outcomes.{AsksReached, Expands, IsReached, IsTooWide, St
 use Rattle.symbolic_rules.specs.Tables.{windows_in, values_of, complete_of}
 use Rattle.expand.specs.Expansions.{AskReached, IsExpansion, IsTooWideFor, IsStop, IsStopAt}
 use Rattle.node_values.proofs.Scoping.{scope_known}
-
-each_more : {A : Type 0} (P Q : A → Type 0) (xs : List A) → ((x : A) → P x → Q x) → Each P xs → Each Q xs
-each_more P Q [] h k = tt
-each_more P Q (x ∷ xs) h k = (h x k.0, each_more P Q xs h k.1)
 
 module _ (program : Program) (w : Windows) (values : List (ℕ × List ℕ)) (b : Behaviour) where
   abbrev closed : Behaviour
@@ -77,7 +73,7 @@ module _ (program : Program) (w : Windows) (values : List (ℕ × List ℕ)) (b 
   pub are_asked : (ps : List OpenPlan) (j : ℕ) → Expands program w (length program.code) m b ps j →
       AskReached program w (assignment program.theory values) b closed ps
   are_asked ps j h =
-      each_more (λ p. AsksReached program (IsReached program w (length program.code) m b) m b p)
+      each_implied (λ p. AsksReached program (IsReached program w (length program.code) m b) m b p)
       (λ p. (t : TermTree) → PlanAsks program p.plan (assignment program.theory values) b t → Reaches program w [] unmarked closed t) ps
       (λ p k t a. from_here t (k (assignment program.theory values) t (scope_known program.theory values) a)) h.asked
 

@@ -1,6 +1,6 @@
 -- What the walk over the code hands on.
 use Rattle.std.proofs.Common.{ℕ, zero, suc, ◌≡◌, ◌-◌, ◌+◌, ◌*◌, ◌<◌, ◌≤◌, List, [], ◌∷◌, ◌++◌, map, take, drop, length, get_or, refl, sym, ap, subst}
-use Rattle.std.proofs.Common.{◌∙◌, arith, append_assoc, Option, Some, Result, Ok, Bool, true, false, IsTrue, ◌↔◌, Contains}
+use Rattle.std.proofs.Common.{◌∙◌, arith, append_assoc, Option, Some, Result, Ok, true, false, Contains}
 use Rattle.std.proofs.lemmas.List.{append-nil, length-map}
 use Rattle.spec_core.specs.Code.{Program, Variable, node_of, action_field_of}
 use Rattle.spec_core.specs.Numbers.{gate_number}
@@ -60,11 +60,6 @@ one_call_less program w zero budget m b r h o = absurd (h refl)
 one_call_less program w (suc n) budget m b r h o =
     let e : suc n - 1 ≡ n = omega arith in
     subst (λ z. Outcome program w z budget m b r) e o
-
--- a test that fails
-pub fails : {A : Type 0} (b : Bool) → b ≡ false → IsTrue b ↔ A → A → ⊥
-fails true is decides a = let never : ⊥ = cc in never
-fails false is decides a = let t : false ≡ true = decides.1 a in let never : ⊥ = cc in never
 
 module _ (program : Program) (w : Windows) (n budget : ℕ) (m : MarkedAssignment) (x : Variable) (b : Behaviour) where
   -- before any slot

@@ -4,13 +4,7 @@ use Rattle.std.specs.List.{flat_map, zip}
 use Rattle.std.proofs.lemmas.List.{append-nil, take_all, get_or_default}
 use Rattle.std.proofs.lemmas.List.Concat.{flat_map-append}
 use Rattle.std.proofs.lemmas.Slice.Zip.{get_or-zip, length-zip}
-use Rattle.type_names.proofs.Lists.{take_next}
-
--- what one more element gives
-pub gathered_more : {A C : Type 0} (f : A → List C) (now then : List C) (xs : List A) (i : ℕ) (x : A) → i < length xs → x ≡ get_or xs i x → now ≡ flat_map f (take i xs) → then ≡ now ++ f x → then ≡ flat_map f (take (i + 1) xs)
-gathered_more f now then xs i x within at before more =
-    more ∙ ap (λ z. z ++ f x) before
-    ∙ sym (ap (flat_map f) (take_next xs i x within at) ∙ flat_map-append f (take i xs) (x ∷ []) ∙ ap (λ z. flat_map f (take i xs) ++ z) (append-nil (f x)))
+use Rattle.spec_core.proofs.Lists.{take_next}
 
 -- what one more element gives with that of another list
 pub zipped_next : {A B C : Type 0} (f : A × B → List C) (h now then : List C) (xs : List A) (ys : List B) (i : ℕ) (x : A) (d : B) → i < length xs → length ys ≡ length xs → x ≡ get_or xs i x → now ≡ h ++ flat_map f (take i (zip xs ys)) → then ≡ now ++ f (x, get_or ys i d) → then ≡ h ++ flat_map f (take (i + 1) (zip xs ys))

@@ -1,8 +1,8 @@
 -- Trees of the grammar whose tokens are named.
-use Rattle.std.proofs.Common.{ℕ, ◌≡◌, ◌∙◌, refl, sym, List, [], ◌∷◌, map, Bool, true, false, ◌||◌, Some, inl, inr, cond}
+use Rattle.std.proofs.Common.{ℕ, ◌≡◌, refl, List, [], ◌∷◌, map, Bool, true, false, ◌||◌, Some, inl, inr, cond}
 use Rattle.std.specs.Prelude.{unwrap_or}
 use Rattle.std.specs.List.{list_any}
-use Rattle.std.proofs.lemmas.Bool.{or_cases}
+use Rattle.std.proofs.lemmas.Bool.{or_cases, both_ways}
 use Rattle.lotos_ast.specs.declared.mark.Mark.{Mark}
 use Rattle.lotos_ast.specs.declared.mark.Mark.TheVariants.{Identifier, Numeral, Operation, Unknown}
 use Rattle.lotos_ast.specs.declared.token.Token.{Token}
@@ -44,17 +44,11 @@ not-in-table k word (e ∷ es) h u = by-test (is_same_word word e.0) (is_same_ma
     by-test true false q g next = q
     by-test false false q g next = next g
 
-differ : (b : Bool) → b ≡ true → b ≡ false → ⊥
-differ b e f = absurd (untrue-false (sym e ∙ f))
-  where
-    untrue-false : true ≡ false → ⊥
-    untrue-false z = cc
-
 no-keyword : (k : Mark) (text : List ℕ) → list_any (λ (e : List ℕ × Mark). is_same_mark k e.1) reserved_words ≡ false → is_same_mark k Unknown ≡ false → is_same_mark k (class_mark TokenKind.Keyword text) ≡ true → ⊥
-no-keyword k text h u e = differ (is_same_mark k (class_mark TokenKind.Keyword text)) e (not-in-table k text reserved_words h u)
+no-keyword k text h u e = both_ways (is_same_mark k (class_mark TokenKind.Keyword text)) (not-in-table k text reserved_words h u) e
 
 no-symbol : (k : Mark) (text : List ℕ) → list_any (λ (e : List ℕ × Mark). is_same_mark k e.1) symbol_spellings ≡ false → is_same_mark k Unknown ≡ false → is_same_mark k (class_mark TokenKind.Symbol text) ≡ true → ⊥
-no-symbol k text h u e = differ (is_same_mark k (class_mark TokenKind.Symbol text)) e (not-in-table k text symbol_spellings h u)
+no-symbol k text h u e = both_ways (is_same_mark k (class_mark TokenKind.Symbol text)) (not-in-table k text symbol_spellings h u) e
 
 identifier-named : (k : TokenKind) (text : List ℕ) → is_same_mark Identifier (class_mark k text) ≡ true → IsNameOf k text → IsIdentifier text
 identifier-named TokenKind.Keyword text e h = absurd (no-keyword Identifier text refl refl e)

@@ -4,7 +4,7 @@ use Rattle.lotos_ast.specs.Grammar.{where_part}
 use Rattle.lotos_ast.specs.Notation.{Wanted, optional, repeated, part, specification, where_item, process, type_definition}
 use Rattle.lotos_ast.specs.Reads.{Tree, both, left, right, present, more, node}
 use Rattle.spec_core.specs.Lists.{Each}
-use Rattle.static_laws.proofs.Options.{each-append}
+use Rattle.spec_core.proofs.Lists.{each_append}
 use Rattle.lotos_front.specs.Types.{item_types, process_types, where_types, all_types, repeated_trees, types_in}
 use Rattle.syntax_laws.proofs.Trees.{IsTreeWith, parts}
 
@@ -37,7 +37,7 @@ module _ (Is : Wanted → Token → Type 0) where
     all-trees : (t : Tree) → IsTreeWith Is (repeated (part where_item)) t → Each (IsTreeWith Is (part type_definition)) (all_types t)
     all-trees (more item items) h =
         let a = parts h in
-        each-append (IsTreeWith Is (part type_definition)) (item_types item) (all_types items) (item-trees item a.0) (all-trees items a.1)
+        each_append (IsTreeWith Is (part type_definition)) (item_types item) (all_types items) (item-trees item a.0) (all-trees items a.1)
     all-trees _ h = tt
 
   listed-trees : (t : Tree) → IsTreeWith Is (repeated (part type_definition)) t → Each (IsTreeWith Is (part type_definition)) (repeated_trees t)
@@ -56,5 +56,5 @@ module _ (Is : Wanted → Token → Type 0) where
       let g = parts f.1 in
       let i = parts g.1 in
       let j = parts i.1 in
-      each-append (IsTreeWith Is (part type_definition)) (repeated_trees types) (where_types items) (listed-trees types f.0) (where-trees items j.0)
+      each_append (IsTreeWith Is (part type_definition)) (repeated_trees types) (where_types items) (listed-trees types f.0) (where-trees items j.0)
   trees-in _ h = tt

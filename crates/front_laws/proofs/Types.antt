@@ -33,8 +33,8 @@ use Rattle.lotos_ast.specs.Reads.{leaf, right, node}
 use Rattle.lotos_ast.specs.SpecTrees.{spec_tree}
 use Rattle.lotos_ast.specs.TypeTrees.{sort_list_tree, operation_name_tree, two_sorts_tree, both_sorts_tree, infix_end_tree, first_name_tree, prefix_end_tree, names_tree, operation_decl_tree, for_all_tree, sort_equations_tree, equation_body_tree, formal_sorts_tree, formal_operations_tree, formal_equations_tree, sort_pair_tree, operation_pair_tree, sort_pairs_tree, operation_pairs_tree, pairs_tree, optional_sort_part_tree, optional_operation_part_tree, optional_equation_part_tree, declared_items_tree, imports_tree, type_body_tree, type_def_tree}
 use Rattle.spec_core.specs.Lists.{Each}
+use Rattle.spec_core.proofs.Lists.{each_append}
 use Rattle.lotos_front.specs.Written.{gates_in}
-use Rattle.static_laws.proofs.Options.{each-append}
 use Rattle.static_equations.specs.Variables as variables
 use Rattle.type_contents.specs.Lists.{listed}
 use Rattle.type_contents.specs.Own.{sort_names, part_sort_names, part_operations}
@@ -126,7 +126,7 @@ of-list f h =
 
 all-variables : (lists : List ForAll) → Each (λ (f : ForAll). Each (λ (d : Declaration). Each IsNamed d.names.items) f.declarations.list.items) lists → AreVariablesNamed lists
 all-variables [] h = tt
-all-variables (f ∷ fs) h = each-append (λ (d : Declaration). Each IsNamed d.names.items) f.declarations.list.items (variables.declarations fs) h.0 (all-variables fs h.1)
+all-variables (f ∷ fs) h = each_append (λ (d : Declaration). Each IsNamed d.names.items) f.declarations.list.items (variables.declarations fs) h.0 (all-variables fs h.1)
 
 lists-named : (lists : List ForAll) → IsTreeOf (repeated (part for_all)) (repeated_tree (map for_all_tree lists)) → AreVariablesNamed lists
 lists-named lists h = all-variables lists (repeated-each (λ (f : ForAll). Each (λ (d : Declaration). Each IsNamed d.names.items) f.declarations.list.items) (part for_all) for_all_tree of-list lists h)
@@ -184,7 +184,7 @@ items-named f sorts operations equations h =
       sorts_named = of-sorts sorts b.0;
       formal_operations = formal-operations f.operations e.0;
       operations_named = of-operations operations c.0;
-      equations_named = each-append AreEquationsNamed (option_to_list f.equations) (part_body equations) (formal-equations f.equations e.1) (of-equations equations c.1);
+      equations_named = each_append AreEquationsNamed (option_to_list f.equations) (part_body equations) (formal-equations f.equations e.1) (of-equations equations c.1);
     }
 
 -- pairs

@@ -8,7 +8,7 @@ use Rattle.spec_core.specs.Lists.{Each}
 use Rattle.type_names.specs.UnknownTypes.{library_names}
 use Rattle.syntax_laws.proofs.Tokens.{tokens_are_named}
 use Rattle.std.specs.List.{flat_map}
-use Rattle.static_laws.proofs.Options.{each-append}
+use Rattle.spec_core.proofs.Lists.{each_append}
 use Rattle.lotos_front.specs.Libraries.{in_line_0, AreTakenIn, library_texts}
 use Rattle.static_laws.specs.NamedTypes.{IsTypeNamed}
 use Rattle.syntax_laws.specs.Tokens.{IsTokenNamed}
@@ -29,13 +29,13 @@ taken-named : (texts : List (List ℕ)) (all : List TypeDef) → AreTakenIn text
 taken-named [] all h = subst (Each IsTypeNamed) (sym h) tt
 taken-named (text ∷ texts) all (first, others, l, taken, e) =
     subst (Each IsTypeNamed) (sym e)
-    (each-append IsTypeNamed first others
+    (each_append IsTypeNamed first others
     (types_are_named (map in_line_0 l.tokens) 0 (length l.tokens) first (each-in-line-0 l.tokens (tokens_are_named text l.tokens l.lexed)) l.read)
     (taken-named texts others taken))
 
 pub text_types_are_named : TextTypesAreNamed
 text_types_are_named tokens types named a =
     subst (Each IsTypeNamed) (sym a.with_library.joined)
-    (each-append IsTypeNamed a.with_library.library a.own
+    (each_append IsTypeNamed a.with_library.library a.own
     (taken-named (library_texts (flat_map library_names a.own)) a.with_library.library a.with_library.taken_in)
     (own-named a.own (subst (Each (IsTreeOf (part type_definition))) (sym a.trees) (trees-in IsKept a.tree (tree-read a.read.read named).0))))

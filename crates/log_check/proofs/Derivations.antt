@@ -3,11 +3,11 @@ use Rattle.std.proofs.Common.{ℕ, suc, zero, ◌+◌, ◌<◌, ◌≡◌, ◌�
 use Rattle.std.proofs.lemmas.List.{map-append}
 use Rattle.spec_core.specs.Code.{Program}
 use Rattle.spec_core.specs.Executable.{IsExecutable}
+use Rattle.spec_core.proofs.Lists.{take_next}
 use Rattle.rule_model.specs.declared.log.Entry.{Entry}
 use Rattle.rule_model.specs.Events.{Event, event_of}
 use Rattle.rule_model.specs.Legal.{IsPossible, IsDerivation}
 use Rattle.rule_model.specs.States.{State}
-use Rattle.log_states.proofs.Members.{taken_next}
 use Rattle.log_check.specs.Checked.{LeadsTo, ComesTo, Explains, FailsFrom}
 use Rattle.log_check.specs.Starting.{BeginsIn, greatest_in, greatest_client}
 use Rattle.log_check.specs.declared.fault.CheckFault.{CheckFault}
@@ -16,7 +16,7 @@ use Rattle.log_check.proofs.Asked.{ground_within}
 
 -- the events of entries, one more at a time
 pub events_next : (es : List Entry) (i : ℕ) (e : Entry) → i < length es → e ≡ get_or es i e → map event_of (take (i + 1) es) ≡ map event_of (take i es) ++ event_of e ∷ []
-events_next es i e within at = ap (map event_of) (taken_next es i e within at) ∙ map-append event_of (take i es) (e ∷ [])
+events_next es i e within at = ap (map event_of) (take_next es i e within at) ∙ map-append event_of (take i es) (e ∷ [])
 
 split_at : {A : Type 0} (xs : List A) (i : ℕ) (x : A) → i < length xs → x ≡ get_or xs i x → xs ≡ take i xs ++ x ∷ drop (i + 1) xs
 split_at [] i x within at = absurd (omega (arith, within))

@@ -1,6 +1,6 @@
 -- What each entry makes of a state.
 use Rattle.std.proofs.Common.{ℕ, ◌+◌, ◌<◌, ◌≡◌, ◌∙◌, refl, sym, ap, subst, List, [], ◌∷◌, ◌++◌, map, Contains, Bool, true, false, nat_eq, not, ◌&&◌, if◌then◌else◌, Option, None, Some}
-use Rattle.std.proofs.lemmas.Bool.{eqb-true}
+use Rattle.std.proofs.lemmas.Bool.{eqb-true, and_from, and_parts}
 use Rattle.std.specs.List.{filter}
 use Rattle.rule_model.specs.declared.action.Action.{Action}
 use Rattle.rule_model.specs.declared.offer.Offer.{Offer}
@@ -16,7 +16,7 @@ use Rattle.log_states.specs.Views.{pending_of, state_of}
 use Rattle.log_states.specs.Possible.{HasPending, MayOffer, MayLeave, MayStall}
 use Rattle.log_states.proofs.OpenClients.{is_open, open_is, offers_open, has_made, others_made, closing_keeps_made, closing_leaves, new_open, new_made}
 use Rattle.log_states.proofs.AllWaiting.{all_wait, wait_all}
-use Rattle.log_states.proofs.Tests.{by_cases, both_true, and_true, true_false}
+use Rattle.log_states.proofs.Tests.{by_cases}
 use Rattle.log_states.proofs.Waiting.{Any, waits_there, there_waits, waits_any, any_waits, waits_some, pending_and, and_pending, idle, is_idle, all_named, named_all, only_named, named_only, ascending, increasing_ascends}
 
 module _ (s : SessionState) where
@@ -56,7 +56,7 @@ module _ (s : SessionState) where
 
   pub are_named : (names : List OfferName) → is_ascending names ≡ true → names_all names waiting && names_only names waiting ≡ true → NamesAll (state_of s) names
   are_named names a h =
-      let k = both_true (names_all names waiting) (names_only names waiting) h in
+      let k = and_parts (names_all names waiting) (names_only names waiting) h in
       record {
         ascending = ascending names a;
         all = all_named names waiting k.0;
@@ -68,7 +68,7 @@ module _ (s : SessionState) where
 
   pub named_just : (names : List OfferName) → NamesAll (state_of s) names → names_all names waiting && names_only names waiting ≡ true
   named_just names h =
-      and_true (names_all names waiting) (names_only names waiting) (named_all names waiting h.all)
+      and_from (names_all names waiting) (names_only names waiting) (named_all names waiting h.all)
       (named_only names waiting (λ name there. there_waits Any waiting name.0 name.1 (and_pending Any (state_of s) name (h.only name there))))
 
   pub takes_pending : (P : Offer → Type 0) (client number : ℕ) → WaitsAnd P waiting client number → IsPendingAnd (state_of s) (client, number) P

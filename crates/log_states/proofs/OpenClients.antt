@@ -1,11 +1,12 @@
 -- Clients: who is open, and how many offers each has made.
 use Rattle.std.proofs.Common.{ℕ, suc, zero, ◌+◌, ◌≡◌, ◌↔◌, ◌∙◌, refl, sym, ap, subst, arith, List, [], ◌∷◌, map, Contains, Bool, true, false, nat_eq, ◌⊎◌, inl, inr, not, ◌&&◌, ◌||◌, if◌then◌else◌}
-use Rattle.std.proofs.lemmas.Bool.{eqb-true, eq-eqb}
+use Rattle.std.proofs.lemmas.Bool.{eqb-true, eq-eqb, and_from, and_parts, or_cases, or_left, or_right, true≢false}
 use Rattle.std.specs.List.{filter}
+use Rattle.spec_core.proofs.Members.{contains_first, contains_later, contains_none}
 use Rattle.log_states.specs.declared.clients.Client.{Client}
 use Rattle.log_states.specs.Clients.{open_among, is_open_among, made_by, closed, having_made, new_client, numbers_from}
-use Rattle.log_states.proofs.Members.{none_in, first_in, later_in, in_cases}
-use Rattle.log_states.proofs.Tests.{by_cases, true_false, both_true, and_true, either_true, left_true, right_true, on_either}
+use Rattle.log_states.proofs.Members.{in_cases}
+use Rattle.log_states.proofs.Tests.{by_cases, on_either}
 
 -- the open clients of a list that begins with an open one, and of one that doesn't
 pub with_open : (c : Client) (cs : List Client) → c.is_open ≡ true → open_among (c ∷ cs) ≡ c.number ∷ open_among cs
@@ -16,22 +17,22 @@ without_open c cs e = ap (λ b. if b then c.number ∷ open_among cs else open_a
 
 pub is_open : (cs : List Client) (n : ℕ) → is_open_among cs n ≡ true → Contains (open_among cs) n
 is_open [] n h = absurd (cc)
-is_open (c ∷ cs) n h = on_either (either_true (c.is_open && nat_eq c.number n) (is_open_among cs n) h)
+is_open (c ∷ cs) n h = on_either (or_cases (c.is_open && nat_eq c.number n) (is_open_among cs n) h)
     (λ k.
-    let m = both_true c.is_open (nat_eq c.number n) k in
+    let m = and_parts c.is_open (nat_eq c.number n) k in
     subst (λ z. Contains z n) (sym (with_open c cs m.0))
-    (subst (λ z. Contains (z ∷ open_among cs) n) (sym (eqb-true c.number n m.1)) (first_in n (open_among cs))))
+    (subst (λ z. Contains (z ∷ open_among cs) n) (sym (eqb-true c.number n m.1)) (contains_first n (open_among cs))))
     (λ k. by_cases c.is_open
-    (λ e. subst (λ z. Contains z n) (sym (with_open c cs e)) (later_in c.number n (open_among cs) (is_open cs n k)))
+    (λ e. subst (λ z. Contains z n) (sym (with_open c cs e)) (contains_later c.number n (open_among cs) (is_open cs n k)))
     (λ e. subst (λ z. Contains z n) (sym (without_open c cs e)) (is_open cs n k)))
 
 pub open_is : (cs : List Client) (n : ℕ) → Contains (open_among cs) n → is_open_among cs n ≡ true
-open_is [] n h = absurd (none_in n h)
+open_is [] n h = absurd (contains_none n h)
 open_is (c ∷ cs) n h = by_cases c.is_open
     (λ e. on_either (in_cases c.number n (open_among cs) (subst (λ z. Contains z n) (with_open c cs e) h))
-    (λ k. left_true (c.is_open && nat_eq c.number n) (is_open_among cs n) (and_true c.is_open (nat_eq c.number n) e (eq-eqb c.number n k)))
-    (λ k. right_true (c.is_open && nat_eq c.number n) (is_open_among cs n) (open_is cs n k)))
-    (λ e. right_true (c.is_open && nat_eq c.number n) (is_open_among cs n) (open_is cs n (subst (λ z. Contains z n) (without_open c cs e) h)))
+    (λ k. or_left (c.is_open && nat_eq c.number n) (is_open_among cs n) (and_from c.is_open (nat_eq c.number n) e (eq-eqb c.number n k)))
+    (λ k. or_right (c.is_open && nat_eq c.number n) (is_open_among cs n) (open_is cs n k)))
+    (λ e. or_right (c.is_open && nat_eq c.number n) (is_open_among cs n) (open_is cs n (subst (λ z. Contains z n) (without_open c cs e) h)))
 
 -- one client that has made offers
 
@@ -59,14 +60,14 @@ has_made n k (c ∷ cs) h = by_cases (nat_eq c.number n)
     let same : nat_eq n (having_made n k c).number ≡ true = eq-eqb n (having_made n k c).number (sym (eqb-true c.number n e) ∙ sym (made_keeps_number n k c)) in
     ap (λ b. if b then (having_made n k c).made else made_by (map (having_made n k) cs) n) same ∙ made_there n k c e)
     (λ e. by_cases (nat_eq n (having_made n k c).number)
-    (λ f. true_false (sym (eq-eqb c.number n (sym (made_keeps_number n k c) ∙ sym (eqb-true n (having_made n k c).number f))) ∙ e))
+    (λ f. absurd (true≢false (sym (eq-eqb c.number n (sym (made_keeps_number n k c) ∙ sym (eqb-true n (having_made n k c).number f))) ∙ e)))
     (λ f. ap (λ b. if b then (having_made n k c).made else made_by (map (having_made n k) cs) n) f ∙ has_made n k cs (further c cs n e h)))
   where
     further : (c : Client) (cs : List Client) (n : ℕ) → nat_eq c.number n ≡ false → is_open_among (c ∷ cs) n ≡ true → is_open_among cs n ≡ true
-    further c cs n e h = pick c cs n e (either_true (c.is_open && nat_eq c.number n) (is_open_among cs n) h)
+    further c cs n e h = pick c cs n e (or_cases (c.is_open && nat_eq c.number n) (is_open_among cs n) h)
       where
         pick : (c : Client) (cs : List Client) (n : ℕ) → nat_eq c.number n ≡ false → (c.is_open && nat_eq c.number n ≡ true) ⊎ (is_open_among cs n ≡ true) → is_open_among cs n ≡ true
-        pick c cs n e (inl m) = true_false (sym (both_true c.is_open (nat_eq c.number n) m).1 ∙ e)
+        pick c cs n e (inl m) = absurd (true≢false (sym (and_parts c.is_open (nat_eq c.number n) m).1 ∙ e))
         pick c cs n e (inr m) = m
 
 -- and the others as many as before

@@ -1,18 +1,19 @@
 -- Pending offers: which are there, and which a list names.
 use Rattle.std.proofs.Common.{ℕ, suc, zero, ◌+◌, ◌<◌, ◌≡◌, ◌↔◌, ◌∙◌, refl, sym, ap, subst, arith, List, [], ◌∷◌, ◌++◌, map, length, if◌then◌else◌, Contains, Bool, true, false, nat_eq, nat_lt, ◌⊎◌, inl, inr, not, ◌&&◌, ◌||◌}
-use Rattle.std.proofs.lemmas.Bool.{eqb-true, eq-eqb, ltb-true, lt-ltb}
+use Rattle.std.proofs.lemmas.Bool.{eqb-true, eq-eqb, ltb-true, lt-ltb, and_from, and_parts, or_cases, not_from_false, or_left, not-true, or_right, true≢false}
 use Rattle.std.specs.List.{slice_index}
 use Rattle.std.specs.List.Sorted.{IsStrictlyIncreasing}
 use Rattle.rule_model.specs.declared.offer.Offer.{Offer}
 use Rattle.rule_model.specs.Events.{OfferName}
 use Rattle.rule_model.specs.Legal.{IsPendingAnd, IsPending, IsIdle, NamesAll}
 use Rattle.std.proofs.lemmas.List.{map-append}
+use Rattle.spec_core.proofs.Members.{contains_first, contains_later, contains_none}
 use Rattle.rule_model.specs.States.{PendingOffer, State, without}
 use Rattle.log_states.specs.Views.{pending_of}
 use Rattle.log_states.specs.declared.pending.Pending.{Pending}
 use Rattle.log_states.specs.Pending.{waits_among, is_idle_among, WaitsAnd, is_named, names_all, names_only, comes_before, is_ascending}
-use Rattle.log_states.proofs.Members.{none_in, first_in, later_in, in_cases}
-use Rattle.log_states.proofs.Tests.{by_cases, true_false, both_true, and_true, either_true, left_true, right_true, on_either, not_true, false_not}
+use Rattle.log_states.proofs.Members.{in_cases}
+use Rattle.log_states.proofs.Tests.{by_cases, on_either}
 
 -- an offer of this client and number, of which the fact holds
 
@@ -25,13 +26,13 @@ pub record IsAmong (P : Offer → Type 0) (ps : List PendingOffer) (client numbe
 
 pub waits_there : (P : Offer → Type 0) (ps : List PendingOffer) (client number : ℕ) → WaitsAnd P ps client number → IsAmong P ps client number
 waits_there P [] client number h = absurd h
-waits_there P (p ∷ ps) client number (inl h) = record { waits = p; among = first_in p ps; client_is = h.0; number_is = h.1; holds = h.2 }
+waits_there P (p ∷ ps) client number (inl h) = record { waits = p; among = contains_first p ps; client_is = h.0; number_is = h.1; holds = h.2 }
 waits_there P (p ∷ ps) client number (inr h) =
     let k = waits_there P ps client number h in
-    record { waits = k.waits; among = later_in p k.waits ps k.among; client_is = k.client_is; number_is = k.number_is; holds = k.holds }
+    record { waits = k.waits; among = contains_later p k.waits ps k.among; client_is = k.client_is; number_is = k.number_is; holds = k.holds }
 
 found : (P : Offer → Type 0) (ps : List PendingOffer) (client number : ℕ) (q : PendingOffer) → Contains ps q → q.client ≡ client → q.number ≡ number → P q.offer → WaitsAnd P ps client number
-found P [] client number q h e f g = absurd (none_in q h)
+found P [] client number q h e f g = absurd (contains_none q h)
 found P (p ∷ ps) client number q h e f g = on_either (in_cases p q ps h)
     (λ k. inl (ap (λ z. z.client) k ∙ e, ap (λ z. z.number) k ∙ f, subst (λ z. P z.offer) (sym k) g))
     (λ k. inr (found P ps client number q k e f g))
@@ -50,66 +51,66 @@ Any offer = Unit {0}
 
 pub waits_any : (ps : List PendingOffer) (client number : ℕ) → waits_among ps client number ≡ true → WaitsAnd Any ps client number
 waits_any [] client number h = absurd (cc)
-waits_any (p ∷ ps) client number h = on_either (either_true (nat_eq p.client client && nat_eq p.number number) (waits_among ps client number) h)
-    (λ k. let m = both_true (nat_eq p.client client) (nat_eq p.number number) k in inl (eqb-true p.client client m.0, eqb-true p.number number m.1, tt))
+waits_any (p ∷ ps) client number h = on_either (or_cases (nat_eq p.client client && nat_eq p.number number) (waits_among ps client number) h)
+    (λ k. let m = and_parts (nat_eq p.client client) (nat_eq p.number number) k in inl (eqb-true p.client client m.0, eqb-true p.number number m.1, tt))
     (λ k. inr (waits_any ps client number k))
 
 pub any_waits : (ps : List PendingOffer) (client number : ℕ) → WaitsAnd Any ps client number → waits_among ps client number ≡ true
 any_waits [] client number h = absurd h
 any_waits (p ∷ ps) client number (inl h) =
-    left_true (nat_eq p.client client && nat_eq p.number number) (waits_among ps client number)
-    (and_true (nat_eq p.client client) (nat_eq p.number number) (eq-eqb p.client client h.0) (eq-eqb p.number number h.1))
-any_waits (p ∷ ps) client number (inr h) = right_true (nat_eq p.client client && nat_eq p.number number) (waits_among ps client number) (any_waits ps client number h)
+    or_left (nat_eq p.client client && nat_eq p.number number) (waits_among ps client number)
+    (and_from (nat_eq p.client client) (nat_eq p.number number) (eq-eqb p.client client h.0) (eq-eqb p.number number h.1))
+any_waits (p ∷ ps) client number (inr h) = or_right (nat_eq p.client client && nat_eq p.number number) (waits_among ps client number) (any_waits ps client number h)
 
 -- a client without a pending offer
 
 pub idle : (ps : List PendingOffer) (client : ℕ) → is_idle_among ps client ≡ true → (p : PendingOffer) → Contains ps p → p.client ≡ client → ⊥
-idle [] client h p k e = none_in p k
+idle [] client h p k e = contains_none p k
 idle (q ∷ ps) client h p k e =
-    let m = both_true (not (nat_eq q.client client)) (is_idle_among ps client) h in
+    let m = and_parts (not (nat_eq q.client client)) (is_idle_among ps client) h in
     on_either (in_cases q p ps k)
-    (λ f. true_false (sym (eq-eqb q.client client (ap (λ z. z.client) f ∙ e)) ∙ not_true (nat_eq q.client client) m.0))
+    (λ f. absurd (true≢false (sym (eq-eqb q.client client (ap (λ z. z.client) f ∙ e)) ∙ not-true (nat_eq q.client client) m.0)))
     (λ f. idle ps client m.1 p f e)
 
 pub is_idle : (ps : List PendingOffer) (client : ℕ) → ((p : PendingOffer) → Contains ps p → p.client ≡ client → ⊥) → is_idle_among ps client ≡ true
 is_idle [] client h = refl
 is_idle (q ∷ ps) client h =
-    and_true (not (nat_eq q.client client)) (is_idle_among ps client)
-    (by_cases (nat_eq q.client client) (λ e. absurd (h q (first_in q ps) (eqb-true q.client client e))) (λ e. false_not (nat_eq q.client client) e))
-    (is_idle ps client (λ p k e. h p (later_in q p ps k) e))
+    and_from (not (nat_eq q.client client)) (is_idle_among ps client)
+    (by_cases (nat_eq q.client client) (λ e. absurd (h q (contains_first q ps) (eqb-true q.client client e))) (λ e. not_from_false (nat_eq q.client client) e))
+    (is_idle ps client (λ p k e. h p (contains_later q p ps k) e))
 
 -- a client that isn't idle
 pub waits_some : (ps : List PendingOffer) (client : ℕ) → is_idle_among ps client ≡ false → (number : ℕ) × IsAmong Any ps client number
 waits_some [] client h = absurd (cc)
 waits_some (q ∷ ps) client h = by_cases (nat_eq q.client client)
-    (λ e. (q.number, record { waits = q; among = first_in q ps; client_is = eqb-true q.client client e; number_is = refl; holds = tt }))
+    (λ e. (q.number, record { waits = q; among = contains_first q ps; client_is = eqb-true q.client client e; number_is = refl; holds = tt }))
     (λ e.
     let k = waits_some ps client (sym (ap (λ z. not z && is_idle_among ps client) e) ∙ h) in
-    (k.0, record { waits = k.1.waits; among = later_in q k.1.waits ps k.1.among; client_is = k.1.client_is; number_is = k.1.number_is; holds = tt }))
+    (k.0, record { waits = k.1.waits; among = contains_later q k.1.waits ps k.1.among; client_is = k.1.client_is; number_is = k.1.number_is; holds = tt }))
 
 -- lists of names
 
 pub named : (names : List OfferName) (client number : ℕ) → is_named names client number ≡ true → Contains names (client, number)
 named [] client number h = absurd (cc)
-named (name ∷ names) client number h = on_either (either_true (nat_eq name.0 client && nat_eq name.1 number) (is_named names client number) h)
+named (name ∷ names) client number h = on_either (or_cases (nat_eq name.0 client && nat_eq name.1 number) (is_named names client number) h)
     (λ k.
-    let m = both_true (nat_eq name.0 client) (nat_eq name.1 number) k in
+    let m = and_parts (nat_eq name.0 client) (nat_eq name.1 number) k in
     let a = eqb-true name.0 client m.0 in
     let b = eqb-true name.1 number m.1 in
-    subst (λ z. Contains (name ∷ names) z) (λ i. (a i, b i)) (first_in name names))
-    (λ k. later_in name (client, number) names (named names client number k))
+    subst (λ z. Contains (name ∷ names) z) (λ i. (a i, b i)) (contains_first name names))
+    (λ k. contains_later name (client, number) names (named names client number k))
 
 pub contained_named : (names : List OfferName) (client number : ℕ) → Contains names (client, number) → is_named names client number ≡ true
-contained_named [] client number h = absurd (none_in _ h)
+contained_named [] client number h = absurd (contains_none _ h)
 contained_named (name ∷ names) client number h = on_either (in_cases name (client, number) names h)
-    (λ e. left_true (nat_eq name.0 client && nat_eq name.1 number) (is_named names client number)
-    (and_true (nat_eq name.0 client) (nat_eq name.1 number) (eq-eqb name.0 client (ap (λ z. z.0) e)) (eq-eqb name.1 number (ap (λ z. z.1) e))))
-    (λ k. right_true (nat_eq name.0 client && nat_eq name.1 number) (is_named names client number) (contained_named names client number k))
+    (λ e. or_left (nat_eq name.0 client && nat_eq name.1 number) (is_named names client number)
+    (and_from (nat_eq name.0 client) (nat_eq name.1 number) (eq-eqb name.0 client (ap (λ z. z.0) e)) (eq-eqb name.1 number (ap (λ z. z.1) e))))
+    (λ k. or_right (nat_eq name.0 client && nat_eq name.1 number) (is_named names client number) (contained_named names client number k))
 
 pub all_named : (names : List OfferName) (ps : List PendingOffer) → names_all names ps ≡ true → (p : PendingOffer) → Contains ps p → Contains names (p.client, p.number)
-all_named names [] h p k = absurd (none_in p k)
+all_named names [] h p k = absurd (contains_none p k)
 all_named names (q ∷ ps) h p k =
-    let m = both_true (is_named names q.client q.number) (names_all names ps) h in
+    let m = and_parts (is_named names q.client q.number) (names_all names ps) h in
     on_either (in_cases q p ps k)
     (λ e. subst (λ z. Contains names (z.client, z.number)) e (named names q.client q.number m.0))
     (λ f. all_named names ps m.1 p f)
@@ -117,12 +118,12 @@ all_named names (q ∷ ps) h p k =
 pub named_all : (names : List OfferName) (ps : List PendingOffer) → ((p : PendingOffer) → Contains ps p → Contains names (p.client, p.number)) → names_all names ps ≡ true
 named_all names [] h = refl
 named_all names (q ∷ ps) h =
-    and_true (is_named names q.client q.number) (names_all names ps) (contained_named names q.client q.number (h q (first_in q ps))) (named_all names ps (λ p k. h p (later_in q p ps k)))
+    and_from (is_named names q.client q.number) (names_all names ps) (contained_named names q.client q.number (h q (contains_first q ps))) (named_all names ps (λ p k. h p (contains_later q p ps k)))
 
 pub only_named : (names : List OfferName) (ps : List PendingOffer) → names_only names ps ≡ true → (name : OfferName) → Contains names name → WaitsAnd Any ps name.0 name.1
-only_named [] ps h name k = absurd (none_in name k)
+only_named [] ps h name k = absurd (contains_none name k)
 only_named (n ∷ names) ps h name k =
-    let m = both_true (waits_among ps n.0 n.1) (names_only names ps) h in
+    let m = and_parts (waits_among ps n.0 n.1) (names_only names ps) h in
     on_either (in_cases n name names k)
     (λ e. subst (λ z. WaitsAnd Any ps z.0 z.1) e (waits_any ps n.0 n.1 m.0))
     (λ f. only_named names ps m.1 name f)
@@ -130,7 +131,7 @@ only_named (n ∷ names) ps h name k =
 pub named_only : (names : List OfferName) (ps : List PendingOffer) → ((name : OfferName) → Contains names name → WaitsAnd Any ps name.0 name.1) → names_only names ps ≡ true
 named_only [] ps h = refl
 named_only (n ∷ names) ps h =
-    and_true (waits_among ps n.0 n.1) (names_only names ps) (any_waits ps n.0 n.1 (h n (first_in n names))) (named_only names ps (λ name k. h name (later_in n name names k)))
+    and_from (waits_among ps n.0 n.1) (names_only names ps) (any_waits ps n.0 n.1 (h n (contains_first n names))) (named_only names ps (λ name k. h name (contains_later n name names k)))
 
 -- ascending clients
 
@@ -140,17 +141,17 @@ clients_of names = map (λ (name : OfferName). name.0) names
 pub ascending : (names : List OfferName) → is_ascending names ≡ true → IsStrictlyIncreasing (clients_of names)
 ascending [] h k below = absurd (omega (arith, below))
 ascending (n ∷ []) h k below = absurd (omega (arith, below))
-ascending (n ∷ m ∷ names) h zero below = ltb-true n.0 m.0 (both_true (nat_lt n.0 m.0) (is_ascending (m ∷ names)) h).0
+ascending (n ∷ m ∷ names) h zero below = ltb-true n.0 m.0 (and_parts (nat_lt n.0 m.0) (is_ascending (m ∷ names)) h).0
 ascending (n ∷ m ∷ names) h (suc k) below =
     let e : suc (k + 1) ≡ suc k + 1 = omega arith in
-    let later = ascending (m ∷ names) (both_true (nat_lt n.0 m.0) (is_ascending (m ∷ names)) h).1 k (omega (arith, below)) in
+    let later = ascending (m ∷ names) (and_parts (nat_lt n.0 m.0) (is_ascending (m ∷ names)) h).1 k (omega (arith, below)) in
     subst (λ z. slice_index (clients_of (n ∷ m ∷ names)) (suc k) < slice_index (clients_of (n ∷ m ∷ names)) z) e later
 
 pub increasing_ascends : (names : List OfferName) → IsStrictlyIncreasing (clients_of names) → is_ascending names ≡ true
 increasing_ascends [] h = refl
 increasing_ascends (n ∷ []) h = refl
 increasing_ascends (n ∷ m ∷ names) h =
-    and_true (nat_lt n.0 m.0) (is_ascending (m ∷ names)) (lt-ltb n.0 m.0 (h zero (omega arith))) (increasing_ascends (m ∷ names) (λ k below.
+    and_from (nat_lt n.0 m.0) (is_ascending (m ∷ names)) (lt-ltb n.0 m.0 (h zero (omega arith))) (increasing_ascends (m ∷ names) (λ k below.
     let e : suc k + 1 ≡ suc (k + 1) = omega arith in
     subst (λ z. slice_index (clients_of (n ∷ m ∷ names)) (suc k) < slice_index (clients_of (n ∷ m ∷ names)) z) e (h (suc k) (omega (arith, below)))))
 

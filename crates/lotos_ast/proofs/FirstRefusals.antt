@@ -5,6 +5,8 @@ use Rattle.std.specs.List.{fold, Contains}
 use Rattle.std.proofs.lemmas.Grind.{common_steps}
 use Rattle.std.proofs.lemmas.List.{append-nil}
 use Rattle.std.proofs.lemmas.List.Elements.{Contains-append_cases, Contains-append_right}
+use Rattle.std.proofs.lemmas.Option.{none-some}
+use Rattle.spec_core.proofs.Members.{contains_none}
 use Rattle.lotos_ast.specs.Refusals.{number_of}
 use Rattle.lotos_ast.specs.declared.refusal.Refusal.{Refusal}
 use Rattle.lotos_ast.specs.FirstRefusals.{comes_before, sooner, first_refusal, IsFirst, StandsFirst, FirstOfAListIsFirst, FirstOfAListStandsFirst}
@@ -46,9 +48,6 @@ not_self r = keys_not_self r.place.line r.place.column (number_of r.kind)
 
 -- what stands in lists
 
-not_in_none : {A : Type 0} (x : A) → Contains [] x → ⊥
-not_in_none x (k, within, at) = omega arith
-
 in_one : {A : Type 0} (r x : A) → Contains (r ∷ []) x → r ≡ x
 in_one r x (zero, within, at) = at
 in_one r x (suc k, within, at) = absurd (omega arith)
@@ -74,7 +73,7 @@ new_first seen f s h t = record {
       (of_either (λ x. comes_before s x ≡ true) h.before (f ∷ h.behind)
       (λ x k. before_through s f x t (h.sooner_than x k))
       (of_either (λ x. comes_before s x ≡ true) (f ∷ []) h.behind (of_one (λ x. comes_before s x ≡ true) f t) (λ x k. before_past s f x t (h.none_sooner x k))));
-  none_sooner = λ x k. absurd (not_in_none x k);
+  none_sooner = λ x k. absurd (contains_none x k);
 }
 
 kept_first : (seen : List Refusal) (f s : Refusal) → StandsFirst seen f → comes_before s f ≡ false → StandsFirst (seen ++ s ∷ []) f
@@ -97,14 +96,11 @@ first_from seen (s ∷ rs) f r h e = subst (λ zs. StandsFirst zs r) (append_ass
     by_test more true t = more s (new_first seen f s h t) (rw t at e)
     by_test more false t = more f (kept_first seen f s h t) (rw t at e)
 
-no_some : (r : Refusal) → None ≡ Some r → ⊥
-no_some r e = cc
-
 only_one : (r : Refusal) → StandsFirst (r ∷ []) r
-only_one r = record { before = []; behind = []; parts = refl; sooner_than = λ x k. absurd (not_in_none x k); none_sooner = λ x k. absurd (not_in_none x k) }
+only_one r = record { before = []; behind = []; parts = refl; sooner_than = λ x k. absurd (contains_none x k); none_sooner = λ x k. absurd (contains_none x k) }
 
 pub first_of_a_list_stands_first : FirstOfAListStandsFirst
-first_of_a_list_stands_first [] r e = absurd (no_some r e)
+first_of_a_list_stands_first [] r e = absurd (none-some r e)
 first_of_a_list_stands_first (f ∷ rs) r e = first_from (f ∷ []) rs f r (only_one f) e
 
 -- a list with a refusal has a first one
@@ -132,7 +128,7 @@ pub first_of_a_list_is_first : FirstOfAListIsFirst
 first_of_a_list_is_first refusals = by_first (first_refusal refusals) refl
   where
     by_first : (found : Option Refusal) → first_refusal refusals ≡ found → IsFirst (Contains refusals) found
-    by_first None e = λ s h. not_in_none s (subst (λ zs. Contains zs s) (none_first refusals e) h)
+    by_first None e = λ s h. contains_none s (subst (λ zs. Contains zs s) (none_first refusals e) h)
     by_first (Some r) e = first_in_list refusals r (first_of_a_list_stands_first refusals r e)
 
 -- the first of all of which one of two conditions holds is the sooner one of the first of each

@@ -1,5 +1,5 @@
 -- The tokens before the one at which reading stops are a front, and with it they are not.
-use Rattle.std.proofs.Common.{ℕ, zero, suc, List, [], ◌∷◌, ◌++◌, Bool, true, false, ◌≡◌, refl, sym, subst, ap, ◌∙◌, append_assoc, ◌⊎◌, inl, inr, ◌||◌, ◌&&◌}
+use Rattle.std.proofs.Common.{ℕ, zero, suc, List, [], ◌∷◌, ◌++◌, Bool, true, false, ◌≡◌, refl, sym, subst, ap, ◌∙◌, append_assoc, ◌⊎◌, inl, inr}
 use Rattle.lotos_ast.specs.declared.mark.Mark.{Mark}
 use Rattle.lotos_ast.specs.declared.token.Token.{Token}
 use Rattle.lotos_ast.specs.Notation.{Part, Reduction, fits, Syntax, quoted, kept, sequence, either, optional, repeated, placed, reduced, bracketed, enclosed, part}
@@ -9,6 +9,8 @@ use Rattle.lotos_ast.specs.declared.fault.Fault.{Fault}
 use Rattle.lotos_ast.specs.Nesting.{Nesting, unlimited}
 use Rattle.lotos_ast.specs.Reads.{Tree, reduce, unkept, leaf, both, left, right, absent, present, no_more, more, node, Reads, Stops, reads_quoted, reads_kept, reads_sequence, reads_left, reads_right, reads_absent, reads_present, reads_no_more, reads_more, reads_placed, reads_reduced, reads_bracketed, reads_enclosed, reads_part, stops_quoted, stops_kept, deep_quoted, deep_kept, stops_first, stops_second, stops_left, stops_right, stops_optional, stops_repeated, stops_later, stops_placed, stops_reduced, stops_bracketed, stops_enclosed, stops_part}
 use Rattle.std.proofs.lemmas.List.{append-nil, append_cancel_right}
+use Rattle.std.proofs.lemmas.Bool.{or_from}
+use Rattle.spec_core.proofs.Booleans.{and_first_true, and_second_true}
 use Rattle.lotos_ast.specs.Notation.{specification, gate_list, functionality, type_definition, where_item, sort_part, operation_part, operation_names, infix_names, operation_name, equation_part, sort_equations, equations, equation, premiss, for_all, declarations, declaration, sort_pair, operation_pair, expression, infixes, simple, head, process, behaviour, enabling, disable, disabling, parallel, composing, operator, choice, choosing, unary, offer, atom, exit_value, binding, gate_choice}
 use Rattle.lotos_ast.specs.Begins.{or_behind}
 use Rattle.lotos_ast.specs.Shortest.{rank, is_above, is_short_by}
@@ -57,21 +59,9 @@ pub part_front : (p : Part) (u : List Token) → IsFront (rule p) u → IsFront 
 part_front p u (inl h) = inl (stops_part h)
 part_front p u (inr h) = inr (node (place_at u) h.0, reads_part refl h.1)
 
-pub both_first : (a b : Bool) → a && b ≡ true → a ≡ true
-both_first true b h = refl
-both_first false b h = h
-
-pub both_second : (a b : Bool) → a && b ≡ true → b ≡ true
-both_second true b h = h
-both_second false b h = cc
-
 -- no part begins with the end
-pub neither : (a b : Bool) → a ≡ false → b ≡ false → a || b ≡ false
-neither true b h k = cc
-neither false b h k = k
-
 neither_behind : (e a b : Bool) → a ≡ false → b ≡ false → or_behind e a b ≡ false
-neither_behind true a b h k = neither a b h k
+neither_behind true a b h k = or_from a b h k
 neither_behind false a b h k = h
 
 part_not_end : (p : Part) → begins p Mark.End ≡ false
@@ -120,7 +110,7 @@ pub not_end : (g : Syntax) → NeverTakesEnd g → starts g Mark.End ≡ false
 not_end (quoted k) o = o
 not_end (kept w) o = o
 not_end (sequence a b) o = neither_behind (is_empty a) (starts a Mark.End) (starts b Mark.End) (not_end a o.0) (not_end b o.1)
-not_end (either a b) o = neither (starts a Mark.End) (starts b Mark.End) (not_end a o.0) (not_end b o.1)
+not_end (either a b) o = or_from (starts a Mark.End) (starts b Mark.End) (not_end a o.0) (not_end b o.1)
 not_end (optional a) o = not_end a o
 not_end (repeated a) o = o.1
 not_end (placed a) o = not_end a o
@@ -190,7 +180,7 @@ end_right a b e (inr k) = inr (right k.0, reads_right e k.1)
 end_by : (n : ℕ) (g : Syntax) → NeverTakesEnd g → is_short_by n g ≡ true → ((p : Part) → is_above n (rank p) ≡ true → IsFront (part p) []) → IsFront g []
 end_by n (quoted k) o c f = inl (stops_quoted o refl refl)
 end_by n (kept w) o c f = inl (stops_kept o refl refl)
-end_by n (sequence a b) o c f = end_sequence a b (end_by n a o.0 (both_first (is_short_by n a) (is_short_by n b) c) f) (end_by n b o.1 (both_second (is_short_by n a) (is_short_by n b) c) f)
+end_by n (sequence a b) o c f = end_sequence a b (end_by n a o.0 (and_first_true (is_short_by n a) (is_short_by n b) c) f) (end_by n b o.1 (and_second_true (is_short_by n a) (is_short_by n b) c) f)
 end_by n (either a b) o c f = end_right a b (not_end a o.0) (end_by n b o.1 c f)
 end_by n (optional a) o c f = inr (absent, reads_absent (not_end a o) refl)
 end_by n (repeated a) o c f = inr (no_more, reads_no_more o.1 refl)

@@ -1,5 +1,5 @@
 -- A front is completed to a text of the grammar.
-use Rattle.std.proofs.Common.{ℕ, zero, suc, List, [], ◌∷◌, ◌++◌, Bool, true, false, ◌≡◌, refl, sym, subst, ap, ◌∙◌, append_assoc, ◌⊎◌, inl, inr, ◌||◌, ◌&&◌}
+use Rattle.std.proofs.Common.{ℕ, zero, suc, List, [], ◌∷◌, ◌++◌, Bool, true, false, ◌≡◌, refl, sym, subst, ap, ◌∙◌, append_assoc, ◌⊎◌, inl, inr, ◌&&◌}
 use Rattle.lotos_ast.specs.declared.mark.Mark.{Mark}
 use Rattle.lotos_ast.specs.declared.token.Token.{Token}
 use Rattle.lotos_ast.specs.Notation.{Part, fits, Syntax, quoted, kept, sequence, either, optional, repeated, placed, reduced, bracketed, enclosed, part}
@@ -9,6 +9,9 @@ use Rattle.lotos_ast.specs.declared.fault.Fault.{Fault}
 use Rattle.lotos_ast.specs.Nesting.{Nesting, unlimited}
 use Rattle.lotos_ast.specs.Reads.{Tree, reduce, unkept, leaf, both, left, right, absent, present, no_more, more, node, Reads, Stops, reads_quoted, reads_kept, reads_sequence, reads_left, reads_right, reads_absent, reads_present, reads_no_more, reads_more, reads_placed, reads_reduced, reads_bracketed, reads_enclosed, reads_part, stops_quoted, stops_kept, deep_quoted, deep_kept, stops_first, stops_second, stops_left, stops_right, stops_optional, stops_repeated, stops_later, stops_placed, stops_reduced, stops_bracketed, stops_enclosed, stops_part}
 use Rattle.std.proofs.lemmas.List.{append-nil}
+use Rattle.std.proofs.lemmas.Bool.{and_from, or_right, or_left}
+use Rattle.spec_core.proofs.Booleans.{and_first_true, and_second_true, or_first_false, or_second_false}
+use Rattle.spec_core.proofs.Lists.{cons_not_empty, right_empty}
 use Rattle.lotos_ast.specs.Shortest.{rank, is_above, is_short_by, sample_of, short, short_part}
 use Rattle.lotos_ast.specs.GoesOn.{goes_on, extends}
 use Rattle.lotos_ast.specs.Conditions.{NeverTakesEnd, HasShortestTexts, implies}
@@ -17,15 +20,7 @@ use Rattle.lotos_ast.proofs.RulesNeverTakeTheEnd.{rules_never_take_the_end}
 use Rattle.lotos_ast.proofs.RulesHaveShortestTexts.{rules_have_shortest_texts}
 use Rattle.lotos_ast.proofs.Tables.{every, contra, not_empty, goes_on_checked, short_checked}
 use Rattle.lotos_ast.proofs.Tails.{reads_cut}
-use Rattle.lotos_ast.proofs.Fronts.{not_end, both_first, both_second, above_itself, lower, ranks_checked}
-
-pub nor_first : (a b : Bool) → a || b ≡ false → a ≡ false
-nor_first true b h = cc
-nor_first false b h = refl
-
-pub nor_second : (a b : Bool) → a || b ≡ false → b ≡ false
-nor_second true b h = cc
-nor_second false b h = h
+use Rattle.lotos_ast.proofs.Fronts.{not_end, above_itself, lower, ranks_checked}
 
 rule_ends : (p : Part) (m : Mark) → goes_on p m ≡ false → extends (rule p) m ≡ false
 rule_ends p m h = contra (extends (rule p) m) (goes_on p m) (every (λ m. implies (extends (rule p) m) (goes_on p m)) (goes_on_checked p) m) h
@@ -34,24 +29,8 @@ rule_ends p m h = contra (extends (rule p) m) (goes_on p m) (every (λ m. implie
 never : (a : Syntax) → NeverTakesEnd a → starts a Mark.End ≡ true → ⊥
 never a o h = let i = not_end a o in cc
 
-pub or_true : (a b : Bool) → b ≡ true → a || b ≡ true
-or_true true b h = refl
-or_true false b h = h
-
-pub true_or : (a b : Bool) → a ≡ true → a || b ≡ true
-true_or true b h = refl
-true_or false b h = cc
-
-pub both_true : (a b : Bool) → a ≡ true → b ≡ true → a && b ≡ true
-both_true true b h k = k
-both_true false b h k = cc
-
-nil_right : (a b : List Token) → a ++ b ≡ [] → b ≡ []
-nil_right [] b e = e
-nil_right (t ∷ a) b e = cc
-
 rest_nil : {d : Nesting} {g : Syntax} {s r : List Token} {x : Tree} → Reads d g s x r → s ≡ [] → r ≡ []
-rest_nil {r = r} h e = let c = reads_cut h in nil_right c.taken r (sym c.all ∙ e)
+rest_nil {r = r} h e = let c = reads_cut h in right_empty c.taken r (sym c.all ∙ e)
 
 rule_not_empty : (p : Part) → is_empty (rule p) ≡ true → ⊥
 rule_not_empty p h = let i = not_empty p in cc
@@ -60,9 +39,9 @@ rule_not_empty p h = let i = not_empty p in cc
 pub empty_read : {d : Nesting} {g : Syntax} {s r : List Token} {x : Tree} → Reads d g s x r → s ≡ [] → NeverTakesEnd g → is_empty g ≡ true
 empty_read (reads_quoted e m v) i o = cc
 empty_read (reads_kept e m v) i o = cc
-empty_read (reads_sequence {a = a} {b = b} m h k) i o = both_true (is_empty a) (is_empty b) (empty_read h i o.0) (empty_read k (rest_nil h i) o.1)
-empty_read (reads_left {a = a} {b = b} j h) i o = true_or (is_empty a) (is_empty b) (empty_read h i o.0)
-empty_read (reads_right {a = a} {b = b} j h) i o = or_true (is_empty a) (is_empty b) (empty_read h i o.1)
+empty_read (reads_sequence {a = a} {b = b} m h k) i o = and_from (is_empty a) (is_empty b) (empty_read h i o.0) (empty_read k (rest_nil h i) o.1)
+empty_read (reads_left {a = a} {b = b} j h) i o = or_left (is_empty a) (is_empty b) (empty_read h i o.0)
+empty_read (reads_right {a = a} {b = b} j h) i o = or_right (is_empty a) (is_empty b) (empty_read h i o.1)
 empty_read (reads_absent j e) i o = refl
 empty_read (reads_present j h) i o = refl
 empty_read (reads_no_more j e) i o = refl
@@ -101,18 +80,18 @@ grow : {g : Syntax} {s r : List Token} {x : Tree} → Reads unlimited g s x r �
 grow (reads_quoted {k = k} {t = t} {s = s} {r = r} e m v) i o q n = (unkept, reads_quoted (ap (λ z. z ++ q) e ∙ ap (λ z. t ∷ z ++ q) i) (same_mark s q t r e ∙ m) refl)
 grow (reads_kept {w = w} {t = t} {s = s} {r = r} e m v) i o q n = (leaf t, reads_kept (ap (λ z. z ++ q) e ∙ ap (λ z. t ∷ z ++ q) i) (ap (fits w) (same_mark s q t r e) ∙ m) refl)
 grow (reads_sequence {a = a} {b = b} {s = s} {x = x} m h k) i o q n =
-    let y = grow_first a s m q x h (λ z. grow h z o.0 q (given (is_empty b) (extends a (mark_at q)) (nor_second (extends b (mark_at q)) _ n) (empty_read k z o.1))) in
-    let w = grow k i o.1 q (nor_first (extends b (mark_at q)) _ n) in
+    let y = grow_first a s m q x h (λ z. grow h z o.0 q (given (is_empty b) (extends a (mark_at q)) (or_second_false (extends b (mark_at q)) _ n) (empty_read k z o.1))) in
+    let w = grow k i o.1 q (or_first_false (extends b (mark_at q)) _ n) in
     (both y.0 w.0, reads_sequence (m ++ q) y.1 w.1)
-grow (reads_left {a = a} {b = b} {s = s} j h) i o q n = let y = grow h i o.0 q (nor_first (extends a (mark_at q)) _ n) in (left y.0, reads_left (begun a s q o.0 j) y.1)
+grow (reads_left {a = a} {b = b} {s = s} j h) i o q n = let y = grow h i o.0 q (or_first_false (extends a (mark_at q)) _ n) in (left y.0, reads_left (begun a s q o.0 j) y.1)
 grow (reads_right {a = a} {b = b} {s = s} j h) i o q n =
-    let y = grow h i o.1 q (nor_first (extends b (mark_at q)) _ (nor_second (extends a (mark_at q)) _ n)) in
-    (right y.0, reads_right (not_begun a s q j (λ z. given (is_empty b) (starts a (mark_at q)) (nor_second (extends b (mark_at q)) _ (nor_second (extends a (mark_at q)) _ n)) (empty_read h z o.1))) y.1)
-grow (reads_absent {a = a} {s = s} {r = r} j e) i o q n = (absent, subst (λ z. Reads unlimited (optional a) (z ++ q) absent q) (sym (e ∙ i)) (reads_absent (nor_first (starts a (mark_at q)) _ n) refl))
-grow (reads_present {a = a} {s = s} j h) i o q n = let y = grow h i o q (nor_second (starts a (mark_at q)) _ n) in (present y.0, reads_present (begun a s q o j) y.1)
-grow (reads_no_more {a = a} {s = s} {r = r} j e) i o q n = (no_more, subst (λ z. Reads unlimited (repeated a) (z ++ q) no_more q) (sym (e ∙ i)) (reads_no_more (nor_first (starts a (mark_at q)) _ n) refl))
+    let y = grow h i o.1 q (or_first_false (extends b (mark_at q)) _ (or_second_false (extends a (mark_at q)) _ n)) in
+    (right y.0, reads_right (not_begun a s q j (λ z. given (is_empty b) (starts a (mark_at q)) (or_second_false (extends b (mark_at q)) _ (or_second_false (extends a (mark_at q)) _ n)) (empty_read h z o.1))) y.1)
+grow (reads_absent {a = a} {s = s} {r = r} j e) i o q n = (absent, subst (λ z. Reads unlimited (optional a) (z ++ q) absent q) (sym (e ∙ i)) (reads_absent (or_first_false (starts a (mark_at q)) _ n) refl))
+grow (reads_present {a = a} {s = s} j h) i o q n = let y = grow h i o q (or_second_false (starts a (mark_at q)) _ n) in (present y.0, reads_present (begun a s q o j) y.1)
+grow (reads_no_more {a = a} {s = s} {r = r} j e) i o q n = (no_more, subst (λ z. Reads unlimited (repeated a) (z ++ q) no_more q) (sym (e ∙ i)) (reads_no_more (or_first_false (starts a (mark_at q)) _ n) refl))
 grow (reads_more {a = a} {s = s} {x = x} m j h k) i o q n =
-    let y = grow_first a s m q x h (λ z. grow h z o.0 q (nor_second (starts a (mark_at q)) _ n)) in
+    let y = grow_first a s m q x h (λ z. grow h z o.0 q (or_second_false (starts a (mark_at q)) _ n)) in
     let w = grow k i o q n in
     (more y.0 w.0, reads_more (m ++ q) (begun a s q o.0 j) y.1 w.1)
 grow (reads_placed {s = s} e h) i o q n = let y = grow h i o q n in (node (place_at (s ++ q)) y.0, reads_placed refl y.1)
@@ -126,8 +105,8 @@ short_by : (n : ℕ) (g : Syntax) → NeverTakesEnd g → HasShortestTexts g →
 short_by n (quoted k) o f c w = (unkept, reads_quoted refl f refl)
 short_by n (kept k) o f c w = (leaf (sample_of k), reads_kept refl f refl)
 short_by n (sequence a b) o f c w =
-    let u = short_by n a o.0 f.0 (both_first (is_short_by n a) (is_short_by n b) c) w in
-    let v = short_by n b o.1 f.1 (both_second (is_short_by n a) (is_short_by n b) c) w in
+    let u = short_by n a o.0 f.0 (and_first_true (is_short_by n a) (is_short_by n b) c) w in
+    let v = short_by n b o.1 f.1 (and_second_true (is_short_by n a) (is_short_by n b) c) w in
     let y = grow u.1 refl o.0 (short b) f.2 in
     (both y.0 v.0, reads_sequence (short b) y.1 v.1)
 short_by n (either a b) o f c w = let v = short_by n b o.1 f.1 c w in (right v.0, reads_right f.2 v.1)
@@ -165,9 +144,6 @@ short_reads (bracketed a) o f = let v = short_reads a o f in (v.0, reads_bracket
 short_reads (enclosed a) o f = let v = short_reads a o f in (v.0, reads_enclosed v.1)
 short_reads (part p) o f = part_short p
 
-pub cons_nil : (t : Token) (u : List Token) → t ∷ u ≡ [] → ⊥
-cons_nil t u e = cc
-
 later_not_nil : {d : Nesting} {f : Fault} {a : Syntax} {s r : List Token} → Stops d f (repeated a) s r → s ≡ [] → NeverTakesEnd (repeated a) → ⊥
 later_not_nil (stops_repeated {a = a} j h) e o = never a o.0 (ap (λ z. starts a (mark_at z)) (sym e) ∙ j)
 later_not_nil (stops_later {a = a} m j h k) e o = never a o.0 (ap (λ z. starts a (mark_at z)) (sym e) ∙ j)
@@ -190,7 +166,7 @@ via_second a b s m x o f h v (inl e) =
     let y = grow h e o.0 (short b) f.2 in
     (short b, (both y.0 w.0, reads_sequence (short b) y.1 w.1))
 via_second a b s m x o f h v (inr e) =
-    let y = grow_first a s m v.0 x h (λ z. absurd (cons_nil e.0 e.1 (sym e.2 ∙ z))) in
+    let y = grow_first a s m v.0 x h (λ z. absurd (cons_not_empty e.0 e.1 (sym e.2 ∙ z))) in
     (v.0, (both y.0 v.1.0, reads_sequence (m ++ v.0) y.1 v.1.1))
 
 -- A front is completed to a text of the grammar.

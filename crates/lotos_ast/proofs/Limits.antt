@@ -9,6 +9,7 @@ use Rattle.lotos_ast.specs.declared.fault.Fault.{Fault}
 use Rattle.lotos_ast.specs.Nesting.{Nesting, unlimited, in_bracket, in_construct, is_within, fault_at}
 use Rattle.lotos_ast.specs.Reads.{Tree, unkept, leaf, Reads, Stops, reads_quoted, reads_kept, reads_sequence, reads_left, reads_right, reads_absent, reads_present, reads_no_more, reads_more, reads_placed, reads_reduced, reads_bracketed, reads_enclosed, reads_part, stops_quoted, stops_kept, deep_quoted, deep_kept, stops_first, stops_second, stops_left, stops_right, stops_optional, stops_repeated, stops_later, stops_placed, stops_reduced, stops_bracketed, stops_enclosed, stops_part}
 use Rattle.std.specs.Prelude.{if◌then◌else◌}
+use Rattle.std.proofs.lemmas.Bool.{true≢false}
 
 -- what is read within limits is read without them
 pub reads_unlimited : {d : Nesting} {g : Syntax} {s r : List Token} {x : Tree} → Reads d g s x r → Reads unlimited g s x r
@@ -54,9 +55,6 @@ stops_unlimited (stops_part h) n = stops_part (stops_unlimited h n)
 -- read within limits, or too deep
 abbrev OrDeep : Type 0 → Nesting → Syntax → List Token → Type 0
 OrDeep P d g s = P ⊎ ((q : List Token) × Stops d Fault.TooDeep g s q)
-
-not_false : true ≡ false → ⊥
-not_false h = cc
 
 within_quoted : (d : Nesting) (v : Bool) (k : Mark) (t : Token) (s r : List Token) → is_within d ≡ v → s ≡ t ∷ r → mark_at s ≡ k → OrDeep (Reads d (quoted k) s unkept r) d (quoted k) s
 within_quoted d true k t s r w e m = inl (reads_quoted e m w)
@@ -104,8 +102,8 @@ fault_within d false false f m w h e = inl (other_mark (is_within d) m h ∙ sym
 pub stops_within : (d : Nesting) {f : Fault} {g : Syntax} {s r : List Token} → Stops unlimited f g s r → OrDeep (Stops d f g s r) d g s
 stops_within d (stops_quoted {f = f} {s = s} b e i) = elim (fault_within d (is_within d) (is_same_mark Mark.ExternalMark (mark_at s)) f (mark_at s) refl refl e) [ inl y ↦ inl (stops_quoted b y i) | inr y ↦ inr (s, stops_quoted b y refl) ]
 stops_within d (stops_kept {f = f} {s = s} b e i) = elim (fault_within d (is_within d) (is_same_mark Mark.ExternalMark (mark_at s)) f (mark_at s) refl refl e) [ inl y ↦ inl (stops_kept b y i) | inr y ↦ inr (s, stops_kept b y refl) ]
-stops_within d (deep_quoted m v e) = absurd (not_false v)
-stops_within d (deep_kept m v e) = absurd (not_false v)
+stops_within d (deep_quoted m v e) = absurd (true≢false v)
+stops_within d (deep_kept m v e) = absurd (true≢false v)
 stops_within d (stops_first h) = elim (stops_within d h) [ inl y ↦ inl (stops_first y) | inr q ↦ inr (q.0, stops_first q.1) ]
 stops_within d (stops_second m h k) = elim (read_within d h) [
   | inl y ↦ elim (stops_within d k) [ inl z ↦ inl (stops_second m y z) | inr q ↦ inr (q.0, stops_second m y q.1) ]

@@ -1,5 +1,5 @@
 -- What is read is the longest front of its part.
-use Rattle.std.proofs.Common.{ℕ, zero, suc, List, [], ◌∷◌, ◌++◌, Bool, true, false, not, ◌≡◌, refl, sym, subst, ap, ◌∙◌, ◌⊎◌, inl, inr, ◌||◌, ◌&&◌}
+use Rattle.std.proofs.Common.{ℕ, zero, suc, List, [], ◌∷◌, ◌++◌, Bool, true, false, not, ◌≡◌, refl, sym, subst, ap, ◌∙◌, ◌⊎◌, inl, inr, ◌||◌}
 use Rattle.lotos_ast.specs.declared.mark.Mark.{Mark}
 use Rattle.lotos_ast.specs.declared.token.Token.{Token}
 use Rattle.lotos_ast.specs.Notation.{Part, fits, Syntax, quoted, kept, sequence, either, optional, repeated, placed, reduced, bracketed, enclosed, part}
@@ -8,6 +8,8 @@ use Rattle.lotos_ast.specs.Begins.{mark_at, place_at, starts, begins, is_empty}
 use Rattle.lotos_ast.specs.Nesting.{unlimited}
 use Rattle.lotos_ast.specs.Reads.{Tree, reduce, unkept, leaf, both, left, right, absent, present, no_more, more, node, Reads, reads_quoted, reads_kept, reads_sequence, reads_left, reads_right, reads_absent, reads_present, reads_no_more, reads_more, reads_placed, reads_reduced, reads_bracketed, reads_enclosed, reads_part, stops_second, stops_later}
 use Rattle.std.proofs.lemmas.List.{append-nil}
+use Rattle.spec_core.proofs.Booleans.{and_first_true, and_second_true, or_first_false, or_second_false}
+use Rattle.spec_core.proofs.Lists.{cons_not_empty}
 use Rattle.lotos_ast.specs.TokenMarks.{mark_of}
 use Rattle.lotos_ast.specs.Notation.{specification, gate_list, functionality, type_definition, where_item, sort_part, operation_part, operation_names, infix_names, operation_name, equation_part, sort_equations, equations, equation, premiss, for_all, declarations, declaration, sort_pair, operation_pair, expression, infixes, simple, head, process, behaviour, enabling, disable, disabling, parallel, composing, operator, choice, choosing, unary, offer, atom, exit_value, binding, gate_choice}
 use Rattle.lotos_ast.specs.Begins.{or_behind}
@@ -18,15 +20,7 @@ use Rattle.lotos_ast.proofs.RulesNeverTakeTheEnd.{rules_never_take_the_end}
 use Rattle.lotos_ast.proofs.RulesArePredictive.{rules_are_predictive}
 use Rattle.lotos_ast.proofs.Tables.{every, modus, same_equal, begins_exactly}
 use Rattle.lotos_ast.proofs.Fronts.{above_itself, lower, placed_front, reduced_front, bracketed_front, enclosed_front, part_front, front_first, front_left, front_right, front_optional, front_repeated}
-use Rattle.lotos_ast.proofs.Grows.{nor_first, nor_second, begun, same_mark, grow_first, cons_nil}
-
-and_first : (a b : Bool) → a && b ≡ true → a ≡ true
-and_first true b h = refl
-and_first false b h = h
-
-and_second : (a b : Bool) → a && b ≡ true → b ≡ true
-and_second true b h = h
-and_second false b h = cc
+use Rattle.lotos_ast.proofs.Grows.{begun, same_mark, grow_first}
 
 begins_rule : (p : Part) (m : Mark) → begins p m ≡ true → starts (rule p) m ≡ true
 begins_rule p m h = modus (begins p m) (starts (rule p) m) (every (λ m. implies (begins p m) (starts (rule p) m)) (begins_exactly p) m) h
@@ -79,15 +73,15 @@ reads_nothing : (g : Syntax) (s : List Token) → IsPredictive g → is_empty g 
 reads_nothing (quoted k) s c e n = cc
 reads_nothing (kept w) s c e n = cc
 reads_nothing (sequence a b) s c e n =
-    let i = and_first (is_empty a) (is_empty b) e in
+    let i = and_first_true (is_empty a) (is_empty b) e in
     let j : starts a (mark_at s) || starts b (mark_at s) ≡ false = subst (λ z. or_behind z (starts a (mark_at s)) (starts b (mark_at s)) ≡ false) i n in
-    let x = reads_nothing a s c.0 i (nor_first (starts a (mark_at s)) (starts b (mark_at s)) j) in
-    let y = reads_nothing b s c.1 (and_second (is_empty a) (is_empty b) e) (nor_second (starts a (mark_at s)) (starts b (mark_at s)) j) in
+    let x = reads_nothing a s c.0 i (or_first_false (starts a (mark_at s)) (starts b (mark_at s)) j) in
+    let y = reads_nothing b s c.1 (and_second_true (is_empty a) (is_empty b) e) (or_second_false (starts a (mark_at s)) (starts b (mark_at s)) j) in
     (both x.0 y.0, reads_sequence s x.1 y.1)
 reads_nothing (either a b) s c e n =
     let i : false || is_empty b ≡ true = subst (λ z. z || is_empty b ≡ true) c.3 e in
-    let y = reads_nothing b s c.1 i (nor_second (starts a (mark_at s)) (starts b (mark_at s)) n) in
-    (right y.0, reads_right (nor_first (starts a (mark_at s)) (starts b (mark_at s)) n) y.1)
+    let y = reads_nothing b s c.1 i (or_second_false (starts a (mark_at s)) (starts b (mark_at s)) n) in
+    (right y.0, reads_right (or_first_false (starts a (mark_at s)) (starts b (mark_at s)) n) y.1)
 reads_nothing (optional a) s c e n = (absent, reads_absent n refl)
 reads_nothing (repeated a) s c e n = (no_more, reads_no_more n refl)
 reads_nothing (placed a) s c e n = let x = reads_nothing a s c e n in (node (place_at s) x.0, reads_placed refl x.1)
@@ -117,12 +111,12 @@ begun_by n (quoted k) t o c l f h = inr (unkept, reads_quoted refl (sym (same_eq
 begun_by n (kept w) t o c l f h = inr (leaf t, reads_kept refl h refl)
 begun_by n (sequence a b) t o c l f h =
     sequence_begun a b t (is_empty a) (starts a (mark_of t)) o c.0 refl refl h
-    (λ e. begun_by n a t o.0 c.0 (and_first (is_led_by n a) (not (is_empty a) || is_led_by n b) l) f e)
-    (λ e i. begun_by n b t o.1 c.1 (subst (λ z. not z || is_led_by n b ≡ true) e (and_second (is_led_by n a) (not (is_empty a) || is_led_by n b) l)) f i)
+    (λ e. begun_by n a t o.0 c.0 (and_first_true (is_led_by n a) (not (is_empty a) || is_led_by n b) l) f e)
+    (λ e i. begun_by n b t o.1 c.1 (subst (λ z. not z || is_led_by n b ≡ true) e (and_second_true (is_led_by n a) (not (is_empty a) || is_led_by n b) l)) f i)
 begun_by n (either a b) t o c l f h =
     either_begun a b t (starts a (mark_of t)) o refl h
-    (λ e. begun_by n a t o.0 c.0 (and_first (is_led_by n a) (is_led_by n b) l) f e)
-    (λ e. begun_by n b t o.1 c.1 (and_second (is_led_by n a) (is_led_by n b) l) f e)
+    (λ e. begun_by n a t o.0 c.0 (and_first_true (is_led_by n a) (is_led_by n b) l) f e)
+    (λ e. begun_by n b t o.1 c.1 (and_second_true (is_led_by n a) (is_led_by n b) l) f e)
 begun_by n (optional a) t o c l f h = front_optional a (t ∷ []) (t ∷ []) [] o refl h (begun_by n a t o c.0 l f h)
 begun_by n (repeated a) t o c l f h = front_repeated a (t ∷ []) (t ∷ []) [] o refl h (begun_by n a t o.0 c.0 l f h)
 begun_by n (placed a) t o c l f h = placed_front a (t ∷ []) (begun_by n a t o c l f h)
@@ -171,10 +165,10 @@ sequence_goes a b s [] x t u o h f (inr k) = elim (f refl []) [
   | inr j ↦ inr (front_first a b (s ++ t ∷ []) o.1 j)
 ]
 sequence_goes a b s (r ∷ m) x t u o h f (inl y) =
-    let z = grow_first a s (r ∷ m) (t ∷ u) x h (λ e. absurd (cons_nil r m e)) in
+    let z = grow_first a s (r ∷ m) (t ∷ u) x h (λ e. absurd (cons_not_empty r m e)) in
     inl (both z.0 y.0, reads_sequence ((r ∷ m) ++ t ∷ u) z.1 y.1)
 sequence_goes a b s (r ∷ m) x t u o h f (inr k) =
-    let z = grow_first a s (r ∷ m) (t ∷ []) x h (λ e. absurd (cons_nil r m e)) in
+    let z = grow_first a s (r ∷ m) (t ∷ []) x h (λ e. absurd (cons_not_empty r m e)) in
     inr (second_front a b s (r ∷ m) t o.1 z k)
 
 right_goes : (a b : Syntax) (s : List Token) (t : Token) (u : List Token) (v : Bool) → NeverTakesEnd (either a b) → IsPredictive (either a b) → starts a (mark_at s) ≡ false → starts a (mark_of t) ≡ v → GoesOn b s t u → GoesOn (either a b) s t u
@@ -217,10 +211,10 @@ more_goes a s [] x t u o j h f (inr k) = elim (f refl []) [
   | inr i ↦ inr (first_goes a s t o j i)
 ]
 more_goes a s (r ∷ m) x t u o j h f (inl y) =
-    let z = grow_first a s (r ∷ m) (t ∷ u) x h (λ e. absurd (cons_nil r m e)) in
+    let z = grow_first a s (r ∷ m) (t ∷ u) x h (λ e. absurd (cons_not_empty r m e)) in
     inl (more z.0 y.0, reads_more ((r ∷ m) ++ t ∷ u) (begun a s (t ∷ u) o.0 j) z.1 y.1)
 more_goes a s (r ∷ m) x t u o j h f (inr k) =
-    let z = grow_first a s (r ∷ m) (t ∷ []) x h (λ e. absurd (cons_nil r m e)) in
+    let z = grow_first a s (r ∷ m) (t ∷ []) x h (λ e. absurd (cons_not_empty r m e)) in
     inr (later_front a s (r ∷ m) t o j z k)
 
 -- What is read to the end is read before further tokens too, or goes on with the first of them.

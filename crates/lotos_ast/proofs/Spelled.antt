@@ -1,5 +1,7 @@
 -- What the grammar as it is written spells is what is read with one token ahead.
 use Rattle.std.proofs.Common.{List, Bool, true, false, not, ◌≡◌, refl, ap, ◌∙◌, ◌⊎◌, inl, inr, ◌||◌, ◌&&◌}
+use Rattle.std.proofs.lemmas.Bool.{and_from, not-true, or_right, or_left}
+use Rattle.spec_core.proofs.Booleans.{or_first_false, or_second_false}
 use Rattle.lotos_ast.specs.declared.mark.Mark.{Mark}
 use Rattle.lotos_ast.specs.declared.token.Token.{Token}
 use Rattle.lotos_ast.specs.MarkNumbers.{is_same_mark}
@@ -17,24 +19,20 @@ use Rattle.lotos_ast.specs.Fronts.{Accepts, IsWhole}
 use Rattle.lotos_ast.proofs.RulesArePredictive.{rules_are_predictive}
 use Rattle.lotos_ast.proofs.Tables.{every, contra, modus, not_empty, begins_checked, onward_checked}
 use Rattle.lotos_ast.proofs.OneReading.{same_itself}
-use Rattle.lotos_ast.proofs.Grows.{nor_first, nor_second, or_true, true_or, both_true, given}
+use Rattle.lotos_ast.proofs.Grows.{given}
 
 onward_ends : (p : Part) (m : Mark) → onward p m ≡ false → reaches (rule p) m ≡ false
 onward_ends p m h = contra (reaches (rule p) m) (onward p m) (every (λ m. implies (reaches (rule p) m) (onward p m)) (onward_checked p) m) h
-
-flip : (a : Bool) → not a ≡ true → a ≡ false
-flip true h = cc
-flip false h = refl
 
 not_full : (p : Part) → is_empty (rule p) ≡ true → ⊥
 not_full p h = let i = not_empty p in cc
 
 to_first : (e a b : Bool) → a ≡ true → or_behind e a b ≡ true
-to_first true a b h = true_or a b h
+to_first true a b h = or_left a b h
 to_first false a b h = h
 
 to_second : (e a b : Bool) → e ≡ true → b ≡ true → or_behind e a b ≡ true
-to_second true a b e h = or_true a b h
+to_second true a b e h = or_right a b h
 to_second false a b e h = cc
 
 -- a part that is spelled begins with the next token, or is empty
@@ -45,11 +43,11 @@ start_or_nil (spelled_sequence {a = a} {b = b} {s = s} m h k) = elim (start_or_n
   | inl f ↦ inl (to_first (is_empty a) (starts a (mark_at s)) (starts b (mark_at s)) f)
   | inr p ↦ elim (start_or_nil k) [
     | inl f ↦ inl (to_second (is_empty a) (starts a (mark_at s)) (starts b (mark_at s)) p.1 (ap (λ z. starts b (mark_at z)) p.0 ∙ f))
-    | inr q ↦ inr (p.0 ∙ q.0, both_true (is_empty a) (is_empty b) p.1 q.1)
+    | inr q ↦ inr (p.0 ∙ q.0, and_from (is_empty a) (is_empty b) p.1 q.1)
   ]
 ]
-start_or_nil (spelled_left {a = a} {b = b} {s = s} h) = elim (start_or_nil h) [ inl f ↦ inl (true_or (starts a (mark_at s)) (starts b (mark_at s)) f) | inr p ↦ inr (p.0, true_or (is_empty a) (is_empty b) p.1) ]
-start_or_nil (spelled_right {a = a} {b = b} {s = s} h) = elim (start_or_nil h) [ inl f ↦ inl (or_true (starts a (mark_at s)) (starts b (mark_at s)) f) | inr p ↦ inr (p.0, or_true (is_empty a) (is_empty b) p.1) ]
+start_or_nil (spelled_left {a = a} {b = b} {s = s} h) = elim (start_or_nil h) [ inl f ↦ inl (or_left (starts a (mark_at s)) (starts b (mark_at s)) f) | inr p ↦ inr (p.0, or_left (is_empty a) (is_empty b) p.1) ]
+start_or_nil (spelled_right {a = a} {b = b} {s = s} h) = elim (start_or_nil h) [ inl f ↦ inl (or_right (starts a (mark_at s)) (starts b (mark_at s)) f) | inr p ↦ inr (p.0, or_right (is_empty a) (is_empty b) p.1) ]
 start_or_nil (spelled_absent f e) = inr (e, refl)
 start_or_nil (spelled_present h) = elim (start_or_nil h) [ inl f ↦ inl f | inr p ↦ inr (p.0, refl) ]
 start_or_nil (spelled_no_more e) = inr (e, refl)
@@ -71,13 +69,13 @@ starts_here : (a : Syntax) (s r : List Token) → Spelled a s r → is_empty a �
 starts_here a s r h e = elim (start_or_nil h) [ inl f ↦ f | inr p ↦ let i = p.1 in cc ]
 
 apart : (first second : Mark → Bool) (m : Mark) → Apart first second → first m ≡ true → second m ≡ false
-apart first second m c h = flip (second m) (modus (first m) (not (second m)) (every (λ k. implies (first k) (not (second k))) c m) h)
+apart first second m c h = not-true (second m) (modus (first m) (not (second m)) (every (λ k. implies (first k) (not (second k))) c m) h)
 
 -- a part doesn't go on by what the next one begins with
 stops_here : (a b : Syntax) (m r : List Token) → Apart (starts b) (reaches a) → Spelled b m r → reaches b (mark_at r) || is_empty b && reaches a (mark_at r) ≡ false → reaches a (mark_at m) ≡ false
 stops_here a b m r c k n = elim (start_or_nil k) [
   | inl f ↦ apart (starts b) (reaches a) (mark_at m) c f
-  | inr p ↦ ap (λ z. reaches a (mark_at z)) p.0 ∙ given (is_empty b) (reaches a (mark_at r)) (nor_second (reaches b (mark_at r)) _ n) p.1
+  | inr p ↦ ap (λ z. reaches a (mark_at z)) p.0 ∙ given (is_empty b) (reaches a (mark_at r)) (or_second_false (reaches b (mark_at r)) _ n) p.1
 ]
 
 stops_again : (a : Syntax) (m r : List Token) → Apart (starts a) (reaches a) → Spelled (repeated a) m r → reaches a (mark_at r) ≡ false → reaches a (mark_at m) ≡ false
@@ -102,18 +100,18 @@ spelled_reads (spelled_quoted e m) c n = (unkept, reads_quoted e m refl)
 spelled_reads (spelled_kept {t = t} e m) c n = (leaf t, reads_kept e m refl)
 spelled_reads (spelled_sequence {a = a} {b = b} {r = r} m h k) c n =
     let u = spelled_reads h c.0 (stops_here a b m r c.2 k n) in
-    let v = spelled_reads k c.1 (nor_first (reaches b (mark_at r)) _ n) in
+    let v = spelled_reads k c.1 (or_first_false (reaches b (mark_at r)) _ n) in
     (both u.0 v.0, reads_sequence m u.1 v.1)
-spelled_reads (spelled_left {a = a} {b = b} {s = s} {r = r} h) c n = let u = spelled_reads h c.0 (nor_first (reaches a (mark_at r)) _ n) in (left u.0, reads_left (starts_here a s r h c.3) u.1)
+spelled_reads (spelled_left {a = a} {b = b} {s = s} {r = r} h) c n = let u = spelled_reads h c.0 (or_first_false (reaches a (mark_at r)) _ n) in (left u.0, reads_left (starts_here a s r h c.3) u.1)
 spelled_reads (spelled_right {a = a} {b = b} {s = s} {r = r} h) c n =
-    let i = nor_second (reaches a (mark_at r)) _ n in
-    let u = spelled_reads h c.1 (nor_first (reaches b (mark_at r)) _ i) in
-    (right u.0, reads_right (not_left a b s r c.2 h (nor_second (reaches b (mark_at r)) _ i)) u.1)
-spelled_reads (spelled_absent {a = a} {s = s} {r = r} f e) c n = (absent, reads_absent (not_there (is_far a) (starts a (mark_at s)) f (ap (λ z. unless (is_far a) (starts a (mark_at z))) e ∙ nor_first (unless (is_far a) (starts a (mark_at r))) _ n)) e)
-spelled_reads (spelled_present {a = a} {s = s} {r = r} h) c n = let u = spelled_reads h c.0 (nor_second (unless (is_far a) (starts a (mark_at r))) _ n) in (present u.0, reads_present (starts_here a s r h c.1) u.1)
-spelled_reads (spelled_no_more {a = a} {s = s} {r = r} e) c n = (no_more, reads_no_more (ap (λ z. starts a (mark_at z)) e ∙ nor_first (starts a (mark_at r)) _ n) e)
+    let i = or_second_false (reaches a (mark_at r)) _ n in
+    let u = spelled_reads h c.1 (or_first_false (reaches b (mark_at r)) _ i) in
+    (right u.0, reads_right (not_left a b s r c.2 h (or_second_false (reaches b (mark_at r)) _ i)) u.1)
+spelled_reads (spelled_absent {a = a} {s = s} {r = r} f e) c n = (absent, reads_absent (not_there (is_far a) (starts a (mark_at s)) f (ap (λ z. unless (is_far a) (starts a (mark_at z))) e ∙ or_first_false (unless (is_far a) (starts a (mark_at r))) _ n)) e)
+spelled_reads (spelled_present {a = a} {s = s} {r = r} h) c n = let u = spelled_reads h c.0 (or_second_false (unless (is_far a) (starts a (mark_at r))) _ n) in (present u.0, reads_present (starts_here a s r h c.1) u.1)
+spelled_reads (spelled_no_more {a = a} {s = s} {r = r} e) c n = (no_more, reads_no_more (ap (λ z. starts a (mark_at z)) e ∙ or_first_false (starts a (mark_at r)) _ n) e)
 spelled_reads (spelled_more {a = a} {s = s} {r = r} m h k) c n =
-    let u = spelled_reads h c.0 (stops_again a m r c.2 k (nor_second (starts a (mark_at r)) _ n)) in
+    let u = spelled_reads h c.0 (stops_again a m r c.2 k (or_second_false (starts a (mark_at r)) _ n)) in
     let v = spelled_reads k c n in
     (more u.0 v.0, reads_more m (starts_here a s m h c.1) u.1 v.1)
 spelled_reads (spelled_placed {s = s} h) c n = let u = spelled_reads h c n in (node (place_at s) u.0, reads_placed refl u.1)

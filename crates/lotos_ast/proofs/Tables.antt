@@ -1,6 +1,7 @@
 -- The tables of the rules are compared with the rules, by computing.
-use Rattle.std.proofs.Common.{ℕ, zero, suc, List, [], ◌∷◌, Bool, true, false, ◌&&◌, ◌≡◌, refl, sym, ap, ◌∙◌, subst, Option, Some, None}
+use Rattle.std.proofs.Common.{ℕ, zero, suc, List, [], ◌∷◌, Bool, true, false, ◌≡◌, refl, sym, ap, ◌∙◌, subst, Option, Some, None}
 use Rattle.std.proofs.lemmas.Bool.{eqb-true}
+use Rattle.spec_core.proofs.Booleans.{and_first_true, and_second_true}
 use Rattle.lotos_ast.specs.declared.mark.Mark.{Mark}
 use Rattle.lotos_ast.specs.declared.mark.Mark.TheVariants.{Accept, ActualizedBy, Any, Behaviour, Choice, EndLib, EndProc, EndSpec, EndType, Eqns, Exit, For, ForAll, FormalEqns, FormalOpns, FormalSorts, Hide, I, In, Is, Let, Library, NoExit, Of, OfSort, OpnNames, Opns, Par, Process, RenamedBy, SortNames, Sorts, Specification, Stop, TypeKeyword, Using, Where, Brackets, Disable, LeftBracket, RightBars, RightBracket, Interleave, Synchronise, LeftBars, ColonEquals, Colon, Equals, DoubleArrow, Arrow, Enable, LeftParenthesis, RightParenthesis, Semicolon, Comma, Exclamation, Question, Underscore, Identifier, Numeral, Operation, ConstructorMark, ExternalMark, End, Unknown}
 use Rattle.lotos_ast.specs.MarkNumbers.{mark_number, is_same_mark, marks, holds_of, AllMarks}
@@ -19,18 +20,10 @@ mark_in [] n = None
 mark_in (m ∷ ms) zero = Some m
 mark_in (m ∷ ms) (suc n) = mark_in ms n
 
-and_first : (a b : Bool) → a && b ≡ true → a ≡ true
-and_first true b h = refl
-and_first false b h = h
-
-and_second : (a b : Bool) → a && b ≡ true → b ≡ true
-and_second true b h = h
-and_second false b h = cc
-
 holds_in : (test : Mark → Bool) (ms : List Mark) (n : ℕ) (m : Mark) → holds_of test ms ≡ true → mark_in ms n ≡ Some m → test m ≡ true
 holds_in test [] n m h e = cc
-holds_in test (k ∷ ms) zero m h e = let i : k ≡ m = cc in subst (λ z. test z ≡ true) i (and_first (test k) (holds_of test ms) h)
-holds_in test (k ∷ ms) (suc n) m h e = holds_in test ms n m (and_second (test k) (holds_of test ms) h) e
+holds_in test (k ∷ ms) zero m h e = let i : k ≡ m = cc in subst (λ z. test z ≡ true) i (and_first_true (test k) (holds_of test ms) h)
+holds_in test (k ∷ ms) (suc n) m h e = holds_in test ms n m (and_second_true (test k) (holds_of test ms) h) e
 
 mark_listed : (m : Mark) → mark_in marks (mark_number m) ≡ Some m
 mark_listed Accept = refl

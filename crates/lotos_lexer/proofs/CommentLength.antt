@@ -1,6 +1,6 @@
 -- How a comment's length is counted from its bytes on.
-use Rattle.std.proofs.Common.{ℕ, zero, suc, ◌+◌, ◌-◌, ◌<◌, ◌≡◌, List, [], ◌∷◌, false, Option, Some, None, option_map, codes, length, take, drop, length-drop, refl, sym, ap, ◌∙◌, arith}
-use Rattle.std.proofs.lemmas.List.{take_all}
+use Rattle.std.proofs.Common.{ℕ, zero, suc, ◌+◌, ◌-◌, ◌<◌, ◌≡◌, List, [], ◌∷◌, false, Option, Some, None, option_map, codes, length, take, drop, refl, sym, ap, ◌∙◌, arith}
+use Rattle.std.proofs.lemmas.List.{take_rest}
 use Rattle.lotos_ast.specs.Pieces.{begins, comment_rest}
 
 further : (i : ℕ) (o : Option ℕ) → option_map (λ n. i + n) (option_map (λ n. 1 + n) o) ≡ option_map (λ n. (i + 1) + n) o
@@ -15,10 +15,7 @@ passed (b ∷ s) (suc j) h e =
     let d : suc j + 1 ≡ suc (j + 1) = omega arith in
     rw d (passed s j (omega (arith, h)) e)
 
-rest_of_slice : (s : List ℕ) (i : ℕ) → take (length s - i) (drop i s) ≡ drop i s
-rest_of_slice s i = take_all (length s - i) (drop i s) (let e : length (drop i s) ≡ length s - i = length-drop i s in omega (arith, e))
-
 pub comment_rest_behind : (s : List ℕ) (i : ℕ) → i < length s → begins (codes "*)") (take (length s - i) (drop i s)) ≡ false → comment_rest s ≡ option_map (λ n. i + n) (comment_rest (drop i s)) → comment_rest s ≡ option_map (λ n. (i + 1) + n) (comment_rest (drop (i + 1) s))
 comment_rest_behind s i h e k =
-    let f = sym (ap (begins (codes "*)")) (rest_of_slice s i)) ∙ e in
+    let f = sym (ap (begins (codes "*)")) (take_rest s i)) ∙ e in
     k ∙ ap (option_map (λ n. i + n)) (passed s i h f) ∙ further i (comment_rest (drop (i + 1) s))

@@ -1,11 +1,7 @@
 -- What holds of a file that was fetched.
 use Rattle.std.proofs.Common.{ℕ, List, Option, Some, None}
-use Rattle.std.specs.Prelude.{IfOk, IsSomeAnd, Result, Ok, Err}
+use Rattle.std.specs.Prelude.{IsSomeAnd}
 use Rattle.lotos_outside.specs.Shelf.{OnFetched}
-
-pub ok_implied : {A E : Type 0} {P Q : A → Type 0} (r : Result A E) → ((x : A) → P x → Q x) → IfOk r P → IfOk r Q
-ok_implied (Ok x) f h = f x h
-ok_implied (Err e) f h = tt
 
 some_implied : (P Q : List ℕ → Type 0) → ((x : List ℕ) → P x → Q x) → (o : Option (List ℕ)) → IsSomeAnd o P → IsSomeAnd o Q
 some_implied P Q implied None h = absurd h

@@ -1,5 +1,6 @@
 -- The terms that are asked of a part are asked of the whole.
 use Rattle.std.proofs.Common.{ℕ, ◌≡◌, inr, List, sym, subst, Option, Some, None, Result, IfErr}
+use Rattle.std.proofs.lemmas.Result.{IfErr-weaker}
 use Rattle.spec_core.specs.Terms.{TermTree}
 use Rattle.spec_core.specs.Theories.{Theory}
 use Rattle.spec_core.specs.Code.{Program}
@@ -10,7 +11,7 @@ use Rattle.symbolic_plans.specs.declared.scheme.Row.{Row}
 use Rattle.symbolic_plans.specs.Plans.{Plan, below}
 use Rattle.node_values.specs.declared.stop.Stop.{Stop}
 use Rattle.node_values.specs.Stops.{Stops, Never}
-use Rattle.node_values.proofs.Stopping.{stops_on, err_on}
+use Rattle.node_values.proofs.Stopping.{stops_on}
 use Rattle.node_steps.specs.declared.turn.Entered.{Entered}
 use Rattle.symbolic_reach.specs.Asking.{PlanAsks}
 use Rattle.node_steps.specs.Asking.{WithinAsks}
@@ -22,7 +23,7 @@ use Rattle.node_steps.proofs.Keeping.{on_part}
 pub stops_more : {X : Type 0} (theory : Theory) (budget : ℕ) (A B : TermTree → Type 0) (r : Result X Stop) → ((x : TermTree) → A x → B x) →
     IfErr r (Stops theory budget A Never) → IfErr r (Stops theory budget B Never)
 stops_more theory budget A B r more h =
-    err_on r (Stops theory budget A Never) (Stops theory budget B Never)
+    IfErr-weaker r (Stops theory budget A Never) (Stops theory budget B Never)
     (λ s k. stops_on theory budget A B Never Never s more (λ n i. i) k) h
 
 module _ (program : Program) where

@@ -1,10 +1,11 @@
 -- Trees of plans, and their tree with blanks.
 use Rattle.std.proofs.Common.{ℕ, suc, ◌≡◌, ◌==◌, ◌+◌, List, [], ◌∷◌, ◌++◌, length, map, refl, sym, ap, subst, ◌∙◌, append_assoc, arith}
-use Rattle.std.proofs.Common.{Bool, true, false, ◌⊎◌, inl, inr, length-append}
+use Rattle.std.proofs.Common.{Bool, true, false, inl, inr, length-append}
 use Rattle.std.specs.List.{flat_map}
 use Rattle.std.proofs.lemmas.List.{append-nil}
 use Rattle.spec_core.specs.Lists.{Each, IsOneOf}
 use Rattle.spec_core.specs.Theories.{Theory}
+use Rattle.spec_core.proofs.Members.{from_flat_map}
 use Rattle.rule_model.specs.declared.rules.Slot.{Slot}
 use Rattle.rule_model.specs.declared.rules.Slot.TheVariants.{Of, Mark, Blank}
 use Rattle.rule_model.specs.Derivations.{Derivation, pre, int, exiting, chl, chr, val, gate, guard, letting, parl, parr, both, hiding, pass}
@@ -264,18 +265,6 @@ of_map f [] y h = absurd h
 of_map f (x ∷ xs) y (inl e) = (x, e, inl refl)
 of_map f (x ∷ xs) y (inr h) = let z = of_map f xs y h in (z.0, z.1, inr z.2)
 
-in_either : {A : Type 0} (xs ys : List A) (y : A) → IsOneOf y (xs ++ ys) → IsOneOf y xs ⊎ IsOneOf y ys
-in_either [] ys y h = inr h
-in_either (x ∷ xs) ys y (inl e) = inl (inl e)
-in_either {A} (x ∷ xs) ys y (inr h) =
-    elim (in_either xs ys y h) as (λ _. IsOneOf y (x ∷ xs) ⊎ IsOneOf y ys) [ inl k ↦ inl (inr k) | inr k ↦ inr k ]
-
-of_flat_map : {A B : Type 0} (f : A → List B) (xs : List A) (y : B) → IsOneOf y (flat_map f xs) → (x : A) × IsOneOf x xs × IsOneOf y (f x)
-of_flat_map f [] y h = absurd h
-of_flat_map {A} f (x ∷ xs) y h =
-    elim (in_either (f x) (flat_map f xs) y h) as (λ _. (z : A) × IsOneOf z (x ∷ xs) × IsOneOf y (f z))
-    [ inl k ↦ (x, inl refl, k) | inr k ↦ (let z = of_flat_map f xs y k in (z.0, inr z.1, z.2)) ]
-
 taken_length : (takes : List Bool) (choices : List (List Slot)) (slots : List Slot) → IsOneOf slots (taken_slots takes choices) →
     length slots ≡ length (blanks takes)
 taken_length [] choices slots (inl e) = ap (λ (l : List Slot). length l) e
@@ -283,7 +272,7 @@ taken_length [] choices slots (inr h) = absurd h
 taken_length (taken ∷ takes) [] slots h = absurd h
 taken_length (false ∷ takes) (c ∷ choices) slots h = taken_length takes choices slots h
 taken_length (true ∷ takes) (c ∷ choices) slots h =
-    let z = of_flat_map (λ slot. map (λ (l : List Slot). slot ∷ l) (taken_slots takes choices)) c slots h in
+    let z = from_flat_map (λ slot. map (λ (l : List Slot). slot ∷ l) (taken_slots takes choices)) c slots h in
     let u = of_map (λ (l : List Slot). z.0 ∷ l) (taken_slots takes choices) slots z.2 in
     ap (λ (l : List Slot). length l) u.1 ∙ ap (λ n. suc n) (taken_length takes choices u.0 u.2)
 
@@ -301,15 +290,15 @@ tree_among theory w (below row p) slots d h =
 tree_among theory w (hidden fields p) slots d h =
     let those = choices_at_once fields (all_choices theory w [] fields) in
     let z = of_map hiding (flat_map (λ choices. trees_of theory w p choices) those) d h in
-    let u = of_flat_map (λ choices. trees_of theory w p choices) those z.0 z.2 in
+    let u = from_flat_map (λ choices. trees_of theory w p choices) those z.0 z.2 in
     (z.0, z.1, tree_among theory w p u.0 z.0 u.2)
 tree_among theory w (handed_on fields p) slots d h =
     let those = choices_at_once fields (all_choices theory w [] fields) in
     let z = of_map enend (flat_map (λ choices. trees_of theory w p choices) those) d h in
-    let u = of_flat_map (λ choices. trees_of theory w p choices) those z.0 z.2 in
+    let u = from_flat_map (λ choices. trees_of theory w p choices) those z.0 z.2 in
     (z.0, z.1, tree_among theory w p u.0 z.0 u.2)
 tree_among theory w (together p q) slots d h =
-    let z = of_flat_map (λ left. map (both left) (trees_of theory w q slots)) (trees_of theory w p slots) d h in
+    let z = from_flat_map (λ left. map (both left) (trees_of theory w q slots)) (trees_of theory w p slots) d h in
     let u = of_map (both z.0) (trees_of theory w q slots) d z.2 in
     (z.0, u.0, u.1, tree_among theory w p slots z.0 z.1, tree_among theory w q slots u.0 u.2)
 

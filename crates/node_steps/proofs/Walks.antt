@@ -1,5 +1,6 @@
 -- What the walk along a plan gives.
 use Rattle.std.proofs.Common.{ℕ, ◌≡◌, ◌+◌, List, sym, subst, length, Option, Some, None, Bool, Result, IfOk}
+use Rattle.std.proofs.lemmas.Result.{IfOk-weaker}
 use Rattle.spec_core.specs.Executable.{IsExecutable}
 use Rattle.spec_core.specs.Code.{Program}
 use Rattle.rule_model.specs.Behaviours.{Behaviour}
@@ -9,7 +10,6 @@ use Rattle.rule_origins.specs.Values.{assignment}
 use Rattle.symbolic_composites.specs.OpenFields.{OpenField}
 use Rattle.symbolic_plans.specs.declared.scheme.Row.{Row}
 use Rattle.symbolic_plans.specs.Plans.{Plan, prefix, internal, termination, below, hidden, handed_on}
-use Rattle.node_values.proofs.Splitting.{ok_on}
 use Rattle.node_steps.specs.declared.turn.Entered.{Entered}
 use Rattle.node_steps.specs.declared.turn.Turn.{Turn}
 use Rattle.node_steps.specs.Blanks.{chosen_by}
@@ -26,7 +26,7 @@ module _ (program : Program) (executable : IsExecutable program.theory) where
       (r : Result (Option Turn) E) → plan ≡ prefix takes → IfOk r (LeafTurnsOr program from s b pre) → IfOk r (TurnsOr program from s b plan)
   prefix_walks from s b plan takes r is h =
       along from s b plan (prefix takes) r is
-      (ok_on r (LeafTurnsOr program from s b pre) (TurnsOr program from s b (prefix takes))
+      (IfOk-weaker r (LeafTurnsOr program from s b pre) (TurnsOr program from s b (prefix takes))
       (λ o k. prefix_turns program executable from s b takes o k) h)
 
   pub exit_walks : {E : Type 0} (from : ℕ) (s : Assignment) (b : Behaviour) (plan : Plan) (takes : List Bool)
@@ -34,7 +34,7 @@ module _ (program : Program) (executable : IsExecutable program.theory) where
       IfOk r (TurnsOr program from s b plan)
   exit_walks from s b plan takes r is h =
       along from s b plan (termination takes) r is
-      (ok_on r (LeafTurnsOr program from s b exiting) (TurnsOr program from s b (termination takes))
+      (IfOk-weaker r (LeafTurnsOr program from s b exiting) (TurnsOr program from s b (termination takes))
       (λ o k. exit_turns program executable from s b takes o k) h)
 
   pub inner_walks : (from : ℕ) (s : Assignment) (b : Behaviour) (plan : Plan) (o : Option Turn) → plan ≡ internal →
@@ -46,7 +46,7 @@ module _ (program : Program) (executable : IsExecutable program.theory) where
       (r : Result (Option Turn) E) → inner ≡ from + length (chosen_by row) → EntersOr program row values b o →
       IfOk r (WithinOr program inner values o p) → IfOk r (TurnsOr program from (assignment program.theory values) b (below row p))
   under_walks row b values from inner p o r e h w =
-      ok_on r (WithinOr program inner values o p) (TurnsOr program from (assignment program.theory values) b (below row p))
+      IfOk-weaker r (WithinOr program inner values o p) (TurnsOr program from (assignment program.theory values) b (below row p))
       (λ t k. under_turns program executable row b values from inner p o t e h k) w
 
   pub hidden_walks : {E : Type 0} (b : Behaviour) (values : List (ℕ × List ℕ)) (from : ℕ) (plan : Plan) (fields : List OpenField) (p : Plan)
@@ -54,7 +54,7 @@ module _ (program : Program) (executable : IsExecutable program.theory) where
       IfOk r (WithinOr program from values o p) → IfOk r (TurnsOr program from (assignment program.theory values) b plan)
   hidden_walks b values from plan fields p o r is h w =
       along from (assignment program.theory values) b plan (hidden fields p) r is
-      (ok_on r (WithinOr program from values o p) (TurnsOr program from (assignment program.theory values) b (hidden fields p))
+      (IfOk-weaker r (WithinOr program from values o p) (TurnsOr program from (assignment program.theory values) b (hidden fields p))
       (λ t k. hidden_turns program executable b values from fields p o t h k) w)
 
   pub ending_walks : {E : Type 0} (b : Behaviour) (values : List (ℕ × List ℕ)) (from : ℕ) (plan : Plan) (fields : List OpenField) (p : Plan)
@@ -62,7 +62,7 @@ module _ (program : Program) (executable : IsExecutable program.theory) where
       IfOk r (WithinOr program from values o p) → IfOk r (TurnsOr program from (assignment program.theory values) b plan)
   ending_walks b values from plan fields p o r is h w =
       along from (assignment program.theory values) b plan (handed_on fields p) r is
-      (ok_on r (WithinOr program from values o p) (TurnsOr program from (assignment program.theory values) b (handed_on fields p))
+      (IfOk-weaker r (WithinOr program from values o p) (TurnsOr program from (assignment program.theory values) b (handed_on fields p))
       (λ t k. ending_turns program executable b values from fields p o t h k) w)
 
   pub turned_none : (from : ℕ) (s : Assignment) (b : Behaviour) (p : Plan) (o : Option Turn) → o ≡ None → TurnsOr program from s b p o →

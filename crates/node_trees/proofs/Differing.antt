@@ -1,24 +1,13 @@
 -- The generations in which two trees differ.
-use Rattle.std.proofs.Common.{ℕ, ◌≡◌, ◌⊎◌, inl, inr, ⊎_elim, Bool, true, false, if◌then◌else◌, List, [], ◌∷◌, ◌++◌, refl, sym, ap, subst}
+use Rattle.std.proofs.Common.{ℕ, ◌≡◌, inl, inr, ⊎_elim, Bool, true, false, if◌then◌else◌, List, [], ◌∷◌, refl, sym, ap, subst}
 use Rattle.spec_core.specs.Lists.{IsOneOf}
+use Rattle.spec_core.proofs.Members.{one_parts, one_left, one_right}
 use Rattle.node_trees.specs.declared.origin.Gen.{Gen}
 use Rattle.node_trees.specs.Differences.{IsDifference, missing}
 use Rattle.node_trees.specs.Posting.{is_there}
 use Rattle.node_trees.specs.Shapes.{Held, Shape, leaf, ended, over, between, Above, under, first_of, second_of, Stands, Lives}
 use Rattle.node_trees.specs.Shapes.{node_at, Unary, Binary}
 use Rattle.node_trees.proofs.Posts.{is_there_lives, not_there}
-
-in_either : (g : Gen) (xs ys : List Gen) → IsOneOf g (xs ++ ys) → IsOneOf g xs ⊎ IsOneOf g ys
-in_either g [] ys h = inr h
-in_either g (x ∷ xs) ys h = ⊎_elim (λ e. inl (inl e)) (λ t. ⊎_elim (λ l. inl (inr l)) (λ r. inr r) (in_either g xs ys t)) h
-
-in_first : (g : Gen) (xs ys : List Gen) → IsOneOf g xs → IsOneOf g (xs ++ ys)
-in_first g [] ys h = absurd h
-in_first g (x ∷ xs) ys h = ⊎_elim (λ e. inl e) (λ t. inr (in_first g xs ys t)) h
-
-in_second : (g : Gen) (xs ys : List Gen) → IsOneOf g ys → IsOneOf g (xs ++ ys)
-in_second g [] ys h = h
-in_second g (x ∷ xs) ys h = inr (in_second g xs ys h)
 
 only_leaf : (n : Held) (y : Shape) (g : Gen) (b : Bool) → is_there (node_at n.generation y) ≡ b →
     IsOneOf g (if b then [] else record { 0 = n.generation } ∷ []) → Lives (leaf n) g.0 × (Lives y g.0 → ⊥)
@@ -49,7 +38,7 @@ missing_lives (between o x z) y g h =
     ⊎_elim
     (λ l. let r = missing_lives x y g l in (lives_first o x z g.0 r.0, r.1))
     (λ l. let r = missing_lives z y g l in (lives_second o x z g.0 r.0, r.1))
-    (in_either g (missing x y) (missing z y) h)
+    (one_parts g (missing x y) (missing z y) h)
 
 leaf_missing : (n : Held) (y : Shape) (b : Bool) → is_there (node_at n.generation y) ≡ b → (Lives y n.generation → ⊥) →
     IsOneOf {A = Gen} (record { 0 = n.generation }) (if b then [] else record { 0 = n.generation } ∷ [])
@@ -64,9 +53,9 @@ stands_missing (leaf m) y [] n s h =
     (leaf_missing m y (is_there (node_at m.generation y)) refl (subst (λ g. Lives y g → ⊥) (ap (λ k. k.generation) (sym s)) h))
 stands_missing (over o x) y (under p ∷ up) n s h = stands_missing x y up n s.1 h
 stands_missing (between o x z) y (first_of p ∷ up) n s h =
-    in_first (record { 0 = n.generation }) (missing x y) (missing z y) (stands_missing x y up n s.1 h)
+    one_left (record { 0 = n.generation }) (missing x y) (missing z y) (stands_missing x y up n s.1 h)
 stands_missing (between o x z) y (second_of p ∷ up) n s h =
-    in_second (record { 0 = n.generation }) (missing x y) (missing z y) (stands_missing z y up n s.1 h)
+    one_right (record { 0 = n.generation }) (missing x y) (missing z y) (stands_missing z y up n s.1 h)
 stands_missing _ y _ n s h = absurd s
 
 pub missing_is_difference : (x y : Shape) → IsDifference (missing x y) x y

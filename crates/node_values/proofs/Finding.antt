@@ -1,6 +1,6 @@
 -- What is found for a term that may be marked.
 use Rattle.std.proofs.Common.{ℕ, ◌≡◌, List, [], ◌∷◌, map, refl, sym, ap, subst, ◌∙◌, false, ◌↔◌}
-use Rattle.std.proofs.Common.{Option, Some, None, IfSome, IfNone, Result, IfOk}
+use Rattle.std.proofs.Common.{Option, Some, None, IfSome, Result, IfOk}
 use Rattle.spec_core.specs.Executable.{IsExecutable}
 use Rattle.spec_core.specs.Sorts.{FitsGround}
 use Rattle.spec_core.specs.Terms.{TermTree, preorder}
@@ -42,10 +42,6 @@ value_found theory k t v is h =
       value = λ x. (h.value, h.has, ap plain (h.read x));
       field = λ x. ap (λ z. open_by (plain z)) (h.read x) ∙ ap (fixed false) (sym h.spelled);
     })
-
-pub of_none : {A : Type 0} {P : Type 0} (o : Option A) → o ≡ None → IfNone o P → P
-of_none None e h = h
-of_none (Some x) e h = cc
 
 pub of_some : {A : Type 0} (P : A → Type 0) (o : Option A) (x : A) → o ≡ Some x → IfSome o P → P x
 of_some P None x e h = let n : ⊥ = cc in absurd n

@@ -1,5 +1,5 @@
 -- What stops say.
-use Rattle.std.proofs.Common.{ℕ, ◌≡◌, List, Result, Ok, Err, IfErr, sym, subst}
+use Rattle.std.proofs.Common.{ℕ, ◌≡◌, List, Result, Err, IfErr, sym, subst}
 use Rattle.spec_core.specs.Terms.{TermTree, term_of}
 use Rattle.spec_core.specs.Theories.{Theory}
 use Rattle.node_values.specs.declared.stop.Stop.{Stop}
@@ -22,7 +22,3 @@ stops_on theory budget A B V W Memory a v h = record { spent = tt; too_large = t
 -- a stop that is handed on
 pub handed_on : {A : Type 0} (r : Result A Stop) (P : Stop → Type 0) (s : Stop) → r ≡ Err s → P s → IfErr r P
 handed_on {A} r P s is h = subst (λ (q : Result A Stop). IfErr q P) (sym is) h
-
-pub err_on : {A : Type 0} (r : Result A Stop) (P Q : Stop → Type 0) → ((s : Stop) → P s → Q s) → IfErr r P → IfErr r Q
-err_on (Ok x) P Q k h = tt
-err_on (Err s) P Q k h = k s h

@@ -1,10 +1,11 @@
 -- The terms that trees ask are reached.
-use Rattle.std.proofs.Common.{ℕ, zero, suc, ◌≡◌, ◌⊎◌, inl, inr, ◌++◌, List, [], ◌∷◌, sym, subst, Some, None}
+use Rattle.std.proofs.Common.{ℕ, zero, suc, ◌≡◌, ◌⊎◌, inl, inr, List, [], ◌∷◌, sym, subst, Some, None}
 use Rattle.std.specs.List.{slice_get}
 use Rattle.spec_core.specs.Lists.{Each, IsOneOf}
 use Rattle.spec_core.specs.Terms.{TermTree}
 use Rattle.spec_core.specs.Theories.{Theory}
 use Rattle.spec_core.specs.Code.{Program, ActionField, give, accept}
+use Rattle.spec_core.proofs.Lists.{each_left, each_right}
 use Rattle.rule_model.specs.declared.rules.Slot.{Slot}
 use Rattle.rule_model.specs.declared.rules.Slot.TheVariants.{Of, Mark, Blank}
 use Rattle.rule_model.specs.Actions.{pairs_of}
@@ -18,14 +19,6 @@ use Rattle.symbolic_rules.specs.MarkedFields.{MarkedField, chosen, IsWithin, Cho
 use Rattle.node_values.specs.Reached.{IsWithinOrOther, AcceptsMayHave, Reaches}
 use Rattle.node_verdict.specs.Asking.{TreeAsks}
 use Rattle.node_verdict.specs.Laws.{values_in, chosen_values, AskedTermsAreReached}
-
-each_left : {A : Type 0} (P : A → Type 0) (xs ys : List A) → Each P (xs ++ ys) → Each P xs
-each_left P [] ys h = tt
-each_left P (x ∷ xs) ys h = (h.0, each_left P xs ys h.1)
-
-each_right : {A : Type 0} (P : A → Type 0) (xs ys : List A) → Each P (xs ++ ys) → Each P ys
-each_right P [] ys h = h
-each_right P (x ∷ xs) ys h = each_right P xs ys h.1
 
 module _ (theory : Theory) (w : Windows) (others : List (List ℕ)) where
   -- a value that may be chosen

@@ -1,6 +1,6 @@
 -- What is found of a construct by a rule, from what is found of its part.
-use Rattle.std.proofs.Common.{ℕ, ◌≡◌, ◌↔◌, ◌⊎◌, inl, inr, List, sym, ap, subst, ◌∙◌, Option, Some, None, Bool, true}
-use Rattle.std.proofs.Common.{false, Result, Ok, Err, IsTrue, option_map}
+use Rattle.std.proofs.Common.{ℕ, ◌≡◌, ◌⊎◌, inl, inr, List, sym, ap, subst, ◌∙◌, Option, Some, None, true}
+use Rattle.std.proofs.Common.{false, Result, Ok, Err, option_map}
 use Rattle.std.specs.List.{slice_get}
 use Rattle.spec_core.specs.Code.{Program, Variable, Binding, Relabelling, Synchronised, ActionField, process}
 use Rattle.spec_core.specs.Lists.{OneOf}
@@ -46,11 +46,6 @@ use Rattle.node_verdict.specs.Judged.{Judged, Made}
 only_one : {A : Type 0} (P : A → Type 0) → ((a : A) × P a × ((b : A) → P b → b ≡ a)) ⊎ ((a : A) → P a → ⊥) → (a b : A) → P a → P b → b ≡ a
 only_one P (inl h) a b p q = h.2 b q ∙ sym (h.2 a p)
 only_one P (inr out) a b p q = absurd (out a p)
-
--- what a test that isn't passed says
-pub untrue_of : {P : Type 0} (b : Bool) → b ≡ false → IsTrue b ↔ P → P → ⊥
-untrue_of false e d h = let n : false ≡ true = d.1 h in cc
-untrue_of true e d h = cc
 
 module _ (program : Program) (w : Windows) (budget : ℕ) where
   abbrev May : MarkedAssignment → Behaviour → Derivation → Kind → List MarkedField → Type 0

@@ -1,12 +1,12 @@
 -- The sides of an equation, and the first of which something doesn't hold.
 use Rattle.std.proofs.Common.{ℕ, zero, suc, ◌≡◌, ◌<◌, ◌≤◌, ◌+◌, List, [], ◌∷◌, ◌++◌, length, map, take, get_or, add-one, refl, subst, arith}
 use Rattle.std.proofs.Common.{inl, inr, ◌⊎◌}
+use Rattle.std.proofs.lemmas.List.{take_all}
 use Rattle.spec_core.specs.declared.term.Term.{Term}
 use Rattle.spec_core.specs.Lists.{Each, IsOneOf}
 use Rattle.spec_core.specs.Order.{HasOperation, PremisesHaveOperation, IsBelow, PremiseIsBelow, Decreases}
 use Rattle.spec_core.specs.Terms.{TermTree, TermTrees, term_of}
 use Rattle.spec_core.specs.Theories.{Premise, premise, Theory, ConditionalEquation, premise_of}
-use Rattle.spec_core.proofs.Lists.{all_taken}
 use Rattle.path_order.specs.Decrease.{IsFirstNot, sides, premise_sides}
 
 -- the first of which P doesn't hold is that of which Q doesn't, where both hold of the same
@@ -53,7 +53,7 @@ module _ (P : TermTree → Type 0) where
 
   pub sides_end : (xs : List (Term × Term)) (i : ℕ) → length xs ≤ i →
       Each P (premise_sides (map premise_of (take i xs))) → Each P (premise_sides (map premise_of xs))
-  sides_end xs i w e = subst (λ ys. Each P (premise_sides (map premise_of ys))) (all_taken xs i w) e
+  sides_end xs i w e = subst (λ ys. Each P (premise_sides (map premise_of ys))) (take_all i xs w) e
 
   pub last_not : (xs : List TermTree) (t : TermTree) → Each P xs → (P t → ⊥) → IsFirstNot P (xs ++ t ∷ []) t
   last_not [] t e h = inl (refl, h)

@@ -1,12 +1,12 @@
 -- The refusals of the equations of data.
 use Rattle.std.proofs.Common.{ℕ, zero, suc, ◌≡◌, ◌<◌, ◌≤◌, ◌+◌, List, [], ◌∷◌, ◌++◌, Option, None, Some, length, map, take, get_or, add-one, refl, sym, subst, arith, ◌∙◌, ap}
+use Rattle.std.proofs.lemmas.List.{take_all}
 use Rattle.lotos_ast.specs.declared.refusal.Refusal.{Refusal}
 use Rattle.lotos_ast.specs.FirstRefusals.{first_refusal}
 use Rattle.spec_core.specs.declared.equation.Equation.{Equation}
 use Rattle.spec_core.specs.Lists.{Each}
 use Rattle.spec_core.specs.Order.{IsBelow, IsDecreasing}
 use Rattle.spec_core.specs.Theories.{Theory, ConditionalEquation, equation_of}
-use Rattle.spec_core.proofs.Lists.{all_taken}
 use Rattle.path_order.specs.Decrease.{IsDecreasingAt, IsRefusalOf, IsAnswerOf, IsAdded, listed, AreRefusals, IsFirstRefusal, none, decreasing, refused, sides}
 use Rattle.path_order.proofs.Asked.{not_each, sides_below}
 
@@ -29,7 +29,7 @@ module _ (theory : Theory) where
 
   pub answers_end : (xs : List Equation) (i : ℕ) (rs : List Refusal) →
       length xs ≤ i → AreRefusals theory (map equation_of (take i xs)) rs → AreRefusals theory (map equation_of xs) rs
-  answers_end xs i rs w h = subst (λ ys. AreRefusals theory (map equation_of ys) rs) (all_taken xs i w) h
+  answers_end xs i rs w h = subst (λ ys. AreRefusals theory (map equation_of ys) rs) (take_all i xs w) h
 
   pub all_decreasing : (es : List ConditionalEquation) → AreRefusals theory es [] → Each (IsDecreasingAt theory) es
   all_decreasing [] none = tt

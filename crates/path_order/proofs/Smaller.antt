@@ -1,5 +1,6 @@
 -- Two lists of terms that a loop goes over from the left.
-use Rattle.std.proofs.Common.{ℕ, zero, suc, ◌≡◌, ◌<◌, ◌≤◌, ◌+◌, ◌↔◌, List, [], ◌∷◌, length, map, drop, get_or, add-one, refl, sym, subst, ap, arith, ◌⊎◌}
+use Rattle.std.proofs.Common.{ℕ, zero, suc, ◌≡◌, ◌<◌, ◌≤◌, ◌+◌, ◌↔◌, List, [], ◌∷◌, length, map, drop, get_or, add-one, sym, subst, ap, arith, ◌⊎◌}
+use Rattle.std.proofs.lemmas.List.{drop_all}
 use Rattle.spec_core.specs.declared.term.Term.{Term}
 use Rattle.spec_core.specs.Order.{IsInside, IsSmaller}
 use Rattle.spec_core.specs.Terms.{terms, term_of}
@@ -11,12 +12,6 @@ drop_suc (y ∷ xs) (suc i) x w a = drop_suc xs i x (omega arith) a
 
 drop_at : (xs : List Term) (i : ℕ) (x : Term) → i < length xs → x ≡ get_or xs i x → drop i xs ≡ x ∷ drop (i + 1) xs
 drop_at xs i x w a = rw add-one (drop_suc xs i x w a)
-
-drop_end : (xs : List Term) (i : ℕ) → length xs ≤ i → drop i xs ≡ []
-drop_end [] zero w = refl
-drop_end [] (suc i) w = refl
-drop_end (x ∷ xs) zero w = absurd (omega arith)
-drop_end (x ∷ xs) (suc i) w = drop_end xs i (omega arith)
 
 -- the lists from this place on
 abbrev pub SmallerFrom : ℕ → List Term → List Term → Type 0
@@ -35,10 +30,10 @@ smaller_at xs ys i x y w v a b =
     )
 
 pub left_ends : (xs ys : List Term) (i : ℕ) → length xs ≤ i → SmallerFrom i xs ys → ⊥
-left_ends xs ys i w h = subst (λ zs. IsSmaller (terms (map term_of zs)) (terms (map term_of (drop i ys)))) (drop_end xs i w) h
+left_ends xs ys i w h = subst (λ zs. IsSmaller (terms (map term_of zs)) (terms (map term_of (drop i ys)))) (drop_all i xs w) h
 
 pub right_ends : (xs ys : List Term) (i : ℕ) (x : Term) → i < length xs → x ≡ get_or xs i x → length ys ≤ i → SmallerFrom i xs ys → ⊥
 right_ends xs ys i x w a v h =
     let k : IsSmaller (terms (map term_of (x ∷ drop (i + 1) xs))) (terms (map term_of (drop i ys))) =
     subst (λ zs. IsSmaller (terms (map term_of zs)) (terms (map term_of (drop i ys)))) (drop_at xs i x w a) h in
-    subst (λ zs. IsSmaller (terms (map term_of (x ∷ drop (i + 1) xs))) (terms (map term_of zs))) (drop_end ys i v) k
+    subst (λ zs. IsSmaller (terms (map term_of (x ∷ drop (i + 1) xs))) (terms (map term_of zs))) (drop_all i ys v) k

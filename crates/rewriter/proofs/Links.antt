@@ -1,9 +1,10 @@
 -- The equations of each operation, linked in their order.
 use Rattle.std.proofs.Common.{ℕ, zero, suc, ◌≡◌, ◌+◌, ◌<◌, ◌≤◌, ◌⊎◌, inl, inr, List, [], ◌∷◌, length, set, slice_index_or, refl, sym, ap}
-use Rattle.std.proofs.Common.{subst, ◌∙◌, arith, replicate, Some, take, drop, ◌++◌}
-use Rattle.std.proofs.lemmas.List.{length-set, drop_all, append-nil}
-use Rattle.spec_core.proofs.Lists.{all_taken}
+use Rattle.std.proofs.Common.{subst, ◌∙◌, arith, replicate, take, drop, ◌++◌}
+use Rattle.std.proofs.lemmas.List.{length-set, drop_all, append-nil, take_all}
 use Rattle.std.specs.List.{slice_get}
+use Rattle.std.proofs.lemmas.Bool.{cases_lt, cases_eq}
+use Rattle.std.proofs.lemmas.Option.{slice_get_within}
 use Rattle.spec_core.specs.Terms.{apply, Occurs}
 use Rattle.spec_core.specs.Theories.{Operation, ConditionalEquation, Theory, Heads}
 use Rattle.spec_core.specs.Sorts.{OnSome, HasSort, HaveSorts, EquationFits}
@@ -18,11 +19,6 @@ below_length : (ds : List Operation) (f : ℕ) (P : Operation → Type 0) → On
 below_length [] f P h = absurd h
 below_length (d ∷ ds) zero P h = omega arith
 below_length (d ∷ ds) (suc f) P h = let r = below_length ds f P h in omega (arith, r)
-
-below_some : (xs : List ℕ) (i a : ℕ) → slice_get xs i ≡ Some a → i < length xs
-below_some [] i a e = cc
-below_some (x ∷ xs) zero a e = omega arith
-below_some (x ∷ xs) (suc i) a e = let r = below_some xs i a e in omega (arith, r)
 
 pub replicated : (m v i : ℕ) → slice_index_or (replicate m v) i v ≡ v
 replicated zero v zero = refl
@@ -45,22 +41,6 @@ elsewhere (x ∷ xs) (suc i) v (suc j) d h = elsewhere xs i v j d (λ e. h (ap s
 one_head : (e : ConditionalEquation) (f g : ℕ) → Heads f e → Heads g e → f ≡ g
 one_head e f g a b = let q : apply f a.0 ≡ apply g b.0 = sym a.1 ∙ b.1 in cc
 
-same_or_not : (j p : ℕ) → (j ≡ p) ⊎ (j ≡ p → ⊥)
-same_or_not j p = by_way (three_ways j p)
-  where
-    by_way : (j < p) ⊎ (j ≡ p) ⊎ (p < j) → (j ≡ p) ⊎ (j ≡ p → ⊥)
-    by_way (inl h) = inr (λ e. absurd (omega (arith, h, e)))
-    by_way (inr (inl e)) = inl e
-    by_way (inr (inr h)) = inr (λ e. absurd (omega (arith, h, e)))
-
-below_or_not : (j p : ℕ) → (j < p) ⊎ (p ≤ j)
-below_or_not j p = by_way (three_ways j p)
-  where
-    by_way : (j < p) ⊎ (j ≡ p) ⊎ (p < j) → (j < p) ⊎ (p ≤ j)
-    by_way (inl h) = inl h
-    by_way (inr (inl e)) = inr (omega (arith, e))
-    by_way (inr (inr h)) = inr (omega (arith, h))
-
 module _ (theory : Theory) (ex : IsExecutable theory) where
   fits_at : (place : ℕ) → place < length theory.equations → EquationFits theory (equation_at theory place)
   fits_at place h = at_place (EquationFits theory) theory.equations place ex.fits.equations h
@@ -78,7 +58,7 @@ module _ (theory : Theory) (ex : IsExecutable theory) where
       let e = equation_at theory place in
       let s = (fits_at place h).sides in
       let d = declared theory (slice_get e.sorts) e.left s.0 s.1 x o in
-      below_some e.sorts x d.0 d.1
+      slice_get_within e.sorts x d.0 d.1
 
   pub has_room : (room : ℕ) → ((j : ℕ) → j < length theory.equations → length (equation_at theory j).sorts ≤ room) → HasRoom theory room
   has_room room h place l x o = let a = within_sorts place x l o in let b = h place l in omega (arith, a, b)
@@ -90,12 +70,12 @@ module _ (theory : Theory) (ex : IsExecutable theory) where
   linked place op v first next h hd is old = record {
     as_many = length-set first op place ∙ old.as_many;
     as_long = length-set next place v ∙ old.as_long;
-    from_first = λ f j a b k. from_first f j a b k (same_or_not f op);
-    after_from = λ f l. after_from f l (same_or_not f op);
-    first_heads = λ f l. first_heads f l (same_or_not f op);
-    from_next = λ f i j a b c k m. from_next f i j a b c k m (same_or_not i place);
-    next_heads = λ f i a b c k. next_heads f i a b c k (same_or_not i place);
-    onward = λ i a b. onward i a b (same_or_not i place);
+    from_first = λ f j a b k. from_first f j a b k (cases_eq f op);
+    after_from = λ f l. after_from f l (cases_eq f op);
+    first_heads = λ f l. first_heads f l (cases_eq f op);
+    from_next = λ f i j a b c k m. from_next f i j a b c k m (cases_eq i place);
+    next_heads = λ f i a b c k. next_heads f i a b c k (cases_eq i place);
+    onward = λ i a b. onward i a b (cases_eq i place);
   }
     where
       n : ℕ
@@ -185,7 +165,7 @@ module _ (theory : Theory) (ex : IsExecutable theory) where
           past i a d (inr (inr l)) = omega (arith, l)
 
       onward : (i : ℕ) → place ≤ i → i < length theory.equations → (i ≡ place) ⊎ (i ≡ place → ⊥) → i < bound_at (set next place v) i
-      onward i a b (inl e) = by_value (below_or_not v (length theory.equations))
+      onward i a b (inl e) = by_value (cases_lt v (length theory.equations))
         where
           by_value : (v < length theory.equations) ⊎ (length theory.equations ≤ v) → i < bound_at (set next place v) i
           by_value (inl l) = let q = ap (bound_at (set next place v)) e ∙ at_place_now in let r = after_place l in omega (arith, q, r, e)
@@ -232,4 +212,4 @@ pub written : (xs ys : List ℕ) (k : ℕ) → length ys ≡ length xs → k ≡
 written xs ys k e q =
     ap (λ zs. take k (xs ++ zs)) (drop_all (length xs) ys (omega (arith, e)))
     ∙ ap (take k) (append-nil xs)
-    ∙ all_taken xs k (omega (arith, e, q))
+    ∙ take_all k xs (omega (arith, e, q))

@@ -1,5 +1,5 @@
 -- What the main loop keeps.
-use Rattle.std.proofs.Common.{ℕ, ◌≡◌, ◌≤◌, List, [], ◌∷◌, map, refl, sym, subst, arith, Result, Ok, Err, IfOk, IfErr, Bool, true, false}
+use Rattle.std.proofs.Common.{ℕ, ◌≡◌, ◌≤◌, List, [], ◌∷◌, map, refl, sym, subst, arith, Bool, true, false}
 use Rattle.std.proofs.Common.{IsTrue, IsFalse}
 use Rattle.spec_core.specs.Terms.{TermTree}
 use Rattle.spec_core.specs.Theories.{Theory}
@@ -76,18 +76,6 @@ moved_kept P theory rows new todo now there values a u e q k =
     (record { back = k.back; on = k.on; met = k.met; large = k.large }) in
     let j = subst (λ vals. Keeps P a (Comes theory (map (task_of theory new) now) vals) u) (sym q) i in
     record { back = j.back; on = j.on; met = j.met; large = j.large }
-
-pub if_ok_both : {A E : Type 0} {P Q R : A → Type 0} (r : Result A E) → ((x : A) → P x → Q x → R x) → IfOk r P → IfOk r Q → IfOk r R
-if_ok_both (Ok x) f p q = f x p q
-if_ok_both (Err e) f p q = tt
-
-pub if_ok_one : {A E : Type 0} {P R : A → Type 0} (r : Result A E) → ((x : A) → P x → R x) → IfOk r P → IfOk r R
-if_ok_one (Ok x) f p = f x p
-if_ok_one (Err e) f p = tt
-
-pub if_err_one : {A E : Type 0} {P R : E → Type 0} (r : Result A E) → ((x : E) → P x → R x) → IfErr r P → IfErr r R
-if_err_one (Ok x) f p = tt
-if_err_one (Err e) f p = f e p
 
 pub not_both : (b : Bool) → IsTrue b → IsFalse b → ⊥
 not_both true t f = cc

@@ -4,7 +4,7 @@ use Rattle.std.proofs.Common.{take, drop, map, Bool, IsFalse, slice_index_or}
 use Rattle.spec_core.specs.Terms.{TermTree, TermTrees, variable, apply, no_terms, and_term, instance, instances, Occurs, OccursInAny}
 use Rattle.spec_core.specs.Terms.{terms}
 use Rattle.std.specs.Bool.{◌==◌}
-use Rattle.spec_core.proofs.Lists.{all_taken}
+use Rattle.std.proofs.lemmas.List.{take_all}
 use Rattle.spec_core.specs.Orthogonality.{AreLinear}
 use Rattle.spec_core.proofs.OneValue.{same_instance}
 use Rattle.value_nodes.specs.declared.node.Node.{Node}
@@ -76,7 +76,7 @@ pub first_and_rest : (rows : List Node) (xs : List ℕ) (d : ℕ) → 1 ≤ leng
 first_and_rest rows [] d h = absurd (omega arith)
 first_and_rest rows (x ∷ xs) d h =
     let n : length xs ≤ length (x ∷ xs) - 1 = omega arith in
-    ap (λ ys. and_term (tree_at rows x) (terms (map (tree_at rows) ys))) (sym (all_taken xs (length (x ∷ xs) - 1) n))
+    ap (λ ys. and_term (tree_at rows x) (terms (map (tree_at rows) ys))) (sym (take_all (length (x ∷ xs) - 1) xs n))
 
 pub some_left : (rows : List Node) (vs : List ℕ) (b : Bool) → b ≡ (length vs == 0) → IsFalse b →
     no_terms ≡ terms (map (tree_at rows) vs) → ⊥

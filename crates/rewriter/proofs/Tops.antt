@@ -1,10 +1,10 @@
 -- Values on top of others.
 use Rattle.std.proofs.Common.{ℕ, zero, suc, ◌≡◌, ◌+◌, ◌-◌, ◌≤◌, List, [], ◌∷◌, ◌++◌, length, map, take, drop, reverse, refl, sym, ap}
 use Rattle.std.proofs.Common.{subst, ◌∙◌, arith, append_assoc}
-use Rattle.std.proofs.lemmas.List.{reverse-append, reverse-reverse, length-reverse, length-drop, take-append-drop, drop_at}
+use Rattle.std.proofs.lemmas.List.{reverse-append, reverse-reverse, length-reverse, length-drop, take-append-drop, drop_at, take_all}
 use Rattle.spec_core.specs.Lists.{Each}
 use Rattle.spec_core.specs.Terms.{TermTree, TermTrees, no_terms, and_term, terms, width}
-use Rattle.spec_core.proofs.Lists.{all_taken}
+use Rattle.spec_core.proofs.Lists.{each_append, each_take}
 use Rattle.rewriter.specs.Machine.{top}
 
 -- the end of a list, as the first elements of the reversed one
@@ -17,7 +17,7 @@ from_top xs n k e =
     (drop n ys) in
     let l : length a ≡ k = omega (arith, length-reverse (drop n ys), length-drop n ys, length-reverse xs, e) in
     let d : drop k xs ≡ b = ap (drop k) parts ∙ ap (λ i. drop i (a ++ b)) (sym l) ∙ drop_at a b (length a) refl in
-    all_taken (drop k xs) (length xs - k) (omega (arith, length-drop k xs)) ∙ d
+    take_all (length xs - k) (drop k xs) (omega (arith, length-drop k xs)) ∙ d
 
 module _ (f : ℕ → TermTree) where
   top_before : (k : ℕ) (vs ds : List ℕ) → top k (map f vs) (terms (map f ds)) ≡ terms (map f (reverse (take k vs) ++ ds))
@@ -59,22 +59,13 @@ pub top_width : (k w : ℕ) (vals : List TermTree) → width (top k vals no_term
     (top k vals no_terms ≡ top w vals no_terms) × (drop k vals ≡ drop w vals)
 top_width k w vals e = same_top k w vals no_terms (omega (arith, e))
 
-each_over : {A : Type 0} (P : A → Type 0) (xs ys : List A) → Each P xs → Each P ys → Each P (xs ++ ys)
-each_over P [] ys a b = b
-each_over P (x ∷ xs) ys a b = (a.0, each_over P xs ys a.1 b)
-
 pub each_reversed : {A : Type 0} (P : A → Type 0) (xs : List A) → Each P xs → Each P (reverse xs)
 each_reversed P [] e = tt
 each_reversed P (x ∷ xs) e = subst (Each P) (sym (reverse-append (x ∷ []) xs))
-    (each_over P (reverse xs) (x ∷ []) (each_reversed P xs e.1) (e.0, tt))
-
-each_taken : (P : ℕ → Type 0) (k : ℕ) (xs : List ℕ) → Each P xs → Each P (take k xs)
-each_taken P zero xs e = tt
-each_taken P (suc k) [] e = tt
-each_taken P (suc k) (x ∷ xs) e = (e.0, each_taken P k xs e.1)
+    (each_append P (reverse xs) (x ∷ []) (each_reversed P xs e.1) (e.0, tt))
 
 pub each_top : (P : ℕ → Type 0) (k : ℕ) (xs : List ℕ) → Each P xs → Each P (reverse (take k xs))
-each_top P k xs e = each_reversed P (take k xs) (each_taken P k xs e)
+each_top P k xs e = each_reversed P (take k xs) (each_take P k xs e)
 
 pub each_under : (P : ℕ → Type 0) (k : ℕ) (xs : List ℕ) → Each P xs → Each P (drop k xs)
 each_under P zero xs e = e

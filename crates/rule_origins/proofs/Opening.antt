@@ -1,10 +1,11 @@
 -- The behaviour at a number is the construct there over the behaviours at its parts.
-use Rattle.std.proofs.Common.{ℕ, zero, suc, ◌≡◌, ◌<◌, List, [], ◌∷◌, Option, Some, None, refl, ap, ◌∙◌, arith}
+use Rattle.std.proofs.Common.{ℕ, zero, suc, ◌≡◌, ◌<◌, Option, Some, None, refl, ap, ◌∙◌, arith}
 use Rattle.std.specs.List.{slice_get}
 use Rattle.spec_core.specs.Code as code
 use Rattle.spec_core.specs.Code.{Program, Node}
 use Rattle.spec_core.specs.Lists.{Each}
 use Rattle.spec_core.specs.Ready.{IsReady, IsProcess, parts_of}
+use Rattle.spec_core.proofs.Lists.{each_implied}
 use Rattle.rule_model.specs.Behaviours.{Behaviour, stop, inner, action, choice, guarded, bound, value_choice, gate_choice, parallel, hide}
 use Rattle.rule_model.specs.Behaviours.{enable, disable, relabel}
 use Rattle.rule_origins.specs.Laws.{CodeIsOpened}
@@ -37,10 +38,6 @@ same_over f g (Some (code.call p gates terms)) h = refl
 same_over f g (Some (code.relabel pairs i)) h = ap (relabel pairs) (h (λ p. p)).0
 same_over f g (Some (code.process gates xs i)) h = refl
 
-each_of : (P Q : ℕ → Type 0) (ns : List ℕ) → ((n : ℕ) → P n → Q n) → Each P ns → Each Q ns
-each_of P Q [] f h = tt
-each_of P Q (n ∷ ns) f h = (f n h.0, each_of P Q ns f h.1)
-
 module _ (program : Program) (ready : IsReady program) where
   -- the parts of a construct of the code have lower numbers
   parts_below : (n : ℕ) (o : Option Node) → slice_get program.code n ≡ o → OnParts (λ i. i < n) o
@@ -49,7 +46,7 @@ module _ (program : Program) (ready : IsReady program) where
 
   on_parts : (P Q : ℕ → Type 0) (o : Option Node) → ((i : ℕ) → P i → Q i) → OnParts P o → OnParts Q o
   on_parts P Q None f h = tt
-  on_parts P Q (Some node) f h = λ k. each_of P Q (parts_of node) f (h k)
+  on_parts P Q (Some node) f h = λ k. each_implied P Q (parts_of node) f (h k)
 
   -- more depth than the number makes no difference
   steady : (k j n : ℕ) → n < k → n < j → opened program.code k n ≡ opened program.code j n

@@ -1,5 +1,5 @@
 -- What faults say.
-use Rattle.std.proofs.Common.{ℕ, ◌≡◌, List, [], Option, Some, None, IfNone, Result, Ok, Err, IfErr, refl, sym, subst}
+use Rattle.std.proofs.Common.{ℕ, ◌≡◌, List, [], Result, Err, IfErr, refl, sym, subst}
 use Rattle.spec_core.specs.Terms.{TermTree}
 use Rattle.spec_core.specs.Theories.{Theory}
 use Rattle.rule_walk.specs.declared.fault.FireFault.{FireFault}
@@ -19,17 +19,9 @@ explains_on theory budget U V A B (TooLarge term) u a h =
     record { unfit = tt; spent = tt; too_large = (a _ h.too_large.0, h.too_large.1) }
 explains_on theory budget U V A B Memory u a h = record { unfit = tt; spent = tt; too_large = tt }
 
-pub of_none : {A : Type 0} {P : Type 0} (o : Option A) → o ≡ None → IfNone o P → P
-of_none None e h = h
-of_none (Some x) e h = cc
-
 -- a fault that is handed on
 pub handed_on : {A : Type 0} (r : Result A FireFault) (P : FireFault → Type 0) (f : FireFault) → r ≡ Err f → P f → IfErr r P
 handed_on {A} r P f is h = subst (λ (q : Result A FireFault). IfErr q P) (sym is) h
-
-pub err_on : {A : Type 0} (r : Result A FireFault) (P Q : FireFault → Type 0) → ((f : FireFault) → P f → Q f) → IfErr r P → IfErr r Q
-err_on (Ok x) P Q k h = tt
-err_on (Err f) P Q k h = k f h
 
 pub misfit_on : (P Q : Type 0) (f : FireFault) → (P → Q) → IsMisfit P f → IsMisfit Q f
 misfit_on P Q (Unfit at) k h = (h.0, k h.1)

@@ -2,8 +2,8 @@
 use Rattle.std.proofs.Common.{ℕ, ◌≡◌, ◌≤◌, List, [], ◌∷◌, length, map, take, drop, get_or, ◌-◌, arith, Result, IfErr, sym, ap, subst, ◌∙◌}
 use Rattle.std.proofs.Common.{inr}
 use Rattle.std.proofs.Math.Seq.{drop-cons}
-use Rattle.std.proofs.lemmas.List.{length-drop}
-use Rattle.spec_core.proofs.Lists.{all_taken}
+use Rattle.std.proofs.lemmas.List.{length-drop, take_all}
+use Rattle.std.proofs.lemmas.Result.{IfErr-weaker}
 use Rattle.spec_core.specs.Code.{Variable, Binding, ActionField, accept}
 use Rattle.spec_core.specs.Executable.{IsExecutable}
 use Rattle.spec_core.specs.Terms.{TermTree, instance}
@@ -17,7 +17,7 @@ use Rattle.rule_model.specs.Substitution.{Assignment, with_term}
 use Rattle.rule_walk.specs.declared.fault.FireFault.{FireFault}
 use Rattle.rule_walk.specs.Asking.{FieldsAsk, BindingsAsk, ArgumentsAsk}
 use Rattle.rule_walk.specs.Faults.{Explains, Here, IsMisfit, HasNoFields, HasNoBindings, HasNoArguments, HandsOnNothing}
-use Rattle.rule_walk.proofs.Faults.{explains_on, misfit_on, err_on}
+use Rattle.rule_walk.proofs.Faults.{explains_on, misfit_on}
 
 -- the others, after the first element of a list
 abbrev pub others : {A : Type 0} → List A → List A
@@ -26,7 +26,7 @@ others xs = take (length xs - 1) (drop 1 xs)
 pub first_and_others : {A : Type 0} (xs : List A) (d : A) → 1 ≤ length xs → xs ≡ get_or xs 0 d ∷ others xs
 first_and_others xs d there =
     let few : length (drop 1 xs) ≤ length xs - 1 = omega (arith, length-drop 1 xs) in
-    drop-cons xs 0 d there ∙ ap (λ ys. get_or xs 0 d ∷ ys) (sym (all_taken (drop 1 xs) (length xs - 1) few))
+    drop-cons xs 0 d there ∙ ap (λ ys. get_or xs 0 d ∷ ys) (sym (take_all (length xs - 1) (drop 1 xs) few))
 
 pub split_at : {A : Type 0} (xs : List A) (x y : A) → 1 ≤ length xs → x ≡ get_or xs 0 x → x ≡ y → xs ≡ y ∷ others xs
 split_at xs x y there is same = first_and_others xs x there ∙ ap (λ z. z ∷ others xs) (sym is ∙ same)
@@ -70,7 +70,7 @@ module _ (theory : Theory) (executable : IsExecutable theory) where
         (result : Result A FireFault) → all ≡ b ∷ bindings → HasValue theory (instance s b.term) n → r ≡ with_term b.variable n t →
         IfErr result (NoBindings s r bindings) → IfErr result (NoBindings s t all)
     bindings_later {A} s t r b all bindings n result is value bound =
-        err_on result (NoBindings s r bindings) (NoBindings s t all) (λ f h.
+        IfErr-weaker result (NoBindings s r bindings) (NoBindings s t all) (λ f h.
         subst (λ (l : List Binding). NoBindings s t l f) (sym is)
         (explains_on theory budget (Here (HasNoBindings theory s (with_term b.variable n t) bindings))
         (Here (HasNoBindings theory s t (b ∷ bindings))) (BindingsAsk theory s bindings) (BindingsAsk theory s (b ∷ bindings)) f
@@ -90,7 +90,7 @@ module _ (theory : Theory) (executable : IsExecutable theory) where
         HasValue theory (instance s e) n → r ≡ with_term y n t → IfErr result (NoArguments s r ys terms) →
         IfErr result (NoArguments s t all passed)
     arguments_later {A} s t r y all ys e passed terms n result is has value bound =
-        err_on result (NoArguments s r ys terms) (NoArguments s t all passed) (λ f h.
+        IfErr-weaker result (NoArguments s r ys terms) (NoArguments s t all passed) (λ f h.
         subst (λ (l : List Variable). NoArguments s t l passed f) (sym is)
         (subst (λ (l : List TermTree). NoArguments s t (y ∷ ys) l f) (sym has)
         (explains_on theory budget (Here (HasNoArguments theory s (with_term y n t) ys terms))
@@ -108,7 +108,7 @@ module _ (theory : Theory) (executable : IsExecutable theory) where
       (n : TermTree) (result : Result A FireFault) → all ≡ y ∷ ys → given ≡ v ∷ values → Spells theory v n y.sort → r ≡ with_term y n t →
       IfErr result (IsMisfit (HandsOnNothing theory r ys values)) → IfErr result (IsMisfit (HandsOnNothing theory t all given))
   handed_later {A} t r y all ys v given values n result is has spells bound =
-      err_on result (IsMisfit (HandsOnNothing theory r ys values)) (IsMisfit (HandsOnNothing theory t all given)) (λ f.
+      IfErr-weaker result (IsMisfit (HandsOnNothing theory r ys values)) (IsMisfit (HandsOnNothing theory t all given)) (λ f.
       subst (λ (l : List Variable). IsMisfit (HandsOnNothing theory r ys values) f → IsMisfit (HandsOnNothing theory t l given) f) (sym is)
       (subst (λ (l : List (List ℕ)). IsMisfit (HandsOnNothing theory r ys values) f → IsMisfit (HandsOnNothing theory t (y ∷ ys) l) f)
       (sym has)

@@ -1,5 +1,6 @@
 -- The faults of parts, and of rules by their parts.
 use Rattle.std.proofs.Common.{ℕ, ◌≡◌, List, Result, IfErr, sym, subst}
+use Rattle.std.proofs.lemmas.Result.{IfErr-weaker}
 use Rattle.spec_core.specs.Code.{Program}
 use Rattle.rule_model.specs.Behaviours.{Behaviour}
 use Rattle.rule_model.specs.Derivations.{Derivation}
@@ -9,7 +10,6 @@ use Rattle.rule_walk.specs.declared.fault.FireFault.TheVariants.{Unfit, Spent, T
 use Rattle.rule_walk.specs.Asking.{Asks}
 use Rattle.rule_walk.specs.Faults.{Explains, Within, IsFault, OnUnfit}
 use Rattle.rule_walk.specs.Parts.{OnFirst, IsUnfitAt}
-use Rattle.rule_walk.proofs.Faults.{err_on}
 use Rattle.rule_walk.proofs.Misfits.{Is, first_fault}
 
 pub unfit_on : (f : FireFault) (U V : List ℕ → Type 0) → ((path : List ℕ) → U path → V path) → OnUnfit f U → OnUnfit f V
@@ -23,7 +23,7 @@ module _ (program : Program) (budget : ℕ) (s : Assignment) (b : Behaviour) whe
   pub on_rule : {A : Type 0} (r : Result A FireFault) (d rule : Derivation) (P : FireFault → Type 0) → d ≡ rule →
       ((f : FireFault) → P f → IsFault program budget s b rule f) → IfErr r P → IfErr r (IsFault program budget s b d)
   on_rule {A} r d rule P is k =
-      err_on r P (IsFault program budget s b d) (λ f h. subst (λ (e : Derivation). IsFault program budget s b e f) (sym is) (k f h))
+      IfErr-weaker r P (IsFault program budget s b d) (λ f h. subst (λ (e : Derivation). IsFault program budget s b e f) (sym is) (k f h))
 
   -- the fault of the first part of the construct
   pub part_fault : (d rule : Derivation) (whole : Behaviour) (t : Assignment) (c : Behaviour) (e : Derivation) (f : FireFault) → d ≡ rule →
@@ -39,5 +39,5 @@ module _ (program : Program) (budget : ℕ) (s : Assignment) (b : Behaviour) whe
       IfErr r (Explains program.theory budget (Within 0 (IsUnfitAt program t c e)) (Asks program t c e)) →
       IfErr r (IsFault program budget s b d)
   part_faults {A} r d rule whole t c e is construct first =
-      err_on r (Explains program.theory budget (Within 0 (IsUnfitAt program t c e)) (Asks program t c e)) (IsFault program budget s b d)
+      IfErr-weaker r (Explains program.theory budget (Within 0 (IsUnfitAt program t c e)) (Asks program t c e)) (IsFault program budget s b d)
       (λ f. part_fault d rule whole t c e f is construct first)

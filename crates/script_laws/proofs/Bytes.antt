@@ -9,36 +9,27 @@ use Rattle.std.specs.Str.Lossy.{utf8_lossy}
 use Rattle.std.proofs.lemmas.Bool.Decides.{nat_tests, Decides-eqb}
 use Rattle.std.proofs.lemmas.Slice.Eq.{bytes_eq-Decides}
 use Rattle.std.proofs.lemmas.Str.{IsUtf8-from_ascii, utf8_lossy-IsUtf8}
+use Rattle.std.proofs.lemmas.Bool.{and_parts, or_parts, or_from, both_ways}
 use Rattle.lotos_ast.specs.declared.mark.Mark.{Mark}
 use Rattle.lotos_ast.specs.Bytes.{is_one_of, is_letter_or_digit, is_low_line, is_operation_byte}
 use Rattle.lotos_ast.specs.Marks.{is_same_word, find_mark, reserved_words, symbol_spellings, keyword_of, symbol_of}
 use Rattle.lotos_ast.specs.Pieces.{word_rest}
 use Rattle.spec_core.specs.Lists.{Each, IsOneOf}
 use Rattle.spec_core.specs.Names.{IsWordByte, EndsInWord, IsWord, IsOperationString, IsPlainName}
+use Rattle.spec_core.proofs.Lists.{each_implied}
 use Rattle.spec_core.specs.Names as names
 use Rattle.value_text.specs.Bytes.{is_name_byte}
 use Rattle.value_text.proofs.Runs.{Stops}
-
-pub no_bool : (b : Bool) → b ≡ true → b ≡ false → ⊥
-no_bool b h k = cc
-
-either_false : (a b : Bool) → (a || b) ≡ false → (a ≡ false) × (b ≡ false)
-either_false true b h = absurd (cc)
-either_false false b h = (refl, h)
-
-neither : (a b : Bool) → a ≡ false → b ≡ false → (a || b) ≡ false
-neither true b h k = absurd (cc)
-neither false b h k = k
 
 -- a byte of this kind isn't among bytes of another kind
 pub other_than : (p : ℕ → Bool) (bytes : List ℕ) (b : ℕ) → list_any p bytes ≡ false → p b ≡ true → is_one_of bytes b ≡ false
 other_than p [] b none h = refl
 other_than p (c ∷ bytes) b none h =
-    let k = either_false (p c) (list_any p bytes) none in
-    neither (c == b) (is_one_of bytes b) (differ (c == b) (Decides-eqb c b)) (other_than p bytes b k.1 h)
+    let k = or_parts (p c) (list_any p bytes) none in
+    or_from (c == b) (is_one_of bytes b) (differ (c == b) (Decides-eqb c b)) (other_than p bytes b k.1 h)
   where
     differ : (x : Bool) → Decides x (c ≡ b) → x ≡ false
-    differ true d = absurd (no_bool (p c) (ap p (d.0 refl) ∙ h) (either_false (p c) (list_any p bytes) none).0)
+    differ true d = absurd (both_ways (p c) (or_parts (p c) (list_any p bytes) none).0 (ap p (d.0 refl) ∙ h))
     differ false d = refl
 
 -- bytes below 128 are told as they stand
@@ -49,10 +40,6 @@ each_below (b ∷ s) h (suc i) = each_below s h.1 i
 
 pub told : (s : List ℕ) → Each (λ b. b < 128) s → utf8_lossy s ≡ s
 told s h = utf8_lossy-IsUtf8 s (IsUtf8-from_ascii s (each_below s h))
-
-each_so : {P Q : ℕ → Type 0} → ((b : ℕ) → P b → Q b) → (s : List ℕ) → Each P s → Each Q s
-each_so h [] g = tt
-each_so h (b ∷ s) g = (h b g.0, each_so h s g.1)
 
 letter_below : (b : ℕ) → is_ascii_alphanumeric b ≡ true → b < 128
 letter_below b h = grind (arith, nat_tests, h)
@@ -69,35 +56,35 @@ pub turned : (a b : ℕ) → nat_eq a b ≡ false → (b == a) ≡ false
 turned a b h = go (b == a) (Decides-eqb b a)
   where
     go : (x : Bool) → Decides x (b ≡ a) → x ≡ false
-    go true d = absurd (no_bool (nat_eq a b) (eq-eqb a b (sym (d.0 refl))) h)
+    go true d = absurd (both_ways (nat_eq a b) h (eq-eqb a b (sym (d.0 refl))))
     go false d = refl
 
 not_one : (bytes : List ℕ) (b : ℕ) → list_any (nat_eq b) bytes ≡ false → is_one_of bytes b ≡ false
 not_one [] b h = refl
 not_one (c ∷ bytes) b h =
-    let k = either_false (nat_eq b c) (list_any (nat_eq b) bytes) h in
-    neither (c == b) (is_one_of bytes b) (turned b c k.0) (not_one bytes b k.1)
+    let k = or_parts (nat_eq b c) (list_any (nat_eq b) bytes) h in
+    or_from (c == b) (is_one_of bytes b) (turned b c k.0) (not_one bytes b k.1)
 
 no_letter : (b : ℕ) → is_name_byte b ≡ false → is_letter_or_digit b ≡ false
-no_letter b h = (either_false (is_ascii_alphanumeric b) (list_any (nat_eq b) (codes "_#%&*+-./<=>@\\^~{}")) h).0
+no_letter b h = (or_parts (is_ascii_alphanumeric b) (list_any (nat_eq b) (codes "_#%&*+-./<=>@\\^~{}")) h).0
 
 no_line : (b : ℕ) → is_name_byte b ≡ false → is_low_line b ≡ false
 no_line b h =
-    (either_false (nat_eq b 95) (list_any (nat_eq b) (codes "#%&*+-./<=>@\\^~{}"))
-    (either_false (is_ascii_alphanumeric b) (list_any (nat_eq b) (codes "_#%&*+-./<=>@\\^~{}")) h).1).0
+    (or_parts (nat_eq b 95) (list_any (nat_eq b) (codes "#%&*+-./<=>@\\^~{}"))
+    (or_parts (is_ascii_alphanumeric b) (list_any (nat_eq b) (codes "_#%&*+-./<=>@\\^~{}")) h).1).0
 
 no_sign : (b : ℕ) → is_name_byte b ≡ false → is_operation_byte b ≡ false
 no_sign b h =
     not_one (codes "#%&*+-./<=>@\\^~{}") b
-    (either_false (nat_eq b 95) (list_any (nat_eq b) (codes "#%&*+-./<=>@\\^~{}"))
-    (either_false (is_ascii_alphanumeric b) (list_any (nat_eq b) (codes "_#%&*+-./<=>@\\^~{}")) h).1).1
+    (or_parts (nat_eq b 95) (list_any (nat_eq b) (codes "#%&*+-./<=>@\\^~{}"))
+    (or_parts (is_ascii_alphanumeric b) (list_any (nat_eq b) (codes "_#%&*+-./<=>@\\^~{}")) h).1).1
 
 -- how far a word goes
 none_goes : (r : List ℕ) → Stops is_name_byte r → word_rest r ≡ 0
 none_goes [] h = refl
 none_goes (b ∷ r) h =
     ap (λ c. if c then 1 + word_rest r else 0)
-    (neither (is_letter_or_digit b) (is_low_line b && nat_lt 0 (word_rest r)) (no_letter b h)
+    (or_from (is_letter_or_digit b) (is_low_line b && nat_lt 0 (word_rest r)) (no_letter b h)
     (ap (λ c. c && nat_lt 0 (word_rest r)) (no_line b h)))
 
 one_more : (x y : Bool) (n : ℕ) → (x ≡ true) ⊎ ((y ≡ true) × (0 < n)) → (if x || (y && nat_lt 0 n) then 1 + n else 0) ≡ suc n
@@ -134,7 +121,7 @@ pub word_goes_behind : (b : ℕ) (w r : List ℕ) → IsWord (b ∷ w) → Stops
 word_goes_behind b w r h stop = word_goes w r h.bytes.1 (ends_behind b w h.last) stop
 
 pub word_told : (w : List ℕ) → IsWord w → utf8_lossy w ≡ w
-word_told w h = told w (each_so word_byte_below w h.bytes)
+word_told w h = told w (each_implied _ _ w word_byte_below h.bytes)
 
 -- what isn't in a table of spellings
 unmarked : (word : List ℕ) (table : List (List ℕ × Mark)) →
@@ -169,7 +156,7 @@ abbrev pub AreSigns : List ℕ → Type 0
 AreSigns w = Each (λ b. is_operation_byte b ≡ true) w
 
 signs : (w : List ℕ) → IsOperationString w → AreSigns w
-signs w h = each_so (one_of_so (codes "#%&*+-./<=>@\\^~{}")) w h.bytes
+signs w h = each_implied _ _ w (one_of_so (codes "#%&*+-./<=>@\\^~{}")) h.bytes
 
 all_signs : (w : List ℕ) → AreSigns w → list_all is_operation_byte w ≡ true
 all_signs [] h = refl
@@ -190,7 +177,7 @@ abbrev is_own : List ℕ → Bool
 is_own w = not (list_all is_operation_byte w) || list_any (bytes_eq w) own_strings
 
 one_of_these : (w : List ℕ) (xs : List (List ℕ)) → list_any (bytes_eq w) xs ≡ true → IsOneOf w xs
-one_of_these w [] h = absurd (no_bool true refl (sym h))
+one_of_these w [] h = absurd (both_ways true (sym h) refl)
 one_of_these w (x ∷ xs) h = go (bytes_eq w x) (bytes_eq-Decides w x) h (one_of_these w xs)
   where
     go : (c : Bool) → Decides c (w ≡ x) → (c || list_any (bytes_eq w) xs) ≡ true → (list_any (bytes_eq w) xs ≡ true → IsOneOf w xs) →
@@ -202,16 +189,12 @@ own_sign : (x : Bool) (w : List ℕ) → (not x || list_any (bytes_eq w) own_str
 own_sign true w h e = one_of_these w own_strings h
 own_sign false w h e = absurd (cc)
 
-both_parts : (a b : Bool) → (a && b) ≡ true → (a ≡ true) × (b ≡ true)
-both_parts true b h = (refl, h)
-both_parts false b h = absurd (cc)
-
 own_there : (w : List ℕ) (xs : List (List ℕ)) → list_all is_own xs ≡ true → IsOneOf w xs → list_all is_operation_byte w ≡ true →
     IsOneOf w own_strings
 own_there w [] h i all = absurd i
 own_there w (x ∷ xs) h (inl e) all =
-    own_sign (list_all is_operation_byte w) w (subst (λ z. is_own z ≡ true) (sym e) (both_parts (is_own x) (list_all is_own xs) h).0) all
-own_there w (x ∷ xs) h (inr i) all = own_there w xs (both_parts (is_own x) (list_all is_own xs) h).1 i all
+    own_sign (list_all is_operation_byte w) w (subst (λ z. is_own z ≡ true) (sym e) (and_parts (is_own x) (list_all is_own xs) h).0) all
+own_there w (x ∷ xs) h (inr i) all = own_there w xs (and_parts (is_own x) (list_all is_own xs) h).1 i all
 
 checked : list_all is_own (map (λ (e : List ℕ × Mark). map to_ascii_lowercase e.0) symbol_spellings) ≡ true
 checked = refl
@@ -237,7 +220,7 @@ pub string_goes : (w r : List ℕ) → IsOperationString w → Stops is_name_byt
 string_goes w r h stop = signs_go w r (signs w h) stop
 
 pub string_told : (w : List ℕ) → IsOperationString w → utf8_lossy w ≡ w
-string_told w h = told w (each_so sign_below w (signs w h))
+string_told w h = told w (each_implied _ _ w sign_below (signs w h))
 
 pub first_sign : (b : ℕ) (w : List ℕ) → IsOperationString (b ∷ w) → is_operation_byte b ≡ true
 first_sign b w h = (signs (b ∷ w) h).0

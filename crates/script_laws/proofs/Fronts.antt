@@ -6,6 +6,7 @@ use Rattle.std.specs.List.{list_any, prefix_len}
 use Rattle.std.specs.Str.Lossy.{utf8_lossy}
 use Rattle.std.proofs.lemmas.Bool.Decides.{nat_tests}
 use Rattle.std.proofs.Math.Seq.{take-append_seam, drop-append_seam}
+use Rattle.std.proofs.lemmas.Bool.{both_ways}
 use Rattle.lotos_ast.specs.declared.mark.Mark.{Mark}
 use Rattle.lotos_ast.specs.declared.place.Place.{Place}
 use Rattle.lotos_ast.specs.declared.token.Token.{Token}
@@ -20,7 +21,7 @@ use Rattle.spec_core.specs.Names.{IsWord, IsIdentifier, IsOperationString, IsPla
 use Rattle.spec_core.specs.TermText.{gap_before}
 use Rattle.value_text.specs.Bytes.{is_name_byte}
 use Rattle.value_text.proofs.Runs.{Stops}
-use Rattle.script_laws.proofs.Bytes.{no_bool, other_than, word_goes_behind, word_told, no_keyword, no_symbol, string_goes, string_told, first_sign, told}
+use Rattle.script_laws.proofs.Bytes.{other_than, word_goes_behind, word_told, no_keyword, no_symbol, string_goes, string_told, first_sign, told}
 
 -- a token with this class and this text
 abbrev pub token : TokenKind → Place → List ℕ → Token
@@ -95,7 +96,7 @@ sign_front b s h =
     no_letter_sign b h = go (is_letter_or_digit b) refl
       where
         go : (x : Bool) → is_letter_or_digit b ≡ x → x ≡ false
-        go true e = absurd (no_bool (is_operation_byte b) h (other_than is_letter_or_digit (codes "#%&*+-./<=>@\\^~{}") b refl e))
+        go true e = absurd (both_ways (is_operation_byte b) (other_than is_letter_or_digit (codes "#%&*+-./<=>@\\^~{}") b refl e) h)
         go false e = refl
 
 -- the marks of names

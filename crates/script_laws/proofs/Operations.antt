@@ -1,11 +1,12 @@
 -- Which operation a name, whatever the case of its letters, and argument sorts tell.
-use Rattle.std.proofs.Common.{ℕ, zero, suc, ◌≡◌, ◌∙◌, ◌⊎◌, inl, inr, ◌<◌, ◌+◌, ◌&&◌, Bool, true, false, List, [], ◌∷◌, map, Some}
+use Rattle.std.proofs.Common.{ℕ, zero, suc, ◌≡◌, ◌∙◌, ◌⊎◌, inl, inr, ◌<◌, ◌+◌, Bool, true, false, List, [], ◌∷◌, map, Some}
 use Rattle.std.proofs.Common.{refl, ap, sym, subst, arith, count_by, if◌then◌else◌, lt-ltb}
 use Rattle.std.specs.Char.{to_ascii_lowercase}
 use Rattle.std.specs.List.{slice_get}
 use Rattle.std.specs.Str.{bytes_eq}
 use Rattle.std.proofs.lemmas.List.Recursion.{is_count_by}
 use Rattle.std.proofs.lemmas.Slice.Eq.{bytes_eq-Decides}
+use Rattle.std.proofs.lemmas.Bool.{and_from, both_ways}
 use Rattle.spec_core.specs.Lists.{NoTwo}
 use Rattle.spec_core.specs.Names.{IsSameName}
 use Rattle.spec_core.specs.Ready.{IsSameOperation}
@@ -14,7 +15,6 @@ use Rattle.spec_core.specs.Theories.{Operation}
 use Rattle.value_text.specs.Values.{is_shared}
 use Rattle.value_text.proofs.Names.{one_place}
 use Rattle.value_text.proofs.Operations.{shares_itself}
-use Rattle.script_laws.proofs.Bytes.{no_bool}
 
 -- how many pass a test
 abbrev passing : {A : Type 0} → (A → Bool) → List A → ℕ
@@ -63,13 +63,9 @@ two_pass p (z ∷ xs) (suc i) (suc j) x y a b h k = go (two_pass p xs i j x y a 
     go (inl e) = inl (ap suc e)
     go (inr m) = inr (let l = more_pass (p z) (passing p xs) in omega (arith, m, l))
 
-both_true : (a b : Bool) → a ≡ true → b ≡ true → (a && b) ≡ true
-both_true true b h k = k
-both_true false b h k = absurd (cc)
-
 shares_so : (d e : Operation) → IsSameName e.name d.name → e.args ≡ d.args → shares d e ≡ true
 shares_so d e n a =
-    both_true (bytes_eq (map to_ascii_lowercase d.name) (map to_ascii_lowercase e.name)) (bytes_eq d.args e.args)
+    and_from (bytes_eq (map to_ascii_lowercase d.name) (map to_ascii_lowercase e.name)) (bytes_eq d.args e.args)
     ((bytes_eq-Decides (map to_ascii_lowercase d.name) (map to_ascii_lowercase e.name)).1 (sym n))
     ((bytes_eq-Decides d.args e.args).1 (sym a))
 
@@ -83,9 +79,9 @@ one_alone operations f g d e a b n r alone =
     go : (g ≡ f) ⊎ (1 < passing (shares d) operations) → g ≡ f
     go (inl e) = e
     go (inr more) =
-        absurd (no_bool (is_shared operations d)
-        (lt-ltb 1 (count_by (shares d) operations)
-        (subst (λ k. 1 < k) (is_count_by (passing (shares d)) (shares d) refl (λ x xs. refl) operations) more)) alone)
+        absurd (both_ways (is_shared operations d)
+        alone (lt-ltb 1 (count_by (shares d) operations)
+        (subst (λ k. 1 < k) (is_count_by (passing (shares d)) (shares d) refl (λ x xs. refl) operations) more)))
 
 -- the result sort tells two operations apart
 pub one_of_sort : (operations : List Operation) (f g : ℕ) (d e : Operation) → NoTwo IsSameOperation operations →

@@ -9,12 +9,13 @@ use Rattle.spec_core.specs.Ready.{IsSameOperation}
 use Rattle.spec_core.specs.Sorts.{OnSome, FitsData, OperationFits}
 use Rattle.spec_core.specs.Terms.{TermTree, TermTrees, apply, no_terms, and_term}
 use Rattle.spec_core.specs.Theories.{Operation, Theory}
+use Rattle.spec_core.proofs.Lists.{each_slice_get}
 use Rattle.sort_overloads.specs.Expressions.{Position, Expression, Expressions, named, applied, said, no_expressions, and_expression}
 use Rattle.sort_overloads.specs.Overloads.{IsOnlyReading}
 use Rattle.sort_overloads.specs.Readings.{Context, spelling, IsVariable, IsReading, AreReadings}
 use Rattle.script_text.specs.Meanings.{context_in}
 use Rattle.value_text.specs.Values.{is_shared, name_at}
-use Rattle.value_text.proofs.Names.{at_place, each_at, one_place}
+use Rattle.value_text.proofs.Names.{at_place, one_place}
 use Rattle.script_laws.proofs.Operations.{one_alone, one_of_sort}
 
 -- these terms are the one reading of each expression, and have these sorts
@@ -148,7 +149,7 @@ pub one_said : (theory : Theory) (fits : FitsData theory) (sorts : Each IsIdenti
     slice_get theory.operations f ≡ Some d → n.text ≡ name_at theory.sorts d.result → ReadsAlike theory e d f ts →
     IsOnlyReading (context_in theory) (said e n) None (apply f ts) d.result
 one_said theory fits sorts sorts_differ operations_differ e d f ts n at text h =
-    let q = at_place IsIdentifier theory.sorts d.result sorts (each_at (OperationFits theory) theory.operations f d fits.operations at).0 in
+    let q = at_place IsIdentifier theory.sorts d.result sorts (each_slice_get (OperationFits theory) theory.operations f d fits.operations at).0 in
     let named_so : n.text ≡ q.item = text ∙ ap (λ o. unwrap_or o []) q.at in
     record {
       wanted_sort = tt;

@@ -1,8 +1,9 @@
 -- The text of a ground term is read as an operand whose one reading is that term.
 use Rattle.std.proofs.Common.{ℕ, suc, ◌≡◌, ◌∙◌, ◌⊎◌, inl, inr, ◌+◌, ◌*◌, ◌-◌, ◌≤◌, ◌==◌, Bool, true, false, List, [], ◌∷◌, ◌++◌, codes, length}
-use Rattle.std.proofs.Common.{Option, Some, None, nat_le, ◌&&◌, max, refl, ap, sym, subst, arith, if◌then◌else◌, append_assoc, append-nil, unwrap_or, le-leb}
+use Rattle.std.proofs.Common.{Option, Some, None, nat_le, max, refl, ap, sym, subst, arith, if◌then◌else◌, append_assoc, append-nil, unwrap_or, le-leb}
 use Rattle.std.specs.List.{slice_get}
 use Rattle.std.proofs.Math.Nat.{le-max_left, le-max_right, max-le}
+use Rattle.std.proofs.lemmas.Bool.{and_from}
 use Rattle.lotos_ast.specs.declared.mark.Mark.{Mark}
 use Rattle.lotos_ast.specs.declared.place.Place.{Place}
 use Rattle.lotos_ast.specs.declared.token.Token.{Token}
@@ -23,11 +24,12 @@ use Rattle.spec_core.specs.Sorts.{FitsData, HasSort, HaveSorts, OnSome, Operatio
 use Rattle.spec_core.specs.TermText.{infix_at, gap_before, head_name, operation_name}
 use Rattle.spec_core.specs.Terms.{TermTree, TermTrees, variable, apply, no_terms, and_term, width}
 use Rattle.spec_core.specs.Theories.{Operation, Theory}
+use Rattle.spec_core.proofs.Lists.{each_slice_get}
 use Rattle.sort_overloads.specs.Expressions.{Expression, Expressions, before, between, named, applied, no_expressions, and_expression, with_sorts, simple_expression, further}
 use Rattle.sort_overloads.specs.Overloads.{IsOnlyReading}
 use Rattle.script_text.specs.Meanings.{context_in}
 use Rattle.value_text.specs.Values.{is_shared, name_at}
-use Rattle.value_text.proofs.Names.{EndsTerm, at_place, each_at, plain_begins, stops}
+use Rattle.value_text.proofs.Names.{EndsTerm, at_place, plain_begins, stops}
 use Rattle.value_text.proofs.OneTerm.{Form, plain, infixed, IsOver, over, text, suffix, gap, commas, constant_text, prefix_text, infix_text, ends_suffix, commas_end, first_sort, form_at}
 use Rattle.script_laws.specs.Depths.{depth, depth_over}
 use Rattle.script_laws.proofs.Bytes.{turned}
@@ -46,14 +48,10 @@ abbrev pub HasRoom : ℕ → Nesting → Type 0
 HasRoom n unlimited = Unit {0}
 HasRoom n (nested b c) = (b + n ≤ 256) × (c + 2 * n ≤ 4096)
 
-both_true : (x y : Bool) → x ≡ true → y ≡ true → (x && y) ≡ true
-both_true true y h k = k
-both_true false y h k = absurd (cc)
-
 within : (n : ℕ) (d : Nesting) → HasRoom n d → is_within d ≡ true
 within n unlimited h = refl
 within n (nested b c) h =
-    both_true (nat_le b 256) (nat_le c 4096) (le-leb b 256 (omega (arith, h.0))) (le-leb c 4096 (omega (arith, h.1)))
+    and_from (nat_le b 256) (nat_le c 4096) (le-leb b 256 (omega (arith, h.0))) (le-leb c 4096 (omega (arith, h.1)))
 
 less_room : (m n : ℕ) (d : Nesting) → n ≤ m → HasRoom m d → HasRoom n d
 less_room m n unlimited l h = tt
@@ -143,7 +141,7 @@ module _ (theory : Theory) (fits : FitsData theory) (names : Each (λ d. IsOpera
     where
       identifier : IsIdentifier (name_at theory.sorts o.result)
       identifier =
-          let q = at_place IsIdentifier theory.sorts o.result sorts (each_at (OperationFits theory) theory.operations f o fits.operations at).0 in
+          let q = at_place IsIdentifier theory.sorts o.result sorts (each_slice_get (OperationFits theory) theory.operations f o fits.operations at).0 in
           subst IsIdentifier (sym (ap (λ z. unwrap_or z []) q.at)) q.holds
 
       go : (x : Bool) → is_shared theory.operations o ≡ x →

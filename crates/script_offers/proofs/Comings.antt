@@ -1,9 +1,10 @@
 -- What holds of offers that come of wishes.
-use Rattle.std.proofs.Common.{ℕ, suc, ◌≡◌, ◌<◌, refl, sym, ap, subst, List, [], ◌∷◌, ◌++◌, length, Result, Ok, Err, IfOk, IfErr, arith}
+use Rattle.std.proofs.Common.{ℕ, suc, ◌≡◌, ◌<◌, refl, sym, ap, subst, List, [], ◌∷◌, length, Result, Ok, Err, IfErr, arith}
 use Rattle.spec_core.specs.Code.{Program}
 use Rattle.spec_core.specs.Lists.{Each}
 use Rattle.spec_core.specs.Terms.{TermTree, term_of}
 use Rattle.spec_core.specs.Theories.{Theory}
+use Rattle.spec_core.proofs.Lists.{each_middle}
 use Rattle.rewriter.specs.Answers.{SpellsValue, IsWithin}
 use Rattle.rule_model.specs.declared.offer.Field.{Field}
 use Rattle.rule_model.specs.declared.offer.Field.TheVariants.{Give, Take}
@@ -15,11 +16,6 @@ use Rattle.script_offers.specs.declared.fault.WishFault.TheVariants.{Spent, TooL
 use Rattle.script_offers.specs.Faults.{HasNoValue, IsFaultOf}
 use Rattle.script_offers.specs.Given.{IsValuedWithin}
 use Rattle.script_offers.specs.Valued.{OneByOne, IsValuedField, AreValuedFields, AreValued, AreScriptValued, FieldGivesValue, GivesValues}
-
--- what holds of what is answered, and of a fault that is handed on
-pub ok_implied : {T E : Type 0} (P Q : T → Type 0) (result : Result T E) → ((x : T) → P x → Q x) → IfOk result P → IfOk result Q
-ok_implied P Q (Ok x) k h = k x h
-ok_implied P Q (Err fault) k h = tt
 
 pub handed_on : {T : Type 0} (result : Result T WishFault) (P : WishFault → Type 0) (fault : WishFault) → result ≡ Err fault → P fault →
     IfErr result P
@@ -94,10 +90,6 @@ as_many R (x ∷ xs) [] h = absurd h
 as_many R (x ∷ xs) (y ∷ ys) h = ap suc (as_many R xs ys h.1)
 
 -- where all terms have values within the budget, and meet none that is too large, the only fault is want of memory
-each_middle : {A : Type 0} (P : A → Type 0) (xs ys : List A) (x : A) → Each P (xs ++ x ∷ ys) → P x
-each_middle P [] ys x h = h.0
-each_middle P (z ∷ xs) ys x h = each_middle P xs ys x h.1
-
 only_memory : (theory : Theory) (budget : ℕ) (terms : List TermTree) (fault : WishFault) → IsFaultOf theory budget terms fault →
     Each (λ t. IsWithin theory t budget) terms → fault ≡ Memory
 only_memory theory budget terms (Spent x) f h =

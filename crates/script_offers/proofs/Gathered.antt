@@ -1,20 +1,17 @@
 -- Elements that come one by one to related ones, those before some place.
-use Rattle.std.proofs.Common.{ℕ, ◌≡◌, ◌<◌, ◌+◌, ◌∙◌, sym, ap, subst, List, [], ◌∷◌, ◌++◌, map, length, drop, get_or, append_assoc}
+use Rattle.std.proofs.Common.{ℕ, ◌≡◌, ◌∙◌, sym, ap, subst, List, [], ◌∷◌, ◌++◌, append_assoc}
 use Rattle.std.proofs.lemmas.Grind.{flat_map-append}
-use Rattle.std.proofs.lemmas.List.{append-nil, drop_more}
+use Rattle.std.proofs.lemmas.List.{append-nil}
 use Rattle.std.specs.List.{flat_map}
 use Rattle.spec_core.specs.Lists.{Each}
 use Rattle.spec_core.specs.Terms.{TermTree, term_of}
 use Rattle.spec_core.specs.Theories.{Theory}
+use Rattle.spec_core.proofs.Lists.{each_append}
 use Rattle.script_offers.specs.declared.fault.WishFault.{WishFault}
 use Rattle.script_offers.specs.declared.fault.WishFault.TheVariants.{Spent, TooLarge, Memory}
 use Rattle.script_offers.specs.Faults.{IsFaultOf}
 use Rattle.script_offers.specs.Given.{IsValuedWithin, IsFirstWithout}
 use Rattle.script_offers.specs.Valued.{OneByOne}
-
-pub each_join : {A : Type 0} (P : A → Type 0) (xs ys : List A) → Each P xs → Each P ys → Each P (xs ++ ys)
-each_join P [] ys h k = k
-each_join P (x ∷ xs) ys h k = (h.0, each_join P xs ys h.1 k)
 
 related_more : {A B : Type 0} (R : A → B → Type 0) (xs : List A) (ys : List B) (x : A) (y : B) →
     OneByOne R xs ys → R x y → OneByOne R (xs ++ x ∷ []) (ys ++ y ∷ [])
@@ -42,7 +39,7 @@ module _ {A B : Type 0} (R : A → B → Type 0) (given : A → List TermTree) (
     parts = g.parts ∙ (ap (λ z. g.before ++ z) is ∙ sym (append_assoc g.before (x ∷ []) rest));
     related = subst (OneByOne R (g.before ++ x ∷ [])) (sym e) (related_more R g.before before x y g.related h);
     valued = subst (Each P) (sym (flat_map-append given g.before (x ∷ [])))
-        (each_join P (flat_map given g.before) (given x ++ []) g.valued (subst (Each P) (sym (append-nil (given x))) k));
+        (each_append P (flat_map given g.before) (given x ++ []) g.valued (subst (Each P) (sym (append-nil (given x))) k));
   }
 
   whole : (before rest : List A) → all ≡ before ++ rest → rest ≡ [] → before ≡ all
@@ -64,7 +61,7 @@ module _ (theory : Theory) (budget : ℕ) where
     parts = e ∙ (ap (λ z. before ++ (z ++ behind)) f.parts
         ∙ (ap (λ z. before ++ z) (append_assoc f.before (t ∷ f.behind) behind)
         ∙ sym (append_assoc before f.before (t ∷ (f.behind ++ behind)))));
-    valued = each_join (IsValuedWithin theory budget) before f.before h f.valued;
+    valued = each_append (IsValuedWithin theory budget) before f.before h f.valued;
   }
 
   fault_behind : (terms before inner behind : List TermTree) (fault : WishFault) → terms ≡ before ++ (inner ++ behind) →
@@ -79,8 +76,3 @@ module _ (theory : Theory) (budget : ℕ) where
   gathered_fault R given all done x here rest fault g is f =
       fault_behind (flat_map given all) (flat_map given g.before) (given x) (flat_map given rest) fault
       (ap (flat_map given) (g.parts ∙ ap (λ z. g.before ++ z) is) ∙ flat_map-append given g.before (x ∷ rest)) g.valued f
-
--- an element and those behind it
-pub here_is : {A B : Type 0} (f : A → B) (xs : List A) (i : ℕ) (x : A) → i < length xs → x ≡ get_or xs i x →
-    map f (drop i xs) ≡ f x ∷ map f (drop (i + 1) xs)
-here_is f xs i x h e = ap (map f) (drop_more xs i x h ∙ ap (λ z. z ∷ drop (i + 1) xs) (sym e))

@@ -1,6 +1,6 @@
 -- Fields, one after another.
-use Rattle.std.proofs.Common.{ℕ, ◌≡◌, ◌<◌, ◌+◌, List, [], ◌∷◌, ◌++◌, inl, inr, map, length, drop, get_or, sym, subst, ap, ◌∙◌, append_assoc}
-use Rattle.std.proofs.lemmas.List.{append-nil, drop_more, map-append}
+use Rattle.std.proofs.Common.{◌≡◌, List, [], ◌∷◌, ◌++◌, inl, inr, map, sym, subst, ap, ◌∙◌, append_assoc}
+use Rattle.std.proofs.lemmas.List.{append-nil, map-append}
 use Rattle.spec_core.specs.Lists.{OneOf}
 use Rattle.sort_overloads.specs.Readings.{Context}
 use Rattle.script_text.specs.Meanings.{HasUnclearTerm, FieldMeans, FieldsMean}
@@ -40,10 +40,5 @@ pub meant_push : (c : Context) (fields : List Field) (before after : List WishFi
 meant_push c fields before after f w here rest m is h e =
     meant_next c fields (map wished_field_of before) (map wished_field_of after) f (wished_field_of w) here rest m is h
     (ap (map wished_field_of) e ∙ map-append wished_field_of before (w ∷ []))
-
--- an element and those behind it
-pub here_is : {A B : Type 0} (f : A → B) (xs : List A) (i : ℕ) (x : A) → i < length xs → x ≡ get_or xs i x →
-    map f (drop i xs) ≡ f x ∷ map f (drop (i + 1) xs)
-here_is f xs i x h e = ap (map f) (drop_more xs i x h ∙ ap (λ z. z ∷ drop (i + 1) xs) (sym e))
 
 pub ruleset meaning_steps = (meant_begin, meant_finish)

@@ -9,6 +9,7 @@ use Rattle.std.specs.Prelude.{Vec}
 use Rattle.std.specs.declared.alloc.Global.{Global}
 use Rattle.script_text.specs.declared.wish.Wish.{Wish}
 use Rattle.spec_core.specs.Lists.{Each}
+use Rattle.spec_core.proofs.Lists.{each_push}
 use Rattle.script_text.specs.Scripts.{wishes_of, greatest_client, wishes_up_to, by_client}
 use Rattle.script_text.specs.Wishes.{Wished, ClientWish, wished_of, all_wished_of}
 
@@ -131,13 +132,9 @@ of_one P k (x ∷ xs) h = put (x.client == k) (of_one P k xs h.1)
     put true g = (h.0, g)
     put false g = g
 
-behind : {A : Type 0} (P : A → Type 0) (xs : List A) (y : A) → Each P xs → P y → Each P (xs ++ y ∷ [])
-behind P [] y h k = (k, tt)
-behind P (x ∷ xs) y h k = (h.0, behind P xs y h.1 k)
-
 up_to_each : (P : Wished → Type 0) (n : ℕ) (said : List ClientWish) → Each (λ x. P x.wish) said → Each (Each P) (wishes_up_to n said)
 up_to_each P zero said h = tt
-up_to_each P (suc n) said h = behind (Each P) (wishes_up_to n said) (wishes_of (suc n) said) (up_to_each P n said h) (of_one P (suc n) said h)
+up_to_each P (suc n) said h = each_push (Each P) (wishes_up_to n said) (wishes_of (suc n) said) (up_to_each P n said h) (of_one P (suc n) said h)
 
 pub of_each : (P : Wished → Type 0) (said : List ClientWish) → Each (λ x. P x.wish) said → Each (Each P) (by_client said)
 of_each P said h = up_to_each P (greatest_client said) said h

@@ -1,9 +1,10 @@
 -- Expressions with one reading, and those without.
-use Rattle.std.proofs.Common.{ℕ, zero, suc, ◌≡◌, inl, inr, List, [], ◌∷◌, ◌++◌, Bool, true, false, ◌||◌, Option, Some, None, refl, sym, ap, subst, ◌∙◌, arith, if◌then◌else◌}
+use Rattle.std.proofs.Common.{ℕ, zero, suc, ◌≡◌, inl, inr, List, [], ◌∷◌, ◌++◌, Bool, true, false, Option, Some, None, refl, sym, ap, subst, ◌∙◌, arith, if◌then◌else◌}
 use Rattle.std.specs.List.{slice_get, list_any}
 use Rattle.std.specs.Char.{to_ascii_lowercase}
 use Rattle.std.specs.Prelude.{map}
 use Rattle.std.proofs.lemmas.Slice.Eq.{bytes_eq-Decides}
+use Rattle.std.proofs.lemmas.Bool.{or_right, or_left}
 use Rattle.lotos_ast.specs.declared.place.Place.{Place}
 use Rattle.lotos_ast.specs.declared.refusal.Refusal.{Refusal}
 use Rattle.lotos_ast.specs.declared.refusal.RefusalKind.TheVariants.{UnknownName, UnknownSort}
@@ -26,19 +27,12 @@ on_some : {A Q : Type 0} {P : A → Type 0} (o : Option A) → ((x : A) → P x 
 on_some None f h = absurd h
 on_some (Some x) f h = f x h
 
-either_true : (x y : Bool) → y ≡ true → (x || y) ≡ true
-either_true true y h = refl
-either_true false y h = h
-
-first_is_true : (x y : Bool) → x ≡ true → (x || y) ≡ true
-first_is_true x y h = ap (λ z. z || y) h
-
 any_there : {A : Type 0} {P : A → Type 0} (p : A → Bool) (xs : List A) (i : ℕ) → ((x : A) → P x → p x ≡ true) → OnSome (slice_get xs i) P →
     list_any p xs ≡ true
 any_there p [] zero f h = absurd h
 any_there p [] (suc i) f h = absurd h
-any_there p (x ∷ xs) zero f h = first_is_true (p x) (list_any p xs) (f x h)
-any_there p (x ∷ xs) (suc i) f h = either_true (p x) (list_any p xs) (any_there p xs i f h)
+any_there p (x ∷ xs) zero f h = or_left (p x) (list_any p xs) (f x h)
+any_there p (x ∷ xs) (suc i) f h = or_right (p x) (list_any p xs) (any_there p xs i f h)
 
 same : (a b : List ℕ) → IsSameName a b → is_same_name a b ≡ true
 same a b h = (bytes_eq-Decides (map to_ascii_lowercase a) (map to_ascii_lowercase b)).1 h
@@ -50,8 +44,8 @@ both_empty : {A : Type 0} (xs ys : List A) → xs ≡ [] → ys ≡ [] → xs ++
 both_empty xs ys e f = ap (λ zs. zs ++ ys) e ∙ f
 
 called : (position : Position) (name : List ℕ) (d : Operation) → IsSameName d.name (spelling position name) → is_called name d ≡ true
-called before name d h = first_is_true (is_same_name d.name name) (is_same_name d.name (spelling between name)) (same d.name name h)
-called between name d h = either_true (is_same_name d.name name) (is_same_name d.name (spelling between name)) (same d.name (spelling between name) h)
+called before name d h = or_left (is_same_name d.name name) (is_same_name d.name (spelling between name)) (same d.name name h)
+called between name d h = or_right (is_same_name d.name name) (is_same_name d.name (spelling between name)) (same d.name (spelling between name) h)
 
 known_name : (c : Context) (name : Token) → is_known c name.text ≡ true → unknown_name c name ≡ []
 known_name c name h = nothing_unknown (is_known c name.text) (refused UnknownName name.place [] ∷ []) h
@@ -59,14 +53,14 @@ known_name c name h = nothing_unknown (is_known c name.text) (refused UnknownNam
 by_variable : (c : Context) (name : Token) (x sort : ℕ) →
     OnSome (slice_get c.variables x) (λ v. IsSameName v.name name.text × (v.sort ≡ sort)) → unknown_name c name ≡ []
 by_variable c name x sort h =
-    known_name c name (first_is_true (list_any (λ v. is_same_name v.name name.text) c.variables) (list_any (is_called name.text) c.operations)
+    known_name c name (or_left (list_any (λ v. is_same_name v.name name.text) c.variables) (list_any (is_called name.text) c.operations)
     (any_there {P = λ v. IsSameName v.name name.text × (v.sort ≡ sort)} (λ v. is_same_name v.name name.text) c.variables x
     (λ v p. same v.name name.text p.0) h))
 
 by_operation : (c : Context) (position : Position) (name : Token) (f : ℕ) {P : Operation → Type 0} →
     ((d : Operation) → P d → IsSameName d.name (spelling position name.text)) → OnSome (slice_get c.operations f) P → unknown_name c name ≡ []
 by_operation c position name f {P} g h =
-    known_name c name (either_true (list_any (λ v. is_same_name v.name name.text) c.variables) (list_any (is_called name.text) c.operations)
+    known_name c name (or_right (list_any (λ v. is_same_name v.name name.text) c.variables) (list_any (is_called name.text) c.operations)
     (any_there {P = P} (is_called name.text) c.operations f (λ d p. called position name.text d (g d p)) h))
 
 by_sort : (c : Context) (name : Token) (sort : ℕ) → OnSome (slice_get c.sorts sort) (λ other. IsSameName other name.text) → unknown_sort c name ≡ []

@@ -4,10 +4,13 @@ use Rattle.std.specs.Prelude.{option_to_list, is_none}
 use Rattle.std.specs.List.{list_any, position_or_len}
 use Rattle.std.specs.Str.Lines.{lines}
 use Rattle.std.proofs.lemmas.Bool.Decides.{nat_tests}
+use Rattle.std.proofs.lemmas.Option.{same_Some}
 use Rattle.lotos_ast.specs.declared.text_kind.TextKind.{TextKind}
 use Rattle.spec_core.specs.Code.{Program}
 use Rattle.spec_core.specs.Lists.{Each, OneOf}
 use Rattle.spec_core.specs.Theories.{Theory}
+use Rattle.spec_core.proofs.Options.{some_none}
+use Rattle.spec_core.proofs.Lists.{each_implied}
 use Rattle.sort_overloads.specs.Listed.{is_same_name}
 use Rattle.sort_overloads.specs.Readings.{Context}
 use Rattle.script_text.specs.Faults.{IsFaultOf, no_client, no_gate, no_sort, no_term, IsLineFault, no_line, by_meaning}
@@ -22,12 +25,9 @@ use Rattle.script_text.proofs.Grouping.{few_clients, of_each}
 use Rattle.script_text.proofs.OneReadings.{reading_sorts_known, reading_sort}
 use Rattle.script_text.proofs.WholeTexts.{one_text}
 
-some_one : {A : Type 0} {x y : A} → Some x ≡ Some y → x ≡ y
-some_one h = cc
-
 -- a line says one thing
 one_line : (text : List ℕ) (l m : Line) → IsLine text (Some l) → IsLine text (Some m) → l ≡ m
-one_line text l m (says x _ h i e) (says y _ k j f) = some_one (sym e ∙ ap line_in (one_text i j) ∙ f)
+one_line text l m (says x _ h i e) (says y _ k j f) = same_Some _ _ (sym e ∙ ap line_in (one_text i j) ∙ f)
 
 never_both : (text : List ℕ) (l : Line) → IsLine text None → IsLine text (Some l) → ⊥
 never_both text l (skipped h) (says x _ k i e) = cc
@@ -39,7 +39,7 @@ one_field c (given e) (gives t) (takes s) h k = absurd k
 one_field c (given e) (takes s) v h k = absurd h
 one_field c (taken name) (gives t) v h k = absurd h
 one_field c (taken name) (takes s) (gives t) h k = absurd k
-one_field c (taken name) (takes s) (takes r) h k = ap takes (some_one (sym h ∙ k))
+one_field c (taken name) (takes s) (takes r) h k = ap takes (same_Some _ _ (sym h ∙ k))
 
 one_list : (c : Context) (fs : List Field) (ws vs : List WishedField) → FieldsMean c fs ws → FieldsMean c fs vs → ws ≡ vs
 one_list c [] [] [] h k = refl
@@ -59,7 +59,7 @@ same_wish x y a b c d =
 
 one_meaning : (c : Context) (gates : List (List ℕ)) (l : Line) (x y : ClientWish) → LineMeans c gates l x → LineMeans c gates l y → x ≡ y
 one_meaning c gates l x y h k =
-    same_wish x y (some_one (sym h.client ∙ k.client)) (h.ask ∙ sym k.ask) (some_one (sym h.gate ∙ k.gate))
+    same_wish x y (same_Some _ _ (sym h.client ∙ k.client)) (h.ask ∙ sym k.ask) (same_Some _ _ (sym h.gate ∙ k.gate))
     (one_list c l.fields x.wish.fields y.wish.fields h.fields k.fields)
 
 one_saying : (c : Context) (gates : List (List ℕ)) (text : List ℕ) (x y : Option ClientWish) → LineSays c gates text x → LineSays c gates text y →
@@ -107,13 +107,10 @@ fields_clear c (f ∷ fs) [] h k = h
 fields_clear c (f ∷ fs) (w ∷ ws) h (inl k) = field_clear c f w h.0 k
 fields_clear c (f ∷ fs) (w ∷ ws) h (inr k) = fields_clear c fs ws h.1 k
 
-apart : {A : Type 0} {o : Option A} {x : A} → o ≡ Some x → o ≡ None → ⊥
-apart h k = cc
-
 meaning_or_fault : (c : Context) (gates : List (List ℕ)) (l : Line) (x : ClientWish) (kind : TextKind) → LineMeans c gates l x →
     IsFaultOf c gates l kind → ⊥
-meaning_or_fault c gates l x _ h (no_client k) = apart h.client k
-meaning_or_fault c gates l x _ h (no_gate n i k) = apart h.gate k
+meaning_or_fault c gates l x _ h (no_client k) = some_none _ h.client k
+meaning_or_fault c gates l x _ h (no_gate n i k) = some_none _ h.gate k
 meaning_or_fault c gates l x _ h (no_sort n g i j k) = let known = fields_known c l.fields x.wish.fields h.fields in cc
 meaning_or_fault c gates l x _ h (no_term n g i j k m) = fields_clear c l.fields x.wish.fields h.fields m
 
@@ -128,19 +125,19 @@ saying_or_fault c gates text _ kind (wish_said l x h i) (by_meaning m k j) =
 one_fault_of : (c : Context) (gates : List (List ℕ)) (l : Line) (kind other : TextKind) → IsFaultOf c gates l kind → IsFaultOf c gates l other →
     kind ≡ other
 one_fault_of c gates l _ _ (no_client h) (no_client k) = refl
-one_fault_of c gates l _ _ (no_client h) (no_gate n i k) = absurd (apart i h)
-one_fault_of c gates l _ _ (no_client h) (no_sort n g i j k) = absurd (apart i h)
-one_fault_of c gates l _ _ (no_client h) (no_term n g i j k m) = absurd (apart i h)
-one_fault_of c gates l _ _ (no_gate n i h) (no_client k) = absurd (apart i k)
+one_fault_of c gates l _ _ (no_client h) (no_gate n i k) = absurd (some_none _ i h)
+one_fault_of c gates l _ _ (no_client h) (no_sort n g i j k) = absurd (some_none _ i h)
+one_fault_of c gates l _ _ (no_client h) (no_term n g i j k m) = absurd (some_none _ i h)
+one_fault_of c gates l _ _ (no_gate n i h) (no_client k) = absurd (some_none _ i k)
 one_fault_of c gates l _ _ (no_gate n i h) (no_gate m j k) = refl
-one_fault_of c gates l _ _ (no_gate n i h) (no_sort m g j o k) = absurd (apart o h)
-one_fault_of c gates l _ _ (no_gate n i h) (no_term m g j o k q) = absurd (apart o h)
-one_fault_of c gates l _ _ (no_sort n g i j h) (no_client k) = absurd (apart i k)
-one_fault_of c gates l _ _ (no_sort n g i j h) (no_gate m o k) = absurd (apart j k)
+one_fault_of c gates l _ _ (no_gate n i h) (no_sort m g j o k) = absurd (some_none _ o h)
+one_fault_of c gates l _ _ (no_gate n i h) (no_term m g j o k q) = absurd (some_none _ o h)
+one_fault_of c gates l _ _ (no_sort n g i j h) (no_client k) = absurd (some_none _ i k)
+one_fault_of c gates l _ _ (no_sort n g i j h) (no_gate m o k) = absurd (some_none _ j k)
 one_fault_of c gates l _ _ (no_sort n g i j h) (no_sort m q o r k) = refl
 one_fault_of c gates l _ _ (no_sort n g i j h) (no_term m q o r k s) = absurd (cc)
-one_fault_of c gates l _ _ (no_term n g i j h t) (no_client k) = absurd (apart i k)
-one_fault_of c gates l _ _ (no_term n g i j h t) (no_gate m o k) = absurd (apart j k)
+one_fault_of c gates l _ _ (no_term n g i j h t) (no_client k) = absurd (some_none _ i k)
+one_fault_of c gates l _ _ (no_term n g i j h t) (no_gate m o k) = absurd (some_none _ j k)
 one_fault_of c gates l _ _ (no_term n g i j h t) (no_sort m q o r k) = absurd (cc)
 one_fault_of c gates l _ _ (no_term n g i j h t) (no_term m q o r k s) = refl
 
@@ -232,16 +229,12 @@ all_right program [] _ no_lines = tt
 all_right program (text ∷ texts) all (more_lines x said h i e) =
     subst (Each (Right program)) (sym e) (each_right program x said text h (all_right program texts said i))
 
-each_of : {A : Type 0} {P Q : A → Type 0} (xs : List A) → ((x : A) → P x → Q x) → Each P xs → Each Q xs
-each_of [] f h = tt
-each_of (x ∷ xs) f h = (f x h.0, each_of xs f h.1)
-
 pub script_fits : (program : Program) (text : List ℕ) (clients : List (List Wished)) → SpellsScript program text clients →
     Each (Each (WishFits program)) clients
 script_fits program text clients h =
     subst (Each (Each (WishFits program))) (sym h.each_client)
-    (of_each (WishFits program) h.said (each_of h.said (λ x r. r.fits) (all_right program (lines text) h.said h.say)))
+    (of_each (WishFits program) h.said (each_implied _ _ h.said (λ x r. r.fits) (all_right program (lines text) h.said h.say)))
 
 pub script_few : (program : Program) (text : List ℕ) (clients : List (List Wished)) → SpellsScript program text clients → length clients ≤ 64
 script_few program text clients h =
-    subst (λ z. length z ≤ 64) (sym h.each_client) (few_clients h.said (each_of h.said (λ x r. r.few) (all_right program (lines text) h.said h.say)))
+    subst (λ z. length z ≤ 64) (sym h.each_client) (few_clients h.said (each_implied _ _ h.said (λ x r. r.few) (all_right program (lines text) h.said h.say)))

@@ -2,21 +2,22 @@
 use Rattle.std.proofs.Common.{ℕ, suc, ◌+◌, ◌-◌, ◌≤◌, ◌≡◌, ◌∙◌, ◌⊎◌, inl, inr, refl, sym, ap, subst, arith}
 use Rattle.std.proofs.Common.{List, [], ◌∷◌, ◌++◌, map, filter, append_assoc, append-nil}
 use Rattle.std.proofs.Common.{Contains, Bool, true, false, cond, nat_eq, None, Some}
-use Rattle.std.proofs.lemmas.Bool.{eq-eqb, eqb-true}
+use Rattle.std.proofs.lemmas.Bool.{eq-eqb, eqb-true, true≢false}
 use Rattle.std.specs.List.Sorted.{IsStrictlyIncreasing}
-use Rattle.std.proofs.lemmas.List.Elements.{filter-append}
+use Rattle.std.proofs.lemmas.List.Elements.{filter-append, Contains-push_cases}
 use Rattle.std.proofs.lemmas.List.Kept.{AllPairs-from_increasing}
 use Rattle.spec_core.specs.Code.{Program}
 use Rattle.spec_core.specs.Lists.{Each}
+use Rattle.spec_core.proofs.Members.{contains_first, contains_later, contains_none}
 use Rattle.turn_lock.specs.Entries.{is_named, made_by, Begins}
 use Rattle.turn_lock.specs.Seats.{AgreesWith, SeatModel}
 use Rattle.rule_model.specs.Events.{Event, event_of, pended, acted, replied, stalled, left}
 use Rattle.rule_model.specs.Legal.{IsDerivation, IsPossible}
 use Rattle.rule_model.specs.States.{PendingOffer, State, start_state, without_taken}
 use Rattle.session_closing.specs.Clients.{numbers_from}
-use Rattle.session_closing.proofs.Members.{first_in, in_cases, later_in, none_in}
-use Rattle.session_closing.proofs.Tests.{by_cases, on_either, true_false}
-use Rattle.board_core.proofs.Members.{in_behind, in_filtered}
+use Rattle.session_closing.proofs.Members.{in_cases}
+use Rattle.session_closing.proofs.Tests.{by_cases, on_either}
+use Rattle.board_core.proofs.Members.{in_filtered}
 use Rattle.board_core.specs.Views.{events, program, state}
 use Rattle.session_closing.specs.Answers.{offers_by}
 use Rattle.session_closing.specs.Logs.{IsOfClient}
@@ -73,12 +74,12 @@ leaves_none n (k ∷ ks) least out =
     by_cases (nat_eq n (k - 1))
     (λ e.
     let same = eqb-true n (k - 1) e in
-    let first = least k (first_in k ks) in
+    let first = least k (contains_first k ks) in
     let is : k ≡ n + 1 = omega (arith, same, first) in
-    absurd (out (subst (λ z. Contains (k ∷ ks) z) is (first_in k ks))))
+    absurd (out (subst (λ z. Contains (k ∷ ks) z) is (contains_first k ks))))
     (λ e.
     ap (λ b. cond b (left k ∷ seat_events n (map left ks)) (seat_events n (map left ks))) e
-    ∙ leaves_none n ks (λ j among. least j (later_in k j ks among)) (λ among. out (later_in k (n + 1) ks among)))
+    ∙ leaves_none n ks (λ j among. least j (contains_later k j ks among)) (λ among. out (contains_later k (n + 1) ks among)))
 
 -- the first of numbers that rise isn't among the later ones
 not_again : (k : ℕ) (ks : List ℕ) → IsStrictlyIncreasing (k ∷ ks) → Contains ks k → ⊥
@@ -92,27 +93,27 @@ later_rise k ks rise i below =
 
 leaves_once : (n : ℕ) (ks : List ℕ) → ((k : ℕ) → Contains ks k → 1 ≤ k) → IsStrictlyIncreasing ks →
     (Contains ks (n + 1) × (seat_events n (map left ks) ≡ left (n + 1) ∷ [])) ⊎ ((Contains ks (n + 1) → ⊥) × (seat_events n (map left ks) ≡ []))
-leaves_once n [] least rise = inr (none_in (n + 1), refl)
+leaves_once n [] least rise = inr (contains_none (n + 1), refl)
 leaves_once n (k ∷ ks) least rise =
     by_cases (nat_eq n (k - 1))
     (λ e.
     let same = eqb-true n (k - 1) e in
-    let first = least k (first_in k ks) in
+    let first = least k (contains_first k ks) in
     let is : k ≡ n + 1 = omega (arith, same, first) in
     inl (
-      subst (λ z. Contains (k ∷ ks) z) is (first_in k ks),
+      subst (λ z. Contains (k ∷ ks) z) is (contains_first k ks),
       ap (λ b. cond b (left k ∷ seat_events n (map left ks)) (seat_events n (map left ks))) e
-          ∙ ap (λ l. left k ∷ l) (leaves_none n ks (λ j among. least j (later_in k j ks among))
+          ∙ ap (λ l. left k ∷ l) (leaves_none n ks (λ j among. least j (contains_later k j ks among))
           (λ among. not_again k ks rise (subst (λ z. Contains ks z) (sym is) among)))
           ∙ ap (λ z. left z ∷ []) is,
     ))
     (λ e.
     let kept = ap (λ b. cond b (left k ∷ seat_events n (map left ks)) (seat_events n (map left ks))) e in
-    on_either (leaves_once n ks (λ j among. least j (later_in k j ks among)) (later_rise k ks rise))
-    (λ h. inl (later_in k (n + 1) ks h.0, kept ∙ h.1))
+    on_either (leaves_once n ks (λ j among. least j (contains_later k j ks among)) (later_rise k ks rise))
+    (λ h. inl (contains_later k (n + 1) ks h.0, kept ∙ h.1))
     (λ h. inr (
       λ among. on_either (in_cases k (n + 1) ks among)
-          (λ is. true_false (sym (eq-eqb n (k - 1) (omega (arith, is))) ∙ e))
+          (λ is. absurd (true≢false (sym (eq-eqb n (k - 1) (omega (arith, is))) ∙ e)))
           h.0,
       kept ∙ h.1,
     )))
@@ -132,7 +133,7 @@ module _ (program : Program) (P : ℕ → Type 0) where
       subst AreOf (sym h.4) (record {
         pending =
             λ p among.
-            on_either (in_behind s.pending _ p among) (are.pending p)
+            on_either (Contains-push_cases s.pending _ p among) (are.pending p)
             (λ is. subst (λ (z : PendingOffer). P z.client) is (are.clients client h.0));
         clients = are.clients;
       })
@@ -141,7 +142,7 @@ module _ (program : Program) (P : ℕ → Type 0) where
   after_entry s t (replied client number answer) h are =
       subst AreOf (sym h.2) (record { pending = λ p among. are.pending p (in_filtered _ s.pending p among); clients = are.clients })
   after_entry s t (stalled names) h are =
-      subst AreOf (sym h.2) (record { pending = λ p among. absurd (none_in p among); clients = are.clients })
+      subst AreOf (sym h.2) (record { pending = λ p among. absurd (contains_none p among); clients = are.clients })
   after_entry s t (left client) h are =
       subst AreOf (sym h.2) (record { pending = are.pending; clients = λ k among. are.clients k (in_filtered _ s.open_clients k among) })
 
@@ -166,7 +167,7 @@ module _ (v : SharedView) (driven : HasDrivenLog v.board) where
       after_log (program v.board) (IsNumber clients) (events v.board) start (state v.board)
       (driven_derives (program v.board) v.board.settings start v.board.stop (events v.board) (state v.board) driven.driven)
       (record {
-        pending = λ p among. absurd (none_in p among);
+        pending = λ p among. absurd (contains_none p among);
         clients = λ k among. let m = is_number 1 clients k among in let below = m.1 in (m.0, omega (arith, below));
       })
 
@@ -177,7 +178,7 @@ module _ (v : SharedView) (driven : HasDrivenLog v.board) where
       by_list : (ps : List PendingOffer) → (state v.board).pending ≡ ps → ps ≡ []
       by_list [] e = refl
       by_list (p ∷ ps) e =
-          let among : Contains (state v.board).pending p = subst (λ l. Contains l p) (sym e) (first_in p ps) in
+          let among : Contains (state v.board).pending p = subst (λ l. Contains l p) (sym e) (contains_first p ps) in
           let of = of_session.pending p among in
           let h = answers p.client of.0 of.1 in
           absurd

@@ -1,11 +1,13 @@
 -- Seats that are handed back.
 use Rattle.std.proofs.Common.{ℕ, ◌+◌, ◌≤◌, ◌<◌, ◌≡◌, ◌∙◌, refl, sym, ap, subst, arith, List, [], ◌∷◌, ◌++◌, map, append_assoc, append-nil}
-use Rattle.std.proofs.Common.{Contains, zero, suc, ◌⊎◌, inl, inr}
+use Rattle.std.proofs.Common.{Contains, ◌⊎◌, inl, inr}
 use Rattle.std.specs.Prelude.{All}
 use Rattle.std.specs.List.{AllByRecursion}
 use Rattle.std.proofs.lemmas.List.Elements.{All-contains, All-from_recursion, Contains-append_left}
 use Rattle.std.proofs.lemmas.List.Elements.{Contains-append_right}
-use Rattle.session_closing.proofs.Members.{first_in, in_cases, later_in, none_in}
+use Rattle.std.proofs.lemmas.Bool.{cases_lt}
+use Rattle.spec_core.proofs.Members.{contains_first, contains_later, contains_none}
+use Rattle.session_closing.proofs.Members.{in_cases}
 use Rattle.session_closing.proofs.Tests.{on_either}
 use Rattle.turn_lock.specs.Seats.{IsAtRest, LockId, SeatModel}
 use Rattle.session_board.specs.declared.line.Line.{Line}
@@ -36,14 +38,14 @@ module _ {P : Type 0} (IsOf : P → Seat → Type 0) where
         more = all;
         behind = grown ∙ ap (λ l. l ++ seat ∷ []) h.behind ∙ append_assoc old h.more (seat ∷ []);
         each = (
-          (seat, Contains-append_right h.more (seat ∷ []) seat (first_in seat []), is),
+          (seat, Contains-append_right h.more (seat ∷ []) seat (contains_first seat []), is),
           each_weaker (HasSeat IsOf h.more) (HasSeat IsOf all)
               (λ q k. (k.0, Contains-append_left h.more (seat ∷ []) k.0 k.1, k.2)) done h.each,
         );
         only =
             each_append (IsSeatOfOne IsOf (p ∷ done)) h.more (seat ∷ [])
-            (each_weaker (IsSeatOfOne IsOf done) (IsSeatOfOne IsOf (p ∷ done)) (λ s k. (k.0, later_in p k.0 done k.1, k.2)) h.more h.only)
-            ((p, first_in p done, is), tt);
+            (each_weaker (IsSeatOfOne IsOf done) (IsSeatOfOne IsOf (p ∷ done)) (λ s k. (k.0, contains_later p k.0 done k.1, k.2)) h.more h.only)
+            ((p, contains_first p done, is), tt);
       }
 
   -- the same of all passes, once none is left
@@ -57,26 +59,21 @@ module _ {P : Type 0} (IsOf : P → Seat → Type 0) where
 
 -- an element by what a function makes of it
 pub from_mapped : {X : Type 0} (f : X → ℕ) (xs : List X) (n : ℕ) → Contains (map f xs) n → (x : X) × Contains xs x × (f x ≡ n)
-from_mapped f [] n h = absurd (none_in n h)
+from_mapped f [] n h = absurd (contains_none n h)
 from_mapped f (x ∷ xs) n h =
     on_either (in_cases (f x) n (map f xs) h)
-    (λ e. (x, first_in x xs, e))
-    (λ later. let r = from_mapped f xs n later in (r.0, later_in x r.0 xs r.1, r.2))
+    (λ e. (x, contains_first x xs, e))
+    (λ later. let r = from_mapped f xs n later in (r.0, contains_later x r.0 xs r.1, r.2))
 
 to_mapped : {X : Type 0} (f : X → ℕ) (xs : List X) (x : X) → Contains xs x → Contains (map f xs) (f x)
-to_mapped f [] x h = absurd (none_in x h)
+to_mapped f [] x h = absurd (contains_none x h)
 to_mapped f (y ∷ ys) x h =
     on_either (in_cases y x ys h)
-    (λ e. subst (λ z. Contains (f y ∷ map f ys) (f z)) e (first_in (f y) (map f ys)))
-    (λ later. later_in (f y) (f x) (map f ys) (to_mapped f ys x later))
+    (λ e. subst (λ z. Contains (f y ∷ map f ys) (f z)) e (contains_first (f y) (map f ys)))
+    (λ later. contains_later (f y) (f x) (map f ys) (to_mapped f ys x later))
 
 in_each : {X : Type 0} (A : X → Type 0) (xs : List X) (x : X) → AllByRecursion A xs → Contains xs x → A x
 in_each A xs x h among = All-contains A xs x (All-from_recursion A xs h) among
-
-below_or_not : (n k : ℕ) → (n < k) ⊎ (k ≤ n)
-below_or_not n zero = inr (omega arith)
-below_or_not zero (suc k) = inl (omega arith)
-below_or_not (suc n) (suc k) = on_either (below_or_not n k) (λ h. inl (omega (arith, h))) (λ h. inr (omega (arith, h)))
 
 -- the seats of clients, and of workers, and one more, behind them
 pub all_seats : (passes : List PassView) (works : List WorkPassView) (keeper : Seat) (none first second all : List Seat) → none ≡ [] →
@@ -94,7 +91,7 @@ all_seats passes works keeper none first second all empty a b grown =
           each_weaker (HasSeat IsSeatOfWorker b.more) (HasSeat IsSeatOfWorker ((a.more ++ b.more) ++ keeper ∷ []))
           (λ p h. (h.0, Contains-append_left (a.more ++ b.more) (keeper ∷ []) h.0 (Contains-append_right a.more b.more h.0 h.1), h.2))
           works b.each;
-      kept = Contains-append_right (a.more ++ b.more) (keeper ∷ []) keeper (first_in keeper []);
+      kept = Contains-append_right (a.more ++ b.more) (keeper ∷ []) keeper (contains_first keeper []);
       only =
           each_append IsOne (a.more ++ b.more) (keeper ∷ [])
           (each_append IsOne a.more b.more
@@ -149,6 +146,6 @@ module _ (id : LockId) (clients workers : ℕ) (passes : List PassView) (works :
         has_number k.0 n k.1 (k.2.number ∙ p.2)
 
     pub complete : (n : ℕ) → n < clients + workers + 1 → Contains (map (λ (s : Seat). s.number) all) n
-    complete n most = on_either (below_or_not n clients) (number_of_client n) (λ least. on_either (below_or_not n (clients + workers))
+    complete n most = on_either (cases_lt n clients) (number_of_client n) (λ least. on_either (cases_lt n (clients + workers))
         (number_of_worker n least)
         (λ at. has_number keeper n h.kept (omega (arith, last, at, most))))

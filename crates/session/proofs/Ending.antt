@@ -1,6 +1,6 @@
 -- What holds when a session is closed.
 use Rattle.std.proofs.Common.{ℕ, ◌+◌, ◌≤◌, ◌<◌, ◌≡◌, ◌∙◌, sym, ap, subst, List, [], map, Contains, false}
-use Rattle.std.specs.Prelude.{All, IfOk, Result, Ok, Err}
+use Rattle.std.specs.Prelude.{All}
 use Rattle.std.proofs.lemmas.List.Elements.{All-contains, All-contains_itself, All-weaker}
 use Rattle.spec_core.specs.Code.{program_of}
 use Rattle.turn_lock.specs.Entries.{Begins}
@@ -124,8 +124,3 @@ module _ (s : SessionView) (lock : LockModel FixedPart) (workers : ℕ) (view : 
         subst (λ (f : FixedPart). IsWholeSession (program_of f.checked) f.settings f.clients log ending)
         (fixed ∙ ap (λ (l : LockModel FixedPart). l.fixed) (sym lock_is))
         (subst (λ (b : BoardView). IsWholeSession (program b) b.settings b.session.clients log ending) out.0 h)
-
--- what follows where a call has an answer
-pub if_ok : {A E : Type 0} (P Q : A → Type 0) (r : Result A E) → ((x : A) → P x → Q x) → IfOk r P → IfOk r Q
-if_ok P Q (Ok x) f h = f x h
-if_ok P Q (Err e) f h = tt

@@ -2,7 +2,7 @@
 use Rattle.std.proofs.Common.{ℕ, zero, suc, ◌+◌, ◌≤◌, ◌≡◌, ◌∙◌, refl, sym, ap, subst, arith, List, [], ◌∷◌, ◌++◌, map, take, drop}
 use Rattle.std.proofs.Common.{length, false}
 use Rattle.std.specs.List.{AllByRecursion, range_with_len}
-use Rattle.std.proofs.lemmas.List.{length-append}
+use Rattle.std.proofs.lemmas.List.{same_from_push}
 use Rattle.std.proofs.lemmas.List.FromFn.{length-map-range_with_len, map-range_with_len_more, take-map-range_with_len}
 use Rattle.std.proofs.lemmas.Simd.{map-map}
 use Rattle.spec_core.specs.declared.code.Checked.{Checked}
@@ -20,18 +20,6 @@ use Rattle.session.specs.Starting.{AreFresh, content_of, new_pass, new_work_pass
 use Rattle.session.proofs.Starting.{same_rows, same_windows}
 
 -- rows
-
-last_apart : {A : Type 0} (xs ys : List A) (x y : A) → xs ++ x ∷ [] ≡ ys ++ y ∷ [] → (xs ≡ ys) × (x ≡ y)
-last_apart [] [] x y e = (refl, cc)
-last_apart [] (z ∷ ys) x y e =
-    let none : [] ≡ ys ++ y ∷ [] = cc in absurd (omega (arith, ap length none ∙ length-append ys (y ∷ [])))
-last_apart (z ∷ xs) [] x y e =
-    let none : [] ≡ xs ++ x ∷ [] = cc in absurd (omega (arith, ap length none ∙ length-append xs (x ∷ [])))
-last_apart (z ∷ xs) (w ∷ ys) x y e =
-    let rest : xs ++ x ∷ [] ≡ ys ++ y ∷ [] = cc in
-    let first : z ≡ w = cc in
-    let r = last_apart xs ys x y rest in
-    ((λ i. first i ∷ r.0 i), r.1)
 
 drop_row : {A : Type 0} (f : ℕ → A) (a n m : ℕ) → drop n (map f (range_with_len a (n + m))) ≡ map f (range_with_len (a + n) m)
 drop_row f a zero m =
@@ -76,7 +64,7 @@ deals id opening clients workers all seats keeper new is kept =
     let whole : seats ++ keeper ∷ [] ≡ row id 0 (clients + workers) ++ f (clients + workers) ∷ [] =
     sym kept ∙ is ∙ ap (λ l. new_seats maker_of id l (clients + workers + 1)) new
     ∙ map-range_with_len_more f 0 (clients + workers) (clients + workers) (omega arith) in
-    let apart = last_apart seats (row id 0 (clients + workers)) keeper (f (clients + workers)) whole in
+    let apart = same_from_push seats (row id 0 (clients + workers)) keeper (f (clients + workers)) whole in
     let later = ap (drop clients) apart.0 ∙ drop_row f 0 clients workers in
     record {
       enough = omega (arith, ap length apart.0, length-map-range_with_len f 0 (clients + workers));

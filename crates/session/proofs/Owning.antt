@@ -3,10 +3,11 @@ use Rattle.std.proofs.Common.{ℕ, ◌+◌, ◌-◌, ◌≤◌, ◌≡◌, ◌�
 use Rattle.std.proofs.Common.{append-nil, Bool, true, false, Contains, cond, eq-eqb, eqb-true, Option, Some, nat_eq}
 use Rattle.std.proofs.lemmas.List.{append_cancel_left, take-append-drop}
 use Rattle.std.proofs.lemmas.List.Elements.{All-from_recursion, filter-append}
+use Rattle.spec_core.proofs.Members.{contains_first, contains_later, contains_none}
 use Rattle.turn_lock.specs.Entries.{Continues, is_named, made_by}
 use Rattle.rule_model.specs.declared.log.Entry.{Entry}
 use Rattle.rule_model.specs.Events.{Event, event_of, pended, acted, replied, stalled, left}
-use Rattle.session_closing.proofs.Members.{first_in, in_cases, later_in, none_in}
+use Rattle.session_closing.proofs.Members.{in_cases}
 use Rattle.session_closing.proofs.Tests.{by_cases, on_either}
 use Rattle.session_closing.specs.Answers.{offers_by}
 use Rattle.session_board.specs.declared.line.Line.{Line}
@@ -58,7 +59,7 @@ is_it n client e line entry is leaves =
 
 pub left_is_own : (n client : ℕ) → n + 1 ≡ client → (lines : List Line) → Contains (events_in lines) (left client) →
     Contains (events_in (made_by maker_of n lines)) (left client)
-left_is_own n client e [] h = absurd (none_in (left client) h)
+left_is_own n client e [] h = absurd (contains_none (left client) h)
 left_is_own n client e (Halted ∷ lines) h = left_is_own n client e lines h
 left_is_own n client e (Happened entry ∷ lines) h =
     on_either (in_cases (event_of entry) (left client) (events_in lines) h)
@@ -66,12 +67,12 @@ left_is_own n client e (Happened entry ∷ lines) h =
     subst (λ (b : Bool). Contains (events_in (cond b (Happened entry ∷ made_by maker_of n lines) (made_by maker_of n lines))) (left client))
     (sym (is_it n client e (Happened entry) entry refl leaves))
     (subst (λ ev. Contains (event_of entry ∷ events_in (made_by maker_of n lines)) ev) leaves
-    (first_in (event_of entry) (events_in (made_by maker_of n lines)))))
+    (contains_first (event_of entry) (events_in (made_by maker_of n lines)))))
     (λ later. by_test (is_named n (seat_for (event_of entry))) (left_is_own n client e lines later))
   where
     by_test : (b : Bool) → Contains (events_in (made_by maker_of n lines)) (left client) →
         Contains (events_in (cond b (Happened entry ∷ made_by maker_of n lines) (made_by maker_of n lines))) (left client)
-    by_test true k = later_in (event_of entry) (left client) (events_in (made_by maker_of n lines)) k
+    by_test true k = contains_later (event_of entry) (left client) (events_in (made_by maker_of n lines)) k
     by_test false k = k
 
 pub own_is_there : (n : ℕ) (lines : List Line) (event : Event) → Contains (events_in (made_by maker_of n lines)) event →
@@ -85,9 +86,9 @@ own_is_there n (Happened entry ∷ lines) event h =
         Contains (events_in (cond b (Happened entry ∷ made_by maker_of n lines) (made_by maker_of n lines))) event →
         Contains (event_of entry ∷ events_in lines) event
     by_test true f k = on_either (in_cases (event_of entry) event (events_in (made_by maker_of n lines)) k)
-        (λ is. subst (λ ev. Contains (event_of entry ∷ events_in lines) ev) is (first_in (event_of entry) (events_in lines)))
-        (λ later. later_in (event_of entry) event (events_in lines) (f later))
-    by_test false f k = later_in (event_of entry) event (events_in lines) (f k)
+        (λ is. subst (λ ev. Contains (event_of entry ∷ events_in lines) ev) is (contains_first (event_of entry) (events_in lines)))
+        (λ later. contains_later (event_of entry) event (events_in lines) (f later))
+    by_test false f k = contains_later (event_of entry) event (events_in lines) (f k)
 
 -- an offer of a client is made by a line of its seat
 

@@ -1,6 +1,7 @@
 -- What passes know after their calls.
 use Rattle.std.proofs.Common.{ℕ, ◌+◌, ◌-◌, ◌≤◌, ◌≡◌, ◌∙◌, sym, ap, subst, arith, Bool, [], ◌∷◌, ◌++◌, length, take}
 use Rattle.std.proofs.lemmas.List.{take-append-le}
+use Rattle.std.proofs.Math.Seq.{take-length}
 use Rattle.turn_lock.specs.Entries.{Begins, made_by}
 use Rattle.turn_lock.specs.Seats.{SeatModel}
 use Rattle.rule_model.specs.declared.offer.Offer.{Offer}
@@ -14,7 +15,7 @@ use Rattle.session.specs.Calls.{HasItsLines, HasMade, HasSeenMore, IsIdleSeat, S
 use Rattle.session_board.specs.Lines.{events_in, maker_of}
 use Rattle.session.specs.Passes.{HasHalted, IsPass, KnowsAnswer, KnowsLeave, PassView, made_by_client}
 use Rattle.session_board.proofs.Growing.{spot_stays}
-use Rattle.session_board.proofs.Lists.{fronts, whole_front}
+use Rattle.session_board.proofs.Lists.{fronts}
 use Rattle.session.proofs.Owning.{front_made}
 use Rattle.session.proofs.Seats.{as_long, begins_on, made_begins, stays_halted}
 
@@ -25,7 +26,7 @@ idle_seat seat client spot h =
     record {
       numbered = h.numbered;
       known = take spot.lines seat.seen;
-      begins = (rest.0, sym (whole_front seat.seen) ∙ rest.1);
+      begins = (rest.0, sym (take-length seat.seen) ∙ rest.1);
       knows = h.knows_its_answers;
     }
 
@@ -142,5 +143,5 @@ knows_leave old new client spot place h last = record {
   leaves = h.makes.is;
   one_more = one_more old new new client (left client) spot place h;
   own = own_more old new new client (left client) spot place h;
-  ends = (h.makes.before, ap (λ k. take k new.seen) last ∙ whole_front new.seen ∙ h.makes.seen);
+  ends = (h.makes.before, ap (λ k. take k new.seen) last ∙ take-length new.seen ∙ h.makes.seen);
 }

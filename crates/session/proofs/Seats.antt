@@ -1,12 +1,13 @@
 -- What seats know after their turns.
 use Rattle.std.proofs.Common.{ℕ, ◌+◌, ◌-◌, ◌≤◌, ◌≡◌, ◌∙◌, refl, sym, ap, subst, arith, List, [], ◌∷◌, ◌++◌, length, map}
-use Rattle.std.proofs.Common.{append_assoc, append-nil, length-append, false, Contains, Some, Result, Ok, Err, OnErr, OnOk}
+use Rattle.std.proofs.Common.{append_assoc, append-nil, length-append, false, Contains, Some, Result, Ok, Err, OnErr}
 use Rattle.std.proofs.lemmas.List.Elements.{Contains-append_left, Contains-append_right}
+use Rattle.spec_core.proofs.Members.{contains_first, contains_none}
 use Rattle.turn_lock.specs.Entries.{Begins, Continues, made_by}
 use Rattle.turn_lock.specs.Seats.{AgreesWith, SeatModel}
 use Rattle.rule_model.specs.declared.log.Entry.{Entry}
 use Rattle.rule_model.specs.Events.{Event}
-use Rattle.session_closing.proofs.Members.{first_in, in_cases, none_in}
+use Rattle.session_closing.proofs.Members.{in_cases}
 use Rattle.session_closing.proofs.Tests.{on_either}
 use Rattle.session_closing.specs.Answers.{offers_by}
 use Rattle.session_board.specs.declared.line.Line.{Line}
@@ -31,7 +32,7 @@ begins_on xs ys zs h k = (h.0 ++ k.0, k.1 ∙ ap (λ l. l ++ k.0) h.1 ∙ append
 -- the mark
 
 no_mark : (xs : List Entry) → Contains (map Happened xs) Halted → ⊥
-no_mark [] h = none_in Halted h
+no_mark [] h = contains_none Halted h
 no_mark (x ∷ xs) h = on_either (in_cases (Happened x) Halted (map Happened xs) h) (λ e. let never : ⊥ = cc in never) (λ k. no_mark xs k)
 
 pub isnt_halted : (v : SharedView) → v.halted ≡ false → HasHalted (lines v) → ⊥
@@ -42,7 +43,7 @@ isnt_halted v running h =
 pub is_halted : (v : SharedView) → IsMarked v → HasHalted (lines v)
 is_halted v marked =
     subst (λ b. Contains (lines_of v.board.session.entries b) Halted) (sym marked)
-    (Contains-append_right (map Happened v.board.session.entries) (Halted ∷ []) Halted (first_in Halted []))
+    (Contains-append_right (map Happened v.board.session.entries) (Halted ∷ []) Halted (contains_first Halted []))
 
 pub stays_halted : (xs ys : List Line) → Begins xs ys → HasHalted xs → HasHalted ys
 stays_halted xs ys begins h = subst (λ l. Contains l Halted) (sym begins.1) (Contains-append_left xs begins.0 Halted h)
@@ -127,10 +128,6 @@ as_long xs ys h = omega (arith, ap length h.1, length-append xs h.0)
 pub err_more : {A E : Type 0} (r : Result A E) (P Q : Type 0) → (P → Q) → OnErr r P → OnErr r Q
 err_more (Ok a) P Q f h = tt
 err_more (Err e) P Q f h = f h
-
-pub ok_more : {A E : Type 0} (r : Result A E) (P Q : Type 0) → (P → Q) → OnOk r P → OnOk r Q
-ok_more (Ok a) P Q f h = f h
-ok_more (Err e) P Q f h = tt
 
 pub not_memory : {A : Type 0} (a : A) (P : Type 0) → (P → ◌≡◌ {A = Result A CallFault} (Ok a) (Err Memory)) → P → ⊥
 not_memory a P f p = let e = f p in let never : ⊥ = cc in never

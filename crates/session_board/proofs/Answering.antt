@@ -2,15 +2,17 @@
 use Rattle.std.proofs.Common.{ℕ, ◌≡◌, ◌∙◌, ◌⊎◌, inl, inr, refl, sym, ap, subst, arith, eq-eqb, eqb-true}
 use Rattle.std.proofs.Common.{List, [], ◌∷◌, ◌++◌, length, map, append_assoc, append-nil, Bool, true, false, Contains, cond, not, nat_eq}
 use Rattle.std.proofs.Common.{◌&&◌, Option, Some, None}
-use Rattle.std.proofs.lemmas.List.{append_cancel_left, length-append, length-map}
+use Rattle.std.proofs.lemmas.List.{append_cancel_left, length-append, length-map, nil_from_length}
 use Rattle.std.proofs.lemmas.List.Elements.{filter-append}
+use Rattle.std.proofs.lemmas.Bool.{and_from, and_parts, true≢false}
 use Rattle.spec_core.specs.declared.settings.Settings.{Settings}
 use Rattle.spec_core.specs.Code.{Program}
 use Rattle.spec_core.specs.Lists.{IsOneOf}
-use Rattle.board_core.proofs.Lists.{filter_keeps, filter_passes}
+use Rattle.spec_core.proofs.Members.{one_filter, contains_one, one_contained, contains_none}
+use Rattle.board_core.proofs.Lists.{filter_passes}
 use Rattle.board_offers.specs.Waiting.{AreOfDifferentClients}
 use Rattle.board_offers.proofs.Derivations.{pending_clients_differ}
-use Rattle.board_offers.proofs.Members.{held, in_filtered, listed}
+use Rattle.board_offers.proofs.Members.{in_filtered}
 use Rattle.rule_model.specs.Answers.{Answer}
 use Rattle.rule_model.specs.Answering.{answered_in, name_of, offers_in}
 use Rattle.rule_model.specs.Events.{Event, OfferName, pended, acted, replied, stalled, left}
@@ -21,8 +23,8 @@ use Rattle.board_record.specs.Answered.{is_name, reply_by, reply_in}
 use Rattle.board_laws.specs.declared.stop_reason.StopReason.{StopReason}
 use Rattle.log_states.specs.Clients.{numbers_from}
 use Rattle.log_states.specs.Possible.{HasPending}
-use Rattle.log_states.proofs.Members.{in_cases, none_in}
-use Rattle.log_states.proofs.Tests.{and_true, both_true, on_either, true_false}
+use Rattle.log_states.proofs.Members.{in_cases}
+use Rattle.log_states.proofs.Tests.{on_either}
 use Rattle.session_laws.specs.Answers.{answered_to, names_of, of_client, offers_by}
 use Rattle.session_laws.specs.Logs.{IsDrivenLog, IsLogBy}
 use Rattle.session_laws.specs.Sessions.{IsDriven}
@@ -62,14 +64,10 @@ answered_to_behind client xs ys =
 
 -- a client with all its answers has no offer pending
 
-empty : {A : Type 0} (xs : List A) → length xs ≡ 0 → xs ≡ []
-empty [] e = refl
-empty (x ∷ xs) e = let never : ⊥ = cc in absurd never
-
 none_pending : (s : State) (client : ℕ) → of_client client s.pending ≡ [] → HasPending s client → ⊥
 none_pending s client none (number, is) =
     subst (IsOneOf is.waits) none
-    (filter_keeps (λ p. nat_eq p.client client) is.waits s.pending (listed s.pending is.waits is.among) (eq-eqb is.waits.client client is.client))
+    (one_filter (λ p. nat_eq p.client client) is.waits s.pending (one_contained is.waits s.pending is.among) (eq-eqb is.waits.client client is.client))
 
 pub answered_not_pending : (program : Program) (settings : Settings) (clients : ℕ) (stop : Option StopReason) (log : List Event) (s : State)
     (client : ℕ) (known rest : List Event) → IsDriven program settings clients stop log s → log ≡ known ++ rest →
@@ -82,13 +80,13 @@ answered_not_pending program settings clients stop log s client known rest drive
     ∙ length-append (answered_to client known) (answered_to client rest) in
     let at = ap length answered in
     let count = length-map (of_client client s.pending) name_of in
-    none_pending s client (empty (of_client client s.pending) (omega (arith, sum, whole, at, count)))
+    none_pending s client (nil_from_length (of_client client s.pending) (omega (arith, sum, whole, at, count)))
 
 -- after an answer to an offer of a client it has none pending
 
 one_of_client : (ps : List PendingOffer) → AreOfDifferentClients ps → (p q : PendingOffer) → Contains ps p → Contains ps q →
     p.client ≡ q.client → p ≡ q
-one_of_client [] d p q hp hq e = absurd (none_in p hp)
+one_of_client [] d p q hp hq e = absurd (contains_none p hp)
 one_of_client (x ∷ xs) d p q hp hq e =
     on_either (in_cases x p xs hp)
     (λ is_p. on_either (in_cases x q xs hq)
@@ -109,7 +107,7 @@ none_kept client ps none = by_list (of_client client ps) (λ p h. h)
         (eqb-true q.client client (filter_passes (λ p. nat_eq p.client client) q ps among)))
       where
         kept_in : (q : PendingOffer) → IsOneOf q (of_client client ps) → Contains ps q
-        kept_in q among = in_filtered (λ p. nat_eq p.client client) ps q (held (of_client client ps) q among)
+        kept_in q among = in_filtered (λ p. nat_eq p.client client) ps q (contains_one q (of_client client ps) among)
 
 taken_away : (s : State) (name : OfferName) (P : Offer → Type 0) → AreOfDifferentClients s.pending → IsPendingAnd s name P →
     of_client name.0 (without name s.pending) ≡ []
@@ -120,15 +118,15 @@ taken_away s name P differ is = none_kept name.0 (without name s.pending) by_off
         let test = λ (p : PendingOffer). not (nat_eq p.client name.0 && nat_eq p.number name.1) in
         let same = one_of_client s.pending differ is.waits q is.among (in_filtered test s.pending q h) (is.client ∙ sym e) in
         let number : q.number ≡ name.1 = ap (λ (z : PendingOffer). z.number) (sym same) ∙ is.number in
-        let both = and_true (nat_eq q.client name.0) (nat_eq q.number name.1) (eq-eqb q.client name.0 e) (eq-eqb q.number name.1 number) in
-        true_false (sym (filter_passes test q s.pending (listed (without name s.pending) q h)) ∙ ap not both)
+        let both = and_from (nat_eq q.client name.0) (nat_eq q.number name.1) (eq-eqb q.client name.0 e) (eq-eqb q.number name.1 number) in
+        absurd (true≢false (sym (filter_passes test q s.pending (one_contained q (without name s.pending) h)) ∙ ap not both))
 
 only_if : (b : Bool) (o : Option Answer) (answer : Answer) → cond b o None ≡ Some answer → b ≡ true
 only_if true o answer h = refl
 only_if false o answer h = let never : ⊥ = cc in absurd never
 
 is_client : (other name : OfferName) → is_name other name ≡ true → other.0 ≡ name.0
-is_client other name h = eqb-true other.0 name.0 (both_true (nat_eq other.0 name.0) (nat_eq other.1 name.1) h).0
+is_client other name h = eqb-true other.0 name.0 (and_parts (nat_eq other.0 name.0) (nat_eq other.1 name.1) h).0
 
 after_answer : (program : Program) (s t : State) (event : Event) (at : ℕ) (name : OfferName) (answer : Answer) →
     AreOfDifferentClients s.pending → IsPossible program s event t → reply_in at event name ≡ Some answer → of_client name.0 t.pending ≡ []

@@ -1,7 +1,8 @@
 -- Answers that are found in the log, and the spots where they stand.
 use Rattle.std.proofs.Common.{ℕ, ◌+◌, ◌≤◌, ◌≡◌, ◌∙◌, refl, sym, ap, arith, List, [], ◌∷◌, ◌++◌, length, map, take, drop}
 use Rattle.std.proofs.Common.{append_assoc, append-nil, false, Option, Some, None}
-use Rattle.std.proofs.lemmas.List.{length-append, length-drop, length-map, map-append, take-append-drop, take-append-le, take-map}
+use Rattle.std.proofs.lemmas.List.{length-append, length-drop, length-map, map-append, take-append-drop, take-append-le, take-map, length-take-le}
+use Rattle.std.proofs.Math.Seq.{take-length}
 use Rattle.rule_model.specs.declared.log.Entry.{Entry}
 use Rattle.rule_model.specs.Answers.{Answer}
 use Rattle.rule_model.specs.Events.{Event, OfferName, event_of, pended, acted, replied, stalled, left}
@@ -10,7 +11,7 @@ use Rattle.session_board.specs.declared.line.Line.TheVariants.{Happened}
 use Rattle.session_board.specs.declared.spot.Spot.{Spot}
 use Rattle.session_board.specs.Answers.{EndsWithAnswer, Found, IsSpot, first_answer, found_or}
 use Rattle.session_board.specs.Lines.{actions_after, events_in, lines_of}
-use Rattle.session_board.proofs.Lists.{actions_behind, count_lines, events_of_entries, running_lines, whole_front}
+use Rattle.session_board.proofs.Lists.{actions_behind, count_lines, events_of_entries, running_lines}
 
 -- The first answer in a log, before which there were so many entries and actions: it comes by this entry.
 pub record IsFoundIn (entries actions : ℕ) (log : List Entry) (name : OfferName) (found : Found) : Type 0 where
@@ -63,7 +64,7 @@ found_in entries actions (x ∷ xs) name found h =
 pub front_lines : (all front after : List Entry) → all ≡ front ++ after → take (length front) (lines_of all false) ≡ map Happened front
 front_lines all front after parts =
     ap (take (length front)) (running_lines all ∙ ap (map Happened) parts) ∙ take-map Happened (length front) (front ++ after)
-    ∙ ap (map Happened) (take-append-le (length front) front after (omega arith) ∙ whole_front front)
+    ∙ ap (map Happened) (take-append-le (length front) front after (omega arith) ∙ take-length front)
 
 -- where so many entries, with so many actions, are the front, there is a spot
 pub spot_behind : (all front after : List Entry) (spot : Spot) → all ≡ front ++ after → spot.lines ≡ length front →
@@ -84,13 +85,6 @@ actions_at all spot is =
     is.actions
     ∙ ap (λ l. actions_after 0 (events_in l)) (ap (take spot.lines) (running_lines all) ∙ take-map Happened spot.lines all)
     ∙ ap (actions_after 0) (events_of_entries (take spot.lines all))
-
--- the length of the front up to a spot
-front_length : {A : Type 0} (n : ℕ) (xs : List A) → n ≤ length xs → length (take n xs) ≡ n
-front_length n xs h =
-    let sum = sym (length-append (take n xs) (drop n xs)) ∙ ap length (take-append-drop n xs) in
-    let rest = length-drop n xs in
-    omega (arith, sum, rest, h)
 
 -- the end of the log is a spot, found from another one on
 pub end_spot : (all : List Entry) (spot place : Spot) → IsSpot (lines_of all false) spot →
@@ -128,7 +122,7 @@ answer_spot all spot place name answer is h =
     ∙ sym (append_assoc front (h.entry ∷ []) h.after) in
     let long : length (front ++ h.entry ∷ []) ≡ spot.lines + length h.before + 1 =
     length-append front (h.entry ∷ []) ∙ ap (λ n. n + 1) (length-append start h.before)
-    ∙ ap (λ n. n + length h.before + 1) (front_length spot.lines all within) in
+    ∙ ap (λ n. n + length h.before + 1) (length-take-le spot.lines all within) in
     let lines : place.lines ≡ length (front ++ h.entry ∷ []) = h.entries_are ∙ sym long in
     let most : spot.lines ≤ place.lines = (let n = h.entries_are in omega (arith, n)) in (
       spot_behind all (front ++ h.entry ∷ []) h.after place parts lines
@@ -165,7 +159,7 @@ pub few_at : (all : List Entry) (spot : Spot) → IsSpot (lines_of all false) sp
 few_at all spot is =
     let counted = count_lines all in
     let within : spot.lines ≤ length all = (let w = is.within in omega (arith, w, counted)) in
-    let long = length-map (take spot.lines all) event_of ∙ front_length spot.lines all within in
+    let long = length-map (take spot.lines all) event_of ∙ length-take-le spot.lines all within in
     let few = few_after 0 (map event_of (take spot.lines all)) in
     let at = actions_at all spot is in
     omega (arith, long, few, at)

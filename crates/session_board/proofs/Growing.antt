@@ -3,7 +3,7 @@ use Rattle.std.proofs.Common.{ℕ, ◌+◌, ◌≡◌, ◌∙◌, refl, sym, ap,
 use Rattle.std.proofs.Common.{append-nil, Bool, true, false, Some, None}
 use Rattle.std.specs.Prelude.{All}
 use Rattle.std.specs.List.{AllByRecursion}
-use Rattle.std.proofs.lemmas.List.{append_cancel_left, length-append, map-append}
+use Rattle.std.proofs.lemmas.List.{append_cancel_left, length-append, map-append, take-append-le}
 use Rattle.std.proofs.lemmas.List.Elements.{All-append, All-from_recursion, All-nil, All-weaker, filter-append, recursion_from_All}
 use Rattle.spec_core.specs.Lists.{Each}
 use Rattle.turn_lock.specs.Entries.{is_named, Begins, Continues, made_by}
@@ -18,7 +18,7 @@ use Rattle.session_board.specs.Answers.{IsSpot}
 use Rattle.session_board.specs.Growing.{GrowsByNone, GrowsByOne}
 use Rattle.session_board.specs.Lines.{actions_after, events_in, lines_of, maker_of, mark, seat_for}
 use Rattle.session_board.specs.Shared.{SharedView, lines}
-use Rattle.session_board.proofs.Lists.{lines_behind, same_front}
+use Rattle.session_board.proofs.Lists.{lines_behind}
 
 abbrev IsOfNone : Line → Type 0
 IsOfNone line = maker_of line ≡ None
@@ -103,5 +103,5 @@ spot_stays xs ys spot begins is =
       within = omega (arith, longer, is.within);
       actions =
           is.actions
-          ∙ ap (λ l. actions_after 0 (events_in l)) (sym (ap (take spot.lines) begins.1 ∙ same_front spot.lines xs begins.0 is.within));
+          ∙ ap (λ l. actions_after 0 (events_in l)) (sym (ap (take spot.lines) begins.1 ∙ take-append-le spot.lines xs begins.0 is.within));
     }

@@ -1,18 +1,19 @@
 -- Who has left, by the log.
 use Rattle.std.proofs.Common.{ℕ, zero, suc, ◌+◌, ◌≤◌, ◌<◌, ◌≡◌, ◌∙◌, ◌⊎◌, inl, inr, refl, sym, ap, subst, arith}
 use Rattle.std.proofs.Common.{List, [], ◌∷◌, true, false, Contains, filter, not, nat_eq, Option}
-use Rattle.std.proofs.lemmas.Bool.{eq-eqb, eqb-false, eqb-true}
+use Rattle.std.proofs.lemmas.Bool.{eq-eqb, eqb-false, eqb-true, not_from_false, true≢false}
 use Rattle.spec_core.specs.declared.settings.Settings.{Settings}
 use Rattle.spec_core.specs.Code.{Program}
-use Rattle.board_core.proofs.Lists.{filter_keeps, filter_passes}
-use Rattle.board_offers.proofs.Members.{held, in_filtered, listed}
+use Rattle.spec_core.proofs.Members.{one_filter, contains_first, contains_one, contains_later, one_contained, contains_none}
+use Rattle.board_core.proofs.Lists.{filter_passes}
+use Rattle.board_offers.proofs.Members.{in_filtered}
 use Rattle.rule_model.specs.Events.{Event, pended, acted, replied, stalled, left}
 use Rattle.rule_model.specs.Legal.{IsDerivation, IsPossible}
 use Rattle.rule_model.specs.States.{State, start_state}
 use Rattle.board_laws.specs.declared.stop_reason.StopReason.{StopReason}
 use Rattle.log_states.specs.Clients.{numbers_from}
-use Rattle.log_states.proofs.Members.{first_in, in_cases, later_in, none_in}
-use Rattle.log_states.proofs.Tests.{by_cases, false_not, on_either, true_false}
+use Rattle.log_states.proofs.Members.{in_cases}
+use Rattle.log_states.proofs.Tests.{by_cases, on_either}
 use Rattle.session_laws.specs.Sessions.{IsDriven}
 use Rattle.session_laws.proofs.Driven.{driven_derives}
 
@@ -22,15 +23,15 @@ others client among = filter (λ other. not (nat_eq other client)) among
 
 stays_among : (client k : ℕ) (among : List ℕ) → nat_eq k client ≡ false → Contains among k → Contains (others client among) k
 stays_among client k among differ h =
-    held (others client among) k
-    (filter_keeps (λ other. not (nat_eq other client)) k among (listed among k h) (false_not (nat_eq k client) differ))
+    contains_one k (others client among)
+    (one_filter (λ other. not (nat_eq other client)) k among (one_contained k among h) (not_from_false (nat_eq k client) differ))
 
 not_itself : (k : ℕ) → not (nat_eq k k) ≡ true → ⊥
-not_itself k h = true_false (sym h ∙ ap not (eq-eqb k k refl))
+not_itself k h = absurd (true≢false (sym h ∙ ap not (eq-eqb k k refl)))
 
 isnt_among : (k : ℕ) (among : List ℕ) → Contains (others k among) k → ⊥
 isnt_among k among h =
-    not_itself k (filter_passes (λ other. not (nat_eq other k)) k among (listed (others k among) k h))
+    not_itself k (filter_passes (λ other. not (nat_eq other k)) k among (one_contained k (others k among) h))
 
 module _ (program : Program) where
   -- by an entry a client that was open leaves, or it is open still
@@ -68,8 +69,8 @@ module _ (program : Program) where
   left_or_open [] s t k h among = inr (subst (λ (z : State). Contains z.open_clients k) (sym h) among)
   left_or_open (e ∷ log) s t k (next, possible, h) among =
       on_either (still_open s next e k possible among)
-      (λ is. inl (subst (λ z. Contains (e ∷ log) z) (sym is) (first_in e log)))
-      (λ still. on_either (left_or_open log next t k h still) (λ in_log. inl (later_in e (left k) log in_log)) (λ now. inr now))
+      (λ is. inl (subst (λ z. Contains (e ∷ log) z) (sym is) (contains_first e log)))
+      (λ still. on_either (left_or_open log next t k h still) (λ in_log. inl (contains_later e (left k) log in_log)) (λ now. inr now))
 
   pub was_open_before : (log : List Event) (s t : State) (k : ℕ) → IsDerivation program log s t → Contains t.open_clients k →
       Contains s.open_clients k
@@ -79,7 +80,7 @@ module _ (program : Program) where
 
   pub left_isnt_open : (log : List Event) (s t : State) (k : ℕ) → IsDerivation program log s t → Contains log (left k) →
       Contains t.open_clients k → ⊥
-  left_isnt_open [] s t k h in_log among = none_in (left k) in_log
+  left_isnt_open [] s t k h in_log among = contains_none (left k) in_log
   left_isnt_open (e ∷ log) s t k (next, possible, h) in_log among =
       on_either (in_cases e (left k) log in_log)
       (λ is. gone_by s next e k (sym is) possible (was_open_before log next t k h among))
@@ -91,12 +92,12 @@ pub among_numbers : (first count k : ℕ) → first ≤ k → k < first + count 
 among_numbers first zero k least below = absurd (omega (arith, least, below))
 among_numbers first (suc count) k least below =
     by_cases (nat_eq first k)
-    (λ e. subst (λ z. Contains (first ∷ numbers_from (first + 1) count) z) (eqb-true first k e) (first_in first (numbers_from (first + 1) count)))
-    (λ e. later_in first k (numbers_from (first + 1) count)
+    (λ e. subst (λ z. Contains (first ∷ numbers_from (first + 1) count) z) (eqb-true first k e) (contains_first first (numbers_from (first + 1) count)))
+    (λ e. contains_later first k (numbers_from (first + 1) count)
     (among_numbers (first + 1) count k (let differ = eqb-false first k e in omega (arith, least, differ)) (omega (arith, below))))
 
 pub is_number : (first count k : ℕ) → Contains (numbers_from first count) k → (first ≤ k) × (k < first + count)
-is_number first zero k h = absurd (none_in k h)
+is_number first zero k h = absurd (contains_none k h)
 is_number first (suc count) k h =
     on_either (in_cases first k (numbers_from (first + 1) count) h)
     (λ e. (omega (arith, e), omega (arith, e)))
@@ -125,7 +126,7 @@ module _ (program : Program) (settings : Settings) (clients : ℕ) (stop : Optio
 
   -- where no client is open, each has left
   pub none_open_all_left : s.open_clients ≡ [] → (k : ℕ) → 1 ≤ k → k ≤ clients → Contains log (left k)
-  none_open_all_left none k least most = not_open_has_left k least most (λ among. none_in k (subst (λ z. Contains z k) none among))
+  none_open_all_left none k least most = not_open_has_left k least most (λ among. contains_none k (subst (λ z. Contains z k) none among))
 
   -- where some client is open, not all have left
   pub some_open_not_all_left : (s.open_clients ≡ [] → ⊥) → ((k : ℕ) → 1 ≤ k → k ≤ clients → Contains log (left k)) → ⊥
@@ -141,4 +142,4 @@ module _ (program : Program) (settings : Settings) (clients : ℕ) (stop : Optio
 
       by_open : (among : List ℕ) → s.open_clients ≡ among → ⊥
       by_open [] e = some e
-      by_open (k ∷ ks) e = is_open k (subst (λ z. Contains z k) (sym e) (first_in k ks))
+      by_open (k ∷ ks) e = is_open k (subst (λ z. Contains z k) (sym e) (contains_first k ks))

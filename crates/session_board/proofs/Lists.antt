@@ -47,16 +47,6 @@ pub actions_behind : (at : ℕ) (xs ys : List Event) → actions_after at (xs ++
 actions_behind at [] ys = refl
 actions_behind at (x ∷ xs) ys = actions_behind (actions_with at x) xs ys
 
--- the front of a list that goes on
-pub same_front : {A : Type 0} (n : ℕ) (xs ys : List A) → n ≤ length xs → take n (xs ++ ys) ≡ take n xs
-same_front zero xs ys h = refl
-same_front (suc n) [] ys h = absurd (omega (arith, h))
-same_front (suc n) (x ∷ xs) ys h = ap (λ l. x ∷ l) (same_front n xs ys (omega (arith, h)))
-
-pub whole_front : {A : Type 0} (xs : List A) → take (length xs) xs ≡ xs
-whole_front [] = refl
-whole_front (x ∷ xs) = ap (λ l. x ∷ l) (whole_front xs)
-
 -- a front of a front
 pub fronts : {A : Type 0} (n m : ℕ) (xs : List A) → n ≤ m → (rest : List A) × (take m xs ≡ take n xs ++ rest)
 fronts zero m xs h = (take m xs, refl)

@@ -1,6 +1,5 @@
 -- Looks for an answer, behind the lock.
-use Rattle.std.proofs.Common.{ℕ, ◌+◌, ◌-◌, ◌≤◌, ◌≡◌, ◌∙◌, sym, ap, subst, List, length, map, drop, take, false, Some}
-use Rattle.std.proofs.lemmas.List.{length-drop}
+use Rattle.std.proofs.Common.{◌+◌, ◌≤◌, ◌≡◌, ◌∙◌, sym, ap, subst, List, length, map, drop, take, false, Some}
 use Rattle.rule_model.specs.Answers.{Answer}
 use Rattle.rule_model.specs.Events.{OfferName, event_of}
 use Rattle.board_record.specs.declared.answered.Answered as records
@@ -16,7 +15,6 @@ use Rattle.session_board.specs.Looks.{ComesOfLook, IsStepOfLook, IsUnanswered, L
 use Rattle.session_board.specs.Shared.{HasDrivenLog, SharedView, lines}
 use Rattle.session_board.specs.Spots.{found_at}
 use Rattle.session_board.proofs.Finding.{answer_spot, end_spot, few_at, found_in}
-use Rattle.session_board.proofs.Lists.{whole_front}
 use Rattle.session_board.proofs.Refusing.{answers_all}
 use Rattle.session_board.proofs.Sharing.{running_list, spot_running}
 
@@ -48,10 +46,6 @@ module _ (v : SharedView) (running : v.halted ≡ false) (spot : Spot) (is : IsS
       let e = sym (running_list v running) in
       let r = end_spot v.board.session.entries spot place (spot_running v spot running is) long actions in
       (subst (λ l. IsSpot l place) e r.0, r.1 ∙ ap length e)
-
--- the rest of the entries behind a spot
-pub rest_is : {A : Type 0} (n : ℕ) (xs : List A) → take (length xs - n) (drop n xs) ≡ drop n xs
-rest_is n xs = ap (λ k. take k (drop n xs)) (sym (length-drop n xs)) ∙ whole_front (drop n xs)
 
 -- what a step leaves to find is no answer
 

@@ -1,6 +1,7 @@
 -- A board on which nothing is to be done.
-use Rattle.std.proofs.Common.{◌≡◌, ◌∙◌, ◌⊎◌, [], refl, sym, ap, subst, map, true, false, Option, Some, None, is_some, inl, inr}
+use Rattle.std.proofs.Common.{◌≡◌, ◌∙◌, ◌⊎◌, [], refl, sym, ap, subst, map, true, Option, Some, None, is_some, inl, inr}
 use Rattle.spec_core.specs.Code.{program_of}
+use Rattle.spec_core.proofs.Options.{not_some}
 use Rattle.rule_model.specs.States.{State}
 use Rattle.symbolic_rules.specs.Tables.{windows_in}
 use Rattle.board_laws.specs.Rules.{nothing}
@@ -133,12 +134,8 @@ idle_again old new still stop (quiet, stays, none) =
 
 -- where the session had stopped just where it has, the reason is the same
 
-none_if : (stop : Option StopReason) → is_some stop ≡ false → stop ≡ None
-none_if None h = refl
-none_if (Some reason) h = let never : ⊥ = cc in absurd never
-
 none_still : (old new : Option StopReason) → old ≡ None → is_some new ≡ is_some old → new ≡ old
-none_still old new none same = none_if new (same ∙ ap is_some none) ∙ sym none
+none_still old new none same = not_some new (same ∙ ap is_some none) ∙ sym none
 
 stop_stays : (old quiet new : BoardView) → WhyQuiet old quiet → WhyNone quiet new → is_some new.stop ≡ is_some old.stop → new.stop ≡ old.stop
 stop_stays old quiet new (quiet_stopped reason e f none) (inl (free, stop)) same = stop ∙ f ∙ sym e

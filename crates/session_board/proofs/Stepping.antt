@@ -1,5 +1,5 @@
 -- What a step does with the board.
-use Rattle.std.proofs.Common.{ℕ, ◌≡◌, refl, length, true, false, Option, Some, None, is_some, List, [], ◌∷◌}
+use Rattle.std.proofs.Common.{ℕ, ◌≡◌, true, false, Option, Some, None, is_some}
 use Rattle.std.specs.Prelude.{IfSome, IfNone}
 use Rattle.board_core.specs.Settled.{HasSettled, IsQuiet}
 use Rattle.board_core.specs.Views.{BoardView}
@@ -11,7 +11,3 @@ was_settled a b n None e h = let never : ⊥ = cc in absurd never
 pub was_quiet : (a b : BoardView) (o : Option ℕ) → is_some o ≡ false → IfNone o (IsQuiet a b) → IsQuiet a b
 was_quiet a b None e h = h
 was_quiet a b (Some m) e h = let never : ⊥ = cc in absurd never
-
-pub none_in : (xs : List ℕ) → length xs ≡ 0 → xs ≡ []
-none_in [] e = refl
-none_in (x ∷ xs) e = let never : ⊥ = cc in absurd never

@@ -4,11 +4,12 @@ use Rattle.std.proofs.Common.{arith, List, [], ◌∷◌, Bool, true, false, Con
 use Rattle.std.proofs.lemmas.Bool.{eq-eqb, eqb-true}
 use Rattle.std.specs.List.Sorted.{IsStrictlyIncreasing}
 use Rattle.spec_core.specs.Code.{Program}
+use Rattle.spec_core.proofs.Members.{contains_first, contains_none}
 use Rattle.rule_model.specs.Events.{Event, pended, acted, replied, stalled, left}
 use Rattle.rule_model.specs.Legal.{IsDerivation, IsPossible}
 use Rattle.rule_model.specs.States.{State}
 use Rattle.log_states.specs.Clients.{numbers_from}
-use Rattle.log_states.proofs.Members.{first_in, in_cases, none_in}
+use Rattle.log_states.proofs.Members.{in_cases}
 use Rattle.log_states.proofs.Tests.{by_cases, on_either}
 
 -- numbers from `first` on, each below the next one, and all below `past`
@@ -72,7 +73,7 @@ all_others n first past (k ∷ ks) l h = by_cases (nat_eq k n)
     ∙ ap (λ l. k ∷ l) (all_others n (k + 1) past ks (let least = h.0 in omega (arith, least, l)) h.2))
 
 not_below : (n first past : ℕ) (ks : List ℕ) → n < first → Rise first past ks → Contains ks n → ⊥
-not_below n first past [] l h among = none_in n among
+not_below n first past [] l h among = contains_none n among
 not_below n first past (k ∷ ks) l h among =
     on_either (in_cases k n ks among)
     (λ same. let least = h.0 in omega (arith, same, least, l))
@@ -80,7 +81,7 @@ not_below n first past (k ∷ ks) l h among =
 
 -- where it is there, it is the first, and the others are behind it
 pub begins_with : (n past : ℕ) (ks : List ℕ) → Rise n past ks → Contains ks n → (ks ≡ n ∷ others n ks) × Rise (n + 1) past (others n ks)
-begins_with n past [] h among = absurd (none_in n among)
+begins_with n past [] h among = absurd (contains_none n among)
 begins_with n past (k ∷ ks) h among = by_cases (nat_eq k n)
     (λ e.
     let same = eqb-true k n e in
@@ -100,7 +101,7 @@ begins_with n past (k ∷ ks) h among = by_cases (nat_eq k n)
 pub begins_later : (n past : ℕ) (ks : List ℕ) → Rise n past ks → (Contains ks n → ⊥) → Rise (n + 1) past ks
 begins_later n past [] h out = tt
 begins_later n past (k ∷ ks) h out =
-    let differ : k ≡ n → ⊥ = λ e. out (subst (λ z. Contains (k ∷ ks) z) e (first_in k ks)) in
+    let differ : k ≡ n → ⊥ = λ e. out (subst (λ z. Contains (k ∷ ks) z) e (contains_first k ks)) in
     let least = h.0 in
     (omega (arith, least, differ), h.1, h.2)
 

@@ -7,18 +7,19 @@ use Rattle.std.proofs.lemmas.List.{map-append}
 use Rattle.std.proofs.lemmas.List.Elements.{filter-append}
 use Rattle.spec_core.specs.declared.settings.Settings.{Settings}
 use Rattle.spec_core.specs.Code.{Program}
+use Rattle.spec_core.proofs.Members.{contains_first, contains_one, contains_later, one_contained, contains_none}
 use Rattle.rule_model.specs.Answering.{name_of, offers_in, answered_in}
 use Rattle.rule_model.specs.Derivations.{Derivation}
 use Rattle.rule_model.specs.Events.{OfferName, Event, pended, acted, replied, stalled, left}
 use Rattle.rule_model.specs.Legal.{IsPossible, IsPending}
 use Rattle.rule_model.specs.States.{PendingOffer, State, start_state, without}
 use Rattle.decision_trees.specs.Rules.{Next, takes, deadlocks, is_beyond, is_not_now, goes_on, stalls, nothing}
-use Rattle.log_states.proofs.Members.{none_in, first_in, later_in, in_cases}
+use Rattle.log_states.proofs.Members.{in_cases}
 use Rattle.log_states.proofs.Tests.{by_cases, on_either}
 use Rattle.log_states.specs.Clients.{numbers_from}
 use Rattle.board_offers.specs.Waiting.{AreOfDifferentClients, by_client, insert_by_client}
 use Rattle.board_offers.proofs.Derivations.{pending_clients_differ}
-use Rattle.board_offers.proofs.Members.{held, in_by_client, listed}
+use Rattle.board_offers.proofs.Members.{in_by_client}
 use Rattle.board_laws.specs.declared.stop_reason.StopReason.{StopReason}
 use Rattle.board_laws.specs.Next.{IsNextEvent, next_ended, next_by_rules, IsEventOf}
 use Rattle.session_laws.specs.Answers.{answered_to, names_of, of_client, offers_by}
@@ -48,7 +49,7 @@ module _ (k : ℕ) where
   -- none is the client's where no offer is
   none_mine : (ps : List PendingOffer) → ((q : PendingOffer) → Contains ps q → q.client ≡ k → ⊥) → mine ps ≡ []
   none_mine [] h = refl
-  none_mine (p ∷ ps) h = others_of p ps (h p (first_in p ps)) ∙ none_mine ps (λ q m. h q (later_in p q ps m))
+  none_mine (p ∷ ps) h = others_of p ps (h p (contains_first p ps)) ∙ none_mine ps (λ q m. h q (contains_later p q ps m))
 
   -- without the offer of a name, one less
   name_first : (name : OfferName) (names : List OfferName) → name.0 ≡ k → names_of k (name ∷ names) ≡ name ∷ names_of k names
@@ -60,7 +61,7 @@ module _ (k : ℕ) where
   -- an offer that is the client's, among offers of different clients, is the only one
   only_mine : (ps : List PendingOffer) (p : PendingOffer) → AreOfDifferentClients ps → Contains ps p → p.client ≡ k →
       mine ps ≡ name_of p ∷ []
-  only_mine [] p d among e = absurd (none_in p among)
+  only_mine [] p d among e = absurd (contains_none p among)
   only_mine (q ∷ qs) p d among e = on_either (in_cases q p qs among)
       (λ f.
       let own : q.client ≡ k = ap (λ z. z.client) f ∙ e in
@@ -89,15 +90,15 @@ module _ (k : ℕ) where
   -- no offer is left of what is without those of a client
   contained_without : (name : OfferName) (ps : List PendingOffer) (q : PendingOffer) → Contains (without name ps) q →
       Contains ps q × (test_for name q ≡ false)
-  contained_without name [] q m = absurd (none_in q m)
+  contained_without name [] q m = absurd (contains_none q m)
   contained_without name (p ∷ ps) q m = by_cases (test_for name p)
       (λ e.
       let r = contained_without name ps q (subst (λ zs. Contains zs q) (ap (λ b. cond (not b) (p ∷ without name ps) (without name ps)) e) m) in
-      (later_in p q ps r.0, r.1))
+      (contains_later p q ps r.0, r.1))
       (λ e. on_either
       (in_cases p q (without name ps) (subst (λ zs. Contains zs q) (ap (λ b. cond (not b) (p ∷ without name ps) (without name ps)) e) m))
-      (λ f. (subst (λ z. Contains (p ∷ ps) z) f (first_in p ps), subst (λ z. test_for name z ≡ false) f e))
-      (λ n. let r = contained_without name ps q n in (later_in p q ps r.0, r.1)))
+      (λ f. (subst (λ z. Contains (p ∷ ps) z) f (contains_first p ps), subst (λ z. test_for name z ≡ false) f e))
+      (λ n. let r = contained_without name ps q n in (contains_later p q ps r.0, r.1)))
 
   -- the offer of a name is pending, and is taken away
   one_less : (s : State) (name : OfferName) → AreOfDifferentClients s.pending → IsPending s name →
@@ -141,7 +142,7 @@ module _ (k : ℕ) where
       mine (insert_by_client p qs) ≡ mine (p ∷ qs)
   inserted p [] h = refl
   inserted p (q ∷ qs) h =
-      let rest = inserted p qs (λ r m. h r (later_in q r qs m)) in
+      let rest = inserted p qs (λ r m. h r (contains_later q r qs m)) in
       by_cases (nat_lt q.client p.client)
       (λ e. ap (λ b. mine (cond b (q ∷ insert_by_client p qs) (p ∷ q ∷ qs))) e ∙ moved rest)
       (λ e. ap (λ b. mine (cond b (q ∷ insert_by_client p qs) (p ∷ q ∷ qs))) e)
@@ -150,7 +151,7 @@ module _ (k : ℕ) where
       moved rest = by_cases (nat_eq q.client k)
           (λ f.
           let own = eqb-true q.client k f in
-          let other : p.client ≡ k → ⊥ = λ g. h q (first_in q qs) (own ∙ sym g) in
+          let other : p.client ≡ k → ⊥ = λ g. h q (contains_first q qs) (own ∙ sym g) in
           mine_of q (insert_by_client p qs) own ∙ ap (λ z. name_of q ∷ z) (rest ∙ others_of p qs other) ∙ sym (mine_of q qs own)
           ∙ sym (others_of p (q ∷ qs) other))
           (λ f.
@@ -177,7 +178,7 @@ module _ (k : ℕ) where
       ∙ sym (ap (λ b. map name_of (cond b (p ∷ of_client k ps) (of_client k ps))) e))
     where
       in_sorted : (qs : List PendingOffer) (q : PendingOffer) → Contains (by_client qs) q → Contains qs q
-      in_sorted qs q m = held qs q (in_by_client qs q (listed (by_client qs) q m))
+      in_sorted qs q m = contains_one q qs (in_by_client qs q (one_contained q (by_client qs) m))
 
   -- the names of a list of offers that are the client's are those of its offers
   names_mine : (ps : List PendingOffer) → names_of k (map name_of ps) ≡ mine ps

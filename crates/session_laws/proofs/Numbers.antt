@@ -1,15 +1,15 @@
 -- The offers of each client are numbered in order, and answered.
 use Rattle.std.proofs.Common.{ℕ, ◌+◌, ◌≡◌, ◌∙◌, refl, sym, ap, subst, List, [], ◌∷◌, ◌++◌, map, append-nil, Some, None, nat_eq, cond}
-use Rattle.std.proofs.lemmas.Bool.{eqb-true, eq-eqb, ne_eqb}
+use Rattle.std.proofs.lemmas.Bool.{eqb-true, eq-eqb, ne_eqb, true≢false}
 use Rattle.spec_core.specs.Code.{Program}
+use Rattle.spec_core.proofs.Members.{contains_none}
 use Rattle.rule_model.specs.Answering.{name_of}
 use Rattle.rule_model.specs.Events.{Event, pended, acted, replied, stalled, left}
 use Rattle.rule_model.specs.Legal.{IsPossible, IsDerivation}
 use Rattle.rule_model.specs.States.{PendingOffer, State, start_state}
 use Rattle.rule_model.specs.Wishes.{Wish}
 use Rattle.log_states.specs.Clients.{numbers_from}
-use Rattle.log_states.proofs.Members.{none_in}
-use Rattle.log_states.proofs.Tests.{by_cases, true_false}
+use Rattle.log_states.proofs.Tests.{by_cases}
 use Rattle.session_laws.specs.Answers.{answered_to, numbered_for, of_client, offers_by}
 use Rattle.session_laws.proofs.Answered.{driven_logs_answer_clients}
 use Rattle.session_laws.proofs.Driven.{driven_derives}
@@ -37,7 +37,7 @@ module _ (k : ℕ) where
       subst (λ b. AreNumbered (cond b (q ∷ qs) qs) made) (sym e)
       (λ i. record { client = is i; number = (own is).0 i; offer = q.offer; ask = q.ask } ∷ rest i))
       (λ e.
-      let never : q.client ≡ k → ⊥ = λ is. true_false (sym (eq-eqb q.client k is) ∙ e) in
+      let never : q.client ≡ k → ⊥ = λ is. absurd (true≢false (sym (eq-eqb q.client k is) ∙ e)) in
       subst (λ b. AreNumbered (cond b (q ∷ qs) qs) made) (sym e) (subst (AreNumbered qs) (other never) h))
 
   module _ (program : Program) where
@@ -74,7 +74,7 @@ whole_sessions_answer_clients program settings clients log ending h client =
     let derives = driven_derives program settings start h.stop log h.last h.driven.driven in
     let offers : offers_by client log ≡ numbered_for client 1 (wishes_by client log) = numbered client program log start h.last derives in
     let none : h.last.pending ≡ [] =
-    none_where_none_open h.last (after_log program log start h.last derives (λ p m. absurd (none_in p m))) h.closed in
+    none_where_none_open h.last (after_log program log start h.last derives (λ p m. absurd (contains_none p m))) h.closed in
     record {
       offers = offers;
       answers =

@@ -3,13 +3,14 @@ use Rattle.std.proofs.Common.{ℕ, ◌≡◌, ◌∙◌, refl, sym, ap, subst, L
 use Rattle.std.proofs.Common.{inl, inr, nat_eq, cond, Bool, true, false}
 use Rattle.spec_core.specs.declared.settings.Settings.{Settings}
 use Rattle.spec_core.specs.Code.{Program}
+use Rattle.spec_core.proofs.Members.{contains_first, contains_none}
 use Rattle.rule_model.specs.Events.{Event, pended, acted, replied, stalled, left}
 use Rattle.rule_model.specs.Legal.{IsPossible, IsIdle}
 use Rattle.rule_model.specs.States.{PendingOffer, State, start_state}
 use Rattle.rule_model.specs.Wishes.{Wish}
 use Rattle.symbolic_rules.specs.Windows.{Windows}
 use Rattle.log_states.specs.Clients.{numbers_from}
-use Rattle.log_states.proofs.Members.{none_in, first_in, in_cases}
+use Rattle.log_states.proofs.Members.{in_cases}
 use Rattle.log_states.proofs.Tests.{on_either}
 use Rattle.board_laws.specs.declared.stop_reason.StopReason.{StopReason}
 use Rattle.board_laws.specs.Next.{AreSessionWindows}
@@ -36,7 +37,7 @@ none_waits s one idle = by_offers s.pending (λ p m. m)
   where
     by_offers : (ps : List PendingOffer) → ((p : PendingOffer) → Contains ps p → Contains s.pending p) → ps ≡ []
     by_offers [] h = refl
-    by_offers (p ∷ ps) h = let m = h p (first_in p ps) in absurd (idle p m (one.clients p.client (one.waits p m)))
+    by_offers (p ∷ ps) h = let m = h p (contains_first p ps) in absurd (idle p m (one.clients p.client (one.waits p m)))
 
 module _ (program : Program) where
   stays_of_one : (s : State) (event : Event) (t : State) → IsPossible program s event t → IsOfOne s → IsOfOne t
@@ -153,13 +154,13 @@ module _ (program : Program) (settings : Settings) (w : Windows) (of_session : A
 
 -- at the beginning no client but 1 is open
 starts_of_one : (wishes : List Wish) (client : ℕ) → Contains (numbers_from 1 (clients_for wishes)) client → client ≡ 1
-starts_of_one [] client m = absurd (none_in client m)
-starts_of_one (wish ∷ wishes) client m = on_either (in_cases 1 client [] m) (λ e. sym e) (λ k. absurd (none_in client k))
+starts_of_one [] client m = absurd (contains_none client m)
+starts_of_one (wish ∷ wishes) client m = on_either (in_cases 1 client [] m) (λ e. sym e) (λ k. absurd (contains_none client k))
 
 pub sessions_of_one_are_client_runs : SessionsOfOneAreClientRuns
 sessions_of_one_are_client_runs program settings w of_session wishes log ending h offers =
     let start = start_state h.driven.behaviour (numbers_from 1 (clients_for wishes)) in
-    let one : IsOfOne start = record { clients = starts_of_one wishes; waits = λ p m. absurd (none_in p m) } in
+    let one : IsOfOne start = record { clients = starts_of_one wishes; waits = λ p m. absurd (contains_none p m) } in
     let made : wishes_by 1 log ≡ wishes = ap (map wish_in) offers ∙ wishes_of_numbered 1 1 wishes in
     record {
       behaviour = h.driven.behaviour;

@@ -1,18 +1,18 @@
 -- How the rows of a session end.
 use Rattle.std.proofs.Common.{ℕ, zero, suc, ◌+◌, ◌-◌, ◌<◌, ◌≤◌, ◌≡◌, ◌∙◌, refl, sym, ap, subst, arith, List, [], ◌∷◌, map, length}
-use Rattle.std.proofs.Common.{get_or, Contains, Bool, true, false, nat_eq, cond, Vec, Result, Ok, Err, IfOk}
+use Rattle.std.proofs.Common.{get_or, Contains, Bool, true, false, nat_eq, cond, Vec}
 use Rattle.std.proofs.lemmas.List.{length-map}
 use Rattle.std.specs.declared.alloc.Global.{Global}
 use Rattle.std.specs.List.{range_with_len}
-use Rattle.std.proofs.lemmas.Bool.{cases_order, eq-eqb, ne_eqb}
+use Rattle.std.proofs.lemmas.Bool.{cases_order, eq-eqb, ne_eqb, true≢false}
 use Rattle.spec_core.specs.Lists.{Each}
+use Rattle.spec_core.proofs.Members.{contains_first, contains_later}
 use Rattle.turn_lock.specs.Seats.{LockId}
 use Rattle.rule_model.specs.Events.{Event, pended, acted, replied, stalled, left}
 use Rattle.rule_model.specs.States.{PendingOffer}
 use Rattle.rule_model.specs.Wishes.{Wish}
 use Rattle.rule_model.specs.WishViews.{wish_of}
-use Rattle.log_states.proofs.Members.{first_in, later_in}
-use Rattle.log_states.proofs.Tests.{by_cases, on_either, true_false}
+use Rattle.log_states.proofs.Tests.{by_cases, on_either}
 use Rattle.session_laws.specs.Answers.{AnswersClient, offers_by}
 use Rattle.session_laws.specs.Wishes.{wish_in, wishes_by}
 use Rattle.session.specs.Closing.{HasItsEntries, events_by}
@@ -154,9 +154,9 @@ clients_there id first (wishes ∷ clients) [] h k least most = absurd h
 clients_there id first (wishes ∷ clients) (p ∷ passes) h k least most =
     on_either (cases_order k first)
     (λ e. subst (λ z. Contains (p.client ∷ map (λ (q : PassView). q.client) passes) z) (h.1 ∙ sym e)
-    (first_in p.client (map (λ (q : PassView). q.client) passes)))
+    (contains_first p.client (map (λ (q : PassView). q.client) passes)))
     (λ other.
-    later_in p.client k (map (λ (q : PassView). q.client) passes)
+    contains_later p.client k (map (λ (q : PassView). q.client) passes)
     (clients_there id (first + 1) clients passes h.4 k
     (on_either other (λ l. absurd (omega (arith, l, least))) (λ l. omega (arith, l)))
     (omega (arith, most))))
@@ -177,9 +177,9 @@ workers_there id n k (suc m) [] h number least most = absurd h
 workers_there id n k (suc m) (p ∷ passes) h number least most =
     on_either (cases_order number k)
     (λ e. subst (λ z. Contains (p.number ∷ map (λ (q : WorkPassView). q.number) passes) z) (ap (λ (z : Who). z.number) h.0 ∙ sym e)
-    (first_in p.number (map (λ (q : WorkPassView). q.number) passes)))
+    (contains_first p.number (map (λ (q : WorkPassView). q.number) passes)))
     (λ other.
-    later_in p.number number (map (λ (q : WorkPassView). q.number) passes)
+    contains_later p.number number (map (λ (q : WorkPassView). q.number) passes)
     (workers_there id n (k + 1) m passes h.1 number
     (on_either other (λ l. absurd (omega (arith, l, least))) (λ l. omega (arith, l)))
     (omega (arith, most))))
@@ -196,7 +196,7 @@ its_wishes k (pended client number offer ask ∷ log) =
     (λ e.
     subst (λ b. wishes_by k (event ∷ log) ≡ wishes_by k (cond b (event ∷ events_by k log) (events_by k log))) (sym e)
     (ap (λ b. map wish_in (cond b (offered ∷ offers_by k log) (offers_by k log)))
-    (ne_eqb client k (λ is. true_false (sym (eq-eqb (k - 1) (client - 1) (ap (λ z. z - 1) (sym is))) ∙ e)))
+    (ne_eqb client k (λ is. absurd (true≢false (sym (eq-eqb (k - 1) (client - 1) (ap (λ z. z - 1) (sym is))) ∙ e))))
     ∙ its_wishes k log))
   where
     event : Event
@@ -231,10 +231,6 @@ answers_clients log law id first (wishes ∷ clients) (p ∷ passes) h its =
     )
 
 -- a whole session of rows
-
-pub both_ok : {A E : Type 0} (r : Result A E) (P Q R : A → Type 0) → ((x : A) → P x → Q x → R x) → IfOk r P → IfOk r Q → IfOk r R
-both_ok (Ok x) P Q R f p q = f x p q
-both_ok (Err e) P Q R f p q = tt
 
 -- the rows of a session that has started
 abbrev pub AreBegun : SessionView → List (List Wish) → ℕ → List Row → Type 0

@@ -1,5 +1,5 @@
 -- Rows in order.
-use Rattle.std.proofs.Common.{ℕ, zero, suc, ◌+◌, ◌<◌, ◌≡◌, ◌∙◌, refl, sym, ap, subst, arith, List, [], ◌∷◌, ◌++◌, map, append_assoc}
+use Rattle.std.proofs.Common.{ℕ, zero, suc, ◌+◌, ◌<◌, ◌≡◌, ◌∙◌, sym, ap, subst, arith, List, [], ◌∷◌, ◌++◌, map, append_assoc}
 use Rattle.std.proofs.Common.{length, drop, get_or, Vec}
 use Rattle.std.specs.List.{remove}
 use Rattle.std.specs.declared.alloc.Global.{Global}
@@ -13,10 +13,6 @@ use Rattle.session_threads.specs.Runs.{all_wishes_of}
 pub first_taken : {A : Type 0} (xs rest : List A) (x : A) → 0 < length xs → x ≡ get_or xs 0 x → rest ≡ remove xs 0 → xs ≡ x ∷ rest
 first_taken [] rest x some at is = absurd (omega (arith, some))
 first_taken (y ∷ ys) rest x some at is = λ i. sym at i ∷ sym is i
-
-pub none_left : {A : Type 0} (xs : List A) → length xs ≡ 0 → xs ≡ []
-none_left [] e = refl
-none_left (x ∷ xs) e = absurd (omega (arith, e))
 
 -- one row more of a worker
 pub worker_more : (all left rest : List WorkPassView) (pass : WorkPassView) (old new : List Row) → old ++ map worker_row left ≡ map worker_row all →

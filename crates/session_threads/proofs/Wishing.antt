@@ -3,16 +3,17 @@ use Rattle.std.proofs.Common.{ℕ, zero, suc, ◌+◌, ◌<◌, ◌≤◌, ◌�
 use Rattle.std.proofs.Common.{Contains, Bool, true, false, nat_eq, cond, inl, inr, get_or, take, length, append_assoc}
 use Rattle.std.proofs.lemmas.List.{map-append}
 use Rattle.std.proofs.lemmas.Bool.{eq-eqb}
+use Rattle.std.proofs.lemmas.List.Elements.{Contains-push_cases}
 use Rattle.rule_model.specs.declared.log.Entry.{Entry}
 use Rattle.rule_model.specs.declared.offer.Offer.{Offer}
 use Rattle.rule_model.specs.Answers.{Answer}
 use Rattle.rule_model.specs.Events.{Event, event_of, pended, acted, replied, stalled, left}
 use Rattle.rule_model.specs.States.{PendingOffer}
 use Rattle.rule_model.specs.Wishes.{Wish}
-use Rattle.log_states.proofs.Members.{none_in, taken_next}
 use Rattle.log_states.proofs.Tests.{on_either}
-use Rattle.board_offers.proofs.Members.{in_behind, held}
 use Rattle.spec_core.specs.Lists.{IsOneOf}
+use Rattle.spec_core.proofs.Members.{contains_one, contains_none}
+use Rattle.spec_core.proofs.Lists.{take_next}
 use Rattle.session_laws.specs.Answers.{offers_by}
 use Rattle.rule_model.specs.declared.wish.ClientWish.{ClientWish}
 use Rattle.rule_model.specs.WishViews.{wish_of}
@@ -48,7 +49,7 @@ stays_on p q offer ask answer k same stays h =
     ap events_in k.own ∙ events_then p.own k.entry ∙ ap (λ event. events_in p.own ++ event ∷ []) k.offered in
     let there : Contains (events_in p.own ++ pended p.client k.number offer ask ∷ []) (left p.client) =
     subst (λ l. Contains l (left p.client)) e (subst (λ c. Contains (events_in q.own) (left c)) same.1 h) in
-    on_either (in_behind (events_in p.own) (pended p.client k.number offer ask) (left p.client) there) stays
+    on_either (Contains-push_cases (events_in p.own) (pended p.client k.number offer ask) (left p.client) there) stays
     (no_leave p.client k.number p.client offer ask)
 
 -- and has wished this offer, too
@@ -73,7 +74,7 @@ leaves_now p q k same =
     ap events_in k.own ∙ events_then p.own k.entry ∙ ap (λ event. events_in p.own ++ event ∷ []) k.leaves in
     subst (λ c. Contains (events_in q.own) (left c)) (sym same.1)
     (subst (λ l. Contains l (left p.client)) (sym e)
-    (held (events_in p.own ++ left p.client ∷ []) (left p.client) (last_of (events_in p.own) (left p.client))))
+    (contains_one (left p.client) (events_in p.own ++ left p.client ∷ []) (last_of (events_in p.own) (left p.client))))
 
 -- and wishes nothing by that
 pub wishes_no_more : (p q : PassView) → KnowsLeave p q → SamePass p q → wishes_made q ≡ wishes_made p
@@ -87,7 +88,7 @@ wishes_no_more p q k same =
 
 -- a client that has made no line hasn't left, and has wished nothing
 pub new_stays : (p : PassView) → p.own ≡ [] → HasLeft p → ⊥
-new_stays p none h = none_in (left p.client) (subst (λ l. Contains (events_in l) (left p.client)) none h)
+new_stays p none h = contains_none (left p.client) (subst (λ l. Contains (events_in l) (left p.client)) none h)
 
 pub nothing_wished : (p : PassView) → p.own ≡ [] → wishes_made p ≡ []
 nothing_wished p none = ap (λ l. wishes_by p.client (events_in l)) none
@@ -115,4 +116,4 @@ made_more wishes i wish before now next below at done one =
     one ∙ ap (λ l. l ++ wish_of wish ∷ []) done
     ∙ append_assoc before (map wish_of (take i wishes)) (wish_of wish ∷ [])
     ∙ ap (λ l. before ++ l)
-    (sym (map-append wish_of (take i wishes) (wish ∷ [])) ∙ ap (map wish_of) (sym (taken_next wishes i wish below at)))
+    (sym (map-append wish_of (take i wishes) (wish ∷ [])) ∙ ap (map wish_of) (sym (take_next wishes i wish below at)))

@@ -1,19 +1,15 @@
 -- Early ends of searches.
 use Rattle.std.proofs.Common.{ℕ, zero, suc, ◌≡◌, ◌<◌, List, [], ◌∷◌, length, map, get_or, refl, ap, sym, subst, ◌∙◌, arith, Bool, true, false, ◌||◌}
 use Rattle.std.specs.List.{list_any}
+use Rattle.spec_core.proofs.Lists.{any_at}
 
 or-true : (b : Bool) → true ≡ b || true
 or-true true = refl
 or-true false = refl
 
-any-here : {A B : Type 0} (p : B → Bool) (f : A → B) (xs : List A) (i : ℕ) (x : A) → i < length xs → x ≡ get_or xs i x → p (f x) ≡ true → true ≡ list_any p (map f xs)
-any-here p f [] i x within at passes = absurd (omega arith)
-any-here p f (y ∷ xs) zero x within at passes = ap (λ b. b || list_any p (map f xs)) (sym (ap (λ z. p (f z)) (sym at) ∙ passes))
-any-here p f (y ∷ xs) (suc i) x within at passes = or-true (p (f y)) ∙ ap (λ b. p (f y) || b) (any-here p f xs i x (omega arith) at passes)
-
 -- an element passes the test
 pub any-at : {A B : Type 0} (p : B → Bool) (f : A → B) (xs ys : List A) (i : ℕ) (x : A) → ys ≡ xs → i < length ys → x ≡ get_or ys i x → p (f x) ≡ true → true ≡ list_any p (map f xs)
-any-at p f xs ys i x same within at passes = subst (λ zs. true ≡ list_any p (map f zs)) same (any-here p f ys i x within at passes)
+any-at p f xs ys i x same within at passes = subst (λ zs. true ≡ list_any p (map f zs)) same (any_at p f ys i x within at passes)
 
 -- the same of a list as it stands
 pub any-in : {A : Type 0} (p : A → Bool) (xs : List A) (i : ℕ) (x : A) → i < length xs → x ≡ get_or xs i x → p x ≡ true → true ≡ list_any p xs

@@ -11,6 +11,7 @@ use Rattle.lotos_ast.specs.Refusals.{IfRefused}
 use Rattle.spec_core.specs.Lists.{Each, IsOneOf}
 use Rattle.spec_core.specs.Terms.{TermTree, preorder}
 use Rattle.spec_core.specs.Windows.{IsLess, IsBefore}
+use Rattle.spec_core.proofs.Members.{each_one}
 use Rattle.sort_overloads.specs.Expressions.{Expression}
 use Rattle.sort_overloads.specs.Readings.{Context, IsReading}
 use Rattle.sort_overloads.specs.Listed.{Typed, two, those, readings}
@@ -21,7 +22,7 @@ use Rattle.sort_overloads.specs.declared.selection.Wanted.{Wanted}
 use Rattle.sort_overloads.specs.Picks.{IsOneReading, IsPickRefusal}
 use Rattle.sort_overloads.proofs.Members.{typed, those-sound, those-complete}
 use Rattle.sort_overloads.proofs.Law.{sound, complete}
-use Rattle.sort_overloads.proofs.InOrder.{IsSortedBy, key, sorted, those-sorted, same-size, each-one}
+use Rattle.sort_overloads.proofs.InOrder.{IsSortedBy, key, sorted, those-sorted, same-size}
 
 wanted : (w : Option Sort) (k : Wanted) → IsWantedAs w k → (s : ℕ) → Decides (fits_of k s) (IsWanted w s)
 wanted None k e s = subst (λ z. Decides (fits_of z s) (IsWanted None s)) (sym e) (λ e. tt, λ h. refl)
@@ -90,7 +91,7 @@ module _ (c : Context) (e : Expression) (w : Option Sort) (asked : Wanted) (same
       other : (u : TermTree) (r : ℕ) → IsReading c e u r → length (preorder y.term) ≡ length (preorder u) → Each (λ z. IsLess (key y) (key z)) rest → IsOneOf (typed u r) (x ∷ y ∷ rest) → (u ≡ x.term) ⊎ (u ≡ y.term) ⊎ IsBefore (preorder y.term) (preorder u)
       other u r h n l (inl m) = inl (ap (λ z. z.term) m)
       other u r h n l (inr (inl m)) = inr (inl (ap (λ z. z.term) m))
-      other u r h n l (inr (inr m)) = inr (inr (inr (n, each-one (λ z. IsLess (key y) (key z)) rest (typed u r) l m)))
+      other u r h n l (inr (inr m)) = inr (inr (inr (n, each_one (λ z. IsLess (key y) (key z)) rest (typed u r) l m)))
 
   pub one-reading : (fit : List Typed) (t : TermTree) (sort : ℕ) → two fit ≡ two fitting → IsOneReading fit t sort → IsOnlyReading c e w t sort
   one-reading [] t sort q h = absurd h

@@ -9,11 +9,13 @@ use Rattle.spec_core.specs.Sorts.{OnSome}
 use Rattle.spec_core.specs.Terms.{TermTree, TermTrees, variable, apply, no_terms, and_term, terms, preorder, preorders}
 use Rattle.spec_core.specs.Theories.{Operation}
 use Rattle.spec_core.specs.Windows.{IsLess}
+use Rattle.spec_core.proofs.Members.{each_from, each_one, from_map}
+use Rattle.spec_core.proofs.Lists.{each_append}
 use Rattle.sort_overloads.specs.Expressions.{Expression, Expressions, named, applied, said, nothing, no_expressions, and_expression}
 use Rattle.sort_overloads.specs.Readings.{Context, spelling, IsReading, AreReadings}
 use Rattle.sort_overloads.specs.Listed.{Typed, those, of_sort, is_same_name, extended, argument_lists, application}
 use Rattle.sort_overloads.specs.Listed.{of_operation, of_operations, name_readings, readings, all_readings}
-use Rattle.sort_overloads.proofs.Members.{Given, one-mapped, operation-sound, operations-sound}
+use Rattle.sort_overloads.proofs.Members.{Given, operation-sound, operations-sound}
 use Rattle.sort_overloads.proofs.Law.{Found, missing, found, find, no-variable, sound}
 
 -- all readings of an expression have one number of operations
@@ -72,25 +74,12 @@ abbrev pub IsSortedBy : {A : Type 0} → (A → List ℕ) → List A → Type 0
 IsSortedBy key [] = Unit {0}
 IsSortedBy key (x ∷ xs) = Each (λ y. IsLess (key x) (key y)) xs × IsSortedBy key xs
 
-pub each-from : {A : Type 0} (P : A → Type 0) (xs : List A) → ((x : A) → IsOneOf x xs → P x) → Each P xs
-each-from P [] f = tt
-each-from P (x ∷ xs) f = (f x (inl refl), each-from P xs (λ y m. f y (inr m)))
-
-pub each-one : {A : Type 0} (P : A → Type 0) (xs : List A) (x : A) → Each P xs → IsOneOf x xs → P x
-each-one P [] x h m = absurd m
-each-one P (y ∷ ys) x h (inl e) = subst P (sym e) h.0
-each-one P (y ∷ ys) x h (inr m) = each-one P ys x h.1 m
-
-each-join : {A : Type 0} (P : A → Type 0) (xs ys : List A) → Each P xs → Each P ys → Each P (xs ++ ys)
-each-join P [] ys h k = k
-each-join P (x ∷ xs) ys h k = (h.0, each-join P xs ys h.1 k)
-
 sorted-join : {A : Type 0} (key : A → List ℕ) (xs ys : List A) → IsSortedBy key xs → IsSortedBy key ys
     → ((x y : A) → IsOneOf x xs → IsOneOf y ys → IsLess (key x) (key y)) → IsSortedBy key (xs ++ ys)
 sorted-join key [] ys h k f = k
 sorted-join key (x ∷ xs) ys h k f = (
-  each-join (λ y. IsLess (key x) (key y)) xs ys h.0
-      (each-from (λ y. IsLess (key x) (key y)) ys (λ y m. f x y (inl refl) m)),
+  each_append (λ y. IsLess (key x) (key y)) xs ys h.0
+      (each_from (λ y. IsLess (key x) (key y)) ys (λ y m. f x y (inl refl) m)),
   sorted-join key xs ys h.1 k (λ a b m n. f a b (inr m) n),
 )
 
@@ -160,7 +149,7 @@ longer-size n m l t a b = let e = ap length (key-last l t) in let x = length-app
 extended-size : (n m : ℕ) (ls : List (List TermTree)) (ts : List TermTree) → Each (λ l. length (list_key l) ≡ n) ls → HaveSize m ts
     → Each (λ l. length (list_key l) ≡ n + m) (extended ls ts)
 extended-size n m [] ts h k = tt
-extended-size n m (l ∷ ls) ts h k = each-join (λ l. length (list_key l) ≡ n + m) (map (λ t. l ++ (t ∷ [])) ts) (extended ls ts)
+extended-size n m (l ∷ ls) ts h k = each_append (λ l. length (list_key l) ≡ n + m) (map (λ t. l ++ (t ∷ [])) ts) (extended ls ts)
     (all ts k) (extended-size n m ls ts h.1 k)
   where
     all : (us : List TermTree) → HaveSize m us → Each (λ l. length (list_key l) ≡ n + m) (map (λ t. l ++ (t ∷ [])) us)
@@ -184,8 +173,8 @@ extended-sorted n [] ts h s k = tt
 extended-sorted n (l ∷ ls) ts h s k =
     sorted-join list_key (map (λ t. l ++ (t ∷ [])) ts) (extended ls ts) (sorted-map preorder list_key (λ t. l ++ (t ∷ [])) ts
     (λ t u a. less-last l t u a) k) (extended-sorted n ls ts h.1 s.1 k)
-    (λ x y m i. let a = one-mapped (λ t. l ++ (t ∷ [])) ts x m in subst (λ z. IsLess (list_key z) (list_key y)) (sym a.2)
-    (each-one (λ z. IsLess (list_key (l ++ (a.0 ∷ []))) (list_key z)) (extended ls ts) y (after ls a.0 h.1 s.0) i))
+    (λ x y m i. let a = from_map (λ t. l ++ (t ∷ [])) ts x m in subst (λ z. IsLess (list_key z) (list_key y)) (sym a.2)
+    (each_one (λ z. IsLess (list_key (l ++ (a.0 ∷ []))) (list_key z)) (extended ls ts) y (after ls a.0 h.1 s.0) i))
   where
     row : (j : List TermTree) (t : TermTree) (us : List TermTree) → length (list_key j) ≡ n → IsLess (list_key l) (list_key j)
         → Each (λ z. IsLess (list_key (l ++ (t ∷ []))) (list_key z)) (map (λ u. j ++ (u ∷ [])) us)
@@ -195,7 +184,7 @@ extended-sorted n (l ∷ ls) ts h s k =
     after : (js : List (List TermTree)) (t : TermTree) → Each (λ l. length (list_key l) ≡ n) js
         → Each (λ j. IsLess (list_key l) (list_key j)) js → Each (λ z. IsLess (list_key (l ++ (t ∷ []))) (list_key z)) (extended js ts)
     after [] t a b = tt
-    after (j ∷ js) t a b = each-join (λ z. IsLess (list_key (l ++ (t ∷ []))) (list_key z)) (map (λ u. j ++ (u ∷ [])) ts)
+    after (j ∷ js) t a b = each_append (λ z. IsLess (list_key (l ++ (t ∷ []))) (list_key z)) (map (λ u. j ++ (u ∷ [])) ts)
         (extended js ts) (row j t ts a.0 b.0) (after js t a.1 b.1)
 
 -- each part is in order, and its terms are of one size
@@ -249,7 +238,7 @@ sized : (c : Context) (e : Expression) (xs : List Typed) → ((r : Typed) → Is
 sized c e [] f = (0, tt)
 sized c e (x ∷ xs) f = (
   length (preorder x.term),
-  each-from (λ r. length (preorder r.term) ≡ length (preorder x.term)) (x ∷ xs)
+  each_from (λ r. length (preorder r.term) ≡ length (preorder x.term)) (x ∷ xs)
       (λ r m. same-size c e r.term x.term r.sort x.sort (sound c e r (f r m)) (sound c e x (f x (inl refl)))),
 )
 

@@ -1,6 +1,6 @@
 -- The unknown names of expressions, part by part.
 use Rattle.std.proofs.Common.{ℕ, ◌≡◌, ◌<◌, ◌≤◌, ◌+◌, List, [], ◌∷◌, ◌++◌, length, map, drop, get_or, refl, ap, sym, subst, ◌∙◌, append_assoc}
-use Rattle.std.proofs.lemmas.List.{append-nil}
+use Rattle.std.proofs.lemmas.List.{append-nil, drop_all}
 use Rattle.std.specs.List.{flat_map}
 use Rattle.lotos_ast.specs.declared.place.Place.{Place}
 use Rattle.lotos_ast.specs.declared.refusal.Refusal.{Refusal}
@@ -12,7 +12,7 @@ use Rattle.sort_overloads.specs.Expressions.{Expression, said, infix_application
 use Rattle.sort_overloads.specs.Expressions.{arguments, further}
 use Rattle.sort_overloads.specs.Readings.{Context}
 use Rattle.sort_overloads.specs.Refused.{unknowns, all_unknowns, unknown_name, unknown_sort}
-use Rattle.sort_overloads.proofs.Loops.{dropped-next, dropped-all}
+use Rattle.sort_overloads.proofs.Loops.{dropped-next}
 
 -- what is listed for an expression of which these operations are left to be read
 pub record ListedSoFar (c : Context) (whole : Expression) (left_over : List Tree) (old now : List Refusal) : Type 0 where
@@ -36,7 +36,7 @@ listed-next c whole f xs i x p name operand old before middle now within at e b 
 
 pub listed-all : {A : Type 0} (c : Context) (whole : Expression) (f : A → Tree) (xs : List A) (i : ℕ) (old now : List Refusal) → length xs ≤ i → ListedSoFar c whole (map f (drop i xs)) old now → now ≡ old ++ unknowns c whole
 listed-all c whole f xs i old now ended h =
-    let e : h.read ≡ whole = sym (ap (λ z. chain h.read (infixes_tree (map f z))) (dropped-all xs i ended)) ∙ h.same in
+    let e : h.read ≡ whole = sym (ap (λ z. chain h.read (infixes_tree (map f z))) (drop_all i xs ended)) ∙ h.same in
     subst (λ z. now ≡ old ++ unknowns c z) e h.listed
 
 -- the same of the sorts that are said of an operand
@@ -55,7 +55,7 @@ said-listed-next c whole xs i x old before now within at n h = record {
 
 pub said-listed-all : (c : Context) (whole : Expression) (xs : List Token) (i : ℕ) (old now : List Refusal) → length xs ≤ i → SaidListed c whole (drop i xs) old now → now ≡ old ++ unknowns c whole
 said-listed-all c whole xs i old now ended h =
-    let e : h.read ≡ whole = sym (ap (λ z. with_sorts h.read (repeated_tree (map of_sort z))) (dropped-all xs i ended)) ∙ h.same in
+    let e : h.read ≡ whole = sym (ap (λ z. with_sorts h.read (repeated_tree (map of_sort z))) (drop_all i xs ended)) ∙ h.same in
     subst (λ z. now ≡ old ++ unknowns c z) e h.listed
 
 -- arguments, one after another

@@ -1,46 +1,20 @@
 -- One more element of a list that a loop goes over.
-use Rattle.std.proofs.Common.{Some, None, ℕ, zero, suc, ◌≡◌, ◌<◌, ◌≤◌, ◌+◌, ◌==◌, List, [], ◌∷◌, ◌++◌, length, map, take, drop, get_or, refl, ap, sym, subst, ◌∙◌, arith, add-one, append_assoc, Bool, true, false, if◌then◌else◌}
+use Rattle.std.proofs.Common.{ℕ, zero, suc, ◌≡◌, ◌<◌, ◌≤◌, ◌+◌, ◌==◌, List, [], ◌∷◌, ◌++◌, length, map, take, drop, get_or, refl, ap, sym, subst, ◌∙◌, arith, add-one, append_assoc, Bool, true, false, if◌then◌else◌}
 use Rattle.spec_core.specs.Terms.{TermTree}
-use Rattle.std.specs.List.{slice_get, slice_index_or}
+use Rattle.std.specs.List.{slice_index_or}
 use Rattle.sort_overloads.specs.declared.table.Pick.{Pick}
 use Rattle.sort_overloads.specs.declared.table.Reading.{Reading}
 use Rattle.sort_overloads.specs.Listed.{Typed, two, those, of_sort, extended, argument_lists}
 use Rattle.sort_overloads.specs.Tables.{with_last, picked, list_of}
 use Rattle.std.specs.Prelude.{Vec}
 use Rattle.std.specs.declared.alloc.Global.{Global}
+use Rattle.std.proofs.Math.Seq.{drop-cons, take-suc}
+use Rattle.std.proofs.lemmas.List.{drop_all, map-append}
+use Rattle.spec_core.proofs.Lists.{take_next}
 use Rattle.sort_overloads.proofs.Two.{those_join, two_more, two_twice, argument_lists-same, all-stand-themselves}
 
-pub taken : {A : Type 0} (xs : List A) (i : ℕ) (d : A) → i < length xs → take (suc i) xs ≡ take i xs ++ (get_or xs i d ∷ [])
-taken [] i d within = absurd (omega arith)
-taken (x ∷ xs) zero d within = refl
-taken (x ∷ xs) (suc i) d within = ap (λ ys. x ∷ ys) (taken xs i d (omega arith))
-
-pub taken-next : {A : Type 0} (xs : List A) (i : ℕ) (x : A) → i < length xs → x ≡ get_or xs i x → take (i + 1) xs ≡ take i xs ++ (x ∷ [])
-taken-next xs i x within at = ap (λ k. take k xs) (add-one i) ∙ taken xs i x within ∙ ap (λ y. take i xs ++ (y ∷ [])) (sym at)
-
-dropped : {A : Type 0} (xs : List A) (i : ℕ) (d : A) → i < length xs → drop i xs ≡ get_or xs i d ∷ drop (suc i) xs
-dropped [] i d within = absurd (omega arith)
-dropped (x ∷ xs) zero d within = refl
-dropped (x ∷ xs) (suc i) d within = dropped xs i d (omega arith)
-
 pub dropped-next : {A : Type 0} (xs : List A) (i : ℕ) (x : A) → i < length xs → x ≡ get_or xs i x → drop i xs ≡ x ∷ drop (i + 1) xs
-dropped-next xs i x within at = dropped xs i x within ∙ ap (λ y. y ∷ drop (suc i) xs) (sym at) ∙ ap (λ k. x ∷ drop k xs) (sym (add-one i))
-
-pub dropped-all : {A : Type 0} (xs : List A) (i : ℕ) → length xs ≤ i → drop i xs ≡ []
-dropped-all [] zero h = refl
-dropped-all [] (suc i) h = refl
-dropped-all (x ∷ xs) zero h = absurd (omega arith)
-dropped-all (x ∷ xs) (suc i) h = dropped-all xs i (omega arith)
-
-pub taken-all : {A : Type 0} (xs : List A) (i : ℕ) → length xs ≤ i → take i xs ≡ xs
-taken-all [] zero h = refl
-taken-all [] (suc i) h = refl
-taken-all (x ∷ xs) zero h = absurd (omega arith)
-taken-all (x ∷ xs) (suc i) h = ap (λ ys. x ∷ ys) (taken-all xs i (omega arith))
-
-pub map-join : {A B : Type 0} (f : A → B) (xs ys : List A) → map f (xs ++ ys) ≡ map f xs ++ map f ys
-map-join f [] ys = refl
-map-join f (x ∷ xs) ys = ap (λ zs. f x ∷ zs) (map-join f xs ys)
+dropped-next xs i x within at = drop-cons xs i x within ∙ ap (λ y. y ∷ drop (suc i) xs) (sym at) ∙ ap (λ k. x ∷ drop k xs) (sym (add-one i))
 
 pub map-through : {A B C : Type 0} (g : B → C) (f : A → B) (xs : List A) → map g (map f xs) ≡ map (λ x. g (f x)) xs
 map-through g f [] = refl
@@ -66,17 +40,17 @@ longer-added view now before after l xs i d within a b =
     let more = with_last l (view x) ∷ [] in
     let some = map (with_last l) (map view (take i xs)) in
     let e : map (with_last l) (map view (take (i + 1) xs)) ≡ some ++ more =
-    ap (λ k. map (with_last l) (map view k)) (ap (λ k. take k xs) (add-one i) ∙ taken xs i d within)
-    ∙ ap (map (with_last l)) (map-join view (take i xs) (x ∷ []))
-    ∙ map-join (with_last l) (map view (take i xs)) (view x ∷ []) in
+    ap (λ k. map (with_last l) (map view k)) (ap (λ k. take k xs) (add-one i) ∙ take-suc xs i d within)
+    ∙ ap (map (with_last l)) (map-append view (take i xs) (x ∷ []))
+    ∙ map-append (with_last l) (map view (take i xs)) (view x ∷ []) in
     b ∙ ap (λ z. two (z ++ more)) a ∙ two_more (before ++ some) more ∙ ap two (append_assoc before some more) ∙ ap (λ z. two (before ++ z)) (sym e)
 
 -- one more list, where there weren't two
 pub one-added : (tables : List (List Typed)) (before now : List (Vec Pick Global)) (list : Vec Pick Global) (old : List Pick) (pick : Pick) → length before < 2 → list.items ≡ old ++ (pick ∷ []) → now ≡ before ++ (list ∷ []) →
     map (list_of tables) now ≡ two (map (list_of tables) before ++ (with_last (map (picked tables) old) (picked tables pick) ∷ []))
 one-added tables before now list old pick few l n =
-    let e : list_of tables list ≡ with_last (map (picked tables) old) (picked tables pick) = ap (map (picked tables)) l ∙ map-join (picked tables) old (pick ∷ []) in
-    ap (map (list_of tables)) n ∙ map-join (list_of tables) before (list ∷ []) ∙ ap (λ z. map (list_of tables) before ++ (z ∷ [])) e
+    let e : list_of tables list ≡ with_last (map (picked tables) old) (picked tables pick) = ap (map (picked tables)) l ∙ map-append (picked tables) old (pick ∷ []) in
+    ap (map (list_of tables)) n ∙ map-append (list_of tables) before (list ∷ []) ∙ ap (λ z. map (list_of tables) before ++ (z ∷ [])) e
     ∙ still before few
   where
     still : (xs : List (Vec Pick Global)) → length xs < 2 → map (list_of tables) xs ++ (with_last (map (picked tables) old) (picked tables pick) ∷ []) ≡ two (map (list_of tables) xs ++ (with_last (map (picked tables) old) (picked tables pick) ∷ []))
@@ -88,9 +62,9 @@ one-added tables before now list old pick few l n =
 pub picks-next : (f : Pick → TermTree) (view : Reading → Typed) (sort : ℕ) (xs : List Reading) (i : ℕ) (x : Reading) (before now : List Pick) (wanted : Bool) (pick : Pick) → i < length xs → x ≡ get_or xs i x → wanted ≡ ((view x).sort == sort) → f pick ≡ (view x).term →
     map f before ≡ of_sort sort (map view (take i xs)) → now ≡ before ++ (if wanted then pick ∷ [] else []) → map f now ≡ of_sort sort (map view (take (i + 1) xs))
 picks-next f view sort xs i x before now wanted pick within at w term h n =
-    ap (map f) n ∙ map-join f before (if wanted then pick ∷ [] else []) ∙ ap (λ z. z ++ map f (if wanted then pick ∷ [] else [])) h
+    ap (map f) n ∙ map-append f before (if wanted then pick ∷ [] else []) ∙ ap (λ z. z ++ map f (if wanted then pick ∷ [] else [])) h
     ∙ ap (λ z. of_sort sort (map view (take i xs)) ++ z) (one wanted w)
-    ∙ sym (ap (λ k. of_sort sort (map view k)) (taken-next xs i x within at) ∙ ap (of_sort sort) (map-join view (take i xs) (x ∷ [])) ∙ of_sort-join sort (map view (take i xs)) (view x ∷ []))
+    ∙ sym (ap (λ k. of_sort sort (map view k)) (take_next xs i x within at) ∙ ap (of_sort sort) (map-append view (take i xs) (x ∷ [])) ∙ of_sort-join sort (map view (take i xs)) (view x ∷ []))
   where
     one : (b : Bool) → b ≡ ((view x).sort == sort) → map f (if b then pick ∷ [] else []) ≡ of_sort sort (view x ∷ [])
     one true e = ap (λ z. z ∷ []) term ∙ ap (λ k. if k then (view x).term ∷ [] else []) e
@@ -109,8 +83,8 @@ lists-added view now after ts xs i x within at a b =
     let more = map (with_last (view x)) ts in
     let some = extended (map view (take i xs)) ts in
     let e : extended (map view (take (i + 1) xs)) ts ≡ some ++ more =
-    ap (λ k. extended (map view k) ts) (taken-next xs i x within at)
-    ∙ ap (λ k. extended k ts) (map-join view (take i xs) (x ∷ []))
+    ap (λ k. extended (map view k) ts) (take_next xs i x within at)
+    ∙ ap (λ k. extended k ts) (map-append view (take i xs) (x ∷ []))
     ∙ extended-join (map view (take i xs)) (view x ∷ []) ts
     ∙ ap (λ z. some ++ z) (last more) in
     b ∙ ap (λ z. two (z ++ more)) a ∙ two_more some more ∙ ap two (sym e)
@@ -146,13 +120,13 @@ lists-continued f g ls longer all parts sorts i p d wp ws at lists le table te b
     let now = extended ls (of_sort (g (get_or sorts i d)) (f p)) in
     let a : longer ≡ two now = b ∙ ap (λ z. two (extended z (of_sort (g (get_or sorts i d)) table))) le ∙ ap (λ z. two (extended ls (of_sort (g (get_or sorts i d)) z))) te in
     argument_lists-same longer now (map f (drop (i + 1) parts)) (map f (drop (i + 1) parts)) (map g (drop (i + 1) sorts)) (ap two a ∙ two_twice now) (all-stand-themselves (map f (drop (i + 1) parts)))
-    ∙ sym (ap (λ k. two (argument_lists ls (map f k) (map g (drop i sorts)))) (dropped-next parts i p wp at) ∙ ap (λ k. two (argument_lists ls (f p ∷ map f (drop (i + 1) parts)) (map g k))) (dropped sorts i d ws ∙ ap (λ k. get_or sorts i d ∷ drop k sorts) (sym (add-one i))))
+    ∙ sym (ap (λ k. two (argument_lists ls (map f k) (map g (drop i sorts)))) (dropped-next parts i p wp at) ∙ ap (λ k. two (argument_lists ls (f p ∷ map f (drop (i + 1) parts)) (map g k))) (drop-cons sorts i d ws ∙ ap (λ k. get_or sorts i d ∷ drop k sorts) (sym (add-one i))))
     ∙ h
 
 -- all arguments are behind them
 pub lists-ended : {A B : Type 0} (f : A → List Typed) (g : B → ℕ) (ls all : List (List TermTree)) (parts : List A) (sorts : List B) (i : ℕ) → length parts ≤ i → length sorts ≤ i → two (argument_lists ls (map f (drop i parts)) (map g (drop i sorts))) ≡ two all → two ls ≡ two all
 lists-ended f g ls all parts sorts i a b h =
-    sym (ap (λ k. two (argument_lists ls (map f k) (map g (drop i sorts)))) (dropped-all parts i a) ∙ ap (λ k. two (argument_lists ls [] (map g k))) (dropped-all sorts i b)) ∙ h
+    sym (ap (λ k. two (argument_lists ls (map f k) (map g (drop i sorts)))) (drop_all i parts a) ∙ ap (λ k. two (argument_lists ls [] (map g k))) (drop_all i sorts b)) ∙ h
 
 -- an element of a list that a loop goes over by another name
 pub moved-within : {A : Type 0} (xs ys : List A) (i : ℕ) → ys ≡ xs → i < length ys → i < length xs
@@ -161,23 +135,12 @@ moved-within xs ys i same within = subst (λ zs. i < length zs) same within
 pub moved-at : {A : Type 0} (xs ys : List A) (i : ℕ) (x : A) → ys ≡ xs → x ≡ get_or ys i x → x ≡ get_or xs i x
 moved-at xs ys i x same at = at ∙ ap (λ zs. get_or zs i x) same
 
-pub got-at : {A : Type 0} (xs : List A) (i : ℕ) (x : A) → i < length xs → x ≡ get_or xs i x → slice_get xs i ≡ Some x
-got-at [] i x within e = absurd (omega arith)
-got-at (y ∷ ys) zero x within e = ap (λ z. Some z) (sym e)
-got-at (y ∷ ys) (suc i) x within e = got-at ys i x (omega arith) e
-
-pub none-at : {A : Type 0} (xs : List A) (i : ℕ) → length xs ≤ i → slice_get xs i ≡ None
-none-at [] zero h = refl
-none-at [] (suc i) h = refl
-none-at (x ∷ xs) zero h = absurd (omega arith)
-none-at (x ∷ xs) (suc i) h = none-at xs i (omega arith)
-
 -- one more of those of some sorts
 pub those-next : {A : Type 0} (view : A → Typed) (p : ℕ → Bool) (xs : List A) (x : A) (before now : List A) (wanted : Bool) → wanted ≡ p (view x).sort → map view before ≡ those p (map view xs) → now ≡ before ++ (if wanted then x ∷ [] else []) → map view now ≡ those p (map view (xs ++ (x ∷ [])))
 those-next view p xs x before now wanted w b n =
-    ap (map view) n ∙ map-join view before (if wanted then x ∷ [] else []) ∙ ap (λ z. z ++ map view (if wanted then x ∷ [] else [])) b
+    ap (map view) n ∙ map-append view before (if wanted then x ∷ [] else []) ∙ ap (λ z. z ++ map view (if wanted then x ∷ [] else [])) b
     ∙ ap (λ z. those p (map view xs) ++ z) (one wanted w)
-    ∙ sym (ap (those p) (map-join view xs (x ∷ [])) ∙ those_join p (map view xs) (view x ∷ []))
+    ∙ sym (ap (those p) (map-append view xs (x ∷ [])) ∙ those_join p (map view xs) (view x ∷ []))
   where
     one : (b : Bool) → b ≡ p (view x).sort → map view (if b then x ∷ [] else []) ≡ those p (view x ∷ [])
     one true e = ap (λ k. if k then view x ∷ [] else []) e

@@ -1,5 +1,5 @@
 -- The list of all readings holds just the readings.
-use Rattle.std.proofs.Common.{Option, Some, None, ℕ, zero, suc, ◌≡◌, ◌⊎◌, inl, inr, ◌+◌, ◌==◌, List, [], ◌∷◌, ◌++◌, map}
+use Rattle.std.proofs.Common.{Option, Some, None, ℕ, zero, suc, ◌≡◌, inl, inr, ◌+◌, ◌==◌, List, [], ◌∷◌, ◌++◌, map}
 use Rattle.std.proofs.Common.{refl, ap, sym, subst, ◌∙◌, arith, append_assoc, Bool, true, false, if◌then◌else◌}
 use Rattle.std.proofs.lemmas.List.{append-nil}
 use Rattle.std.specs.Bool.{Decides}
@@ -7,11 +7,12 @@ use Rattle.std.specs.Char.{to_ascii_lowercase}
 use Rattle.std.specs.List.{slice_get}
 use Rattle.std.proofs.lemmas.Bool.Decides.{Decides-eqb}
 use Rattle.std.proofs.lemmas.Slice.Eq.{bytes_eq-Decides}
-use Rattle.spec_core.specs.Lists.{OneOf, IsOneOf}
+use Rattle.spec_core.specs.Lists.{IsOneOf}
 use Rattle.spec_core.specs.Names.{IsSameName}
 use Rattle.spec_core.specs.Sorts.{OnSome}
 use Rattle.spec_core.specs.Terms.{TermTree, apply, terms}
 use Rattle.spec_core.specs.Theories.{Operation}
+use Rattle.spec_core.proofs.Members.{one_map, some_left, some_right, from_map, some_parts}
 use Rattle.sort_overloads.specs.Listed.{Typed, those, of_sort, is_same_name, is_name_of, extended, argument_lists}
 use Rattle.sort_overloads.specs.Listed.{application, of_operation, of_operations}
 
@@ -26,31 +27,6 @@ pub named-sort : (sorts : List (List ℕ)) (name : List ℕ) (o : Option (List �
     (OnSome o (λ other. IsSameName other name))
 named-sort sorts name None = (λ e. absurd (cc), λ h. absurd h)
 named-sort sorts name (Some other) = same-name other name
-
--- lists
-one-join-left : {A : Type 0} (P : A → Type 0) (xs ys : List A) → OneOf P xs → OneOf P (xs ++ ys)
-one-join-left P [] ys h = absurd h
-one-join-left P (x ∷ xs) ys (inl h) = inl h
-one-join-left P (x ∷ xs) ys (inr h) = inr (one-join-left P xs ys h)
-
-one-join-right : {A : Type 0} (P : A → Type 0) (xs ys : List A) → OneOf P ys → OneOf P (xs ++ ys)
-one-join-right P [] ys h = h
-one-join-right P (x ∷ xs) ys h = inr (one-join-right P xs ys h)
-
-one-split : {A : Type 0} (P : A → Type 0) (xs ys : List A) → OneOf P (xs ++ ys) → OneOf P xs ⊎ OneOf P ys
-one-split P [] ys h = inr h
-one-split P (x ∷ xs) ys (inl h) = inl (inl h)
-one-split P (x ∷ xs) ys (inr h) = elim (one-split P xs ys h) [ inl l ↦ inl (inr l) | inr r ↦ inr r ]
-
-map-one : {A B : Type 0} (f : A → B) (xs : List A) (x : A) → IsOneOf x xs → IsOneOf (f x) (map f xs)
-map-one f [] x h = absurd h
-map-one f (y ∷ ys) x (inl e) = inl (ap f e)
-map-one f (y ∷ ys) x (inr h) = inr (map-one f ys x h)
-
-pub one-mapped : {A B : Type 0} (f : A → B) (xs : List A) (y : B) → IsOneOf y (map f xs) → (x : A) × IsOneOf x xs × (y ≡ f x)
-one-mapped f [] y h = absurd h
-one-mapped f (x ∷ xs) y (inl e) = (x, inl refl, e)
-one-mapped f (x ∷ xs) y (inr h) = let r = one-mapped f xs y h in (r.0, inr r.1, r.2)
 
 pub those-sound : (p : ℕ → Bool) (xs : List Typed) (r : Typed) → IsOneOf r (those p xs) → IsOneOf r xs × (p r.sort ≡ true)
 those-sound p [] r h = absurd h
@@ -105,12 +81,12 @@ Picked _ _ _ = ⊥
 extended-sound : (ls : List (List TermTree)) (us : List TermTree) (l : List TermTree) → IsOneOf l (extended ls us)
     → (k : List TermTree) × ((u : TermTree) × (IsOneOf k ls × IsOneOf u us × (l ≡ k ++ (u ∷ []))))
 extended-sound [] us l h = absurd h
-extended-sound (k ∷ ls) us l h = elim (one-split (λ y. l ≡ y) (map (λ t. k ++ (t ∷ [])) us) (extended ls us) h)
+extended-sound (k ∷ ls) us l h = elim (some_parts (λ y. l ≡ y) (map (λ t. k ++ (t ∷ [])) us) (extended ls us) h)
     [ inl m ↦ here m | inr m ↦ later (extended-sound ls us l m) ]
   where
     here : IsOneOf l (map (λ t. k ++ (t ∷ [])) us) → (k' : List TermTree) × ((u : TermTree)
         × (IsOneOf k' (k ∷ ls) × IsOneOf u us × (l ≡ k' ++ (u ∷ []))))
-    here m = let r = one-mapped (λ t. k ++ (t ∷ [])) us l m in (k, (r.0, (inl refl, r.1, r.2)))
+    here m = let r = from_map (λ t. k ++ (t ∷ [])) us l m in (k, (r.0, (inl refl, r.1, r.2)))
 
     later : (k' : List TermTree) × ((u : TermTree) × (IsOneOf k' ls × IsOneOf u us × (l ≡ k' ++ (u ∷ [])))) → (k' : List TermTree)
         × ((u : TermTree) × (IsOneOf k' (k ∷ ls) × IsOneOf u us × (l ≡ k' ++ (u ∷ []))))
@@ -119,9 +95,9 @@ extended-sound (k ∷ ls) us l h = elim (one-split (λ y. l ≡ y) (map (λ t. k
 extended-complete : (ls : List (List TermTree)) (us : List TermTree) (k : List TermTree) (u : TermTree) → IsOneOf k ls → IsOneOf u us
     → IsOneOf (k ++ (u ∷ [])) (extended ls us)
 extended-complete [] us k u h m = absurd h
-extended-complete (j ∷ ls) us k u (inl e) m = one-join-left (λ y. (k ++ (u ∷ [])) ≡ y) (map (λ t. j ++ (t ∷ [])) us) (extended ls us)
-    (subst (λ z. IsOneOf (z ++ (u ∷ [])) (map (λ t. j ++ (t ∷ [])) us)) (sym e) (map-one (λ t. j ++ (t ∷ [])) us u m))
-extended-complete (j ∷ ls) us k u (inr h) m = one-join-right (λ y. (k ++ (u ∷ [])) ≡ y) (map (λ t. j ++ (t ∷ [])) us) (extended ls us)
+extended-complete (j ∷ ls) us k u (inl e) m = some_left (λ y. (k ++ (u ∷ [])) ≡ y) (map (λ t. j ++ (t ∷ [])) us) (extended ls us)
+    (subst (λ z. IsOneOf (z ++ (u ∷ [])) (map (λ t. j ++ (t ∷ [])) us)) (sym e) (one_map (λ t. j ++ (t ∷ [])) u us m))
+extended-complete (j ∷ ls) us k u (inr h) m = some_right (λ y. (k ++ (u ∷ [])) ≡ y) (map (λ t. j ++ (t ∷ [])) us) (extended ls us)
     (extended-complete ls us k u h m)
 
 lists-sound : (ls : List (List TermTree)) (parts : List (List Typed)) (sorts : List ℕ) (l : List TermTree)
@@ -156,7 +132,7 @@ operation-sound name parts f d r h = step (is_same_name d.name name) (same-name 
         (argument_lists ([] ∷ []) parts d.args) else []) → IsSameName d.name name
         × ((ts : List TermTree) × ((r.term ≡ apply f (terms ts)) × (r.sort ≡ d.result) × Picked parts d.args ts))
     step true e m =
-        let x = one-mapped (application f d.result) (argument_lists ([] ∷ []) parts d.args) r m in
+        let x = from_map (application f d.result) (argument_lists ([] ∷ []) parts d.args) r m in
         let l = lists-sound ([] ∷ []) parts d.args x.0 x.1 in
         let k : l.0 ≡ [] = elim l.1.1.0 [ inl q ↦ q | inr q ↦ absurd q ] in
         let n : x.0 ≡ l.1.0 = l.1.1.1 ∙ ap (λ z. z ++ l.1.0) k in
@@ -169,7 +145,7 @@ operation-complete name parts f d ts same p = step (is_same_name d.name name) (s
   where
     step : (b : Bool) → Decides b (IsSameName d.name name) → IsOneOf (application f d.result ts)
         (if b then map (application f d.result) (argument_lists ([] ∷ []) parts d.args) else [])
-    step true e = map-one (application f d.result) (argument_lists ([] ∷ []) parts d.args) ts
+    step true e = one_map (application f d.result) ts (argument_lists ([] ∷ []) parts d.args)
         (lists-complete ([] ∷ []) parts d.args [] ts (inl refl) p)
     step false e = let n : false ≡ true = e.1 same in absurd (cc)
 
@@ -181,7 +157,7 @@ Given name parts t sort f d = IsSameName d.name name × (d.result ≡ sort)
 pub operations-sound : (name : List ℕ) (parts : List (List Typed)) (k : ℕ) (ds : List Operation) (r : Typed)
     → IsOneOf r (of_operations name parts k ds) → (i : ℕ) × OnSome (slice_get ds i) (Given name parts r.term r.sort (k + i))
 operations-sound name parts k [] r h = absurd h
-operations-sound name parts k (d ∷ ds) r h = elim (one-split (λ y. r ≡ y) (of_operation name parts k d)
+operations-sound name parts k (d ∷ ds) r h = elim (some_parts (λ y. r ≡ y) (of_operation name parts k d)
     (of_operations name parts (suc k) ds) h) [ inl m ↦ here m | inr m ↦ later (operations-sound name parts (suc k) ds r m) ]
   where
     here : IsOneOf r (of_operation name parts k d) → (i : ℕ) × OnSome (slice_get (d ∷ ds) i) (Given name parts r.term r.sort (k + i))
@@ -208,9 +184,9 @@ operations-complete name parts k (d ∷ ds) t sort zero h =
     let o = operation-complete name parts k d h.2.0 h.0 h.2.1.1 in
     let e : typed t sort ≡ application k d.result h.2.0 = ap (λ z. typed z sort) (h.2.1.0
     ∙ ap (λ f. apply f (terms h.2.0)) (omega arith)) ∙ ap (λ s. typed (apply k (terms h.2.0)) s) (sym h.1) in
-    one-join-left (λ y. typed t sort ≡ y) (of_operation name parts k d) (of_operations name parts (suc k) ds)
+    some_left (λ y. typed t sort ≡ y) (of_operation name parts k d) (of_operations name parts (suc k) ds)
     (subst (λ z. IsOneOf z (of_operation name parts k d)) (sym e) o)
 operations-complete name parts k (d ∷ ds) t sort (suc i) h =
     let e : k + suc i ≡ suc k + i = omega arith in
-    one-join-right (λ y. typed t sort ≡ y) (of_operation name parts k d) (of_operations name parts (suc k) ds)
+    some_right (λ y. typed t sort ≡ y) (of_operation name parts k d) (of_operations name parts (suc k) ds)
     (operations-complete name parts (suc k) ds t sort i (subst (λ f. OnSome (slice_get ds i) (Given name parts t sort f)) e h))

@@ -1,14 +1,15 @@
 -- Operations by their numbers.
 use Rattle.std.proofs.Common.{Option, Some, None, ℕ, zero, suc, ◌≡◌, ◌<◌, ◌+◌, List, [], ◌∷◌, ◌++◌, length, map, take, get_or, refl, ap, sym, subst, ◌∙◌, arith, append_assoc, Bool, true, false, not, ◌==◌, add-one, ◌||◌, if◌then◌else◌}
 use Rattle.std.proofs.lemmas.Grind.{flat_map-append}
-use Rattle.std.proofs.lemmas.List.{append-nil}
+use Rattle.std.proofs.lemmas.List.{append-nil, map-append}
 use Rattle.std.proofs.lemmas.Cmp.{nat_list_eq_equiv}
 use Rattle.std.specs.List.{list_any, slice_get, flat_map}
 use Rattle.std.specs.Str.{bytes_eq}
+use Rattle.std.proofs.Math.Seq.{take-suc}
 use Rattle.spec_core.specs.Theories.{Operation}
+use Rattle.spec_core.proofs.Lists.{take_next}
 use Rattle.sort_overloads.specs.Indexes.{numbers_from, numbers_of}
 use Rattle.sort_overloads.specs.Listed.{Typed, is_same_name, argument_lists, application, of_operation, of_operations}
-use Rattle.sort_overloads.proofs.Loops.{taken, taken-next, map-join}
 
 numbers-join : (name : List ℕ) (f : ℕ) (ds es : List Operation) → numbers_from name f (ds ++ es) ≡ numbers_from name f ds ++ numbers_from name (f + length ds) es
 numbers-join name f [] es = ap (λ i. numbers_from name i es) (omega arith)
@@ -22,8 +23,8 @@ numbers-join name f (d ∷ ds) es =
 pub numbers-next : {A : Type 0} (view : A → Operation) (name : List ℕ) (ds : List A) (i : ℕ) (d : A) → i < length ds → d ≡ get_or ds i d →
     numbers_from name 0 (map view (take (i + 1) ds)) ≡ numbers_from name 0 (map view (take i ds)) ++ (if is_same_name (view d).name name then i ∷ [] else [])
 numbers-next {A = A} view name ds i d within at =
-    ap (λ k. numbers_from name 0 (map view k)) (taken-next ds i d within at)
-    ∙ ap (numbers_from name 0) (map-join view (take i ds) (d ∷ []))
+    ap (λ k. numbers_from name 0 (map view k)) (take_next ds i d within at)
+    ∙ ap (numbers_from name 0) (map-append view (take i ds) (d ∷ []))
     ∙ numbers-join name 0 (map view (take i ds)) (view d ∷ [])
     ∙ ap (λ z. numbers_from name 0 (map view (take i ds)) ++ z) (append-nil (here (0 + length (map view (take i ds)))) ∙ ap here (counted ds i within))
   where
@@ -117,7 +118,7 @@ unfolding of_entry
 by-numbers-next view name parts ds ns i d within there is =
     let g = of_number name parts (map view ds) in
     let f = get_or ns i 0 in
-    ap (λ k. flat_map g (take k ns)) (add-one i) ∙ ap (flat_map g) (taken ns i 0 within) ∙ flat_map-append g (take i ns) (f ∷ [])
+    ap (λ k. flat_map g (take k ns)) (add-one i) ∙ ap (flat_map g) (take-suc ns i 0 within) ∙ flat_map-append g (take i ns) (f ∷ [])
     ∙ ap (λ z. flat_map g (take i ns) ++ z) (append-nil (g f) ∙ ap (of_entry name parts f) (got view ds f d there is))
 
 -- the order of two texts doesn't matter for whether they are the same

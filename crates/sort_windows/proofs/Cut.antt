@@ -8,10 +8,12 @@ use Rattle.std.specs.List.{Contains}
 use Rattle.spec_core.specs.Lists.{Each, IsOneOf}
 use Rattle.spec_core.specs.Theories.{Theory}
 use Rattle.spec_core.specs.Windows.{IsBefore, IsInOrder, IsMember, IsWindow}
+use Rattle.spec_core.proofs.Members.{each_one}
+use Rattle.spec_core.proofs.Lists.{each_take}
 use Rattle.sort_windows.specs.Found.{IsFound, IsClosed, AreWindows}
-use Rattle.sort_windows.proofs.Order.{each_one, not_before}
+use Rattle.sort_windows.proofs.Order.{not_before}
 use Rattle.sort_windows.proofs.Reached.{value_found}
-use Rattle.sort_windows.proofs.Gained.{each_take, in_order_take}
+use Rattle.sort_windows.proofs.Gained.{in_order_take}
 
 contained : (xs : List (List ℕ)) (v : List ℕ) → IsOneOf v xs → Contains xs v
 contained [] v h = absurd h

@@ -6,27 +6,16 @@ use Rattle.std.specs.List.{insert}
 use Rattle.spec_core.specs.Lists.{Each, IsOneOf}
 use Rattle.spec_core.specs.Theories.{Theory}
 use Rattle.spec_core.specs.Windows.{IsBefore, IsInOrder, IsMember}
-use Rattle.std.proofs.Common.{MatchOption, Option, Some, None, Bool, true, false, ◌||◌, IsTrue, IsFalse, Result, Ok, Err, IfOk, refl}
+use Rattle.std.proofs.Common.{Bool, true, false, ◌||◌, IsTrue, IsFalse, Result, Ok, Err, IfOk, refl}
+use Rattle.spec_core.proofs.Lists.{each_implied, each_insert, each_take}
 use Rattle.sort_windows.specs.Found.{AreWindows, IsPlaceOf, HaveGained, windows_of}
-use Rattle.sort_windows.proofs.Order.{each_implied, before_onward, before_or_after}
-
-pub each_take : {A : Type 0} (P : A → Type 0) (n : ℕ) (xs : List A) → Each P xs → Each P (take n xs)
-each_take P zero [] h = tt
-each_take P (suc n) [] h = tt
-each_take P zero (x ∷ xs) h = tt
-each_take P (suc n) (x ∷ xs) h = (h.0, each_take P n xs h.1)
+use Rattle.sort_windows.proofs.Order.{before_onward, before_or_after}
 
 pub in_order_take : (n : ℕ) (xs : List (List ℕ)) → IsInOrder xs → IsInOrder (take n xs)
 in_order_take zero [] h = tt
 in_order_take (suc n) [] h = tt
 in_order_take zero (x ∷ xs) h = tt
 in_order_take (suc n) (x ∷ xs) h = (each_take _ n xs h.0, in_order_take n xs h.1)
-
-each_insert : {A : Type 0} (P : A → Type 0) (xs : List A) (i : ℕ) (v : A) → Each P xs → P v → Each P (insert xs i v)
-each_insert P [] zero v h k = (k, tt)
-each_insert P [] (suc i) v h k = (k, tt)
-each_insert P (x ∷ xs) zero v h k = (k, h)
-each_insert P (x ∷ xs) (suc i) v h k = (h.0, each_insert P xs i v h.1 k)
 
 in_order_insert : (xs : List (List ℕ)) (i : ℕ) (v : List ℕ) →
     IsInOrder xs → Each (λ w. IsBefore w v) (take i xs) → Each (λ w. IsBefore v w) (drop i xs) → IsInOrder (insert xs i v)
@@ -47,7 +36,7 @@ place_at_front v x xs order not_before new = record {
     go : IsBefore x v ⊎ (x ≡ v) ⊎ IsBefore v x → Each (λ w. IsBefore v w) (x ∷ xs)
     go (inl h) = absurd (not_before h)
     go (inr (inl e)) = absurd (new (inl (sym e)))
-    go (inr (inr h)) = (h, each_implied (λ w k. before_onward v x w h k) xs order.0)
+    go (inr (inr h)) = (h, each_implied _ _ xs (λ w k. before_onward v x w h k) order.0)
 
 pub place_behind : (v x : List ℕ) (xs : List (List ℕ)) (i : ℕ) → IsBefore x v → IsPlaceOf v xs i → IsPlaceOf v (x ∷ xs) (suc i)
 place_behind v x xs i h p = record {
@@ -109,10 +98,3 @@ filled theory limit sort v old new (Err e) h m g s = tt
 pub both_false : (a b : Bool) → IsFalse (a || b) → IsFalse a × IsFalse b
 both_false true b h = cc
 both_false false b h = (refl, h)
-
--- what holds of an answer that is there
-pub of_some : {A : Type 0} (P : Type 0) (Q : A → Type 0) (o : Option A) (x : A) → MatchOption o P Q → o ≡ Some x → Q x
-of_some P Q o x h e = subst (λ z. MatchOption z P Q) e h
-
-pub of_none : {A : Type 0} (P : Type 0) (Q : A → Type 0) (o : Option A) → MatchOption o P Q → o ≡ None → P
-of_none P Q o h e = subst (λ z. MatchOption z P Q) e h

@@ -5,6 +5,8 @@ use Rattle.std.proofs.lemmas.Bool.{cases_order}
 use Rattle.std.specs.List.{slice_get}
 use Rattle.spec_core.specs.Lists.{Each, IsOneOf}
 use Rattle.spec_core.specs.Windows.{IsLess, IsBefore, IsInOrder}
+use Rattle.spec_core.proofs.Lists.{each_implied}
+use Rattle.spec_core.proofs.Members.{each_one}
 
 pub less_onward : (xs ys zs : List ℕ) → IsLess xs ys → IsLess ys zs → IsLess xs zs
 less_onward [] [] zs h k = absurd h
@@ -83,15 +85,6 @@ before_inside p xs ys q (inr h) =
           (p ++ xs) (p ++ ys) q (less_behind p xs ys h.1),
     )
 
-pub each_implied : {A : Type 0} {P Q : A → Type 0} → ((x : A) → P x → Q x) → (xs : List A) → Each P xs → Each Q xs
-each_implied f [] h = tt
-each_implied f (x ∷ xs) h = (f x h.0, each_implied f xs h.1)
-
-pub each_one : {A : Type 0} (P : A → Type 0) (xs : List A) (v : A) → Each P xs → IsOneOf v xs → P v
-each_one P [] v h k = absurd k
-each_one P (x ∷ xs) v h (inl e) = subst P (sym e) h.0
-each_one P (x ∷ xs) v h (inr k) = each_one P xs v h.1 k
-
 pub each_itself : {A : Type 0} (xs ys : List A) → ((v : A) → IsOneOf v xs → IsOneOf v ys) → Each (λ v. IsOneOf v ys) xs
 each_itself [] ys f = tt
 each_itself (x ∷ xs) ys f = (f x (inl refl), each_itself xs ys (λ v k. f v (inr k)))
@@ -103,7 +96,7 @@ each_of_map P f (x ∷ xs) h = (h.0, each_of_map P f xs h.1)
 pub in_order_inside : (p q : List ℕ) (xs : List (List ℕ)) → IsInOrder xs → IsInOrder (map (λ x. (p ++ x) ++ q) xs)
 in_order_inside p q [] h = tt
 in_order_inside p q (x ∷ xs) h =
-    (each_of_map _ (λ y. (p ++ y) ++ q) xs (each_implied (λ y b. before_inside p x y q b) xs h.0), in_order_inside p q xs h.1)
+    (each_of_map _ (λ y. (p ++ y) ++ q) xs (each_implied _ _ xs (λ y b. before_inside p x y q b) h.0), in_order_inside p q xs h.1)
 
 -- lists in order, of which the second has all of the first, are equal, or the first is shorter
 pub same_or_shorter : (xs ys : List (List ℕ)) →

@@ -9,8 +9,10 @@ use Rattle.spec_core.specs.Theories.{Operation, Theory}
 use Rattle.spec_core.specs.Sorts.{OnSome, HasSort, HaveSorts, no_variables}
 use Rattle.spec_core.specs.Constructors.{IsConstructor, IsConstructed, AreConstructed}
 use Rattle.spec_core.specs.Windows.{IsBefore, IsInOrder, IsMember}
+use Rattle.spec_core.proofs.Lists.{each_implied, each_always}
+use Rattle.spec_core.proofs.Members.{each_one}
 use Rattle.sort_windows.specs.Found.{IsFound, IsClosedFrom, IsClosed, BeginsMembers, AreWindows}
-use Rattle.sort_windows.proofs.Order.{before_onward, before_inside, each_implied, each_one, each_of_map, in_order_inside, same_or_shorter}
+use Rattle.sort_windows.proofs.Order.{before_onward, before_inside, each_of_map, in_order_inside, same_or_shorter}
 
 -- all lists are of the window, or one lies beyond it
 all_or_beyond : (limit : ℕ) (window : List (List ℕ)) (f : List ℕ → List ℕ) (xs : List (List ℕ)) →
@@ -44,7 +46,7 @@ replaced limit window inner p q v order most inner_order h (inr b) = go (all_or_
               ∙ length-map inner (λ w. (p ++ w) ++ q)
               ∙ b.0,
           subst (λ ws. Each (λ w. IsBefore w ((p ++ v) ++ q)) ws) t
-              (each_of_map _ (λ w. (p ++ w) ++ q) inner (each_implied (λ w k. before_inside p w v q k) inner b.1)),
+              (each_of_map _ (λ w. (p ++ w) ++ q) inner (each_implied _ _ inner (λ w k. before_inside p w v q k) b.1)),
         )
 
     go :
@@ -54,10 +56,10 @@ replaced limit window inner p q v order most inner_order h (inr b) = go (all_or_
     go (inr s) =
         inr (
           s.2,
-          each_implied (λ w k.
+          each_implied _ _ window
+              (λ w k.
               before_onward w ((p ++ s.0) ++ q) ((p ++ v) ++ q) k
-              (before_inside p s.0 v q (each_one (λ w. IsBefore w v) inner s.0 b.1 s.1)))
-              window s.3,
+              (before_inside p s.0 v q (each_one (λ w. IsBefore w v) inner s.0 b.1 s.1))) s.3,
         )
     go (inl s) =
         ends (same_or_shorter (map (λ w. (p ++ w) ++ q) inner) window (in_order_inside p q inner inner_order) order
@@ -86,7 +88,7 @@ module _ (theory : Theory) (limit : ℕ) (windows : ℕ → List (List ℕ)) (cl
     terms_found (and_term t ts) (a ∷ args) s p h c k =
         subst (IsFound limit (windows s)) (append_assoc p (preorder t) (preorders ts))
         (replaced limit (windows s) (windows a) p (preorders ts) (preorder t) (sound.in_order s) (sound.at_most s) (sound.in_order a)
-        (each_implied (λ w kw. terms_found ts args s (p ++ w) h.1 c.1 kw) (windows a) k)
+        (each_implied _ _ (windows a) (λ w kw. terms_found ts args s (p ++ w) h.1 c.1 kw) k)
         (term_found t a h.0 c.0))
 
   pub value_found : (s : ℕ) (v : List ℕ) → IsMember theory s v → IsFound limit (windows s) v
@@ -115,14 +117,10 @@ begins_members theory f d c e =
       (c, k),
     ))
 
-every : {A : Type 0} {P : A → Type 0} → ((x : A) → P x) → (xs : List A) → Each P xs
-every f [] = tt
-every f (x ∷ xs) = (f x, every f xs)
-
 -- where a window is full of shorter lists, all that continue a list are found there
 pub shorter_closed : (limit : ℕ) (windows : ℕ → List (List ℕ)) (sort : ℕ) (args : List ℕ) (front : List ℕ) →
     length (windows sort) ≡ limit → Each (λ w. length w < length front) (windows sort) → IsClosedFrom limit windows sort args front
-shorter_closed limit windows sort [] front full h = inr (full, each_implied (λ w k. inl k) (windows sort) h)
+shorter_closed limit windows sort [] front full h = inr (full, each_implied _ _ (windows sort) (λ w k. inl k) h)
 shorter_closed limit windows sort (a ∷ args) front full h =
-    every (λ v. shorter_closed limit windows sort args (front ++ v) full
-    (each_implied (λ w k. omega (arith, k, length-append front v)) (windows sort) h)) (windows a)
+    each_always _ (windows a) (λ v. shorter_closed limit windows sort args (front ++ v) full
+    (each_implied _ _ (windows sort) (λ w k. omega (arith, k, length-append front v)) h))

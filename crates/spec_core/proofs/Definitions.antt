@@ -1,6 +1,6 @@
 -- The laws of the definitions.
 use Rattle.std.proofs.Common.{ℕ, suc, ◌≡◌, ◌<◌, ◌≤◌, ◌+◌, List, [], ◌∷◌, refl, sym, ap, subst, ◌∙◌, arith, inl, inr}
-use Rattle.spec_core.specs.Lists.{Each, IsOneOf, NoTwo}
+use Rattle.spec_core.specs.Lists.{Each, NoTwo}
 use Rattle.spec_core.specs.Terms.{TermTree, TermTrees, variable, apply, no_terms, and_term, instance, instances, IsGround, AreGround}
 use Rattle.spec_core.specs.Theories.{ConditionalEquation, Theory, Heads}
 use Rattle.spec_core.specs.Constructors.{HeadsNone, IsConstructor, IsConstructed, AreConstructed}
@@ -11,21 +11,13 @@ use Rattle.spec_core.specs.Executable.{IsExecutable}
 use Rattle.spec_core.specs.Windows.{IsLess, IsBefore, IsInOrder}
 use Rattle.spec_core.specs.Laws.{ConstructorsKeepValues, ValuesEvaluateToThemselves, ValuesAreGround, PartsOfArgumentsAreBelow}
 use Rattle.spec_core.specs.Laws.{LeftSidesAreNotBelowThemselves, WindowsHoldGroundTerms, WindowsAreInOrder}
-
--- what follows from P for each element
-each_implied : {A : Type 0} {P Q : A → Type 0} → ((x : A) → P x → Q x) → (xs : List A) → Each P xs → Each Q xs
-each_implied f [] h = tt
-each_implied f (x ∷ xs) h = (f x h.0, each_implied f xs h.1)
-
-at_element : {A : Type 0} (P : A → Type 0) (x : A) (xs : List A) → IsOneOf x xs → Each P xs → P x
-at_element P x [] i h = absurd i
-at_element P x (y ∷ ys) (inl e) h = subst P (sym e) h.0
-at_element P x (y ∷ ys) (inr i) h = at_element P x ys i h.1
+use Rattle.spec_core.proofs.Members.{each_one}
+use Rattle.spec_core.proofs.Lists.{each_implied}
 
 -- in executable data a constructor heads no left side
 pub heads_none : (theory : Theory) → IsExecutable theory → (f : ℕ) → IsConstructor theory f → HeadsNone theory f
 heads_none theory ex f (inl h) = h
-heads_none theory ex f (inr marked) = each_implied (λ e h heads. h f heads marked) theory.equations ex.orthogonal.unmarked
+heads_none theory ex f (inr marked) = each_implied _ _ theory.equations (λ e h heads. h f heads marked) ex.orthogonal.unmarked
 
 -- no call of such an operation is an instance of a left side
 not_like : (theory : Theory) (e : ConditionalEquation) (f : ℕ) (vs : TermTrees) →
@@ -110,7 +102,7 @@ not_below_itself theory f ps defined (inr (below, inr (inr level))) = not_smalle
 pub left_sides_are_not_below_themselves : LeftSidesAreNotBelowThemselves
 left_sides_are_not_below_themselves theory ex e f ps among left h =
     not_below_itself theory f ps
-    (λ c. at_element (λ d. Heads f d → ⊥) e theory.equations among (heads_none theory ex f c) (ps, left))
+    (λ c. each_one (λ d. Heads f d → ⊥) theory.equations e (heads_none theory ex f c) among (ps, left))
     (subst (IsBelow theory f ps) left h)
 
 not_less : (xs : List ℕ) → IsLess xs xs → ⊥
@@ -127,11 +119,11 @@ not_before xs ys h e = before_itself (subst (IsBefore xs) (sym e) h)
 
 in_order_differ : (vs : List (List ℕ)) → IsInOrder vs → NoTwo (λ v w. v ≡ w) vs
 in_order_differ [] h = tt
-in_order_differ (v ∷ vs) h = (each_implied (λ w b. not_before v w b) vs h.0, in_order_differ vs h.1)
+in_order_differ (v ∷ vs) h = (each_implied _ _ vs (λ w b. not_before v w b) h.0, in_order_differ vs h.1)
 
 pub windows_hold_ground_terms : WindowsHoldGroundTerms
 windows_hold_ground_terms theory sort k values complete w =
-    each_implied (λ v m. (m.0, m.1, m.2, constructed_ground theory m.0 m.3)) values w.members
+    each_implied _ _ values (λ v m. (m.0, m.1, m.2, constructed_ground theory m.0 m.3)) w.members
 
 pub windows_are_in_order : WindowsAreInOrder
 windows_are_in_order theory sort k values complete w = (w.in_order, in_order_differ values w.in_order)

@@ -1,6 +1,7 @@
 -- The sorts of instances: what a term has, its instance has, where the terms for its variables have theirs, and the other way round.
 use Rattle.std.proofs.Common.{ℕ, ◌≡◌, List, [], ◌∷◌, refl, sym, ap, subst, ◌∙◌, inl, inr, Option, Some, None}
 use Rattle.std.specs.List.{slice_get}
+use Rattle.std.proofs.lemmas.Option.{same_Some}
 use Rattle.spec_core.specs.Terms.{TermTree, TermTrees, variable, apply, no_terms, and_term, instance, instances, Occurs, OccursInAny}
 use Rattle.spec_core.specs.Theories.{Theory}
 use Rattle.spec_core.specs.Sorts.{OnSome, HasSort, HaveSorts, no_variables}
@@ -13,9 +14,6 @@ pub on_map : {A : Type 0} {P Q : A → Type 0} (o : Option A) → OnSome o P →
 on_map None p k = p
 on_map (Some d) p k = k d p
 
-some_same : {a b : ℕ} → Some a ≡ Some b → a ≡ b
-some_same e = cc
-
 module _ (theory : Theory) (vars : ℕ → Option ℕ) (s : ℕ → TermTree) where
   mutual
     -- the terms for the variables of a term that has a sort have theirs
@@ -23,7 +21,7 @@ module _ (theory : Theory) (vars : ℕ → Option ℕ) (s : ℕ → TermTree) wh
         HasSort theory vars t sort → HasSort theory no_variables (instance s t) sort → (x a : ℕ) → Occurs x t → vars x ≡ Some a →
         HasSort theory no_variables (s x) a
     bound_sort (variable y) sort h k x a o e =
-        let q : sort ≡ a = some_same (sym h ∙ ap vars (sym o) ∙ e) in
+        let q : sort ≡ a = same_Some _ _ (sym h ∙ ap vars (sym o) ∙ e) in
         subst (λ z. HasSort theory no_variables (s z) a) (sym o) (subst (λ b. HasSort theory no_variables (s y) b) q k)
     bound_sort (apply f ts) sort h k x a o e = on_both (slice_get theory.operations f) h k (λ d p q. bound_sorts ts d.args p.1 q.1 x a o e)
 

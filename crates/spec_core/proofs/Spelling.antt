@@ -1,7 +1,7 @@
 -- The pieces of a term's text.
 use Rattle.std.proofs.Common.{ℕ, zero, suc, ◌≡◌, ◌<◌, ◌≤◌, ◌+◌, ◌-◌, ◌==◌, List, [], ◌∷◌, ◌++◌, length, map, take, drop, get_or, refl, ap}
-use Rattle.std.proofs.Common.{sym, subst, ◌∙◌, arith, add-one, append_assoc, Bool, true, false, Option, Some, None, MatchOption, Result, Ok}
-use Rattle.std.proofs.Common.{Err, OnOk, if◌then◌else◌}
+use Rattle.std.proofs.Common.{sym, subst, ◌∙◌, arith, add-one, append_assoc, Bool, true, false, Option, Some, None, MatchOption}
+use Rattle.std.proofs.Common.{if◌then◌else◌}
 use Rattle.std.proofs.lemmas.List.{append-nil, length-append}
 use Rattle.std.specs.Bool.{Decides}
 use Rattle.std.specs.List.{slice_get}
@@ -62,10 +62,6 @@ no-operation-at [] zero h = refl
 no-operation-at [] (suc i) h = refl
 no-operation-at (x ∷ xs) zero h = absurd (omega arith)
 no-operation-at (x ∷ xs) (suc i) h = no-operation-at xs i (omega arith)
-
-pub on_ok_implied : {A E : Type 0} {P Q : Type 0} (r : Result A E) → (P → Q) → OnOk r P → OnOk r Q
-on_ok_implied (Ok x) f h = f h
-on_ok_implied (Err e) f h = tt
 
 between_later : (between : List ℕ) (i : ℕ) → between_at between (suc i) ≡ between
 between_later between i = go (suc i == 0) (Decides-eqb (suc i) 0)

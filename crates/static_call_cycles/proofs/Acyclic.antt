@@ -5,6 +5,9 @@ use Rattle.std.specs.List.{slice_index_or, Contains, flat_map}
 use Rattle.std.specs.Option.{option_or}
 use Rattle.std.proofs.lemmas.List.{length-map, get_or_past}
 use Rattle.std.proofs.lemmas.List.FromFn.{get_or-map-range_with_len}
+use Rattle.std.proofs.lemmas.Bool.{cases_lt}
+use Rattle.spec_core.proofs.Lists.{both_empty, cons_not_empty}
+use Rattle.spec_core.proofs.Members.{contains_later}
 use Rattle.lotos_ast.specs.declared.place.Place.{Place}
 use Rattle.lotos_ast.specs.declared.refusal.RefusalKind.TheVariants.{Unguarded}
 use Rattle.sort_overloads.specs.Refused.{refused}
@@ -15,14 +18,7 @@ use Rattle.type_cycles.proofs.Firsts.{first_is_none, none_in_range}
 use Rattle.static_call_cycles.specs.Laws.{NothingRefusedWhereAcyclic}
 use Rattle.static_call_cycles.specs.Unguarded.{called, links, names_of, way, call_refusals, refused_if, refusals_from, unguarded_refusals}
 use Rattle.static_call_cycles.specs.declared.call.Call.{Call}
-use Rattle.static_call_cycles.proofs.Cycles.{before_or_from, no_way_back, tail_within, none_refused}
-
-pub not_empty : {A : Type 0} (x : A) (xs : List A) → x ∷ xs ≡ [] → ⊥
-not_empty x xs e = cc
-
-pub both_empty : {A : Type 0} (xs ys : List A) → xs ++ ys ≡ [] → (xs ≡ []) × (ys ≡ [])
-both_empty [] ys e = (refl, e)
-both_empty (x ∷ xs) ys e = absurd (not_empty x (xs ++ ys) e)
+use Rattle.static_call_cycles.proofs.Cycles.{no_way_back, none_refused}
 
 -- of these calls of a process nothing is refused
 abbrev NoneOf : List (List ℕ) → List (List ℕ) → ℕ → List Call → Type 0
@@ -57,7 +53,7 @@ unrefused_from names links number (calls ∷ all) none =
 
 not_refused : (names : List (List ℕ)) (caller : ℕ) (place : Place) (o : Option (List ℕ)) → refused_if names caller place o ≡ [] → o ≡ None
 not_refused names caller place None e = refl
-not_refused names caller place (Some way) e = absurd (not_empty (refused Unguarded place (names_of names (caller ∷ way))) [] e)
+not_refused names caller place (Some way) e = absurd (cons_not_empty (refused Unguarded place (names_of names (caller ∷ way))) [] e)
 
 none_back : (names links : List (List ℕ)) (caller : ℕ) (calls : List Call) → NoneOf names links caller calls
     → (q : ℕ) → Contains (called calls) q → way links q caller ≡ None
@@ -75,7 +71,7 @@ none_of_all : {A B : Type 0} (f : A → Option B) (xs : List A) → ((x : A) →
 none_of_all f [] none = refl
 none_of_all f (x ∷ xs) none =
     ap (λ o. option_or o (first_some f xs)) (none x (0, omega arith, refl))
-    ∙ none_of_all f xs (λ y h. none y (tail_within x xs y h))
+    ∙ none_of_all f xs (λ y h. none y (contains_later x y xs h))
 
 no_cycle_at : (links : List (List ℕ)) (k : ℕ) → k < length links
     → ((q : ℕ) → Contains (slice_index_or links k []) q → way links q k ≡ None) → cycle_of links k ≡ None
@@ -101,7 +97,7 @@ refused_none names all e = (no_cycle_where_acyclic (links all)).0 (first_is_none
 
 none_of_these : (names : List (List ℕ)) (all : List (List Call)) (k : ℕ) → AreAcyclic (links all)
     → NoneOf names (links all) k (slice_index_or all k [])
-none_of_these names all k acyclic = elim (before_or_from k (length all)) [
+none_of_these names all k acyclic = elim (cases_lt k (length all)) [
   | inl inside ↦ none_refused names (links all) k (slice_index_or all k []) (λ q h. no_way_back (links all) k q
       (none_in_range (cycle_of (links all)) 0 (length (links all)) k ((no_cycle_where_acyclic (links all)).1 acyclic) (omega arith)
       (omega (arith, inside, length-map all called)))

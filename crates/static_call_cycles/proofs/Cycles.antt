@@ -1,20 +1,19 @@
 -- Ways, and calls from which none leads back.
-use Rattle.std.proofs.Common.{ℕ, zero, suc, ◌≡◌, ◌<◌, ◌≤◌, ◌+◌, ◌⊎◌, inl, inr, List, [], ◌∷◌, ◌++◌, length, map, drop, get_or, arith, ap, sym, ◌∙◌, refl, append-nil, append_assoc, subst, Option, None}
+use Rattle.std.proofs.Common.{ℕ, zero, suc, ◌≡◌, ◌<◌, ◌≤◌, ◌+◌, inl, inr, List, [], ◌∷◌, ◌++◌, length, map, drop, get_or, arith, ap, sym, ◌∙◌, refl, append-nil, append_assoc, subst, Option, None}
 use Rattle.std.specs.Prelude.{Vec}
 use Rattle.std.specs.declared.alloc.Global.{Global}
 use Rattle.std.specs.List.{slice_index_or, slice_get, Contains, flat_map}
-use Rattle.std.proofs.lemmas.List.{length-map}
+use Rattle.std.proofs.lemmas.List.{length-map, drop_all}
 use Rattle.std.proofs.lemmas.Option.{slice_get_past}
+use Rattle.std.proofs.lemmas.Bool.{cases_lt}
+use Rattle.spec_core.proofs.Members.{contains_later}
 use Rattle.lotos_ast.specs.declared.refusal.Refusal.{Refusal}
 use Rattle.type_cycles.specs.Cycles.{ways_to, cycle_of}
 use Rattle.type_cycles.proofs.Firsts.{first_is, first_is_none, none_in_range}
 use Rattle.type_cycles.proofs.Reached.{no_more_ways, no_way_onward}
-use Rattle.sort_overloads.proofs.Loops.{dropped-next, dropped-all}
+use Rattle.sort_overloads.proofs.Loops.{dropped-next}
 use Rattle.static_call_cycles.specs.Unguarded.{called, links, name_of, way, call_refusals, refused_if, refusals_from}
 use Rattle.static_call_cycles.specs.declared.call.Call.{Call}
-
-pub before_or_from : (m n : ℕ) → (m < n) ⊎ (n ≤ m)
-before_or_from m n = grind arith
 
 -- the first way is that in so many steps, where there is none in fewer
 pub way_is : (links : List (List ℕ)) (from to n : ℕ) (o : Option (List ℕ)) → n < length links
@@ -26,7 +25,7 @@ way_is links from to n o within none at some =
 -- there is none where there is none in few steps, and no process has one in more
 pub no_way : (links : List (List ℕ)) (from to n : ℕ) → ((m : ℕ) → m < n → slice_index_or (ways_to links to m) from None ≡ None)
     → ((k : ℕ) → slice_index_or (ways_to links to n) k None ≡ None) → way links from to ≡ None
-no_way links from to n few more = first_is_none (λ m. slice_index_or (ways_to links to m) from None) 0 (length links) (λ m h w. elim (before_or_from m n) [
+no_way links from to n few more = first_is_none (λ m. slice_index_or (ways_to links to m) from None) 0 (length links) (λ m h w. elim (cases_lt m n) [
   | inl b ↦ few m b
   | inr b ↦ no_more_ways links to n m b more from
 ])
@@ -44,15 +43,12 @@ no_way_back links p q off c = first_is_none (λ n. slice_index_or (ways_to links
 
 -- nothing is refused of the calls of a process that is on no cycle
 
-pub tail_within : {A : Type 0} (x : A) (xs : List A) (y : A) → Contains xs y → Contains (x ∷ xs) y
-tail_within x xs y (i, within, at) = (suc i, omega (arith, within), at)
-
 pub none_refused : (names links : List (List ℕ)) (caller : ℕ) (calls : List Call) → ((q : ℕ) → Contains (called calls) q → way links q caller ≡ None)
     → flat_map (call_refusals names links caller) calls ≡ []
 none_refused names links caller [] none = refl
 none_refused names links caller (c ∷ calls) none =
     ap (λ o. refused_if names caller c.place o ++ flat_map (call_refusals names links caller) calls) (none c.process (0, omega arith, refl))
-    ∙ none_refused names links caller calls (λ q h. none q (tail_within c.process (called calls) q h))
+    ∙ none_refused names links caller calls (λ q h. none q (contains_later c.process q (called calls) h))
 
 pub off_cycle : (names links : List (List ℕ)) (caller : ℕ) (calls : List Call) (old : List Refusal) → slice_index_or links caller [] ≡ called calls
     → cycle_of links caller ≡ None → old ≡ old ++ flat_map (call_refusals names links caller) calls
@@ -76,7 +72,7 @@ refused_next names links all i calls old new whole w at before put =
 pub refused_all : (names links : List (List ℕ)) (all : List (Vec Call Global)) (i : ℕ) (new whole : List Refusal) → length all ≤ i
     → new ++ refusals_from names links i (map (λ v. v.items) (drop i all)) ≡ whole → new ≡ whole
 refused_all names links all i new whole past h =
-    sym (append-nil new) ∙ ap (λ zs. new ++ refusals_from names links i (map (λ v. v.items) zs)) (sym (dropped-all all i past)) ∙ h
+    sym (append-nil new) ∙ ap (λ zs. new ++ refusals_from names links i (map (λ v. v.items) zs)) (sym (drop_all i all past)) ∙ h
 
 -- the calls of the process of this number
 pub linked_at : (all : List (Vec Call Global)) (i : ℕ) (calls : Vec Call Global) → i < length all → calls ≡ get_or all i calls

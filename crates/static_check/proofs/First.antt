@@ -1,5 +1,6 @@
 -- Nodes of processes stand first in the code.
 use Rattle.std.proofs.Common.{ℕ, zero, suc, ◌≡◌, ◌<◌, refl, sym, ap, subst, arith, List, ◌∷◌, ◌++◌, length, Option, Some, None}
+use Rattle.std.proofs.lemmas.Option.{same_Some, none-some}
 use Rattle.lotos_ast.specs.declared.refusal.Refusal.{Refusal}
 use Rattle.lotos_ast.specs.declared.spec.Spec.{Spec}
 use Rattle.spec_core.specs.Code.{Node, Program}
@@ -11,12 +12,6 @@ use Rattle.static_check.specs.Bodies.{Setting, Placed, AreBodiesRead, none_left,
 use Rattle.static_check.specs.Compiled.{setting, process_nodes, body_nodes, assembled, program_if_read}
 use Rattle.static_check.specs.Laws.{IsProcessAt, ProcessesStandFirst}
 
-no_some : {A : Type 0} (x : A) → None ≡ Some x → ⊥
-no_some x e = cc
-
-inside : {A : Type 0} (x y : A) → Some x ≡ Some y → x ≡ y
-inside x y e = cc
-
 -- a list before which one stands is the list of that one and the others
 pub record Begins {A : Type 0} (rest : Option (List A)) (whole : List A) : Type 0 where
   pub first : A
@@ -25,9 +20,9 @@ pub record Begins {A : Type 0} (rest : Option (List A)) (whole : List A) : Type 
   pub parts : whole ≡ first ∷ others
 
 begins : {A : Type 0} (x : Option A) (rest : Option (List A)) (whole : List A) → before x rest ≡ Some whole → Begins rest whole
-begins None rest whole e = absurd (no_some whole e)
-begins (Some x) None whole e = absurd (no_some whole e)
-begins (Some x) (Some xs) whole e = record { first = x; others = xs; left = refl; parts = sym (inside (x ∷ xs) whole e) }
+begins None rest whole e = absurd (none-some whole e)
+begins (Some x) None whole e = absurd (none-some whole e)
+begins (Some x) (Some xs) whole e = record { first = x; others = xs; left = refl; parts = sym (same_Some (x ∷ xs) whole e) }
 
 one_further : (node : Node) (code : List Node) (k : ℕ) → IsProcessAt code k → IsProcessAt (node ∷ code) (suc k)
 one_further node code k p = record { gates = p.gates; variables = p.variables; body = p.body; at = p.at }
@@ -54,9 +49,9 @@ stands all es found rs (one_more entry others x xs rb rest body left_over) bodie
 made : (theory : Theory) (spec : Spec) (program : Program) (bodies : Option (List Placed)) (number from end : ℕ) (start : Option Read) (rs : List Refusal)
     → AreBodiesRead (setting theory spec) number from end (entries spec) bodies rs → Some program ≡ program_if_read theory spec bodies end start
     → (program.processes ≡ length (entries spec)) × ((k : ℕ) → k < program.processes → IsProcessAt program.code k)
-made theory spec program None number from end start rs r e = absurd (no_some program (sym e))
-made theory spec program (Some bodies) number from end None rs r e = absurd (no_some program (sym e))
-made theory spec program (Some bodies) number from end (Some start) rs r e = by_equation (inside program whole e)
+made theory spec program None number from end start rs r e = absurd (none-some program (sym e))
+made theory spec program (Some bodies) number from end None rs r e = absurd (none-some program (sym e))
+made theory spec program (Some bodies) number from end (Some start) rs r e = by_equation (same_Some program whole e)
   where
     whole : Program
     whole = assembled theory spec bodies (record { from = end; read = start })

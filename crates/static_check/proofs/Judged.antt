@@ -1,6 +1,7 @@
 -- What a specification comes to.
-use Rattle.std.proofs.Common.{ℕ, ◌≡◌, ◌∙◌, refl, sym, ap, subst, List, [], ◌∷◌, ◌++◌, length, drop, map, append_assoc, Option, Some, None}
+use Rattle.std.proofs.Common.{ℕ, ◌≡◌, ◌∙◌, refl, sym, ap, subst, List, ◌++◌, length, drop, map, append_assoc, Option, Some, None}
 use Rattle.std.specs.Prelude.{option_map}
+use Rattle.std.proofs.Math.Seq.{drop-append_seam}
 use Rattle.lotos_ast.specs.declared.refusal.Refusal.{Refusal}
 use Rattle.lotos_ast.specs.declared.spec.Spec.{Spec}
 use Rattle.static_constructs.specs.Written.{gates_in, behaviour_written}
@@ -18,10 +19,6 @@ use Rattle.static_check.specs.Bodies.{Setting, Placed, ending_refusals, AreBodie
 use Rattle.static_check.specs.Compiled.{data_context, setting, start_site, process_nodes, body_nodes, program_if_read, IsJudged}
 use Rattle.static_check.specs.Steps.{AreReadSoFar, IsStartRead, program_with_if}
 
-after_front : {A : Type 0} (xs ys : List A) → drop (length xs) (xs ++ ys) ≡ ys
-after_front [] ys = refl
-after_front (x ∷ xs) ys = after_front xs ys
-
 -- the program is that of the bodies and of the specification's behaviour
 is_program : (theory : Theory) (spec : Spec) (processes from : ℕ) (old code : List Node) (bodies : Option (List Placed)) (start : Option Read) → processes ≡ length old
     → ((bs : List Placed) → bodies ≡ Some bs → code ≡ (old ++ body_nodes bs) ++ nodes_of start) → processes ≡ length (entries spec)
@@ -32,7 +29,7 @@ is_program theory spec processes from old code (Some bs) None first behind many 
 is_program theory spec processes from old code (Some bs) (Some r) first behind many =
     let nodes = process_nodes (setting theory spec) (entries spec) bs in
     let rest : drop processes code ≡ body_nodes bs ++ r.nodes =
-    ap (λ n. drop n code) first ∙ ap (drop (length old)) (behind bs refl ∙ append_assoc old (body_nodes bs) r.nodes) ∙ after_front old (body_nodes bs ++ r.nodes) in
+    ap (λ n. drop n code) first ∙ ap (drop (length old)) (behind bs refl ∙ append_assoc old (body_nodes bs) r.nodes) ∙ drop-append_seam old (body_nodes bs ++ r.nodes) in
     ap (λ c. Some (record { theory = theory; code = nodes ++ c; start = root from r; gates = map (λ t. t.text) (gates_in spec.gates); processes = processes })) rest
     ∙ ap (λ n. Some (record { theory = theory; code = nodes ++ (body_nodes bs ++ r.nodes); start = root from r; gates = map (λ t. t.text) (gates_in spec.gates); processes = n })) many
 

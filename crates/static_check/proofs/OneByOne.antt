@@ -2,16 +2,16 @@
 use Rattle.std.proofs.Common.{ℕ, zero, suc, pred, ◌≡◌, ◌∙◌, ◌<◌, ◌≤◌, ◌+◌, refl, sym, ap, subst, arith, List, [], ◌∷◌, ◌++◌, length, get_or, take, drop, map, append_assoc, append-nil, Option, Some, None}
 use Rattle.std.specs.Prelude.{option_map}
 use Rattle.std.specs.List.{slice_get}
-use Rattle.std.proofs.lemmas.List.{length-append, length-map, length-take-le, map-append}
-use Rattle.std.proofs.lemmas.Option.{slice_get-map}
+use Rattle.std.proofs.lemmas.List.{length-append, length-map, length-take-le, map-append, drop_all, take_all}
+use Rattle.std.proofs.lemmas.Option.{slice_get-map, same_Some, none-some}
 use Rattle.lotos_ast.specs.declared.refusal.Refusal.{Refusal}
 use Rattle.static_constructs.specs.Constructs.{Construct}
 use Rattle.spec_core.specs.Code.{Node}
 use Rattle.spec_core.specs.Functionality.{Functionality}
+use Rattle.spec_core.proofs.Lists.{slice_get_next, take_next}
 use Rattle.sort_overloads.specs.Readings.{Context}
-use Rattle.sort_overloads.proofs.Loops.{taken-next, taken-all, dropped-next, dropped-all}
+use Rattle.sort_overloads.proofs.Loops.{dropped-next}
 use Rattle.static_equations.specs.Variables.{all_variables}
-use Rattle.type_names.proofs.Lists.{got}
 use Rattle.static_readings.specs.Joins.{Read, root, after}
 use Rattle.static_readings.specs.Outputs.{Output, nodes_of, HasRead}
 use Rattle.static_readings.specs.ReadsAll.{before, all_before}
@@ -29,12 +29,6 @@ use Rattle.static_call_cycles.specs.declared.call.Call.{Call}
 use Rattle.static_check.specs.Bodies.{Setting, Placed, placed, body_site, body_ending_refusals, AreBodiesRead, none_left, one_more, calls_from}
 use Rattle.static_check.specs.Compiled.{process_node, process_nodes, body_nodes}
 use Rattle.static_check.specs.Steps.{node_over, IsBodyRead, AreReadSoFar, IsStartRead}
-
-no_some : {A : Type 0} (x : A) → None ≡ Some x → ⊥
-no_some x e = cc
-
-inside : {A : Type 0} (x y : A) → Some x ≡ Some y → x ≡ y
-inside x y e = cc
 
 -- the functionality that a process is declared to have
 
@@ -59,10 +53,10 @@ heading_at : (c : Context) (hs : List Heading) (table : List code.Entry) (number
     → heading_of h ≡ heading c (0 + number) (entry_of e).process
 heading_at c hs table number h e are within at there =
     let here : Some (heading_of h) ≡ Some (heading c (0 + number) (entry_of e).process) =
-    sym (slice_get-map heading_of hs number ∙ ap (option_map heading_of) (got hs number h (heading_within c hs table number are within) at))
+    sym (slice_get-map heading_of hs number ∙ ap (option_map heading_of) (slice_get_next hs number h (heading_within c hs table number are within) at))
     ∙ ap (λ all. slice_get all number) are ∙ headings_at c 0 (map entry_of table) number
-    ∙ ap (option_map (λ e. heading c (0 + number) e.process)) (slice_get-map entry_of table number ∙ ap (option_map entry_of) (got table number e within there)) in
-    inside (heading_of h) (heading c (0 + number) (entry_of e).process) here
+    ∙ ap (option_map (λ e. heading c (0 + number) e.process)) (slice_get-map entry_of table number ∙ ap (option_map entry_of) (slice_get_next table number e within there)) in
+    same_Some (heading_of h) (heading c (0 + number) (entry_of e).process) here
 
 pub declared_at : (c : Context) (hs : List Heading) (table : List code.Entry) (number : ℕ) (h : Heading) (e : code.Entry)
     → map heading_of hs ≡ headings_from c 0 (map entry_of table) → number < length table → h ≡ get_or hs number h → e ≡ get_or table number e
@@ -127,14 +121,14 @@ body_behind all {number = number} {from = from} {mid = mid} e x rb (one_more w w
 
 as_many : (all : Setting) {number from end : ℕ} (es : List Entry) (xs : Option (List Placed)) {rs : List Refusal} → AreBodiesRead all number from end es xs rs
     → (bs : List Placed) → xs ≡ Some bs → length bs ≡ length es
-as_many all es xs none_left bs is = ap length (sym (inside [] bs is))
+as_many all es xs none_left bs is = ap length (sym (same_Some [] bs is))
 as_many all es xs (one_more e others x ys rb rs h more) bs is = by_parts (option_map (placed _) x) ys (λ zs e. as_many all others ys more zs e) is
   where
     by_parts : (y : Option Placed) (zs : Option (List Placed)) → ((cs : List Placed) → zs ≡ Some cs → length cs ≡ length others)
         → before y zs ≡ Some bs → length bs ≡ suc (length others)
-    by_parts None zs many h = absurd (no_some bs h)
-    by_parts (Some y) None many h = absurd (no_some bs h)
-    by_parts (Some y) (Some zs) many h = ap length (sym (inside (y ∷ zs) bs h)) ∙ ap suc (many zs refl)
+    by_parts None zs many h = absurd (none-some bs h)
+    by_parts (Some y) None many h = absurd (none-some bs h)
+    by_parts (Some y) (Some zs) many h = ap length (sym (same_Some (y ∷ zs) bs h)) ∙ ap suc (many zs refl)
 
 nodes_behind : (all : Setting) (es : List Entry) (bs : List Placed) (e : Entry) (b : Placed) → length bs ≡ length es
     → process_nodes all (es ++ e ∷ []) (bs ++ b ∷ []) ≡ process_nodes all es bs ++ process_node all e b ∷ []
@@ -156,11 +150,11 @@ all_nodes all es e from (Some bs) (Some r) many = ap Some (sym (nodes_behind all
 
 all_code : (old mid now : List Node) (xs : Option (List Placed)) (from : ℕ) (x : Option Read) → ((bs : List Placed) → xs ≡ Some bs → mid ≡ old ++ body_nodes bs)
     → now ≡ mid ++ nodes_of x → (bs : List Placed) → all_before xs (alone (option_map (placed from) x)) ≡ Some bs → now ≡ old ++ body_nodes bs
-all_code old mid now None from x stand put bs is = absurd (no_some bs is)
-all_code old mid now (Some cs) from None stand put bs is = absurd (no_some bs is)
+all_code old mid now None from x stand put bs is = absurd (none-some bs is)
+all_code old mid now (Some cs) from None stand put bs is = absurd (none-some bs is)
 all_code old mid now (Some cs) from (Some r) stand put bs is =
     put ∙ ap (λ z. z ++ r.nodes) (stand cs refl) ∙ append_assoc old (body_nodes cs) r.nodes
-    ∙ ap (λ z. old ++ z) (sym (bodies_behind cs (placed from r)) ∙ ap body_nodes (inside (cs ++ placed from r ∷ []) bs is))
+    ∙ ap (λ z. old ++ z) (sym (bodies_behind cs (placed from r)) ∙ ap body_nodes (same_Some (cs ++ placed from r ∷ []) bs is))
 
 length_after : (code : List Node) (x : Option Read) → length (code ++ nodes_of x) ≡ after (length code) x
 length_after code None = ap length (append-nil code)
@@ -171,7 +165,7 @@ none_read all out = record {
   bodies = Some [];
   refusals = [];
   are_read = none_left;
-  code = λ bs is. sym (append-nil out.code) ∙ ap (λ cs. out.code ++ body_nodes cs) (inside [] bs is);
+  code = λ bs is. sym (append-nil out.code) ∙ ap (λ cs. out.code ++ body_nodes cs) (same_Some [] bs is);
   refused = sym (append-nil out.refusals);
   made = refl;
 }
@@ -203,7 +197,7 @@ whole table = map entry_of table
 
 front_next : (table : List code.Entry) (i : ℕ) (e : code.Entry) → i < length table → e ≡ get_or table i e
     → whole (take (i + 1) table) ≡ whole (take i table) ++ entry_of e ∷ []
-front_next table i e within at = ap whole (taken-next table i e within at) ∙ map-append entry_of (take i table) (e ∷ [])
+front_next table i e within at = ap whole (take_next table i e within at) ∙ map-append entry_of (take i table) (e ∷ [])
 
 pub body_next : (all : Setting) (table : List code.Entry) (i : ℕ) (e : code.Entry) (old mid now : Output) (nodes more : Option (List Node)) (node : Option Node) → i < length table
     → e ≡ get_or table i e → AreReadSoFar all (map entry_of (take i table)) old mid nodes → IsBodyRead all i (entry_of e) mid now node
@@ -215,7 +209,7 @@ body_next all table i e old mid now nodes more node within at h b is =
 
 pub bodies_all : (all : Setting) (table : List code.Entry) (i : ℕ) (old now : Output) (nodes : Option (List Node)) → length table ≤ i
     → AreReadSoFar all (map entry_of (take i table)) old now nodes → AreReadSoFar all (map entry_of table) old now nodes
-bodies_all all table i old now nodes past h = subst (λ es. AreReadSoFar all (whole es) old now nodes) (taken-all table i past) h
+bodies_all all table i old now nodes past h = subst (λ es. AreReadSoFar all (whole es) old now nodes) (take_all i table past) h
 
 pub calls_next : (all : Setting) (table : List code.Entry) (i : ℕ) (e : code.Entry) (now more rest : List (List Call)) (calls : List Call) → i < length table → e ≡ get_or table i e
     → now ++ calls_from all i (map entry_of (drop i table)) ≡ rest → calls ≡ calls_at_once (body_site all i (entry_of e)) (entry_of e).process.body
@@ -229,7 +223,7 @@ calls_next all table i e now more rest calls within at h made put =
 pub calls_all : (all : Setting) (table : List code.Entry) (i : ℕ) (now rest : List (List Call)) → length table ≤ i
     → now ++ calls_from all i (map entry_of (drop i table)) ≡ rest → now ≡ rest
 calls_all all table i now rest past h =
-    sym (append-nil now) ∙ ap (λ es. now ++ calls_from all i (whole es)) (sym (dropped-all table i past)) ∙ h
+    sym (append-nil now) ∙ ap (λ es. now ++ calls_from all i (whole es)) (sym (drop_all i table past)) ∙ h
 
 -- the behaviour of the specification
 

@@ -1,13 +1,14 @@
 -- Choices of gates are opened one after another.
 use Rattle.std.proofs.Common.{ℕ, ◌≡◌, ◌∙◌, ◌<◌, ◌≤◌, ◌+◌, refl, sym, ap, subst, List, [], ◌∷◌, ◌++◌, length, get_or, take, drop, map, append_assoc, append-nil, Option, Some, None}
 use Rattle.std.specs.Prelude.{option_map}
-use Rattle.std.proofs.lemmas.List.{map-append}
+use Rattle.std.proofs.lemmas.List.{map-append, drop_all, take_all}
 use Rattle.lotos_ast.specs.declared.behaviour.GateChoice.{GateChoice}
 use Rattle.lotos_ast.specs.declared.refusal.Refusal.{Refusal}
 use Rattle.static_constructs.specs.Constructs.{Construct}
 use Rattle.spec_core.specs.Code.{Node}
+use Rattle.spec_core.proofs.Lists.{take_next}
 use Rattle.sort_overloads.specs.Judged.{Adds}
-use Rattle.sort_overloads.proofs.Loops.{taken-next, taken-all, dropped-next, dropped-all}
+use Rattle.sort_overloads.proofs.Loops.{dropped-next}
 use Rattle.static_readings.specs.Declarations.{unknown_gates, gate_numbers}
 use Rattle.static_readings.specs.Joins.{Read, around}
 use Rattle.static_readings.specs.ReadsAll.{all_before}
@@ -77,7 +78,7 @@ layers_more f all more one is = ap (option_map (map f)) is ∙ mapped f all one
 
 pub all_opened : (s : Site) (cs : List GateChoice) (now : Site) (i : ℕ) (f : Frame) (old new : List Refusal) → length cs ≤ i
     → Adds (OpensChoices s cs now (drop i cs) f) old new → Adds (OpensChoices s cs now [] f) old new
-all_opened s cs now i f old new past h = subst (λ z. Adds (OpensChoices s cs now z f) old new) (dropped-all cs i past) h
+all_opened s cs now i f old new past h = subst (λ z. Adds (OpensChoices s cs now z f) old new) (drop_all i cs past) h
 
 -- the gates that are put into scope
 
@@ -86,8 +87,8 @@ pub gate_put : (s now then : Site) (cs : List GateChoice) (i : ℕ) (c : GateCho
 gate_put s now then cs i c within at before more =
     more ∙ ap (λ z. with_gates z (c.gate ∷ [])) before ∙ gates_joined s (map (λ c. c.gate) (take i cs)) (c.gate ∷ [])
     ∙ ap (with_gates s) (sym (map-append (λ c. c.gate) (take i cs) (c ∷ [])))
-    ∙ ap (λ ds. with_gates s (map (λ c. c.gate) ds)) (sym (taken-next cs i c within at))
+    ∙ ap (λ ds. with_gates s (map (λ c. c.gate) ds)) (sym (take_next cs i c within at))
 
 pub gates_put : (s now : Site) (cs : List GateChoice) (i : ℕ) → length cs ≤ i → now ≡ with_gates s (map (λ c. c.gate) (take i cs))
     → now ≡ with_gates s (map (λ c. c.gate) cs)
-gates_put s now cs i past h = h ∙ ap (λ ds. with_gates s (map (λ c. c.gate) ds)) (taken-all cs i past)
+gates_put s now cs i past h = h ∙ ap (λ ds. with_gates s (map (λ c. c.gate) ds)) (take_all i cs past)

@@ -2,8 +2,9 @@
 use Rattle.std.proofs.Common.{ℕ, zero, suc, pred, ◌≡◌, ◌∙◌, ◌≤◌, ◌+◌, ◌-◌, ◌==◌, refl, sym, ap, subst, arith, List, [], ◌∷◌, ◌++◌, length, take, map, append_assoc, append-nil, Option, Some, None, true, false, if◌then◌else◌}
 use Rattle.std.specs.Prelude.{option_map}
 use Rattle.std.proofs.lemmas.Bool.Decides.{nat_tests}
-use Rattle.std.proofs.lemmas.List.{map-append, length-append, take-append-le}
-use Rattle.sort_overloads.proofs.Loops.{taken-all}
+use Rattle.std.proofs.lemmas.List.{map-append, length-append}
+use Rattle.std.proofs.Math.Seq.{take-append_seam}
+use Rattle.std.proofs.lemmas.Option.{none-some}
 use Rattle.spec_core.specs.Code.{Node, Synchronised, stop, parallel}
 use Rattle.spec_core.specs.Functionality.{Functionality, noexit}
 use Rattle.static_readings.specs.Joins.{Read, root, around}
@@ -12,12 +13,6 @@ use Rattle.static_readings.specs.Readings.{relabelled, copy_nodes}
 use Rattle.static_compiler.specs.Frames.{under_all, hindered, layers, copies_from, framed, next_copy}
 use Rattle.static_compiler.specs.Parts.{ends_of, Stands}
 use Rattle.static_compiler.proofs.Choices.{under_inner}
-
-no_some : {A : Type 0} (x : A) → None ≡ Some x → ⊥
-no_some x e = cc
-
-pub front : {A : Type 0} (base rest : List A) → take (length base) (base ++ rest) ≡ base
-front base rest = take-append-le (length base) base rest (omega arith) ∙ taken-all base (length base) (omega arith)
 
 -- one node
 
@@ -124,19 +119,19 @@ copies_done f gates part g left all base code none h =
 pub hindered_closes : (base : List Node) (x : Option Read) (ends : Option Functionality) (from : ℕ) (old new : List Node) → from ≡ length base → new ≡ take from old
     → Stands base x old ends → Stands base (framed from hindered x) new None
 hindered_closes base x ends from old new at cut s = record {
-  behind = cut ∙ ap (λ n. take n old) at ∙ ap (take (length base)) s.behind ∙ front base (nodes_of x) ∙ sym (append-nil base);
+  behind = cut ∙ ap (λ n. take n old) at ∙ ap (take (length base)) s.behind ∙ take-append_seam base (nodes_of x) ∙ sym (append-nil base);
   found = refl;
 }
 
 pub layers_unread : (base : List Node) (x : Option Read) (from : ℕ) (makes : List (ℕ → Node)) (code : List Node) → Stands base x code None
     → Stands base (framed from (layers makes) x) code None
 layers_unread base None from makes code s = s
-layers_unread base (Some r) from makes code s = absurd (no_some r.functionality s.found)
+layers_unread base (Some r) from makes code s = absurd (none-some r.functionality s.found)
 
 pub layers_read : (base : List Node) (x : Option Read) (f : Functionality) (from : ℕ) (makes : List (ℕ → Node)) (old new : List Node) → from ≡ length base
     → ((b : List Node) (q : Read) → old ≡ b ++ q.nodes → new ≡ b ++ (under_all (length b) makes q).nodes) → Stands base x old (Some f)
     → Stands base (framed from (layers makes) x) new (Some f)
-layers_read base None f from makes old new at put s = absurd (no_some f (sym s.found))
+layers_read base None f from makes old new at put s = absurd (none-some f (sym s.found))
 layers_read base (Some r) f from makes old new at put s = record {
   behind = put base r s.behind ∙ ap (λ n. base ++ (under_all n makes r).nodes) (sym at);
   found = s.found ∙ ap Some (sym (ends_kept from makes r));
@@ -146,15 +141,15 @@ pub copies_unread : (base : List Node) (x : Option Read) (from g : ℕ) (gates :
     → Stands base (framed from (copies_from g gates among) x) code None
 copies_unread base None from g gates [] code s = s
 copies_unread base None from g gates (a ∷ among) code s = s
-copies_unread base (Some r) from g gates among code s = absurd (no_some r.functionality s.found)
+copies_unread base (Some r) from g gates among code s = absurd (none-some r.functionality s.found)
 
 pub no_copies : (base : List Node) (x : Option Read) (f : Functionality) (from g : ℕ) (gates : Synchronised) (among : List ℕ) (old new : List Node) → from ≡ length base
     → among ≡ [] → new ≡ take from old ++ stop ∷ [] → Stands base x old (Some f) → Stands base (framed from (copies_from g gates among) x) new (Some noexit)
-no_copies base None f from g gates among old new at none put s = absurd (no_some f (sym s.found))
+no_copies base None f from g gates among old new at none put s = absurd (none-some f (sym s.found))
 no_copies base (Some r) f from g gates among old new at none put s =
     subst (λ z. Stands base (framed from (copies_from g gates z) (Some r)) new (Some noexit)) (sym none)
     (record {
-      behind = put ∙ ap (λ n. take n old ++ stop ∷ []) at ∙ ap (λ c. take (length base) c ++ stop ∷ []) s.behind ∙ ap (λ c. c ++ stop ∷ []) (front base r.nodes);
+      behind = put ∙ ap (λ n. take n old ++ stop ∷ []) at ∙ ap (λ c. take (length base) c ++ stop ∷ []) s.behind ∙ ap (λ c. c ++ stop ∷ []) (take-append_seam base r.nodes);
       found = refl;
     })
 
@@ -174,6 +169,6 @@ copies_of base r f from g gates a among part old new at is put s =
 pub some_copies : (base : List Node) (x : Option Read) (f : Functionality) (from g : ℕ) (gates : Synchronised) (among : List ℕ) (part : ℕ) (old new : List Node) → from ≡ length base
     → (among ≡ [] → ⊥) → part ≡ pred (length old) → new ≡ old ++ copy_nodes gates part g among → Stands base x old (Some f)
     → Stands base (framed from (copies_from g gates among) x) new (Some f)
-some_copies base None f from g gates among part old new at some is put s = absurd (no_some f (sym s.found))
+some_copies base None f from g gates among part old new at some is put s = absurd (none-some f (sym s.found))
 some_copies base (Some r) f from g gates [] part old new at some is put s = absurd (some refl)
 some_copies base (Some r) f from g gates (a ∷ among) part old new at some is put s = copies_of base r f from g gates a among part old new at is put s

@@ -2,6 +2,7 @@
 use Rattle.std.proofs.Common.{ℕ, pred, ◌≡◌, ◌∙◌, ◌+◌, refl, sym, ap, subst, List, [], ◌∷◌, ◌++◌, length, take, append_assoc, append-nil, Option, Some, None}
 use Rattle.std.specs.Prelude.{option_map}
 use Rattle.std.proofs.lemmas.List.{length-append}
+use Rattle.std.proofs.Math.Seq.{take-append_seam}
 use Rattle.lotos_ast.specs.declared.place.Place.{Place}
 use Rattle.spec_core.specs.Code.{Node}
 use Rattle.spec_core.specs.Functionality.{Functionality}
@@ -11,12 +12,11 @@ use Rattle.static_readings.specs.Views.{functionality_of}
 use Rattle.static_compiler.specs.Frames.{Joining, together, node_behind, ready, with_node, joined_as, joining_refusals}
 use Rattle.static_compiler.specs.Parts.{ends_of, Stands, StandBoth, AreJoined}
 use Rattle.static_compiler.specs.declared.read_part.ReadPart.{ReadPart}
-use Rattle.static_compiler.proofs.Closed.{front}
 
 -- only what stood before the parts is left
 cut_both : (base one other code : List Node) (from : ℕ) → code ≡ (base ++ one) ++ other → from ≡ length base → take from code ≡ base ++ []
 cut_both base one other code from behind at =
-    ap (λ n. take n code) at ∙ ap (take (length base)) (behind ∙ append_assoc base one other) ∙ front base (one ++ other) ∙ sym (append-nil base)
+    ap (λ n. take n code) at ∙ ap (take (length base)) (behind ∙ append_assoc base one other) ∙ take-append_seam base (one ++ other) ∙ sym (append-nil base)
 
 asked_ready : (j : Option Joining) (x y : Option Read) (left right : Option Functionality) → left ≡ ends_of x → right ≡ ends_of y
     → ready j left right ≡ ready j (ends_of x) (ends_of y)

@@ -1,9 +1,10 @@
 -- What is put around parts meets the rows of the definition.
-use Rattle.std.proofs.Common.{ℕ, zero, suc, ◌≡◌, ◌∙◌, ◌+◌, refl, ap, add-one, arith, List, [], ◌∷◌, ◌++◌, map, Option, Some, None}
+use Rattle.std.proofs.Common.{ℕ, ◌≡◌, ◌∙◌, ◌+◌, refl, ap, add-one, List, [], ◌∷◌, ◌++◌, map, Option, Some, None}
 use Rattle.std.specs.Prelude.{option_map}
 use Rattle.std.specs.List.{range_with_len}
 use Rattle.spec_core.specs.Code.{Node, Variable, ActionField, Synchronised}
 use Rattle.spec_core.specs.Theories.{Premise}
+use Rattle.spec_core.proofs.Lists.{range_suc}
 use Rattle.static_readings.specs.Joins.{Read, around, either, both, joined, disagreement}
 use Rattle.static_readings.specs.Readings.{acting, under, value_choices, chosen, copied, composed, composed_refusals, enabled, enabled_refusals}
 use Rattle.static_compiler.specs.Frames.{under_all, value_layer, framed, layers, layers_if, action_if, copies_if}
@@ -43,10 +44,6 @@ copies_framed from g (Some gates) None x = refl
 copies_framed from g (Some gates) (Some among) x = refl
 
 -- one more number of a range
-
-range_suc : (a n : ℕ) → range_with_len a (suc n) ≡ range_with_len a n ++ (a + n) ∷ []
-range_suc a zero = ap (λ z. z ∷ []) (omega arith)
-range_suc a (suc n) = ap (λ zs. a ∷ zs) (range_suc (a + 1) n) ∙ ap (λ z. a ∷ (range_with_len (a + 1) n ++ z ∷ [])) (omega arith)
 
 pub range_more : (a n : ℕ) → range_with_len a (n + 1) ≡ range_with_len a n ++ (a + n) ∷ []
 range_more a n = ap (range_with_len a) (add-one n) ∙ range_suc a n

@@ -1,9 +1,8 @@
 -- Lists whose elements come to things and to refusals.
 use Rattle.std.proofs.Common.{ℕ, ◌≡◌, ◌<◌, ◌≤◌, ◌+◌, List, [], ◌∷◌, ◌++◌, Option, Some, None, length, map, take, get_or, refl, ap, sym, subst, ◌∙◌, arith, append_assoc}
-use Rattle.std.proofs.lemmas.List.{append-nil}
-use Rattle.std.specs.Prelude.{Result, Ok, Err, OnOk}
+use Rattle.std.proofs.lemmas.List.{append-nil, map-append, take_all}
+use Rattle.spec_core.proofs.Lists.{take_next}
 use Rattle.lotos_ast.specs.declared.refusal.Refusal.{Refusal}
-use Rattle.sort_overloads.proofs.Loops.{taken-next, taken-all, map-join}
 use Rattle.sort_overloads.specs.Judged as judged
 use Rattle.static_equations.specs.Gathered.{Gathers, none, further, AddsBoth, IfRead, UnlessRefused, refused_before}
 use Rattle.static_equations.specs.Gathered as gathered
@@ -39,10 +38,10 @@ adds-none P ys before = record { found = []; refusals = []; such = none; found_b
 pub adds-next : {A B : Type 0} (P : A → List B → List Refusal → Type 0) (xs : List A) (i : ℕ) (x : A) (ys now later : List B) (before mid after : List Refusal) → i < length xs → x ≡ get_or xs i x →
     AddsBoth (Gathers P (take i xs)) ys now before mid → AddsBoth (P x) now later mid after → AddsBoth (Gathers P (take (i + 1) xs)) ys later before after
 adds-next P xs i x ys now later before mid after within at h k =
-    subst (λ z. AddsBoth (Gathers P z) ys later before after) (sym (taken-next xs i x within at)) (adds-more P (take i xs) x ys now later before mid after h k)
+    subst (λ z. AddsBoth (Gathers P z) ys later before after) (sym (take_next xs i x within at)) (adds-more P (take i xs) x ys now later before mid after h k)
 
 pub adds-all : {A B : Type 0} (P : A → List B → List Refusal → Type 0) (xs : List A) (i : ℕ) (ys now : List B) (before after : List Refusal) → length xs ≤ i → AddsBoth (Gathers P (take i xs)) ys now before after → AddsBoth (Gathers P xs) ys now before after
-adds-all P xs i ys now before after past h = subst (λ z. AddsBoth (Gathers P z) ys now before after) (taken-all xs i past) h
+adds-all P xs i ys now before after past h = subst (λ z. AddsBoth (Gathers P z) ys now before after) (take_all i xs past) h
 
 -- what is put behind nothing
 pub from-nothing : {B : Type 0} (P : List B → List Refusal → Type 0) (now : List B) (before after : List Refusal) → AddsBoth P [] now before after → judged.Adds (P now) before after
@@ -54,7 +53,7 @@ adds-read view P all more x before after e h = record {
   found = view x ∷ [];
   refusals = h.refusals;
   such = (Some (view x), refl, h.such);
-  found_behind = ap (map view) e ∙ map-join view all (x ∷ []);
+  found_behind = ap (map view) e ∙ map-append view all (x ∷ []);
   refused_behind = h.behind;
 }
 
@@ -88,8 +87,3 @@ judged-under declarations P all more before mid after e short h =
     none_added [] [] l = refl
     none_added [] (y ∷ ys) l = absurd (omega arith)
     none_added (x ∷ xs) ys l = none_added xs ys (omega arith)
-
--- what follows where a call succeeds
-pub on-ok : {T E P Q : Type 0} (r : Result T E) → (P → Q) → OnOk r P → OnOk r Q
-on-ok (Ok x) f h = f h
-on-ok (Err e) f h = h

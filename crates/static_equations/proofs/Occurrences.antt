@@ -1,17 +1,14 @@
 -- The variables of terms, and terms over other numbers of variables.
-use Rattle.std.proofs.Common.{ℕ, zero, suc, ◌≡◌, ◌<◌, ◌≤◌, ◌+◌, List, [], ◌∷◌, ◌++◌, Option, Some, None, length, map, take, get_or, refl, ap, sym, ◌∙◌, arith, append_assoc}
+use Rattle.std.proofs.Common.{ℕ, zero, suc, ◌≡◌, ◌<◌, ◌≤◌, ◌+◌, List, [], ◌∷◌, ◌++◌, Option, Some, None, length, map, take, get_or, refl, ap, sym, ◌∙◌, arith}
 use Rattle.std.proofs.lemmas.List.{append-nil}
 use Rattle.std.specs.List.{flat_map, filter_map, cons_option, slice_get}
 use Rattle.std.specs.Prelude.{option_to_list}
 use Rattle.std.proofs.lemmas.List.Elements.{filter_map-append}
-use Rattle.sort_overloads.proofs.Loops.{taken-next}
+use Rattle.std.proofs.lemmas.List.Concat.{flat_map-append}
 use Rattle.spec_core.specs.Terms.{TermTree, and_term, terms, instance, instances}
+use Rattle.spec_core.proofs.Lists.{take_next}
 use Rattle.static_equations.specs.Numbered.{occurring, all_occurring, with_variable, with_variables, variables_at}
 use Rattle.sort_overloads.specs.Readings.{Declared}
-
-pub flat_map-join : {A B : Type 0} (f : A → List B) (xs ys : List A) → flat_map f (xs ++ ys) ≡ flat_map f xs ++ flat_map f ys
-flat_map-join f [] ys = refl
-flat_map-join f (x ∷ xs) ys = ap (λ z. f x ++ z) (flat_map-join f xs ys) ∙ sym (append_assoc (f x) (flat_map f xs) (flat_map f ys))
 
 pub with-joined : (all xs ys : List ℕ) → with_variables (with_variables all xs) ys ≡ with_variables all (xs ++ ys)
 with-joined all [] ys = refl
@@ -21,7 +18,7 @@ with-joined all (x ∷ xs) ys = with-joined (with_variable all x) xs ys
 pub with-next : {A : Type 0} (f : A → List ℕ) (all now then : List ℕ) (xs : List A) (i : ℕ) (x : A) → i < length xs → x ≡ get_or xs i x → now ≡ with_variables all (flat_map f (take i xs)) → then ≡ with_variables now (f x) → then ≡ with_variables all (flat_map f (take (i + 1) xs))
 with-next f all now then xs i x within at before more =
     more ∙ ap (λ z. with_variables z (f x)) before ∙ with-joined all (flat_map f (take i xs)) (f x)
-    ∙ ap (with_variables all) (sym (ap (flat_map f) (taken-next xs i x within at) ∙ flat_map-join f (take i xs) (x ∷ []) ∙ ap (λ z. flat_map f (take i xs) ++ z) (append-nil (f x))))
+    ∙ ap (with_variables all) (sym (ap (flat_map f) (take_next xs i x within at) ∙ flat_map-append f (take i xs) (x ∷ []) ∙ ap (λ z. flat_map f (take i xs) ++ z) (append-nil (f x))))
 
 pub occurring-in : {A : Type 0} (view : A → TermTree) (xs : List A) → flat_map (λ x. occurring (view x)) xs ≡ all_occurring (terms (map view xs))
 occurring-in view [] = refl
@@ -45,7 +42,7 @@ mapped-none f (y ∷ ys) (suc i) past = mapped-none f ys i (omega arith)
 -- the variable of one more number
 pub variables-more : (declared : List Declared) (numbers : List ℕ) (i : ℕ) → i < length numbers → variables_at declared (take (i + 1) numbers) ≡ variables_at declared (take i numbers) ++ option_to_list (slice_get declared (get_or numbers i 0))
 variables-more declared numbers i within =
-    ap (filter_map (slice_get declared)) (taken-next numbers i (get_or numbers i 0) within (get_or_any numbers i within))
+    ap (filter_map (slice_get declared)) (take_next numbers i (get_or numbers i 0) within (get_or_any numbers i within))
     ∙ filter_map-append (slice_get declared) (take i numbers) (get_or numbers i 0 ∷ [])
     ∙ ap (λ z. variables_at declared (take i numbers) ++ z) (alone (slice_get declared (get_or numbers i 0)))
   where

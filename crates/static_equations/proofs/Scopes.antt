@@ -1,7 +1,6 @@
 -- Scopes into which variables are put for a while.
 use Rattle.std.proofs.Common.{ℕ, ◌≡◌, ◌≤◌, List, ◌++◌, length, map, take, ap, sym, ◌∙◌, arith}
-use Rattle.std.proofs.lemmas.List.{take-map, take-append-le, length-map}
-use Rattle.sort_overloads.proofs.Loops.{taken-all}
+use Rattle.std.proofs.lemmas.List.{take-map, take-append-le, length-map, take_all}
 use Rattle.sort_overloads.specs.declared.scope.Scope.{Scope}
 use Rattle.sort_overloads.specs.declared.scope.Variable.{Variable}
 use Rattle.sort_overloads.specs.Readings.{Context, Declared}
@@ -17,7 +16,7 @@ cut-back : (old put cut : List Variable) (more : List Declared) (n : ℕ) → n 
 cut-back old put cut more n e f g =
     let short : n ≤ length (map declared_of old) = omega (arith, e, length-map old declared_of) in
     let long : length (map declared_of old) ≤ n = omega (arith, e, length-map old declared_of) in
-    ap (map declared_of) f ∙ sym (take-map declared_of n put) ∙ ap (take n) g ∙ take-append-le n (map declared_of old) more short ∙ taken-all (map declared_of old) n long
+    ap (map declared_of) f ∙ sym (take-map declared_of n put) ∙ ap (take n) g ∙ take-append-le n (map declared_of old) more short ∙ take_all n (map declared_of old) long
 
 -- they are taken away again
 pub restored : (old put : Scope) (cut : List Variable) (more : List Declared) (n : ℕ) → context_of put ≡ record { sorts = (context_of old).sorts; operations = (context_of old).operations; variables = (context_of old).variables ++ more } →

@@ -1,6 +1,7 @@
 -- What the definitions of this crate say of a text, they say in one way only.
 use Rattle.std.proofs.Common.{Option, Some, None, ◌≡◌, List, [], ◌∷◌, ◌++◌, refl, ap, sym, subst, ◌∙◌}
 use Rattle.std.specs.Prelude.{option_map, option_to_list}
+use Rattle.std.proofs.lemmas.Option.{same_Some}
 use Rattle.lotos_ast.specs.declared.expression.Expr.{Expr}
 use Rattle.lotos_ast.specs.declared.place.Place.{Place}
 use Rattle.lotos_ast.specs.declared.refusal.Refusal.{Refusal}
@@ -26,20 +27,17 @@ use Rattle.static_equations.proofs.Judgements.{judged-one}
 sort-one : (s t : Sort) → s.0 ≡ t.0 → s ≡ t
 sort-one s t h = ap (λ n. record { 0 = n }) h
 
-some-one : {A : Type 0} {x y : A} → Some x ≡ Some y → x ≡ y
-some-one h = cc
-
 -- two expressions that are to be equal
 
 -- the sort with which the second is read is that of the first
 same-sort : {x y : Typed} (s t : Sort) → Some x ≡ Some y → s.0 ≡ x.sort → t.0 ≡ y.sort → t ≡ s
-same-sort {x} {y} s t h e f = sort-one t s (f ∙ sym (ap (λ z. z.sort) (some-one h)) ∙ sym e)
+same-sort {x} {y} s t h e f = sort-one t s (f ∙ sym (ap (λ z. z.sort) (same_Some _ _ h)) ∙ sym e)
 
 pub equality-one : (c : Context) (sides : Sides) → IsOne (IsEqualityJudged c sides)
 equality-one c sides _ _ _ _ (read x y s e h k) (read u v t f l m) =
     let one = judged-one h l in
     let other = judged-one k (subst (λ z. IsJudged c sides.right (Some z) sides.right_place (Some v) []) (same-sort s t one.0 e f) m) in
-    (ap (λ z. Some (premise z.term y.term)) (some-one one.0) ∙ ap (λ z. Some (premise u.term z.term)) (some-one other.0), refl)
+    (ap (λ z. Some (premise z.term y.term)) (same_Some _ _ one.0) ∙ ap (λ z. Some (premise u.term z.term)) (same_Some _ _ other.0), refl)
 equality-one c sides _ _ _ _ (read x y s e h k) (right_unread u t rs f l m) =
     let other = judged-one k (subst (λ z. IsJudged c sides.right (Some z) sides.right_place None rs) (same-sort s t (judged-one h l).0 e f) m) in absurd (let z = other.0 in cc)
 equality-one c sides _ _ _ _ (read x y s e h k) (left_unread rs l) = absurd (let z = (judged-one h l).0 in cc)
@@ -55,7 +53,7 @@ equality-one c sides _ _ _ _ (left_unread rs l) (left_unread ss h) = (refl, ap (
 -- conditions
 pub truth-one : (c : Context) (e : Expression) (p : Place) → IsOne (IsTruthJudged c e p)
 truth-one c e p _ _ _ _ (by_truth t s f rs h k l) (by_truth u r g ss m n q) =
-    let same : t ≡ u = some-one (sym h ∙ m) in
+    let same : t ≡ u = same_Some _ _ (sym h ∙ m) in
     let one = judged-one l (subst (λ z. IsJudged c e (Some z) p g ss) (sort-one r s (n ∙ sym (ap (λ z. z.sort) same) ∙ sym k)) q) in
     (ap (option_map (λ x. premise x.term t.term)) one.0 ∙ ap (λ z. option_map (λ x. premise x.term z.term) g) same, one.1)
 truth-one c e p _ _ _ _ (by_truth t s f rs h k l) (without m) = absurd (let z : Some t ≡ None = sym h ∙ m in cc)

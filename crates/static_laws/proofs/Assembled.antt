@@ -14,6 +14,7 @@ use Rattle.spec_core.specs.Code.{Program, Variable}
 use Rattle.spec_core.specs.Functionality.{Functionality, noexit, exits}
 use Rattle.spec_core.specs.Lists.{Each}
 use Rattle.spec_core.specs.Theories.{Theory}
+use Rattle.spec_core.proofs.Lists.{both_empty, cons_not_empty}
 use Rattle.sort_overloads.specs.Readings.{Context}
 use Rattle.sort_overloads.specs.Refused.{refused}
 use Rattle.static_equations.specs.Variables.{all_variables}
@@ -23,7 +24,6 @@ use Rattle.static_readings.specs.Joins.{Read, root}
 use Rattle.static_readings.specs.Readings.{IsRead}
 use Rattle.static_check.specs.Headings.{heading, headings_from, heading_refusals, parameter_refusals, functionality_refusals, declared, parameter_sorts}
 use Rattle.static_check.specs.Processes.{Entry, entries, visible_in}
-use Rattle.static_call_cycles.proofs.Acyclic.{not_empty, both_empty}
 use Rattle.static_laws.specs.Assembled.{Definition, body_nodes, HeadingFits, SiteFits, DefinitionFits, IsAssembled, behind_bodies}
 use Rattle.static_laws.specs.Assembled as laws
 use Rattle.static_check.specs.Bodies.{Setting, Placed, headings_within, may_end, refused_unless, ending_refusals, body_ending_refusals, unknown_in}
@@ -43,7 +43,7 @@ ends_as theory spec n = declared_by (data_context theory) (slice_get (entries sp
 
 not_refused : (b : Bool) (place : Place) → refused_unless b place ≡ [] → b ≡ true
 not_refused true place e = refl
-not_refused false place e = absurd (not_empty (refused WrongFunctionality place []) [] e)
+not_refused false place e = absurd (cons_not_empty (refused WrongFunctionality place []) [] e)
 
 ends-so : (f g : Functionality) → may_end None f g ≡ true → (f ≡ g) ⊎ (f ≡ noexit)
 ends-so noexit g e = inr refl

@@ -8,13 +8,13 @@ use Rattle.spec_core.specs.Functionality.{Functionality}
 use Rattle.spec_core.specs.Functionality as core
 use Rattle.spec_core.specs.Lists.{Each, IsOneOf}
 use Rattle.spec_core.specs.Sorts.{no_variables}
+use Rattle.spec_core.proofs.Members.{one_in_range}
 use Rattle.sort_overloads.specs.Readings.{Declared}
 use Rattle.static_readings.specs.Sites.{Site, Heading}
 use Rattle.static_readings.specs.Joins.{root}
 use Rattle.static_laws.specs.Assembled.{HeadingFits, Placed, Definition, IsReadAt, process_nodes, body_nodes, AreBodiesRead, IsAssembled, behind_bodies}
 use Rattle.static_laws.specs.Standing.{StandAt, HeadingAgrees, Agrees}
 use Rattle.static_laws.proofs.Codes.{in-front, behind, node-at}
-use Rattle.static_laws.proofs.Gates.{in-range}
 use Rattle.static_laws.proofs.CompiledVariables.{numbered-sorts}
 use Rattle.static_laws.proofs.Parts.{AreBehaviourNodes, append-fit}
 use Rattle.static_laws.proofs.PartsRows.{nodes-fit}
@@ -138,7 +138,7 @@ module _ (program : Program) (processes : ℕ → Functionality) where
                 ∙ numbered-sorts s.context.variables 0 [] no_variables refl (λ y. refl) x;
           };
           gates_in_scope = λ g low high. inr (subst (IsOneOf g) (sym f.formal)
-              (in-range (length s.gates) (length program.gates) g (omega (arith, low, f.first_gate)) (omega (arith, high, f.first_gate))));
+              (one_in_range (length s.gates) (length program.gates) g (omega (arith, low, f.first_gate)) (omega (arith, high, f.first_gate))));
           headings = headings-agree s.processes f.site.headings;
         }
 

@@ -3,6 +3,7 @@ use Rattle.std.proofs.Common.{ℕ, zero, suc, ◌≡◌, ◌+◌, List, [], ◌�
 use Rattle.std.specs.Prelude.{Option, Some, None, option_map}
 use Rattle.std.specs.List.{range_with_len, slice_get}
 use Rattle.std.proofs.lemmas.Option.{same_Some}
+use Rattle.spec_core.proofs.Lists.{both_empty}
 use Rattle.lotos_ast.specs.declared.refusal.Refusal.{Refusal}
 use Rattle.static_equations.specs.Variables.{all_variables}
 use Rattle.static_readings.specs.Declarations.{numbered_from}
@@ -12,7 +13,6 @@ use Rattle.static_readings.specs.Readings.{IsRead}
 use Rattle.static_check.specs.Headings.{declared}
 use Rattle.static_check.specs.Processes.{Entry}
 use Rattle.static_call_cycles.specs.AtOnce.{calls_at_once}
-use Rattle.static_call_cycles.proofs.Acyclic.{both_empty}
 use Rattle.static_laws.specs.Assembled.{Definition, process_nodes, body_nodes, AreBodiesRead, calls_of}
 use Rattle.static_check.specs.Bodies as checked
 use Rattle.static_check.specs.Bodies.{Setting, Placed, body_site, body_ending_refusals, placed, none_left, one_more, calls_from}

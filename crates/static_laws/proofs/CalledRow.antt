@@ -3,7 +3,7 @@ use Rattle.std.proofs.Common.{ℕ, ◌≡◌, List, [], ◌∷◌, length, sym, 
 use Rattle.std.specs.Prelude.{Option, Some, None, option_map, IfSome, Bool, true, false, ◌==◌}
 use Rattle.std.specs.List.{find}
 use Rattle.std.proofs.Math.Bool.{cond}
-use Rattle.std.proofs.lemmas.Bool.{eqb-true}
+use Rattle.std.proofs.lemmas.Bool.{eqb-true, and_parts}
 use Rattle.std.proofs.lemmas.List.{length-map}
 use Rattle.lotos_ast.specs.declared.expression.Expr.{Expr}
 use Rattle.lotos_ast.specs.declared.refusal.Refusal.{Refusal}
@@ -22,7 +22,6 @@ use Rattle.static_laws.proofs.Gates.{gates-fit, gates-counted}
 use Rattle.static_laws.proofs.Rows.{Holds}
 use Rattle.static_laws.proofs.Standings.{Stands, stands-single}
 use Rattle.static_laws.proofs.Values.{values-fit}
-use Rattle.static_laws.proofs.CompiledVariables.{both-true}
 
 found-or : {A : Type 0} (P : A → Type 0) (b : Bool) (x : A) (o : Option A) → P x → IfSome o P → IfSome (cond b (Some x) o) P
 found-or P true x o h g = h
@@ -51,7 +50,7 @@ module _ (program : Program) (processes : ℕ → Functionality) (s : Site) (fro
   call-row h name ts es o agree x rs unknown = tt
   call-row h name ts es o agree x rs (miscounted p other) = tt
   call-row h name ts es o agree x rs (counted p values refusals counts d) =
-      let k = both-true (length ts == p.gates) (length es == length p.sorts) counts in
+      let k = and_parts (length ts == p.gates) (length es == length p.sorts) counts in
       call-stands p agree (gate_numbers s ts) values (gates-fit program s gates h.gates_in_scope ts)
       (subst (λ n. IfSome (gate_numbers s ts) (λ l. length l ≡ n)) (eqb-true (length ts) p.gates k.0) (gates-counted s ts))
       (λ a. values-fit program.theory s vars h.data_agrees es a.variables values refusals

@@ -1,5 +1,5 @@
 -- Chains of calls in code are chains of calls as they are written.
-use Rattle.std.proofs.Common.{ℕ, suc, ◌≡◌, List, [], ◌∷◌, ◌++◌, length, refl, sym, ap, subst, ◌∙◌, arith}
+use Rattle.std.proofs.Common.{ℕ, ◌≡◌, List, [], ◌++◌, length, refl, sym, ap, subst, ◌∙◌}
 use Rattle.std.proofs.Common.{inl, inr}
 use Rattle.std.specs.Prelude.{Some, option_map}
 use Rattle.std.specs.List.{slice_get, slice_index_or, Contains}
@@ -9,6 +9,7 @@ use Rattle.spec_core.specs.Code.{parallel, hide, enable, disable, call, relabel}
 use Rattle.spec_core.specs.Functionality.{Functionality}
 use Rattle.spec_core.specs.Lists.{IsOneOf}
 use Rattle.spec_core.specs.Ready.{CallsAtOnce, here, within, CallsProcess, IsCallOf, IsProcess, LeadsAtOnce, one_call, more_calls}
+use Rattle.spec_core.proofs.Members.{contains_one}
 use Rattle.static_call_cycles.specs.MadeFrom.{IsMadeFrom, directly, through, AreAcyclic}
 use Rattle.static_readings.specs.Joins.{root}
 use Rattle.static_call_cycles.specs.AtOnce.{calls_at_once}
@@ -19,19 +20,9 @@ use Rattle.static_laws.proofs.Opens.{begins, one-open}
 use Rattle.static_laws.proofs.OpensRows.{construct-calls}
 use Rattle.static_laws.proofs.Parts.{node-fits}
 
-one-of-contains : (x : ℕ) (xs : List ℕ) → IsOneOf x xs → Contains xs x
-one-of-contains x [] h = absurd h
-one-of-contains x (y ∷ ys) (inl e) = (0, omega arith, sym e)
-one-of-contains x (y ∷ ys) (inr h) =
-    let c = one-of-contains x ys h in
-    (suc c.0, omega (arith, c.1), c.2)
-
 -- the number is that of the definition of a process
 abbrev pub IsDefined : Program → ℕ → Type 0
 IsDefined program p = (formal : List ℕ) × (xs : List Variable) × (body : ℕ) × (slice_get program.code p ≡ Some (process formal xs body))
-
-some-same : {A : Type 0} (x y : A) → Some x ≡ Some y → y ≡ x
-some-same x y e = cc
 
 module _ (program : Program) (processes : ℕ → Functionality) (ds : List Definition) (whole : Placed)
     (h : IsAssembled program processes ds whole) where
@@ -60,7 +51,7 @@ module _ (program : Program) (processes : ℕ → Functionality) (ds : List Defi
       slice_get-map called (calls_of ds) p
       ∙ ap (option_map called) (slice_get-map (λ d. calls_at_once d.body.site d.body.construct) ds p)
       ∙ ap (λ o. option_map called (option_map (λ d. calls_at_once d.body.site d.body.construct) o)) e in
-      subst (λ l. Contains l q) (sym (get_or_from_slice_get (links (calls_of ds)) p calls [] linked)) (one-of-contains q calls one)
+      subst (λ l. Contains l q) (sym (get_or_from_slice_get (links (calls_of ds)) p calls [] linked)) (contains_one q calls one)
 
   module _ (parts : (number : ℕ) (node : Node) → slice_get program.code number ≡ Some node → CallsProcess program node) where
     defined-by-call : (q : ℕ) (node : Node) → IsCallOf q node → CallsProcess program node → IsDefined program q

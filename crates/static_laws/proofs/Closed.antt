@@ -18,6 +18,8 @@ use Rattle.lotos_ast.specs.declared.types.TypeBody.TheVariants.{Declared, Rename
 use Rattle.lotos_ast.specs.declared.types.TypeDef.{TypeDef}
 use Rattle.lotos_ast.specs.declared.types.TypeDef.TheVariants.{Library, Definition}
 use Rattle.spec_core.specs.Lists.{IsOneOf}
+use Rattle.spec_core.proofs.Lists.{both_empty}
+use Rattle.spec_core.proofs.Members.{from_flat_map, one_parts, one_left, one_flat_map, one_map, one_right, one_slice_get, from_map}
 use Rattle.static_call_cycles.specs.MadeFrom.{AreAcyclic}
 use Rattle.type_contents.specs.Contents.{Content, no_content, contents, made_from, content_of, items_by, items_of, formals_of, kept_one, kept}
 use Rattle.type_contents.specs.Images.{Renaming, renaming_of, sort_image, image, kept_renaming, kept_image}
@@ -37,23 +39,18 @@ use Rattle.type_copies.specs.Copies.{copy}
 use Rattle.type_copies.specs.UnknownSorts.{operation_sorts, sorts_in, unknown_sort, unknown_sorts}
 use Rattle.static_presentation.specs.Refusals.{bad_copy, sort_refusals, refusals_of}
 use Rattle.type_equation_copies.specs.Copies.{image_in}
-use Rattle.sort_overloads.proofs.Members.{one-mapped}
 use Rattle.static_laws.proofs.Covered.{graph, graph-length, linked, items_at, content-at, sort-covered, operation-covered}
 use Rattle.static_laws.proofs.Items.{IsDescribed, is-among, in-union, union-from}
-use Rattle.static_laws.proofs.Membership.{in-front, in-rest, in-either, in-images, in-gathered, gathered-from, number-in, paired}
+use Rattle.static_laws.proofs.Membership.{paired}
 use Rattle.static_laws.proofs.Walking.{IsShort, all-short, short-next, none-short, IsMadeAt, made, past}
 use Rattle.static_laws.proofs.WellMade.{NamesOperations, renaming-names, kept-names, kept-sorts, image-sorts, image-of-sort}
 
 -- where lists that are joined are empty, so is each
 
-pub both-empty : {A : Type 0} (xs ys : List A) → xs ++ ys ≡ [] → (xs ≡ []) × (ys ≡ [])
-both-empty [] ys e = (refl, e)
-both-empty (x ∷ xs) ys e = absurd (cc)
-
 pub each-empty : {A B : Type 0} (f : A → List B) (xs : List A) (x : A) → flat_map f xs ≡ [] → IsOneOf x xs → f x ≡ []
 each-empty f [] x e h = absurd h
-each-empty f (y ∷ ys) x e (inl q) = ap f q ∙ (both-empty (f y) (flat_map f ys) e).0
-each-empty f (y ∷ ys) x e (inr h) = each-empty f ys x (both-empty (f y) (flat_map f ys) e).1 h
+each-empty f (y ∷ ys) x e (inl q) = ap f q ∙ (both_empty (f y) (flat_map f ys) e).0
+each-empty f (y ∷ ys) x e (inr h) = each-empty f ys x (both_empty (f y) (flat_map f ys) e).1 h
 
 -- a test that would refuse passes
 pub passed : {A : Type 0} (b : Bool) (r : A) → cond b [] (r ∷ []) ≡ [] → b ≡ true
@@ -70,11 +67,11 @@ pub record IsUnrefused (types : List TypeDef) : Type 0 where
 
 pub unrefused : CyclesAreRefused → ContentsAreMadeFromContents → (types : List TypeDef) → refusals_of types ≡ [] → IsUnrefused types
 unrefused cycles made_so types e =
-    let a = both-empty (unknown_types types ++ cycle_refusals types ++ sort_refusals types (contents types) ++ duplicate_names types)
+    let a = both_empty (unknown_types types ++ cycle_refusals types ++ sort_refusals types (contents types) ++ duplicate_names types)
     (flat_map (bad_copy types (contents types) (all_sorts types ++ all_operations types)) types) e in
-    let b = both-empty (unknown_types types ++ cycle_refusals types ++ sort_refusals types (contents types)) (duplicate_names types) a.0 in
-    let c = both-empty (unknown_types types ++ cycle_refusals types) (sort_refusals types (contents types)) b.0 in
-    let d = both-empty (unknown_types types) (cycle_refusals types) c.0 in
+    let b = both_empty (unknown_types types ++ cycle_refusals types ++ sort_refusals types (contents types)) (duplicate_names types) a.0 in
+    let c = both_empty (unknown_types types ++ cycle_refusals types) (sort_refusals types (contents types)) b.0 in
+    let d = both_empty (unknown_types types) (cycle_refusals types) c.0 in
     let acyclic : AreAcyclic (graph types) = (cycles types).0 d.1 in
     record { acyclic = acyclic; settled = made_so types acyclic; sorts = c.1; duplicates = b.1; copies = a.1 }
 
@@ -89,7 +86,7 @@ module _ (types : List TypeDef) (h : IsUnrefused types) where
       (passed (is_in (items_at types k) (sort_item (small t))) _
       (each-empty (unknown_sort (items_at types k)) (sorts_in d) t
       (each-empty (λ (e : TypeDef × Content). unknown_sorts e.1.items e.0) (zip types (contents types)) (d, slice_index_or (contents types) k no_content) h.sorts
-      (number-in (zip types (contents types)) (d, slice_index_or (contents types) k no_content) k
+      (one_slice_get (zip types (contents types)) k (d, slice_index_or (contents types) k no_content)
       (paired types (contents types) k d (slice_index_or (contents types) k no_content) at (content-there k (slice_get_within types k d at)))))
       named))
 
@@ -107,13 +104,13 @@ module _ (types : List TypeDef) (h : IsUnrefused types) where
       slice_get types k ≡ Some (Definition place name (Declared p imports formals sorts operations equations)) → IsOneOf t (listed imports) → IsOneOf x (items_at types (number_of types t)) → IsOneOf x (items_at types k)
   used-has k place name p imports formals sorts operations equations t x at i j =
       made-has k place name (Declared p imports formals sorts operations equations) x at
-      (in-front x (flat_map (items_of types (contents types)) (listed imports)) (map item_of (own_items formals sorts operations)) (in-gathered (items_of types (contents types)) t (listed imports) x i j))
+      (one_left x (flat_map (items_of types (contents types)) (listed imports)) (map item_of (own_items formals sorts operations)) (one_flat_map (items_of types (contents types)) t (listed imports) x i j))
 
   pub actual-has : (k : ℕ) (place : Place) (name : Token) (p : Place) (source : Token) (actuals : Vec Token Global) (pairs : Pairs) (t : Token) (x : Item) →
       slice_get types k ≡ Some (Definition place name (Actualized p source actuals pairs)) → IsOneOf t actuals.items → IsOneOf x (items_at types (number_of types t)) → IsOneOf x (items_at types k)
   actual-has k place name p source actuals pairs t x at i j =
       made-has k place name (Actualized p source actuals pairs) x at
-      (in-front x (flat_map (items_of types (contents types)) actuals.items) (kept (content_of types (contents types) source) (renaming_of pairs)) (in-gathered (items_of types (contents types)) t actuals.items x i j))
+      (one_left x (flat_map (items_of types (contents types)) actuals.items) (kept (content_of types (contents types) source) (renaming_of pairs)) (one_flat_map (items_of types (contents types)) t actuals.items x i j))
 
   -- the image of an item in a copy
 
@@ -124,7 +121,7 @@ module _ (types : List TypeDef) (h : IsUnrefused types) where
       slice_get types k ≡ Some (Definition place name (Renamed p source pairs)) → IsOneOf x (items_at types (number_of types source)) → IsOneOf (image_in [] (renaming_of pairs) x) (items_at types k)
   renamed-has k place name p source pairs x at i =
       subst (λ z. IsOneOf z (items_at types k)) (sym (none-replaced (renaming_of pairs) x))
-      (made-has k place name (Renamed p source pairs) (image (renaming_of pairs) x) at (in-images (image (renaming_of pairs)) x (items_of types (contents types) source) i))
+      (made-has k place name (Renamed p source pairs) (image (renaming_of pairs) x) at (one_map (image (renaming_of pairs)) x (items_of types (contents types) source) i))
 
   -- the image of a formal item is one of the actual types
   formal-there : (k : ℕ) (place : Place) (name : Token) (p : Place) (source : Token) (actuals : Vec Token Global) (pairs : Pairs) (d : Described) →
@@ -135,8 +132,8 @@ module _ (types : List TypeDef) (h : IsUnrefused types) where
       let formals = formals_of types (contents types) source in
       let actual = flat_map (items_of types (contents types)) actuals.items in
       let copies = bad_pairs (copy (items_of types (contents types) source) formals (renaming_of pairs)) pairs in
-      let none = (both-empty copies (bad_actuals name.place pairs formals actual all)
-      (each-empty (bad_copy types (contents types) all) types (Definition place name (Actualized p source actuals pairs)) h.copies (number-in types (Definition place name (Actualized p source actuals pairs)) k at))).1 in
+      let none = (both_empty copies (bad_actuals name.place pairs formals actual all)
+      (each-empty (bad_copy types (contents types) all) types (Definition place name (Actualized p source actuals pairs)) h.copies (one_slice_get types k (Definition place name (Actualized p source actuals pairs)) at))).1 in
       is-among actual (image (renaming_of pairs) d.item)
       (by-test (passed (not (is_in formals d.item) || is_in actual (image (renaming_of pairs) d.item)) _ (each-empty (bad_actual name.place pairs formals actual) all d none i)))
     where
@@ -148,10 +145,10 @@ module _ (types : List TypeDef) (h : IsUnrefused types) where
   in-both x k i = by-kind (is_sort x) refl
     where
       from-front : (xs ys : List Described) → IsDescribed xs x → IsDescribed (xs ++ ys) x
-      from-front xs ys j = subst (λ zs. IsOneOf x zs) (sym (map-append item_of xs ys)) (in-front x (map item_of xs) (map item_of ys) j)
+      from-front xs ys j = subst (λ zs. IsOneOf x zs) (sym (map-append item_of xs ys)) (one_left x (map item_of xs) (map item_of ys) j)
 
       from-rest : (xs ys : List Described) → IsDescribed ys x → IsDescribed (xs ++ ys) x
-      from-rest xs ys j = subst (λ zs. IsOneOf x zs) (sym (map-append item_of xs ys)) (in-rest x (map item_of xs) (map item_of ys) j)
+      from-rest xs ys j = subst (λ zs. IsOneOf x zs) (sym (map-append item_of xs ys)) (one_right x (map item_of xs) (map item_of ys) j)
 
       by-kind : (b : Bool) → is_sort x ≡ b → IsDescribed (all_sorts types ++ all_operations types) x
       by-kind true e = from-front (all_sorts types) (all_operations types) (sort-covered types h.acyclic h.settled k x i e)
@@ -161,7 +158,7 @@ module _ (types : List TypeDef) (h : IsUnrefused types) where
       slice_get types k ≡ Some (Definition place name (Actualized p source actuals pairs)) → IsOneOf x (items_at types (number_of types source)) →
       IsOneOf (image_in (formals_of types (contents types) source) (renaming_of pairs) x) (items_at types k)
   actualized-has k place name p source actuals pairs x at i =
-      made-has k place name (Actualized p source actuals pairs) (image_in formals (renaming_of pairs) x) at (by-test (is_in formals x) refl (one-mapped item_of (all_sorts types ++ all_operations types) x (in-both x (number_of types source) i)))
+      made-has k place name (Actualized p source actuals pairs) (image_in formals (renaming_of pairs) x) at (by-test (is_in formals x) refl (from_map item_of (all_sorts types ++ all_operations types) x (in-both x (number_of types source) i)))
     where
       formals : List Item
       formals = formals_of types (contents types) source
@@ -179,11 +176,11 @@ module _ (types : List TypeDef) (h : IsUnrefused types) where
       by-test : (b : Bool) → is_in formals x ≡ b → (d : Described) × IsOneOf d (all_sorts types ++ all_operations types) × (x ≡ d.item) →
           IsOneOf (if b then image (renaming_of pairs) x else kept_image formals (renaming_of pairs) x) (actual ++ others)
       by-test true e (d, j, is) =
-          in-front (image (renaming_of pairs) x) actual others
+          one_left (image (renaming_of pairs) x) actual others
           (subst (λ z. IsOneOf (image (renaming_of pairs) z) actual) (sym is) (formal-there k place name p source actuals pairs d at j (sym (ap (is_in formals) is) ∙ e)))
       by-test false e d =
-          in-rest (kept_image formals (renaming_of pairs) x) actual others
-          (in-gathered (kept_one formals (renaming_of pairs)) x (items_of types (contents types) source) (kept_image formals (renaming_of pairs) x) i (unless (is_in formals x) e))
+          one_right (kept_image formals (renaming_of pairs) x) actual others
+          (one_flat_map (kept_one formals (renaming_of pairs)) x (items_of types (contents types) source) (kept_image formals (renaming_of pairs) x) i (unless (is_in formals x) e))
 
   -- the image of a sort is the sort of the new name
 
@@ -209,21 +206,21 @@ module _ (types : List TypeDef) (h : IsUnrefused types) where
 
   operation-sort : (k : ℕ) (d : TypeDef) (ds : List OperationDecl) → slice_get types k ≡ Some d → ((t : Token) → IsOneOf t (flat_map operation_sorts ds) → IsOneOf t (sorts_in d)) →
       (e : Described) → IsOneOf e (flat_map declared_operations ds) → (s : List ℕ) → IsOneOf s e.item.sorts → IsOneOf (sort_item s) (items_at types k)
-  operation-sort k d ds at all e i s j = by-declaration (gathered-from declared_operations ds e i)
+  operation-sort k d ds at all e i s j = by-declaration (from_flat_map declared_operations ds e i)
     where
       by-token : (o : OperationDecl) → IsOneOf o ds → (t : Token) × IsOneOf t (operation_sorts o) × (s ≡ small t) → IsOneOf (sort_item s) (items_at types k)
-      by-token o m (t, named, is) = subst (λ z. IsOneOf (sort_item z) (items_at types k)) (sym is) (named-sort k d t at (all t (in-gathered operation_sorts o ds t m named)))
+      by-token o m (t, named, is) = subst (λ z. IsOneOf (sort_item z) (items_at types k)) (sym is) (named-sort k d t at (all t (one_flat_map operation_sorts o ds t m named)))
 
       by-name : (o : OperationDecl) → IsOneOf o ds → (n : DeclaredName) × IsOneOf n o.names.items × (e ≡ declared_operation o n) → IsOneOf (sort_item s) (items_at types k)
       by-name o m (n, named, is) =
-          by-token o m (one-mapped small (operation_sorts o) s
+          by-token o m (from_map small (operation_sorts o) s
           (subst (λ zs. IsOneOf s zs) (sym (map-append small (listed o.arguments) (o.result ∷ []))) (subst (λ z. IsOneOf s z.item.sorts) is j)))
 
       by-declaration : (o : OperationDecl) × IsOneOf o ds × IsOneOf e (declared_operations o) → IsOneOf (sort_item s) (items_at types k)
-      by-declaration (o, m, named) = by-name o m (one-mapped (declared_operation o) o.names.items e named)
+      by-declaration (o, m, named) = by-name o m (from_map (declared_operation o) o.names.items e named)
 
   sort-sorts : (ts : List Token) (e : Described) → IsOneOf e (map declared_sort ts) → (s : List ℕ) → IsOneOf s e.item.sorts → ⊥
-  sort-sorts ts e i s j = by-token (one-mapped declared_sort ts e i)
+  sort-sorts ts e i s j = by-token (from_map declared_sort ts e i)
     where
       by-token : (t : Token) × IsOneOf t ts × (e ≡ declared_sort t) → ⊥
       by-token (t, named, is) = subst (λ z. IsOneOf s z.item.sorts) is j
@@ -232,15 +229,15 @@ module _ (types : List TypeDef) (h : IsUnrefused types) where
       slice_get types k ≡ Some (Definition place name (Declared p imports formals sorts operations equations)) →
       (e : Described) → IsOneOf e (own_items formals sorts operations) → (s : List ℕ) → IsOneOf s e.item.sorts → IsOneOf (sort_item s) (items_at types k)
   own-sort k place name p imports formals sorts operations equations at e i s j =
-      elim (in-either e (formal_sorts formals ++ map declared_sort (part_sort_names sorts) ++ formal_operations formals) (flat_map declared_operations (part_operations operations)) i) [
-        | inl a ↦ elim (in-either e (formal_sorts formals ++ map declared_sort (part_sort_names sorts)) (formal_operations formals) a) [
-          | inl b ↦ elim (in-either e (formal_sorts formals) (map declared_sort (part_sort_names sorts)) b) [
+      elim (one_parts e (formal_sorts formals ++ map declared_sort (part_sort_names sorts) ++ formal_operations formals) (flat_map declared_operations (part_operations operations)) i) [
+        | inl a ↦ elim (one_parts e (formal_sorts formals ++ map declared_sort (part_sort_names sorts)) (formal_operations formals) a) [
+          | inl b ↦ elim (one_parts e (formal_sorts formals) (map declared_sort (part_sort_names sorts)) b) [
             | inl c ↦ absurd (sort-sorts (sort_names formals.sorts) e c s j)
             | inr c ↦ absurd (sort-sorts (part_sort_names sorts) e c s j)
           ]
-          | inr b ↦ operation-sort k d (listed formals.operations) at (λ t m. in-front t (flat_map operation_sorts (listed formals.operations)) (flat_map operation_sorts (part_operations operations)) m) e b s j
+          | inr b ↦ operation-sort k d (listed formals.operations) at (λ t m. one_left t (flat_map operation_sorts (listed formals.operations)) (flat_map operation_sorts (part_operations operations)) m) e b s j
         ]
-        | inr a ↦ operation-sort k d (part_operations operations) at (λ t m. in-rest t (flat_map operation_sorts (listed formals.operations)) (flat_map operation_sorts (part_operations operations)) m) e a s j
+        | inr a ↦ operation-sort k d (part_operations operations) at (λ t m. one_right t (flat_map operation_sorts (listed formals.operations)) (flat_map operation_sorts (part_operations operations)) m) e a s j
       ]
     where
       d : TypeDef
@@ -250,7 +247,7 @@ module _ (types : List TypeDef) (h : IsUnrefused types) where
   copied-sort : (k s : ℕ) (replaced : List Item) (renaming : Renaming) → NamesOperations renaming.operations → HasSorts s →
       ((y : Item) → IsOneOf y (items_at types s) → IsOneOf (image_in replaced renaming y) (items_at types k)) →
       (y : Item) → IsOneOf y (items_at types s) → (name : List ℕ) → IsOneOf name (image_in replaced renaming y).sorts → IsOneOf (sort_item name) (items_at types k)
-  copied-sort k s replaced renaming names has images y i name j = by-sort (one-mapped (sort_image renaming.sorts) y.sorts name (subst (λ zs. IsOneOf name zs) (image-in-sorts replaced renaming y) j))
+  copied-sort k s replaced renaming names has images y i name j = by-sort (from_map (sort_image renaming.sorts) y.sorts name (subst (λ zs. IsOneOf name zs) (image-in-sorts replaced renaming y) j))
     where
       by-sort : (old : List ℕ) × IsOneOf old y.sorts × (name ≡ sort_image renaming.sorts old) → IsOneOf (sort_item name) (items_at types k)
       by-sort (old, m, is) =
@@ -259,7 +256,7 @@ module _ (types : List TypeDef) (h : IsUnrefused types) where
   used-sort : (n k : ℕ) (d : TypeDef) (ts : List Token) → ((j : ℕ) → IsShort (graph types) n j → HasSorts j) → IsShort (graph types) (suc n) k → slice_get types k ≡ Some d →
       ((t : Token) → IsOneOf t ts → IsOneOf (number_of types t) (links types d)) → ((t : Token) (x : Item) → IsOneOf t ts → IsOneOf x (items_at types (number_of types t)) → IsOneOf x (items_at types k)) →
       (x : Item) → IsOneOf x (flat_map (items_of types (contents types)) ts) → (s : List ℕ) → IsOneOf s x.sorts → IsOneOf (sort_item s) (items_at types k)
-  used-sort n k d ts before short at used has x i s j = by-name (gathered-from (items_of types (contents types)) ts x i)
+  used-sort n k d ts before short at used has x i s j = by-name (from_flat_map (items_of types (contents types)) ts x i)
     where
       by-name : (t : Token) × IsOneOf t ts × IsOneOf x (items_of types (contents types) t) → IsOneOf (sort_item s) (items_at types k)
       by-name (t, m, o) =
@@ -268,15 +265,15 @@ module _ (types : List TypeDef) (h : IsUnrefused types) where
   by-body : (n k : ℕ) (place : Place) (name : Token) (body : TypeBody) → ((j : ℕ) → IsShort (graph types) n j → HasSorts j) → IsShort (graph types) (suc n) k → slice_get types k ≡ Some (Definition place name body) →
       (x : Item) → IsOneOf x (items_by types (contents types) body) → (s : List ℕ) → IsOneOf s x.sorts → IsOneOf (sort_item s) (items_at types k)
   by-body n k place name (Declared p imports formals sorts operations equations) before short at x i s j =
-      elim (in-either x (flat_map (items_of types (contents types)) (listed imports)) (map item_of (own_items formals sorts operations)) i) [
-        | inl a ↦ used-sort n k (Definition place name (Declared p imports formals sorts operations equations)) (listed imports) before short at (λ t m. in-images (number_of types) t (listed imports) m)
+      elim (one_parts x (flat_map (items_of types (contents types)) (listed imports)) (map item_of (own_items formals sorts operations)) i) [
+        | inl a ↦ used-sort n k (Definition place name (Declared p imports formals sorts operations equations)) (listed imports) before short at (λ t m. one_map (number_of types) t (listed imports) m)
             (λ t y m o. used-has k place name p imports formals sorts operations equations t y at m o) x a s j
-        | inr a ↦ by-description (one-mapped item_of (own_items formals sorts operations) x a)
+        | inr a ↦ by-description (from_map item_of (own_items formals sorts operations) x a)
       ]
     where
       by-description : (e : Described) × IsOneOf e (own_items formals sorts operations) × (x ≡ e.item) → IsOneOf (sort_item s) (items_at types k)
       by-description (e, m, is) = own-sort k place name p imports formals sorts operations equations at e m s (subst (λ z. IsOneOf s z.sorts) is j)
-  by-body n k place name (Renamed p source pairs) before short at x i s j = by-item (one-mapped (image (renaming_of pairs)) (items_of types (contents types) source) x i)
+  by-body n k place name (Renamed p source pairs) before short at x i s j = by-item (from_map (image (renaming_of pairs)) (items_of types (contents types) source) x i)
     where
       by-item : (y : Item) × IsOneOf y (items_of types (contents types) source) × (x ≡ image (renaming_of pairs) y) → IsOneOf (sort_item s) (items_at types k)
       by-item (y, m, is) =
@@ -284,10 +281,10 @@ module _ (types : List TypeDef) (h : IsUnrefused types) where
           (before (number_of types source) (short-next (graph types) n k (number_of types source) short (linked types k (Definition place name (Renamed p source pairs)) (number_of types source) at (inl refl))))
           (λ z o. renamed-has k place name p source pairs z at o) y m s (subst (λ z. IsOneOf s z.sorts) (is ∙ sym (none-replaced (renaming_of pairs) y)) j)
   by-body n k place name (Actualized p source actuals pairs) before short at x i s j =
-      elim (in-either x (flat_map (items_of types (contents types)) actuals.items) (kept (content_of types (contents types) source) (renaming_of pairs)) i) [
-        | inl a ↦ used-sort n k (Definition place name (Actualized p source actuals pairs)) actuals.items before short at (λ t m. inr (in-images (number_of types) t actuals.items m))
+      elim (one_parts x (flat_map (items_of types (contents types)) actuals.items) (kept (content_of types (contents types) source) (renaming_of pairs)) i) [
+        | inl a ↦ used-sort n k (Definition place name (Actualized p source actuals pairs)) actuals.items before short at (λ t m. inr (one_map (number_of types) t actuals.items m))
             (λ t y m o. actual-has k place name p source actuals pairs t y at m o) x a s j
-        | inr a ↦ by-item (gathered-from (kept_one formals (renaming_of pairs)) (items_of types (contents types) source) x a)
+        | inr a ↦ by-item (from_flat_map (kept_one formals (renaming_of pairs)) (items_of types (contents types) source) x a)
       ]
     where
       formals : List Item

@@ -4,8 +4,9 @@ use Rattle.std.proofs.Common.{length-append, append_assoc, append-nil}
 use Rattle.std.proofs.Math.Dec.{eqb-suc-zero, eqb-zero-suc, eqb-suc-suc}
 use Rattle.std.proofs.lemmas.List.{length-map, map-append}
 use Rattle.std.proofs.Math.Bool.{cond}
-use Rattle.std.specs.Prelude.{Option, Some, IfSome, Bool, true, false, ◌==◌, ◌||◌, ◌&&◌, not, if◌then◌else◌}
+use Rattle.std.specs.Prelude.{Option, Some, IfSome, Bool, true, false, ◌==◌, ◌||◌, not, if◌then◌else◌}
 use Rattle.std.specs.List.{slice_get, list_any}
+use Rattle.std.proofs.lemmas.Bool.{and_parts}
 use Rattle.lotos_ast.specs.declared.declaration.Declaration.{Declaration}
 use Rattle.lotos_ast.specs.declared.token.Token.{Token}
 use Rattle.spec_core.specs.Functionality.{with_variable, VariableFits, sort_of_variable}
@@ -13,6 +14,7 @@ use Rattle.spec_core.specs.Functionality as core
 use Rattle.spec_core.specs.Lists.{Each}
 use Rattle.spec_core.specs.Sorts.{IsDeclaredSort}
 use Rattle.spec_core.specs.Theories.{Theory}
+use Rattle.spec_core.proofs.Lists.{each_append}
 use Rattle.sort_overloads.specs.Listed.{is_same_name}
 use Rattle.sort_overloads.specs.Readings.{Declared}
 use Rattle.sort_overloads.specs.Refused.{is_sort_known}
@@ -20,7 +22,7 @@ use Rattle.static_equations.specs.Variables.{all_variables, variables_of, sort_n
 use Rattle.static_readings.specs.Declarations.{numbered_from, are_known, declared_variables}
 use Rattle.static_readings.specs.Sites.{Site, sort_of, with_variables}
 use Rattle.static_laws.specs.Standing.{AgreesWithData}
-use Rattle.static_laws.proofs.Options.{if-passed, each-append}
+use Rattle.static_laws.proofs.Options.{if-passed}
 
 -- one more element, seen from the front
 pushed : (ss : List ℕ) (v y : ℕ) → (if y == length ss then Some v else slice_get ss y) ≡ slice_get (ss ++ (v ∷ [])) y
@@ -79,10 +81,6 @@ pub each-of-one-sort : (theory : Theory) (sort : ℕ) (names : List Token) → I
 each-of-one-sort theory sort [] h = tt
 each-of-one-sort theory sort (t ∷ ts) h = (h, each-of-one-sort theory sort ts h)
 
-pub both-true : (b q : Bool) → (b && q) ≡ true → (b ≡ true) × (q ≡ true)
-both-true true q h = (refl, h)
-both-true false q h = absurd (grind (arith, h))
-
 module _ (theory : Theory) (s : Site) (vars : ℕ → Option ℕ) (agrees : AgreesWithData theory s.context vars) where
   pub known-sort : (name : List ℕ) → is_sort_known s.context name ≡ true → IsDeclaredSort theory (sort_named s.context.sorts name)
   known-sort name k = subst (λ sorts. sort_named s.context.sorts name < length sorts) agrees.sorts (known-below s.context.sorts name k)
@@ -90,8 +88,8 @@ module _ (theory : Theory) (s : Site) (vars : ℕ → Option ℕ) (agrees : Agre
   all-known : (ds : List Declaration) → are_known s ds ≡ true → Each (λ (v : Declared). IsDeclaredSort theory v.sort) (all_variables s.context.sorts ds)
   all-known [] h = tt
   all-known (d ∷ ds) h =
-      let k = both-true (is_sort_known s.context d.sort.text) (are_known s ds) h in
-      each-append (λ (v : Declared). IsDeclaredSort theory v.sort) (variables_of s.context.sorts d) (all_variables s.context.sorts ds)
+      let k = and_parts (is_sort_known s.context d.sort.text) (are_known s ds) h in
+      each_append (λ (v : Declared). IsDeclaredSort theory v.sort) (variables_of s.context.sorts d) (all_variables s.context.sorts ds)
       (each-of-one-sort theory (sort_named s.context.sorts d.sort.text) d.names.items (known-sort d.sort.text k.0))
       (all-known ds k.1)
 

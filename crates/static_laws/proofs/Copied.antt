@@ -15,8 +15,7 @@ use Rattle.spec_core.specs.Lists.{Each, IsOneOf}
 use Rattle.spec_core.specs.Sorts.{EquationFits, IsDeclaredSort}
 use Rattle.spec_core.specs.Theories.{ConditionalEquation}
 use Rattle.spec_core.proofs.Lists.{each-map}
-use Rattle.sort_overloads.proofs.InOrder.{each-from, each-one}
-use Rattle.sort_overloads.proofs.Members.{one-mapped}
+use Rattle.spec_core.proofs.Members.{each_from, each_one, from_flat_map, one_parts, from_filter, from_map}
 use Rattle.type_contents.specs.Contents.{Content, no_content, contents, formals_of}
 use Rattle.type_contents.specs.Images.{renaming_of}
 use Rattle.type_contents.specs.Items.{Item}
@@ -35,7 +34,7 @@ use Rattle.type_equation_copies.specs.Contents.{Equations, no_equations, all_of,
 use Rattle.type_equation_copies.specs.Copies.{image_in, image_numbers, copy_numbers}
 use Rattle.static_laws.proofs.Closed.{IsUnrefused, content-there, used-has, actual-has, renamed-has, actualized-has}
 use Rattle.static_laws.proofs.Covered.{items_at}
-use Rattle.static_laws.proofs.Membership.{in-either, gathered-from, kept-from, once-from, paired, pair-at}
+use Rattle.static_laws.proofs.Membership.{once-from, paired, pair-at}
 use Rattle.static_laws.proofs.Placed.{IsSortIn, IsOperationIn, copied-sort-in, copied-operation-in, moved-sort-in, moved-operation-in, own_context}
 use Rattle.static_laws.proofs.Read.{read_theory, bodies-fit}
 use Rattle.static_laws.proofs.Typed.{IsOperationOf, EquationFitsBy, Changes, to-equation, changed-equation, more-fits}
@@ -89,8 +88,8 @@ module _ (types : List TypeDef) (h : IsUnrefused types) where
       let operations = numbers_had (items_at types k) (all_operations types) in
       subst (λ zs. Each (IsOf types k) zs) (sym is)
       (each-map (IsOf types k) (moved_equation sorts operations) own
-      (each-from (λ e. IsOf types k (moved_equation sorts operations e)) own
-      (λ e i. moved-fits k e (each-one (EquationFits (read_theory (own_context types k))) own e (bodies-fit (own_context types k) tt (bodies d) own rs read) i))))
+      (each_from (λ e. IsOf types k (moved_equation sorts operations e)) own
+      (λ e i. moved-fits k e (each_one (EquationFits (read_theory (own_context types k))) own e (bodies-fit (own_context types k) tt (bodies d) own rs read) i))))
 
   pub own-at : (es : List (TypeDef × Content)) (found : List (List ConditionalEquation)) (rs : List Refusal) → Gathers (IsOwnOf (all_sorts types) (all_operations types)) es found rs →
       (k : ℕ) (e : TypeDef × Content) (o : List ConditionalEquation) → slice_get es k ≡ Some e → slice_get found k ≡ Some o → (r : List Refusal) × AreRead (all_sorts types) (all_operations types) e.1.items (bodies e.0) o r
@@ -130,7 +129,7 @@ module _ (types : List TypeDef) (h : IsUnrefused types) where
 
     some-used : (n k : ℕ) → AreOf n → (ts : List Token) → ((t : Token) (x : Item) → IsOneOf t ts → IsOneOf x (items_at types (number_of types t)) → IsOneOf x (items_at types k)) →
         (e : ConditionalEquation) → IsOneOf e (flat_map (all_of types (equations_within n)) ts) → IsOf types k e
-    some-used n k before ts has e i = by-name (gathered-from (all_of types (equations_within n)) ts e i)
+    some-used n k before ts has e i = by-name (from_flat_map (all_of types (equations_within n)) ts e i)
       where
         by-name : (t : Token) × IsOneOf t ts × IsOneOf e (all_of types (equations_within n) t) → IsOf types k e
         by-name (t, j, m) = has-more types (number_of types t) k (λ x o. has t x j o) e (before.all (number_of types t) e m)
@@ -138,7 +137,7 @@ module _ (types : List TypeDef) (h : IsUnrefused types) where
     some-copied : (n k : ℕ) → AreOf n → (source : Token) (replaced : List Item) (pairs : Pairs) →
         ((y : Item) → IsOneOf y (items_at types (number_of types source)) → IsOneOf (image_in replaced (renaming_of pairs) y) (items_at types k)) →
         (e : ConditionalEquation) → IsOneOf e (copied types (equations_within n) source (copy_numbers types replaced pairs)) → IsOf types k e
-    some-copied n k before source replaced pairs images e i = by-image-of (one-mapped (equation_image (copy_numbers types replaced pairs)) (all_of types (equations_within n) source) e i)
+    some-copied n k before source replaced pairs images e i = by-image-of (from_map (equation_image (copy_numbers types replaced pairs)) (all_of types (equations_within n) source) e i)
       where
         by-image-of : (d : ConditionalEquation) × IsOneOf d (all_of types (equations_within n) source) × (e ≡ equation_image (copy_numbers types replaced pairs) d) → IsOf types k e
         by-image-of (d, j, is) = subst (λ z. IsOf types k z) (sym is) (copied-fits k (number_of types source) replaced pairs images d (before.all (number_of types source) d j))
@@ -146,14 +145,14 @@ module _ (types : List TypeDef) (h : IsUnrefused types) where
     all-of-body : (n k : ℕ) → AreOf n → (place : Place) (name : Token) (body : TypeBody) (o : List ConditionalEquation) → slice_get types k ≡ Some (Definition place name body) → slice_get own k ≡ Some o →
         (e : ConditionalEquation) → IsOneOf e (all_by types (equations_within n) o body) → IsOf types k e
     all-of-body n k before place name (Declared p imports formals sorts operations equations) o at of e i =
-        elim (in-either e (flat_map (all_of types (equations_within n)) (listed imports)) o i) [
+        elim (one_parts e (flat_map (all_of types (equations_within n)) (listed imports)) o i) [
           | inl a ↦ some-used n k before (listed imports) (λ t x j m. used-has types h k place name p imports formals sorts operations equations t x at j m) e a
-          | inr a ↦ each-one (IsOf types k) o e (own-equations k (Definition place name (Declared p imports formals sorts operations equations)) o at of) a
+          | inr a ↦ each_one (IsOf types k) o e (own-equations k (Definition place name (Declared p imports formals sorts operations equations)) o at of) a
         ]
     all-of-body n k before place name (Renamed p source pairs) o at of e i =
         some-copied n k before source [] pairs (λ y j. renamed-has types h k place name p source pairs y at j) e i
     all-of-body n k before place name (Actualized p source actuals pairs) o at of e i =
-        elim (in-either e (flat_map (all_of types (equations_within n)) actuals.items) (copied types (equations_within n) source (copy_numbers types (formals_of types (contents types) source) pairs)) i) [
+        elim (one_parts e (flat_map (all_of types (equations_within n)) actuals.items) (copied types (equations_within n) source (copy_numbers types (formals_of types (contents types) source) pairs)) i) [
           | inl a ↦ some-used n k before actuals.items (λ t x j m. actual-has types h k place name p source actuals pairs t x at j m) e a
           | inr a ↦ some-copied n k before source (formals_of types (contents types) source) pairs (λ y j. actualized-has types h k place name p source actuals pairs y at j) e a
         ]
@@ -161,7 +160,7 @@ module _ (types : List TypeDef) (h : IsUnrefused types) where
     -- what is brought in
 
     pub in-source : (n : ℕ) (source : Token) (e : ConditionalEquation) → IsOneOf e (source_in_order types (equations_within n) source) → (k : ℕ) × IsOneOf e (slice_index_or (equations_within n) k no_equations).brought
-    in-source n source e i = by-type (gathered-from found (range_with_len 0 (length types)) e (once-from is_same_equation (flat_map found (range_with_len 0 (length types))) e i))
+    in-source n source e i = by-type (from_flat_map found (range_with_len 0 (length types)) e (once-from is_same_equation (flat_map found (range_with_len 0 (length types))) e i))
       where
         found : ℕ → List ConditionalEquation
         found = brought_by (equations_within n) (itself_and_parts types source) (all_of types (equations_within n) source)
@@ -172,7 +171,7 @@ module _ (types : List TypeDef) (h : IsUnrefused types) where
 
         by-type : (k : ℕ) × IsOneOf k (range_with_len 0 (length types)) × IsOneOf e (found k) → (k : ℕ) × IsOneOf e (slice_index_or (equations_within n) k no_equations).brought
         by-type (k, within, j) =
-            let r = kept-from (is_in (all_of types (equations_within n) source)) e (slice_index_or (equations_within n) k no_equations).brought
+            let r = from_filter (is_in (all_of types (equations_within n) source)) e (slice_index_or (equations_within n) k no_equations).brought
             (passed-from (list_any (nat_eq k) (itself_and_parts types source)) (filter (is_in (all_of types (equations_within n) source)) (slice_index_or (equations_within n) k no_equations).brought) j) in
             (k, r.0)
 
@@ -185,7 +184,7 @@ module _ (types : List TypeDef) (h : IsUnrefused types) where
         by-test false (inr i) = absurd i
 
     copied-names : (n : ℕ) → AreOf n → (source : Token) (news : NewNumbers) (e : ConditionalEquation) → IsOneOf e (newly_copied types (equations_within n) source news) → length e.names ≡ length e.sorts
-    copied-names n before source news e i = by-source (gathered-from (new_image news) (source_in_order types (equations_within n) source) e i)
+    copied-names n before source news e i = by-source (from_flat_map (new_image news) (source_in_order types (equations_within n) source) e i)
       where
         by-source : (d : ConditionalEquation) × IsOneOf d (source_in_order types (equations_within n) source) × IsOneOf e (new_image news d) → length e.names ≡ length e.sorts
         by-source (d, j, m) =
@@ -195,7 +194,7 @@ module _ (types : List TypeDef) (h : IsUnrefused types) where
     brought-by-body : (n k : ℕ) → AreOf n → (place : Place) (name : Token) (body : TypeBody) (o : List ConditionalEquation) → slice_get types k ≡ Some (Definition place name body) → slice_get own k ≡ Some o →
         (e : ConditionalEquation) → IsOneOf e (brings_by types (equations_within n) o body) → length e.names ≡ length e.sorts
     brought-by-body n k before place name (Declared p imports formals sorts operations equations) o at of e i =
-        let f : IsOf types k e = each-one (IsOf types k) o e (own-equations k (Definition place name (Declared p imports formals sorts operations equations)) o at of) i in
+        let f : IsOf types k e = each_one (IsOf types k) o e (own-equations k (Definition place name (Declared p imports formals sorts operations equations)) o at of) i in
         f.one_name_each
     brought-by-body n k before place name (Renamed p source pairs) o at of e i = copied-names n before source (copy_numbers types [] pairs) e i
     brought-by-body n k before place name (Actualized p source actuals pairs) o at of e i = copied-names n before source (copy_numbers types (formals_of types (contents types) source) pairs) e i

@@ -11,6 +11,7 @@ use Rattle.lotos_ast.specs.declared.types.TypeBody.TheVariants.{Declared, Rename
 use Rattle.lotos_ast.specs.declared.types.TypeDef.{TypeDef}
 use Rattle.lotos_ast.specs.declared.types.TypeDef.TheVariants.{Library, Definition}
 use Rattle.spec_core.specs.Lists.{IsOneOf}
+use Rattle.spec_core.proofs.Members.{contains_one, one_contained, from_flat_map, one_parts, one_left, one_flat_map, one_map, one_right, from_map}
 use Rattle.static_call_cycles.specs.MadeFrom.{IsMadeFrom, directly, through, AreAcyclic}
 use Rattle.static_call_cycles.proofs.Walks.{linked_within}
 use Rattle.type_contents.specs.Contents.{no_content, contents, made_from, content_of, items_by, items_of, formals_of, kept_one, kept}
@@ -22,9 +23,8 @@ use Rattle.type_contents.specs.Own.{own_items}
 use Rattle.type_contents.specs.Rounds.{rounds}
 use Rattle.type_contents.specs.Uses.{number_of, links}
 use Rattle.type_contents.proofs.Settled.{rounds_length}
-use Rattle.sort_overloads.proofs.Members.{one-mapped}
 use Rattle.static_laws.proofs.Items.{IsDescribed, described, in-firsts, in-passing, union-from}
-use Rattle.static_laws.proofs.Membership.{in-front, in-rest, in-either, in-images, in-gathered, gathered-from, in-any, in-once, contained, contained-in}
+use Rattle.static_laws.proofs.Membership.{in-any, in-once}
 use Rattle.static_laws.proofs.Ordered.{some-within, in-ordered, newly-copied}
 use Rattle.static_laws.proofs.Walking.{IsShort, all-short, short-next, none-short, IsMadeAt, made, past, made-at, image-at}
 
@@ -37,7 +37,7 @@ graph-length types = length-map types (links types)
 
 -- a type that is named is one of which the type is made
 pub linked : (types : List TypeDef) (k : ℕ) (d : TypeDef) (j : ℕ) → slice_get types k ≡ Some d → IsOneOf j (links types d) → Contains (slice_index_or (graph types) k []) j
-linked types k d j at h = subst (λ zs. Contains zs j) (sym (image-at [] (links types) types k d at)) (contained j (links types d) h)
+linked types k d j at h = subst (λ zs. Contains zs j) (sym (image-at [] (links types) types k d at)) (contains_one j (links types d) h)
 
 -- what a type has
 abbrev pub items_at : List TypeDef → ℕ → List Item
@@ -76,8 +76,8 @@ first-part types m k j i c h = by-type (made-at [] (parts_from types (parts_with
     by-type (made d at is) =
         subst (λ zs. IsOneOf i zs) (sym is)
         (in-numbers-once (flat_map (λ z. z ∷ slice_index_or (parts_within types m) z []) (links types d)) i
-        (in-gathered (λ z. z ∷ slice_index_or (parts_within types m) z []) j (links types d) i
-        (contained-in j (links types d) (subst (λ zs. Contains zs j) (image-at [] (links types) types k d at) c)) (chosen h)))
+        (one_flat_map (λ z. z ∷ slice_index_or (parts_within types m) z []) j (links types d) i
+        (one_contained j (links types d) (subst (λ zs. Contains zs j) (image-at [] (links types) types k d at) c)) (chosen h)))
     by-type (past at is) = absurd (no-links (made-at [] (links types) types (graph types) refl k))
       where
         none : (z : ℕ) → Contains [] z → ⊥
@@ -135,7 +135,7 @@ module _ (types : List TypeDef) (acyclic : AreAcyclic (graph types)) (settled : 
       IsDescribed (source_in_order types (brought_within m) source) y
   source-has source m y h b =
       in-ordered (length types) (brought_within m) (itself_and_parts types source) (items_of types (contents types) source) b.by y
-      (within (one-mapped item_of (slice_index_or (brought_within m) b.by []) y b.there))
+      (within (from_map item_of (slice_index_or (brought_within m) b.by []) y b.there))
       (is-part (number_of types source) b.by b.part) h b.there
     where
       within : (d : Described) × IsOneOf d (slice_index_or (brought_within m) b.by []) × (y ≡ d.item) → b.by < length types
@@ -146,7 +146,7 @@ module _ (types : List TypeDef) (acyclic : AreAcyclic (graph types)) (settled : 
       slice_get types k ≡ Some d → brings types (brought_within m) d ≡ flat_map f (source_in_order types (brought_within m) source) →
       ((e : Described) → e.item ≡ y → f e ≡ new_image (described_image (news e.item)) e) →
       IsDescribed (source_in_order types (brought_within m) source) y → (image (news y) y ≡ y) ⊎ IsBrought k (suc m) (image (news y) y)
-  copied-there k m source f d news y at is copies h = by-description (one-mapped item_of (source_in_order types (brought_within m) source) y h)
+  copied-there k m source f d news y at is copies h = by-description (from_map item_of (source_in_order types (brought_within m) source) y h)
     where
       by-image : (e : Described) → y ≡ e.item → (image (news e.item) e.item ≡ e.item) ⊎ IsDescribed (flat_map f (source_in_order types (brought_within m) source)) (image (news e.item) e.item) →
           (image (news y) y ≡ y) ⊎ IsBrought k (suc m) (image (news y) y)
@@ -186,7 +186,7 @@ module _ (types : List TypeDef) (acyclic : AreAcyclic (graph types)) (settled : 
 
   some-used : (n k m : ℕ) (d : TypeDef) (ts : List Token) (x : Item) → AreBrought n → IsShort (graph types) (suc n) k → suc n ≤ m → slice_get types k ≡ Some d →
       ((t : Token) → IsOneOf t ts → IsOneOf (number_of types t) (links types d)) → IsOneOf x (flat_map (items_of types (contents types)) ts) → IsBrought k m x
-  some-used n k m d ts x before short le at used h = by-name (gathered-from (items_of types (contents types)) ts x h)
+  some-used n k m d ts x before short le at used h = by-name (from_flat_map (items_of types (contents types)) ts x h)
     where
       by-name : (t : Token) × IsOneOf t ts × IsOneOf x (items_of types (contents types) t) → IsBrought k m x
       by-name (t, i, j) = used-brought n k m d t x before short le at (used t i) j
@@ -209,19 +209,19 @@ module _ (types : List TypeDef) (acyclic : AreAcyclic (graph types)) (settled : 
   by-body : (n k m : ℕ) (place : Place) (name : Token) (body : TypeBody) (x : Item) → AreBrought n → IsShort (graph types) (suc n) k → n ≤ m →
       slice_get types k ≡ Some (Definition place name body) → IsOneOf x (items_by types (contents types) body) → IsBrought k (suc m) x
   by-body n k m place name (Declared p imports formals sorts operations equations) x before short le at h =
-      elim (in-either x (flat_map (items_of types (contents types)) (listed imports)) (map item_of (own_items formals sorts operations)) h) [
-        | inl i ↦ some-used n k (suc m) (Definition place name (Declared p imports formals sorts operations equations)) (listed imports) x before short (omega (arith, le)) at (λ t. in-images (number_of types) t (listed imports)) i
+      elim (one_parts x (flat_map (items_of types (contents types)) (listed imports)) (map item_of (own_items formals sorts operations)) h) [
+        | inl i ↦ some-used n k (suc m) (Definition place name (Declared p imports formals sorts operations equations)) (listed imports) x before short (omega (arith, le)) at (λ t. one_map (number_of types) t (listed imports)) i
         | inr i ↦ brought-here k m (Definition place name (Declared p imports formals sorts operations equations)) x at i
       ]
-  by-body n k m place name (Renamed p source pairs) x before short le at h = by-item (one-mapped (image (renaming_of pairs)) (items_of types (contents types) source) x h)
+  by-body n k m place name (Renamed p source pairs) x before short le at h = by-item (from_map (image (renaming_of pairs)) (items_of types (contents types) source) x h)
     where
       by-item : (y : Item) × IsOneOf y (items_of types (contents types) source) × (x ≡ image (renaming_of pairs) y) → IsBrought k (suc m) x
       by-item (y, i, is) =
           image-brought n k m source (new_image (described_image (renaming_of pairs))) (Definition place name (Renamed p source pairs)) (λ _. renaming_of pairs) x y before short le at (inl refl) refl (λ e _. refl) i is
   by-body n k m place name (Actualized p source actuals pairs) x before short le at h =
-      elim (in-either x (flat_map (items_of types (contents types)) actuals.items) (kept (content_of types (contents types) source) (renaming_of pairs)) h) [
-        | inl i ↦ some-used n k (suc m) (Definition place name (Actualized p source actuals pairs)) actuals.items x before short (omega (arith, le)) at (λ t g. inr (in-images (number_of types) t actuals.items g)) i
-        | inr i ↦ by-item (gathered-from (kept_one formals (renaming_of pairs)) (items_of types (contents types) source) x i)
+      elim (one_parts x (flat_map (items_of types (contents types)) actuals.items) (kept (content_of types (contents types) source) (renaming_of pairs)) h) [
+        | inl i ↦ some-used n k (suc m) (Definition place name (Actualized p source actuals pairs)) actuals.items x before short (omega (arith, le)) at (λ t g. inr (one_map (number_of types) t actuals.items g)) i
+        | inr i ↦ by-item (from_flat_map (kept_one formals (renaming_of pairs)) (items_of types (contents types) source) x i)
       ]
     where
       formals : List Item
@@ -252,8 +252,8 @@ module _ (types : List TypeDef) (acyclic : AreAcyclic (graph types)) (settled : 
 
   from-table : {A : Type 0} (table : List (List A)) (k : ℕ) (y : A) → IsOneOf y (slice_index_or table k []) → IsOneOf y (flat_map (λ all. all) table)
   from-table [] k y h = absurd h
-  from-table (xs ∷ table) zero y h = in-front y xs (flat_map (λ all. all) table) h
-  from-table (xs ∷ table) (suc k) y h = in-rest y xs (flat_map (λ all. all) table) (from-table table k y h)
+  from-table (xs ∷ table) zero y h = one_left y xs (flat_map (λ all. all) table) h
+  from-table (xs ∷ table) (suc k) y h = one_right y xs (flat_map (λ all. all) table) (from-table table k y h)
 
   -- each item of a type is among all items
   pub covered : (k : ℕ) (x : Item) → IsOneOf x (items_at types k) → IsDescribed (all_items types) x
@@ -264,7 +264,7 @@ module _ (types : List TypeDef) (acyclic : AreAcyclic (graph types)) (settled : 
       by-description j (d, i, is) = subst (λ z. IsDescribed (flat_map (λ all. all) (brought types)) z) (sym is) (described (flat_map (λ all. all) (brought types)) d (from-table (brought types) j d i))
 
       by-brought : IsBrought k (length types) x → IsDescribed (flat_map (λ all. all) (brought types)) x
-      by-brought b = by-description b.by (one-mapped item_of (slice_index_or (brought types) b.by []) x b.there)
+      by-brought b = by-description b.by (from_map item_of (slice_index_or (brought types) b.by []) x b.there)
 
   pub sort-covered : (k : ℕ) (x : Item) → IsOneOf x (items_at types k) → is_sort x ≡ true → IsDescribed (all_sorts types) x
   sort-covered k x h e = in-passing (λ d. is_sort d.item) (all_items types) x (covered k x h) (λ d is. ap is_sort is ∙ e)

@@ -14,6 +14,7 @@ use Rattle.spec_core.specs.Code.{ActionField, give, accept, Variable}
 use Rattle.spec_core.specs.Functionality.{FieldFits, GuardFits, accepted, VariableFits}
 use Rattle.spec_core.specs.Lists.{Each}
 use Rattle.spec_core.specs.Theories.{Theory, Premise}
+use Rattle.spec_core.proofs.Lists.{each_append}
 use Rattle.sort_overloads.specs.Expressions.{expression}
 use Rattle.sort_overloads.specs.Readings.{Declared}
 use Rattle.sort_overloads.specs.Refused.{is_sort_known}
@@ -25,7 +26,7 @@ use Rattle.static_readings.specs.ReadsAll.{ReadsAll, none, further, before}
 use Rattle.static_readings.specs.Sites.{Site}
 use Rattle.static_laws.specs.Standing.{AgreesWithData}
 use Rattle.static_laws.proofs.Judgements.{judged-sort, condition-fits}
-use Rattle.static_laws.proofs.Options.{if-map, if-passed, each-append}
+use Rattle.static_laws.proofs.Options.{if-map, if-passed}
 use Rattle.static_laws.proofs.CompiledVariables.{known-sort, each-numbered, each-of-one-sort}
 
 accepted-append : (xs ys : List ActionField) → accepted (xs ++ ys) ≡ accepted xs ++ accepted ys
@@ -80,7 +81,7 @@ module _ (theory : Theory) (s : Site) (vars : ℕ → Option ℕ) (agrees : Agre
   fields-before xs ys None all h hs = tt
   fields-before xs ys (Some y) None h hs = tt
   fields-before xs ys (Some y) (Some all) h hs = (
-    each-append (FieldFits theory vars) y (flat_map (λ f. f) all) h.0 hs.0,
+    each_append (FieldFits theory vars) y (flat_map (λ f. f) all) h.0 hs.0,
     accepted-append y (flat_map (λ f. f) all) ∙ ap (λ l. l ++ accepted (flat_map (λ f. f) all)) h.1 ∙ ap (λ l. xs ++ l) hs.1,
   )
 

@@ -1,7 +1,6 @@
 -- Gates that are found are in scope.
-use Rattle.std.proofs.Common.{ℕ, zero, suc, ◌≡◌, ◌<◌, ◌≤◌, ◌+◌, List, [], ◌∷◌, ◌++◌, length, map, refl, sym, ap, arith}
+use Rattle.std.proofs.Common.{ℕ, suc, ◌≡◌, ◌<◌, ◌≤◌, ◌+◌, List, [], ◌∷◌, ◌++◌, length, map, refl, ap, arith}
 use Rattle.std.proofs.Common.{length-append, inl, inr}
-use Rattle.std.proofs.Math.Nat.{eq-or-lt_of_le}
 use Rattle.std.proofs.lemmas.Bool.{cases_lt}
 use Rattle.std.proofs.lemmas.List.{length-map}
 use Rattle.std.specs.Prelude.{Option, Some, None, IfSome, Bool, true, false, if◌then◌else◌}
@@ -9,9 +8,9 @@ use Rattle.std.specs.List.{range_with_len}
 use Rattle.lotos_ast.specs.declared.behaviour.Operator.{Operator}
 use Rattle.lotos_ast.specs.declared.behaviour.Operator.TheVariants.{Interleave, Synchronise, Shared}
 use Rattle.lotos_ast.specs.declared.token.Token.{Token}
-use Rattle.spec_core.specs.Lists.{IsOneOf}
 use Rattle.spec_core.specs.Code.{Program, these_gates}
 use Rattle.spec_core.specs.Functionality.{IsGateInScope, AreGatesInScope, SynchronisedFits}
+use Rattle.spec_core.proofs.Members.{one_in_range, one_right, one_left}
 use Rattle.sort_overloads.specs.Listed.{is_same_name}
 use Rattle.static_readings.specs.Declarations.{gate_numbers}
 use Rattle.static_readings.specs.ReadsAll.{before}
@@ -59,26 +58,9 @@ pub gates-counted : (s : Site) (ts : List Token) → IfSome (gate_numbers s ts) 
 gates-counted s [] = refl
 gates-counted s (t ∷ ts) = as-many (length ts) (gate_number s t) (gate_numbers s ts) (gates-counted s ts)
 
-pub in-range : (n a g : ℕ) → a ≤ g → g < a + n → IsOneOf g (range_with_len a n)
-in-range zero a g low high = absurd (omega arith)
-in-range (suc n) a g low high =
-    elim (eq-or-lt_of_le low) as (λ h. IsOneOf g (range_with_len a (suc n))) [
-      | inl e ↦ inl (sym e)
-      | inr l ↦ inr (in-range n (a + 1) g (omega arith) (omega arith))
-    ]
-
-pub one-of-front : {A : Type 0} (g : A) (xs ys : List A) → IsOneOf g xs → IsOneOf g (xs ++ ys)
-one-of-front g [] ys h = absurd h
-one-of-front g (x ∷ xs) ys (inl h) = inl h
-one-of-front g (x ∷ xs) ys (inr h) = inr (one-of-front g xs ys h)
-
-pub one-of-behind : {A : Type 0} (g : A) (xs ys : List A) → IsOneOf g ys → IsOneOf g (xs ++ ys)
-one-of-behind g [] ys h = h
-one-of-behind g (x ∷ xs) ys h = inr (one-of-behind g xs ys h)
-
 scope-behind : (program : Program) (xs gates : List ℕ) (g : ℕ) → IsGateInScope program gates g → IsGateInScope program (xs ++ gates) g
 scope-behind program xs gates g (inl h) = inl h
-scope-behind program xs gates g (inr h) = inr (one-of-behind g xs gates h)
+scope-behind program xs gates g (inr h) = inr (one_right g xs gates h)
 
 -- with further gates, and their numbers
 pub more-gates : (program : Program) (s : Site) (gates : List ℕ) (ts : List Token) → GatesAgree program s gates →
@@ -86,7 +68,7 @@ pub more-gates : (program : Program) (s : Site) (gates : List ℕ) (ts : List To
 more-gates program s gates ts agree g low high =
     elim (cases_lt g (next_gate s)) as (λ h. IsGateInScope program (range_with_len (next_gate s) (length ts) ++ gates) g) [
       | inl l ↦ scope-behind program (range_with_len (next_gate s) (length ts)) gates g (agree g low l)
-      | inr l ↦ inr (one-of-front g (range_with_len (next_gate s) (length ts)) gates
-          (in-range (length ts) (next_gate s) g l
+      | inr l ↦ inr (one_left g (range_with_len (next_gate s) (length ts)) gates
+          (one_in_range (length ts) (next_gate s) g l
           (omega (arith, high, length-append s.gates (map (λ t. t.text) ts), length-map ts (λ t. t.text)))))
     ]

@@ -4,14 +4,14 @@ use Rattle.std.specs.Prelude.{option_map}
 use Rattle.std.specs.List.{filter, list_any, slice_get, slice_index_or}
 use Rattle.std.proofs.lemmas.Option.{same_Some, none-some, slice_get-map}
 use Rattle.spec_core.specs.Lists.{IsOneOf}
+use Rattle.spec_core.proofs.Members.{one_map, one_filter, one_slice_get, from_map}
 use Rattle.type_contents.specs.Items.{Item, Described, item_of, is_in, is_same_item, is_same_described, union, firsts}
 use Rattle.type_contents.specs.Numbering.{number_among}
 use Rattle.type_contents.proofs.Keys.{one_item}
 use Rattle.type_contents.proofs.Unions.{item_self}
 use Rattle.type_equation_copies.specs.Images.{new_number}
 use Rattle.type_equation_copies.specs.Copies.{image_numbers}
-use Rattle.static_laws.proofs.Membership.{in-images, in-kept, any-in, in-any, first-there, in-once, once-from, once-unlike, no-two-kept, number-in, unlike-one}
-use Rattle.sort_overloads.proofs.Members.{one-mapped}
+use Rattle.static_laws.proofs.Membership.{any-in, in-any, first-there, in-once, once-from, once-unlike, no-two-kept, unlike-one}
 
 pub is-among : (all : List Item) (x : Item) → is_in all x ≡ true → IsOneOf x all
 is-among all x e = by-same (any-in (is_same_item x) all e)
@@ -37,10 +37,10 @@ abbrev pub IsDescribed : List Described → Item → Type 0
 IsDescribed all x = IsOneOf x (map item_of all)
 
 pub described : (all : List Described) (d : Described) → IsOneOf d all → IsDescribed all d.item
-described all d h = in-images item_of d all h
+described all d h = one_map item_of d all h
 
 pub in-firsts : (all : List Described) (x : Item) → IsDescribed all x → IsDescribed (firsts all) x
-in-firsts all x h = by-description (one-mapped item_of all x h)
+in-firsts all x h = by-description (from_map item_of all x h)
   where
     by-same : (d : Described) → x ≡ d.item → (e : Described) × IsOneOf e (firsts all) × (is_same_described d e ≡ true) → IsDescribed (firsts all) x
     by-same d is (e, i, s) = subst (λ z. IsDescribed (firsts all) z) (sym (is ∙ one_item d.item e.item s)) (described (firsts all) e i)
@@ -50,17 +50,17 @@ in-firsts all x h = by-description (one-mapped item_of all x h)
 
 -- and among those of them that pass a test
 pub in-passing : (p : Described → Bool) (all : List Described) (x : Item) → IsDescribed all x → ((d : Described) → d.item ≡ x → p d ≡ true) → IsDescribed (filter p all) x
-in-passing p all x h passes = by-description (one-mapped item_of all x h)
+in-passing p all x h passes = by-description (from_map item_of all x h)
   where
     by-description : (d : Described) × IsOneOf d all × (x ≡ d.item) → IsDescribed (filter p all) x
-    by-description (d, i, is) = subst (λ z. IsDescribed (filter p all) z) (sym is) (described (filter p all) d (in-kept p d all i (passes d (sym is))))
+    by-description (d, i, is) = subst (λ z. IsDescribed (filter p all) z) (sym is) (described (filter p all) d (one_filter p d all i (passes d (sym is))))
 
 pub firsts-from : (all : List Described) (d : Described) → IsOneOf d (firsts all) → IsOneOf d all
 firsts-from all d h = once-from is_same_described all d h
 
 -- the number of an item is that of its place
 pub number-there : (all : List Described) (x : Item) → IsDescribed all x → slice_get (map item_of all) (number_among all x) ≡ Some x
-number-there all x h = by-first (first-there (λ d. is_same_item x d.item) all (by-description (one-mapped item_of all x h)))
+number-there all x h = by-first (first-there (λ d. is_same_item x d.item) all (by-description (from_map item_of all x h)))
   where
     by-description : (d : Described) × IsOneOf d all × (x ≡ d.item) → list_any (λ e. is_same_item x e.item) all ≡ true
     by-description (d, i, is) = in-any (λ e. is_same_item x e.item) d all i (subst (λ z. is_same_item x z ≡ true) is (item_self x))
@@ -85,7 +85,7 @@ image-number all items copy n x e = image-there all items copy n n x e
 
 -- an item of descriptions each once has one place
 pub one-place : (p : Described → Bool) (all : List Described) (n : ℕ) (x : Item) → slice_get (map item_of (filter p (firsts all))) n ≡ Some x → n ≡ number_among (filter p (firsts all)) x
-one-place p all n x e = by-descriptions (description-at these n x e) (description-at these (number_among these x) x (number-there these x (number-in (map item_of these) x n e)))
+one-place p all n x e = by-descriptions (description-at these n x e) (description-at these (number_among these x) x (number-there these x (one_slice_get (map item_of these) n x e)))
   where
     these : List Described
     these = filter p (firsts all)

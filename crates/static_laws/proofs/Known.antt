@@ -15,6 +15,7 @@ use Rattle.spec_core.specs.Functionality.{VariableFits}
 use Rattle.spec_core.specs.Lists.{Each}
 use Rattle.spec_core.specs.Sorts.{no_variables}
 use Rattle.spec_core.specs.Theories.{Theory}
+use Rattle.spec_core.proofs.Lists.{both_empty, cons_not_empty}
 use Rattle.sort_overloads.specs.Readings.{Context, Declared}
 use Rattle.sort_overloads.specs.Refused.{refused, is_sort_known, unknown_sort}
 use Rattle.static_equations.specs.Variables.{all_variables, variables_of, sort_named}
@@ -23,7 +24,6 @@ use Rattle.static_readings.specs.ReadsAll.{before}
 use Rattle.static_readings.specs.Sites.{Site}
 use Rattle.type_names.specs.DuplicateNames.{names_twice}
 use Rattle.static_check.specs.Headings.{known_sort, known_sorts, declared, parameter_sorts, functionality_refusals, parameter_refusals}
-use Rattle.static_call_cycles.proofs.Acyclic.{not_empty, both_empty}
 use Rattle.static_laws.proofs.CompiledVariables.{declared-fit}
 use Rattle.static_check.specs.Compiled.{data_context}
 
@@ -38,7 +38,7 @@ none_of_each f (y ∷ ys) e (suc k) x at = none_of_each f ys (both_empty (f y) (
 -- where nothing is refused of what fails a test, it passes
 passed : {A : Type 0} (b : Bool) (r : A) → (if b then [] else r ∷ []) ≡ [] → b ≡ true
 passed true r e = refl
-passed false r e = absurd (not_empty r [] e)
+passed false r e = absurd (cons_not_empty r [] e)
 
 -- a functionality that is declared over sorts that are known
 abbrev pub or_noexit : Option core.Functionality → core.Functionality

@@ -1,76 +1,15 @@
 -- Elements of lists that are made of other lists.
-use Rattle.std.proofs.Common.{ℕ, zero, suc, ◌≡◌, ◌∙◌, ◌<◌, ◌≤◌, ◌+◌, ◌⊎◌, inl, inr, refl, sym, ap, subst, List, [], ◌∷◌, ◌++◌, map, Some, Bool, true, false, ◌||◌, cond, arith}
-use Rattle.std.specs.List.{Contains, filter, find, flat_map, fold, list_any, position_or_len, range_with_len, slice_get, zip}
+use Rattle.std.proofs.Common.{ℕ, zero, suc, ◌≡◌, ◌∙◌, ◌⊎◌, inl, inr, refl, sym, ap, subst, List, [], ◌∷◌, ◌++◌, Some, Bool, true, false, ◌||◌, cond}
+use Rattle.std.specs.List.{filter, find, fold, list_any, position_or_len, slice_get, zip}
 use Rattle.std.proofs.lemmas.Bool.{or_cases, or_left, or_right}
 use Rattle.std.proofs.lemmas.List.Folds.{find_at}
 use Rattle.std.proofs.lemmas.Option.{same_Some, none-some}
 use Rattle.spec_core.specs.Lists.{Each, IsOneOf, NoTwo}
+use Rattle.spec_core.proofs.Lists.{each_filter}
+use Rattle.spec_core.proofs.Members.{one_parts, one_left, one_right}
 use Rattle.type_contents.specs.Lists.{with_one, each_once}
 
--- lists joined
-
-pub in-front : {A : Type 0} (x : A) (xs ys : List A) → IsOneOf x xs → IsOneOf x (xs ++ ys)
-in-front x [] ys h = absurd h
-in-front x (y ∷ xs) ys (inl e) = inl e
-in-front x (y ∷ xs) ys (inr h) = inr (in-front x xs ys h)
-
-pub in-rest : {A : Type 0} (x : A) (xs ys : List A) → IsOneOf x ys → IsOneOf x (xs ++ ys)
-in-rest x [] ys h = h
-in-rest x (y ∷ xs) ys h = inr (in-rest x xs ys h)
-
-pub in-either : {A : Type 0} (x : A) (xs ys : List A) → IsOneOf x (xs ++ ys) → IsOneOf x xs ⊎ IsOneOf x ys
-in-either x [] ys h = inr h
-in-either x (y ∷ xs) ys (inl e) = inl (inl e)
-in-either x (y ∷ xs) ys (inr h) = elim (in-either x xs ys h) [ inl l ↦ inl (inr l) | inr r ↦ inr r ]
-
--- images
-
-pub in-images : {A B : Type 0} (f : A → B) (x : A) (xs : List A) → IsOneOf x xs → IsOneOf (f x) (map f xs)
-in-images f x [] h = absurd h
-in-images f x (y ∷ xs) (inl e) = inl (ap f e)
-in-images f x (y ∷ xs) (inr h) = inr (in-images f x xs h)
-
-pub in-gathered : {A B : Type 0} (f : A → List B) (x : A) (xs : List A) (y : B) → IsOneOf x xs → IsOneOf y (f x) → IsOneOf y (flat_map f xs)
-in-gathered f x [] y h i = absurd h
-in-gathered f x (z ∷ xs) y (inl e) i = in-front y (f z) (flat_map f xs) (subst (λ w. IsOneOf y (f w)) e i)
-in-gathered f x (z ∷ xs) y (inr h) i = in-rest y (f z) (flat_map f xs) (in-gathered f x xs y h i)
-
-pub gathered-from : {A B : Type 0} (f : A → List B) (xs : List A) (y : B) → IsOneOf y (flat_map f xs) → (x : A) × IsOneOf x xs × IsOneOf y (f x)
-gathered-from f [] y h = absurd h
-gathered-from f (x ∷ xs) y h = elim (in-either y (f x) (flat_map f xs) h) [
-  | inl i ↦ (x, inl refl, i)
-  | inr i ↦ later f x xs y (gathered-from f xs y i)
-]
-  where
-    later : {A B : Type 0} (f : A → List B) (x : A) (xs : List A) (y : B) → (z : A) × IsOneOf z xs × IsOneOf y (f z) → (z : A) × IsOneOf z (x ∷ xs) × IsOneOf y (f z)
-    later f x xs y (z, h, i) = (z, inr h, i)
-
 -- what passes a test
-
-kept-here : {A : Type 0} (b : Bool) (x y : A) (ys : List A) → x ≡ y → b ≡ true → IsOneOf x (cond b (y ∷ ys) ys)
-kept-here true x y ys e h = inl e
-kept-here false x y ys e h = absurd (cc)
-
-kept-later : {A : Type 0} (b : Bool) (x y : A) (ys : List A) → IsOneOf x ys → IsOneOf x (cond b (y ∷ ys) ys)
-kept-later true x y ys h = inr h
-kept-later false x y ys h = h
-
-pub in-kept : {A : Type 0} (p : A → Bool) (x : A) (xs : List A) → IsOneOf x xs → p x ≡ true → IsOneOf x (filter p xs)
-in-kept p x [] h e = absurd h
-in-kept p x (y ∷ xs) (inl q) e = kept-here (p y) x y (filter p xs) q (ap p (sym q) ∙ e)
-in-kept p x (y ∷ xs) (inr h) e = kept-later (p y) x y (filter p xs) (in-kept p x xs h e)
-
-kept-cases : {A : Type 0} (b : Bool) (x y : A) (ys : List A) → IsOneOf x (cond b (y ∷ ys) ys) → ((x ≡ y) × (b ≡ true)) ⊎ IsOneOf x ys
-kept-cases true x y ys (inl e) = inl (e, refl)
-kept-cases true x y ys (inr h) = inr h
-kept-cases false x y ys h = inr h
-
-pub kept-from : {A : Type 0} (p : A → Bool) (x : A) (xs : List A) → IsOneOf x (filter p xs) → IsOneOf x xs × (p x ≡ true)
-kept-from p x [] h = absurd h
-kept-from p x (y ∷ xs) h = elim (kept-cases (p y) x y (filter p xs) h) [
-  | inl i ↦ (inl i.0, ap p i.0 ∙ i.1)
-  | inr i ↦ let r : IsOneOf x xs × (p x ≡ true) = kept-from p x xs i in (inr r.0, r.1)
-]
 
 pub any-in : {A : Type 0} (p : A → Bool) (xs : List A) → list_any p xs ≡ true → (y : A) × IsOneOf y xs × (p y ≡ true)
 any-in p [] e = absurd (cc)
@@ -115,7 +54,7 @@ find-passes {A = A} p (y ∷ ys) x e = by-test (p y) refl (λ h. find-passes p y
 
 once-kept : {A : Type 0} (b : Bool) (acc : List A) (x y : A) → IsOneOf y acc → IsOneOf y (cond b acc (acc ++ x ∷ []))
 once-kept true acc x y h = h
-once-kept false acc x y h = in-front y acc (x ∷ []) h
+once-kept false acc x y h = one_left y acc (x ∷ []) h
 
 once-stays : {A : Type 0} (same : A → A → Bool) (acc all : List A) (y : A) → IsOneOf y acc → IsOneOf y (fold (with_one same) acc all)
 once-stays same acc [] y h = h
@@ -130,7 +69,7 @@ once-new same self acc x = by-test (list_any (same x) acc) refl
   where
     by-test : (b : Bool) → list_any (same x) acc ≡ b → IsStoodFor same (cond b acc (acc ++ x ∷ [])) x
     by-test true e = any-in (same x) acc e
-    by-test false e = (x, in-rest x acc (x ∷ []) (inl refl), self x)
+    by-test false e = (x, one_right x acc (x ∷ []) (inl refl), self x)
 
 once-all : {A : Type 0} (same : A → A → Bool) → ((x : A) → same x x ≡ true) → (acc all : List A) (x : A) → IsOneOf x all → IsStoodFor same (fold (with_one same) acc all) x
 once-all same self acc [] x h = absurd h
@@ -145,9 +84,9 @@ in-once same self all x h = once-all same self [] all x h
 
 once-cases : {A : Type 0} (b : Bool) (acc : List A) (x y : A) (xs : List A) → IsOneOf y (cond b acc (acc ++ x ∷ [])) → IsOneOf y acc ⊎ IsOneOf y (x ∷ xs)
 once-cases true acc x y xs h = inl h
-once-cases false acc x y xs h = elim (in-either y acc (x ∷ []) h) [
+once-cases false acc x y xs h = elim (one_parts y acc (x ∷ []) h) [
   | inl i ↦ inl i
-  | inr i ↦ inr (in-front y (x ∷ []) xs i)
+  | inr i ↦ inr (one_left y (x ∷ []) xs i)
 ]
 
 once-origin : {A : Type 0} (same : A → A → Bool) (acc all : List A) (y : A) → IsOneOf y (fold (with_one same) acc all) → IsOneOf y acc ⊎ IsOneOf y all
@@ -199,53 +138,20 @@ unlike-kept same acc (x ∷ xs) h = unlike-kept same (with_one same acc x) xs (b
 pub once-unlike : {A : Type 0} (same : A → A → Bool) (all : List A) → AreUnlike same (each_once same all)
 once-unlike same all = unlike-kept same [] all tt
 
-each-of-kept : {A : Type 0} (P : A → Type 0) (p : A → Bool) (xs : List A) → Each P xs → Each P (filter p xs)
-each-of-kept P p [] h = tt
-each-of-kept {A = A} P p (x ∷ xs) h = by-test (p x) (each-of-kept P p xs h.1)
-  where
-    by-test : (b : Bool) → Each P (filter p xs) → Each P (cond b (x ∷ filter p xs) (filter p xs))
-    by-test true k = (h.0, k)
-    by-test false k = k
-
 pub no-two-kept : {A : Type 0} (R : A → A → Type 0) (p : A → Bool) (xs : List A) → NoTwo R xs → NoTwo R (filter p xs)
 no-two-kept R p [] h = tt
 no-two-kept {A = A} R p (x ∷ xs) h = by-test (p x) (no-two-kept R p xs h.1)
   where
     by-test : (b : Bool) → NoTwo R (filter p xs) → NoTwo R (cond b (x ∷ filter p xs) (filter p xs))
-    by-test true k = (each-of-kept (λ y. R x y → ⊥) p xs h.0, k)
+    by-test true k = (each_filter (λ y. R x y → ⊥) p xs h.0, k)
     by-test false k = k
 
 -- numbers
-
-pub in-numbers : (n a k : ℕ) → a ≤ k → k < a + n → IsOneOf k (range_with_len a n)
-in-numbers zero a k le lt = absurd (omega (arith, le, lt))
-in-numbers (suc n) a k le lt = elim (here-or-later a k le) [
-  | inl e ↦ inl e
-  | inr more ↦ inr (in-numbers n (a + 1) k more (omega (arith, lt)))
-]
-  where
-    here-or-later : (a k : ℕ) → a ≤ k → (k ≡ a) ⊎ (a + 1 ≤ k)
-    here-or-later a k le = grind (arith, le)
-
-pub number-in : {A : Type 0} (xs : List A) (x : A) (k : ℕ) → slice_get xs k ≡ Some x → IsOneOf x xs
-number-in [] x k e = absurd (none-some x e)
-number-in (y ∷ ys) x zero e = inl (sym (same_Some y x e))
-number-in (y ∷ ys) x (suc k) e = inr (number-in ys x k e)
 
 pub in-at : {A : Type 0} (x : A) (xs : List A) → IsOneOf x xs → (k : ℕ) × (slice_get xs k ≡ Some x)
 in-at x [] h = absurd h
 in-at x (y ∷ ys) (inl e) = (zero, ap Some (sym e))
 in-at x (y ∷ ys) (inr h) = let r : (k : ℕ) × (slice_get ys k ≡ Some x) = in-at x ys h in (suc r.0, r.1)
-
-pub contained : {A : Type 0} (x : A) (xs : List A) → IsOneOf x xs → Contains xs x
-contained x [] h = absurd h
-contained x (y ∷ ys) (inl e) = (zero, omega arith, sym e)
-contained x (y ∷ ys) (inr h) = let r : Contains ys x = contained x ys h in (suc r.0, omega (arith, r.1), r.2)
-
-pub contained-in : {A : Type 0} (x : A) (xs : List A) → Contains xs x → IsOneOf x xs
-contained-in x [] (k, within, at) = absurd (omega (arith, within))
-contained-in x (y ∷ ys) (zero, within, at) = inl (sym at)
-contained-in x (y ∷ ys) (suc k, within, at) = inr (contained-in x ys (k, omega (arith, within), at))
 
 not-behind : {A : Type 0} (same : A → A → Bool) (z : A) (zs : List A) (y : A) (j : ℕ) → Each (λ x. same x z ≡ true → ⊥) zs → slice_get zs j ≡ Some y → same y z ≡ true → ⊥
 not-behind same z [] y j h e s = none-some y e

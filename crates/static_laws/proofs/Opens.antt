@@ -3,6 +3,7 @@ use Rattle.std.proofs.Common.{ℕ, ◌≡◌, ◌<◌, ◌+◌, List, [], ◌∷
 use Rattle.std.proofs.Common.{length-append, append_assoc, inl, inr}
 use Rattle.std.specs.Prelude.{pred, ◌⊎◌, Some}
 use Rattle.std.specs.List.{slice_get}
+use Rattle.std.proofs.lemmas.Option.{same_Some}
 use Rattle.spec_core.specs.Code.{Node, Program}
 use Rattle.spec_core.specs.Functionality.{Functionality}
 use Rattle.spec_core.specs.Lists.{IsOneOf}
@@ -15,13 +16,10 @@ use Rattle.static_laws.proofs.Codes.{in-front, behind, last-at}
 abbrev pub Begins : Program → ℕ → Node → Type 0
 Begins program p node = IsCallOf p node ⊎ ((inside : ℕ) × IsOneOf inside (open_parts node) × CallsAtOnce program p inside)
 
-some-same : {A : Type 0} (x y : A) → Some x ≡ Some y → y ≡ x
-some-same x y e = cc
-
 module _ (program : Program) (p : ℕ) where
   pub begins : (node : Node) (part : ℕ) → slice_get program.code part ≡ Some node → CallsAtOnce program p part → Begins program p node
-  begins node part e (here other f h) = subst (Begins program p) (some-same node other (sym e ∙ f)) (inl h)
-  begins node part e (within other inside f one h) = subst (Begins program p) (some-same node other (sym e ∙ f)) (inr (inside, one, h))
+  begins node part e (here other f h) = subst (Begins program p) (sym (same_Some node other (sym e ∙ f))) (inl h)
+  begins node part e (within other inside f one h) = subst (Begins program p) (sym (same_Some node other (sym e ∙ f))) (inr (inside, one, h))
 
   pub none-open : (node : Node) → (IsCallOf p node → ⊥) → open_parts node ≡ [] → Begins program p node → ⊥
   none-open node no-call e (inl h) = no-call h

@@ -15,6 +15,7 @@ use Rattle.spec_core.specs.Lists.{IsOneOf}
 use Rattle.spec_core.specs.Ready.{CallsAtOnce, IsCallOf, open_parts}
 use Rattle.spec_core.specs.Terms.{TermTree}
 use Rattle.spec_core.specs.Theories.{Premise}
+use Rattle.spec_core.proofs.Members.{one_right, one_left}
 use Rattle.sort_overloads.specs.Listed.{is_same_name}
 use Rattle.static_call_cycles.specs.Constructs.{Construct}
 use Rattle.static_readings.specs.Calls.{called, IsCallRead, unknown, miscounted, counted}
@@ -32,7 +33,6 @@ use Rattle.static_call_cycles.specs.declared.call.Call.{Call}
 use Rattle.static_laws.specs.Standing.{StandAt}
 use Rattle.static_laws.proofs.Codes.{in-front, behind, node-at}
 use Rattle.static_laws.proofs.Copies.{before-pred, suc-pred}
-use Rattle.static_laws.proofs.Gates.{one-of-front, one-of-behind}
 use Rattle.static_laws.proofs.Opens.{Begins, begins, none-open, one-open, two-open, CallsOf, calls-single, calls-around, calls-over}
 use Rattle.static_laws.proofs.Options.{if-map, if-all}
 
@@ -59,8 +59,8 @@ module _ (program : Program) (p : ℕ) where
       (if-all (λ f. calls-over program p from make x y f (xs ++ ys)
       (λ ax ay b. elim (two-open program p (make left right) left right (no-call left right) (sees left right) b)
       as (λ _. IsOneOf p (xs ++ ys)) [
-        | inl h ↦ one-of-front p xs ys (hx.at_once ax h)
-        | inr h ↦ one-of-behind p xs ys (hy.at_once ay h)
+        | inl h ↦ one_left p xs ys (hx.at_once ax h)
+        | inr h ↦ one_right p xs ys (hy.at_once ay h)
       ]))
       (combine x.functionality y.functionality))
 

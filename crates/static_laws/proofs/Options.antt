@@ -1,5 +1,5 @@
 -- What holds of what is there.
-use Rattle.std.proofs.Common.{◌≡◌, List, [], ◌∷◌, ◌++◌, refl}
+use Rattle.std.proofs.Common.{◌≡◌, List, refl}
 use Rattle.std.specs.Prelude.{Option, Some, None, option_map, IfSome, Bool, true, false, if◌then◌else◌}
 use Rattle.lotos_ast.specs.declared.refusal.Refusal.{Refusal}
 use Rattle.spec_core.specs.Lists.{Each}
@@ -35,7 +35,3 @@ pub each-read : {A B : Type 0} {P : A → Option B → List Refusal → Type 0} 
 each-read Q h xs found rs none = tt
 each-read Q h xs found rs (further x others y ys r refusals p d) =
     each-before Q y ys (h x y r p) (each-read Q h others ys refusals d)
-
-pub each-append : {A : Type 0} (P : A → Type 0) (xs ys : List A) → Each P xs → Each P ys → Each P (xs ++ ys)
-each-append P [] ys h g = g
-each-append P (x ∷ xs) ys h g = (h.0, each-append P xs ys h.1 g)

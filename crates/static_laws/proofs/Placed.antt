@@ -11,9 +11,9 @@ use Rattle.std.proofs.lemmas.Option.{none-some, same_Some, slice_get-map}
 use Rattle.lotos_ast.specs.declared.types.TypeDef.{TypeDef}
 use Rattle.spec_core.specs.Lists.{IsOneOf}
 use Rattle.spec_core.specs.Sorts.{OnSome, IsDeclaredSort}
+use Rattle.spec_core.proofs.Members.{from_filter, one_slice_get, from_map}
 use Rattle.sort_overloads.specs.Readings.{Context}
 use Rattle.sort_overloads.proofs.Loops.{map-through}
-use Rattle.sort_overloads.proofs.Members.{one-mapped}
 use Rattle.type_contents.specs.Images.{Renaming, sort_image, kept_renaming, image}
 use Rattle.type_contents.specs.Items.{Item, Described, item_of, is_in, is_sort}
 use Rattle.type_contents.specs.Numbering.{all_items, all_sorts, all_operations, brought, number_among}
@@ -26,7 +26,7 @@ use Rattle.static_presentation.specs.Signatures.{had_of, is_had, numbers_had, so
 use Rattle.static_laws.proofs.Closed.{IsUnrefused, closed, image-in-sorts, image-in-sort}
 use Rattle.static_laws.proofs.Covered.{items_at, sort-covered, operation-covered}
 use Rattle.static_laws.proofs.Items.{IsDescribed, is-among, among-is, in-passing, number-there, description-at, image-number, one-place}
-use Rattle.static_laws.proofs.Membership.{kept-from, in-any, first-there, number-in}
+use Rattle.static_laws.proofs.Membership.{in-any, first-there}
 use Rattle.static_laws.proofs.Read.{read_theory}
 use Rattle.static_laws.proofs.Typed.{IsOperationOf}
 use Rattle.static_laws.proofs.WellMade.{NamesOperations, all-made, kept-names, operation-sorts, sort-is-name, image-of-operation}
@@ -108,7 +108,7 @@ placed-item all i d at = slice_get-map item_of all i ∙ ap (option_map item_of)
 module _ (types : List TypeDef) (h : IsUnrefused types) where
   all-sort : (d : Described) → IsOneOf d (all_sorts types) → d.item ≡ sort_item d.item.name
   all-sort d i =
-      let k : IsOneOf d (all_items types) × (is_sort d.item ≡ true) = kept-from (λ e. is_sort e.item) d (all_items types) i in
+      let k : IsOneOf d (all_items types) × (is_sort d.item ≡ true) = from_filter (λ e. is_sort e.item) d (all_items types) i in
       sort-is-name d.item (all-made types d k.0) k.1
 
   pub is-operation : (f : ℕ) (x : Item) → slice_get (map item_of (all_operations types)) f ≡ Some x → (is_sort x ≡ false) × (0 < length x.sorts)
@@ -116,7 +116,7 @@ module _ (types : List TypeDef) (h : IsUnrefused types) where
     where
       by-description : (d : Described) × (slice_get (all_operations types) f ≡ Some d) × (d.item ≡ x) → (is_sort x ≡ false) × (0 < length x.sorts)
       by-description (d, there, is) =
-          let k : IsOneOf d (all_items types) × (not (is_sort d.item) ≡ true) = kept-from (λ e. not (is_sort e.item)) d (all_items types) (number-in (all_operations types) d f there) in
+          let k : IsOneOf d (all_items types) × (not (is_sort d.item) ≡ true) = from_filter (λ e. not (is_sort e.item)) d (all_items types) (one_slice_get (all_operations types) f d there) in
           let n : is_sort d.item ≡ false = not-true (is_sort d.item) k.1 in
           (sym (ap is_sort is) ∙ n, subst (λ (z : Item). 0 < length z.sorts) is (operation-sorts d.item (all-made types d k.0) n))
 
@@ -195,8 +195,8 @@ module _ (types : List TypeDef) (h : IsUnrefused types) where
         by-number : (d : Described) → IsNumberedAt (is_had (items_at types k)) (all_sorts types) (sort_moved n) d → IsSortIn types (items_at types k) (sort_moved n)
         by-number d (j, is, at, has) = record {
           name = d.item.name;
-          at = ap (slice_get (map item_of (all_sorts types))) is ∙ placed-item (all_sorts types) j d at ∙ ap Some (all-sort d (number-in (all_sorts types) d j at));
-          has = subst (λ z. IsOneOf z (items_at types k)) (all-sort d (number-in (all_sorts types) d j at)) (is-among (items_at types k) d.item has);
+          at = ap (slice_get (map item_of (all_sorts types))) is ∙ placed-item (all_sorts types) j d at ∙ ap Some (all-sort d (one_slice_get (all_sorts types) j d at));
+          has = subst (λ z. IsOneOf z (items_at types k)) (all-sort d (one_slice_get (all_sorts types) j d at)) (is-among (items_at types k) d.item has);
         }
 
         by-description : (d : Described) × (slice_get had_sorts n ≡ Some d) → IsSortIn types (items_at types k) (sort_moved n)
@@ -204,7 +204,7 @@ module _ (types : List TypeDef) (h : IsUnrefused types) where
 
     -- the number of a sort by its name
     moved-number : (name : List ℕ) → IsOneOf (sort_item name) (items_at types k) → sort_moved (sort_number had_sorts name) ≡ number_among (all_sorts types) (sort_item name)
-    moved-number name i = by-place (first-there (λ d. bytes_eq d.item.name name) had_sorts (named (one-mapped item_of had_sorts (sort_item name) had)))
+    moved-number name i = by-place (first-there (λ d. bytes_eq d.item.name name) had_sorts (named (from_map item_of had_sorts (sort_item name) had)))
       where
         had : IsDescribed had_sorts (sort_item name)
         had = in-passing (is_had (items_at types k)) (all_sorts types) (sort_item name) (sort-place k name i) (λ d is. ap (is_in (items_at types k)) is ∙ among-is (items_at types k) (sort_item name) i)
@@ -216,7 +216,7 @@ module _ (types : List TypeDef) (h : IsUnrefused types) where
             sort_moved (sort_number had_sorts name) ≡ number_among (all_sorts types) (sort_item name)
         by-number d same (j, is, at, has) =
             is ∙ one-place (λ e. is_sort e.item) (flat_map (λ all. all) (brought types)) j (sort_item name)
-            (placed-item (all_sorts types) j d at ∙ ap Some (all-sort d (number-in (all_sorts types) d j at) ∙ ap sort_item (same_text d.item.name name (sym same))))
+            (placed-item (all_sorts types) j d at ∙ ap Some (all-sort d (one_slice_get (all_sorts types) j d at) ∙ ap sort_item (same_text d.item.name name (sym same))))
 
         by-place : (d : Described) × (slice_get had_sorts (sort_number had_sorts name) ≡ Some d) × (bytes_eq d.item.name name ≡ true) → sort_moved (sort_number had_sorts name) ≡ number_among (all_sorts types) (sort_item name)
         by-place (d, at, same) = by-number d same (number-passing (items_at types k) (all_sorts types) (sort_number had_sorts name) d at)

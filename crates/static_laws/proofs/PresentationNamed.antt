@@ -14,7 +14,7 @@ use Rattle.spec_core.specs.Names.{IsSameName, IsIdentifier, IsPlainName, IsOpera
 use Rattle.spec_core.specs.Ready.{IsSameOperation}
 use Rattle.spec_core.specs.Theories.{ConditionalEquation}
 use Rattle.spec_core.proofs.Lists.{each-map}
-use Rattle.sort_overloads.proofs.InOrder.{each-from, each-one}
+use Rattle.spec_core.proofs.Members.{each_from, each_one, from_flat_map, from_filter}
 use Rattle.type_contents.specs.declared.item_kind.ItemKind.{ItemKind}
 use Rattle.type_contents.specs.Items.{Item, Described, item_of, is_sort, is_same_item, is_same_kind, is_same_described}
 use Rattle.type_contents.specs.Numbering.{all_items, all_sorts, all_operations, brought, number_among, is_data}
@@ -34,7 +34,7 @@ use Rattle.static_laws.specs.CompiledNames.{IsDataNamed}
 use Rattle.static_laws.proofs.Closed.{IsUnrefused, unrefused, closed}
 use Rattle.static_laws.proofs.Covered.{items_at, sort-covered}
 use Rattle.static_laws.proofs.Items.{IsDescribed, described, number-there}
-use Rattle.static_laws.proofs.Membership.{gathered-from, in-at, kept-from, no-two-kept, none-same, once-from, once-unlike}
+use Rattle.static_laws.proofs.Membership.{in-at, no-two-kept, none-same, once-from, once-unlike}
 use Rattle.static_laws.proofs.Placed.{is-operation}
 use Rattle.static_laws.proofs.Presented.{IsData, of-type, sort-described}
 use Rattle.static_laws.proofs.Spelled.{IsSpelledAs, IsSpelled, spelled-sort, all-spelled}
@@ -46,7 +46,7 @@ use Rattle.static_laws.proofs.WellMade.{IsOperationKind, all-made, operation-kin
 pub no-two-images : {A B : Type 0} (R : A → A → Type 0) (S : B → B → Type 0) (f : A → B) (xs : List A) → ((x y : A) → IsOneOf x xs → IsOneOf y xs → S (f x) (f y) → R x y) → NoTwo R xs → NoTwo S (map f xs)
 no-two-images R S f [] relate h = tt
 no-two-images {A = A} R S f (x ∷ xs) relate h = (
-  each-map (λ b. S (f x) b → ⊥) f xs (each-from (λ y. S (f x) (f y) → ⊥) xs (λ y i s. each-one (λ z. R x z → ⊥) xs y h.0 i (relate x y (inl refl) (inr i) s))),
+  each-map (λ b. S (f x) b → ⊥) f xs (each_from (λ y. S (f x) (f y) → ⊥) xs (λ y i s. each_one (λ z. R x z → ⊥) xs y h.0 i (relate x y (inl refl) (inr i) s))),
   no-two-images R S f xs (λ y z i j s. relate y z (inr i) (inr j) s) h.1,
 )
 
@@ -56,7 +56,7 @@ alphanumeric-not-low : (b : ℕ) → IsTrue (is_ascii_alphanumeric b) → to_asc
 alphanumeric-not-low b h e = grind (arith, nat_tests, h, e)
 
 operation-byte-not-low : (b : ℕ) → IsOneOf b (codes "#%&*+-./<=>@\\^~{}") → to_ascii_lowercase b ≡ 95 → ⊥
-operation-byte-not-low b h e = each-one (λ c. (to_ascii_lowercase c == 95) ≡ true → ⊥) (codes "#%&*+-./<=>@\\^~{}") b (none-same (λ c. to_ascii_lowercase c == 95) (codes "#%&*+-./<=>@\\^~{}") refl) h (eq-eqb (to_ascii_lowercase b) 95 e)
+operation-byte-not-low b h e = each_one (λ c. (to_ascii_lowercase c == 95) ≡ true → ⊥) (codes "#%&*+-./<=>@\\^~{}") b (none-same (λ c. to_ascii_lowercase c == 95) (codes "#%&*+-./<=>@\\^~{}") refl) h (eq-eqb (to_ascii_lowercase b) 95 e)
 
 plain-not-low : (s zs : List ℕ) → IsPlainName s → map to_ascii_lowercase s ≡ 95 ∷ zs → ⊥
 plain-not-low [] zs (inl w) e = w.first
@@ -122,7 +122,7 @@ alike d e h = subst (λ z. is_same_item e.item z ≡ true) (sym h) (item_self e.
 module _ (types : List TypeDef) (h : IsUnrefused types) (named : Each IsTypeNamed types) where
   -- a sort of the data
   of-sorts : (d : Described) → IsOneOf d (data_sorts types) → IsOneOf d (all_items types) × (is_sort d.item ≡ true)
-  of-sorts d i = kept-from (λ e. is_sort e.item) d (all_items types) (kept-from (λ e. is_data types e.item) d (all_sorts types) i).0
+  of-sorts d i = from_filter (λ e. is_sort e.item) d (all_items types) (from_filter (λ e. is_data types e.item) d (all_sorts types) i).0
 
   sort-named : (d : Described) → IsOneOf d (data_sorts types) → IsIdentifier d.spelled
   sort-named d i = let k = of-sorts d i in let s = all-spelled types h named d k.0 in spelled-sort d.item.kind d.item.sorts d.spelled k.1 s.1
@@ -145,10 +145,10 @@ module _ (types : List TypeDef) (h : IsUnrefused types) (named : Each IsTypeName
   of-operations d i = by-type (of-type types h d.item k.1)
     where
       k : IsOneOf d (all_operations types) × (is_data types d.item ≡ true)
-      k = kept-from (λ e. is_data types e.item) d (all_operations types) i
+      k = from_filter (λ e. is_data types e.item) d (all_operations types) i
 
       l : IsOneOf d (all_items types) × (not (is_sort d.item) ≡ true)
-      l = kept-from (λ e. not (is_sort e.item)) d (all_items types) k.0
+      l = from_filter (λ e. not (is_sort e.item)) d (all_items types) k.0
 
       by-type : (j : ℕ) × IsData types h j × IsOneOf d.item (items_at types j) → IsOperationOfData d
       by-type (j, data_type, has) = record {
@@ -193,10 +193,10 @@ module _ (types : List TypeDef) (h : IsUnrefused types) (named : Each IsTypeName
 
   module _ (own : List (List ConditionalEquation)) (rs : List Refusal) (read : AreOwnEquations types own rs) where
     equation-named : (e : ConditionalEquation) → IsOneOf e (data_equations types own) → HasNames e
-    equation-named e i = by-type (gathered-from (λ (z : Equations). z.brought) (equations types own) e (once-from is_same_equation (flat_map (λ (z : Equations). z.brought) (equations types own)) e k.0))
+    equation-named e i = by-type (from_flat_map (λ (z : Equations). z.brought) (equations types own) e (once-from is_same_equation (flat_map (λ (z : Equations). z.brought) (equations types own)) e k.0))
       where
         k : IsOneOf e (all_equations (equations types own)) × (same.is_in (of_data (λ (z : Equations). z.all) (formal_types types) (equations types own)) e ≡ true)
-        k = kept-from (same.is_in (of_data (λ (z : Equations). z.all) (formal_types types) (equations types own))) e (all_equations (equations types own)) i
+        k = from_filter (same.is_in (of_data (λ (z : Equations). z.all) (formal_types types) (equations types own))) e (all_equations (equations types own)) i
 
         at-number : (z : Equations) → IsOneOf e z.brought → (n : ℕ) × (slice_get (equations types own) n ≡ Some z) → HasNames e
         at-number z j (n, at) = all-named types h named own rs read (length (zip types own)) n e (subst (λ (y : Equations). IsOneOf e y.brought) (sym (get_or_from_slice_get (equations types own) n z no_equations at)) j)
@@ -206,10 +206,10 @@ module _ (types : List TypeDef) (h : IsUnrefused types) (named : Each IsTypeName
 
     data-named : IsDataNamed (data_of types own)
     data-named = record {
-      sorts = each-map IsIdentifier (λ (d : Described). d.spelled) (data_sorts types) (each-from (λ (d : Described). IsIdentifier d.spelled) (data_sorts types) sort-named);
+      sorts = each-map IsIdentifier (λ (d : Described). d.spelled) (data_sorts types) (each_from (λ (d : Described). IsIdentifier d.spelled) (data_sorts types) sort-named);
       operations = each-map (λ o. IsOperationName (length o.args) o.name) (operation (data_sorts types)) (data_operations types)
-          (each-from (λ d. IsOperationName (length (operation (data_sorts types) d).args) (operation_name d)) (data_operations types) operation-named);
-      variables = each-map HasNames (equation_image (data_numbers types)) (data_equations types own) (each-from (λ e. HasNames (equation_image (data_numbers types) e)) (data_equations types own) equation-named);
+          (each_from (λ d. IsOperationName (length (operation (data_sorts types) d).args) (operation_name d)) (data_operations types) operation-named);
+      variables = each-map HasNames (equation_image (data_numbers types)) (data_equations types own) (each_from (λ e. HasNames (equation_image (data_numbers types) e)) (data_equations types own) equation-named);
       sorts_differ = no-two-images (λ d e. is_same_described e d ≡ true) IsSameName (λ (d : Described). d.spelled) (data_sorts types) (λ d e i j s. alike d e (one-sort d e i j s)) (unlike (λ d. is_data types d.item) (λ d. is_sort d.item));
       operations_differ = no-two-images (λ d e. is_same_described e d ≡ true) IsSameOperation (operation (data_sorts types)) (data_operations types) (λ d e i j s. alike d e (one-operation d e i j s))
           (unlike (λ d. is_data types d.item) (λ d. not (is_sort d.item)));

@@ -19,13 +19,12 @@ use Rattle.spec_core.specs.declared.items.Sort.{Sort}
 use Rattle.spec_core.specs.Lists.{Each, IsOneOf}
 use Rattle.spec_core.specs.Names.{IsIdentifier}
 use Rattle.spec_core.specs.Theories.{ConditionalEquation}
-use Rattle.spec_core.proofs.Lists.{each-map}
+use Rattle.spec_core.proofs.Lists.{each-map, each_append}
+use Rattle.spec_core.proofs.Members.{each_from, each_one, from_flat_map, one_slice_get, from_map}
 use Rattle.sort_overloads.specs.Listed.{Typed}
 use Rattle.sort_overloads.specs.Readings as readings
 use Rattle.sort_overloads.specs.Readings.{Context}
 use Rattle.sort_overloads.specs.Refused.{unknown_sort}
-use Rattle.sort_overloads.proofs.InOrder.{each-from, each-one}
-use Rattle.sort_overloads.proofs.Members.{one-mapped}
 use Rattle.static_equations.specs.Bodies.{AreJudgedOfSort, IsPartJudged, IsBodyJudged}
 use Rattle.static_equations.specs.Equations.{equation_unless_refused, IsEquationJudged}
 use Rattle.static_equations.specs.Gathered.{Gathers, none, further, IfRead}
@@ -35,7 +34,6 @@ use Rattle.type_equation_copies.specs.Images.{NewNumbers, equation_image}
 use Rattle.type_equation_copies.specs.Same.{is_same_equation}
 use Rattle.type_equation_copies.specs.Contents.{Equations, no_equations, source_in_order, new_image, newly_copied, brings_by, made_by, made_from}
 use Rattle.type_equation_copies.specs.Copies.{copy_numbers}
-use Rattle.static_laws.proofs.Options.{each-append}
 use Rattle.type_contents.specs.Contents.{no_content, contents, formals_of}
 use Rattle.type_contents.specs.Numbering.{all_sorts, all_operations}
 use Rattle.static_presentation.specs.Moved.{moved_equation}
@@ -45,7 +43,7 @@ use Rattle.static_laws.specs.NamedTypes.{IsNamed, AreVariablesNamed, AreEquation
 use Rattle.static_laws.proofs.Closed.{IsUnrefused, content-there}
 use Rattle.static_laws.proofs.Copied.{own-at, in-source, round-at, first-round, equations_within}
 use Rattle.static_laws.proofs.Covered.{items_at}
-use Rattle.static_laws.proofs.Membership.{gathered-from, number-in, paired, pair-at}
+use Rattle.static_laws.proofs.Membership.{paired, pair-at}
 use Rattle.static_laws.proofs.Placed.{own_context}
 use Rattle.static_laws.proofs.Read.{gathered-each, read-each, unless-each, found-in}
 use Rattle.static_laws.proofs.Walking.{IsMadeAt, made, past}
@@ -59,15 +57,15 @@ AreDeclaredNamed c = Each (λ (v : readings.Declared). IsIdentifier v.name) c.va
 
 under-named : (c : Context) (lists : List ForAll) → AreDeclaredNamed c → AreVariablesNamed lists → AreDeclaredNamed (under c lists)
 under-named c lists before named =
-    each-append (λ (v : readings.Declared). IsIdentifier v.name) c.variables (all_variables c.sorts (declarations lists)) before
-    (each-from (λ (v : readings.Declared). IsIdentifier v.name) (all_variables c.sorts (declarations lists)) (λ v h. by-declaration v (gathered-from (variables_of c.sorts) (declarations lists) v h)))
+    each_append (λ (v : readings.Declared). IsIdentifier v.name) c.variables (all_variables c.sorts (declarations lists)) before
+    (each_from (λ (v : readings.Declared). IsIdentifier v.name) (all_variables c.sorts (declarations lists)) (λ v h. by-declaration v (from_flat_map (variables_of c.sorts) (declarations lists) v h)))
   where
     by-name : (d : Declaration) → IsOneOf d (declarations lists) → (v : readings.Declared) → (t : Token) × IsOneOf t d.names.items × (v ≡ record { name = t.text; sort = sort_named c.sorts d.sort.text }) → IsIdentifier v.name
     by-name d i v (t, j, is) =
-        subst IsIdentifier (sym (ap (λ (w : readings.Declared). w.name) is)) (each-one IsNamed d.names.items t (each-one (λ (e : Declaration). Each IsNamed e.names.items) (declarations lists) d named i) j)
+        subst IsIdentifier (sym (ap (λ (w : readings.Declared). w.name) is)) (each_one IsNamed d.names.items t (each_one (λ (e : Declaration). Each IsNamed e.names.items) (declarations lists) d named i) j)
 
     by-declaration : (v : readings.Declared) → (d : Declaration) × IsOneOf d (declarations lists) × IsOneOf v (variables_of c.sorts d) → IsIdentifier v.name
-    by-declaration v (d, i, j) = by-name d i v (one-mapped (λ (t : Token). record { name = t.text; sort = sort_named c.sorts d.sort.text }) d.names.items v j)
+    by-declaration v (d, i, j) = by-name d i v (from_map (λ (t : Token). record { name = t.text; sort = sort_named c.sorts d.sort.text }) d.names.items v j)
 
 equation-names : (c : Context) → AreDeclaredNamed c → (sort : Sort) (e : Equation) (found : Option ConditionalEquation) (rs : List Refusal) → IsEquationJudged c sort e found rs → IfSome found HasNames
 equation-names c named sort e found rs h = subst (λ o. IfSome o HasNames) (sym h.equation) (by-sides h.left h.right rs)
@@ -75,8 +73,8 @@ equation-names c named sort e found rs h = subst (λ o. IfSome o HasNames) (sym 
     over : (numbers : List ℕ) → Each IsIdentifier (map (λ (v : readings.Declared). v.name) (variables_at c.variables numbers))
     over numbers =
         each-map IsIdentifier (λ (v : readings.Declared). v.name) (variables_at c.variables numbers)
-        (each-from (λ (v : readings.Declared). IsIdentifier v.name) (variables_at c.variables numbers)
-        (λ v i. each-one (λ (w : readings.Declared). IsIdentifier w.name) c.variables v named (found-in c.variables numbers v i)))
+        (each_from (λ (v : readings.Declared). IsIdentifier v.name) (variables_at c.variables numbers)
+        (λ v i. each_one (λ (w : readings.Declared). IsIdentifier w.name) c.variables v named (found-in c.variables numbers v i)))
 
     by-sides : (left right : Option Typed) (rs : List Refusal) → IfSome (equation_unless_refused c e.place h.premises left right rs) HasNames
     by-sides None right rs = tt
@@ -101,7 +99,7 @@ gathered-of {A = A} {B = B} P R Q h xs each ys rs g = by-gathering xs ys rs g ea
   where
     by-gathering : (xs : List A) (ys : List B) (rs : List Refusal) → Gathers P xs ys rs → Each R xs → Each Q ys
     by-gathering xs ys rs none each = tt
-    by-gathering xs ys rs (further x others some all r refusals p more) each = each-append Q some all (h x each.0 some r p) (by-gathering others all refusals more each.1)
+    by-gathering xs ys rs (further x others some all r refusals p more) each = each_append Q some all (h x each.0 some r p) (by-gathering others all refusals more each.1)
 
 body-names : (c : Context) → AreDeclaredNamed c → (body : EquationBody) → AreEquationsNamed body → (found : List ConditionalEquation) (rs : List Refusal) → IsBodyJudged c body found rs → Each HasNames found
 body-names c before body named =
@@ -132,7 +130,7 @@ module _ (types : List TypeDef) (h : IsUnrefused types) (named : Each IsTypeName
           subst (λ zs. Each HasNames zs) (sym is)
           (each-map HasNames (moved_equation sorts operations) all
           (gathered-of (IsBodyJudged (own_context types k)) AreEquationsNamed HasNames (body-names (own_context types k) tt) (bodies d)
-          (written-named d (each-one IsTypeNamed types d named (number-in types d k at))) all r judged))
+          (written-named d (each_one IsTypeNamed types d named (one_slice_get types k d at))) all r judged))
 
   -- by rounds, the equations that a type brings in are named
   abbrev AreNamedWithin : ℕ → Type 0
@@ -147,7 +145,7 @@ module _ (types : List TypeDef) (h : IsUnrefused types) (named : Each IsTypeName
       by-test false (inr i) = absurd i
 
   copied-named : (n : ℕ) → AreNamedWithin n → (source : Token) (news : NewNumbers) (e : ConditionalEquation) → IsOneOf e (newly_copied types (equations_within types h own rs read n) source news) → HasNames e
-  copied-named n before source news e i = by-source (gathered-from (new_image news) (source_in_order types (equations_within types h own rs read n) source) e i)
+  copied-named n before source news e i = by-source (from_flat_map (new_image news) (source_in_order types (equations_within types h own rs read n) source) e i)
     where
       by-source : (d : ConditionalEquation) × IsOneOf d (source_in_order types (equations_within types h own rs read n) source) × IsOneOf e (new_image news d) → HasNames e
       by-source (d, j, m) =
@@ -165,7 +163,7 @@ module _ (types : List TypeDef) (h : IsUnrefused types) (named : Each IsTypeName
       by-body : AreNamedWithin n → (place : Place) (name : Token) (body : TypeBody) (o : List ConditionalEquation) → slice_get types k ≡ Some (Definition place name body) → slice_get own k ≡ Some o →
           IsOneOf e (brings_by types (equations_within types h own rs read n) o body) → HasNames e
       by-body before place name (Declared p imports formals sorts operations equations) o at of j =
-          each-one HasNames o e (own-names k (Definition place name (Declared p imports formals sorts operations equations)) o at of) j
+          each_one HasNames o e (own-names k (Definition place name (Declared p imports formals sorts operations equations)) o at of) j
       by-body before place name (Renamed p source pairs) o at of j = copied-named n before source (copy_numbers types [] pairs) e j
       by-body before place name (Actualized p source actuals pairs) o at of j = copied-named n before source (copy_numbers types (formals_of types (contents types) source) pairs) e j
 

@@ -1,5 +1,5 @@
 -- The data presentation of types of which nothing is refused fits together.
-use Rattle.std.proofs.Common.{ℕ, zero, suc, ◌≡◌, ◌∙◌, ◌<◌, ◌^◌, ◌-◌, refl, sym, ap, subst, List, [], ◌∷◌, length, map, take, get_or, Bool, true, false, ◌&&◌, not, cond, nat_eq, Some, arith}
+use Rattle.std.proofs.Common.{ℕ, ◌≡◌, ◌∙◌, ◌<◌, ◌^◌, ◌-◌, refl, sym, ap, subst, List, [], ◌∷◌, length, map, Bool, true, false, ◌&&◌, not, cond, nat_eq, Some, arith}
 use Rattle.std.specs.Prelude.{option_map}
 use Rattle.std.specs.Cmp.Lexicographic.{pointwise}
 use Rattle.std.specs.List.{flat_map, slice_get, slice_index_or, zip}
@@ -11,8 +11,8 @@ use Rattle.lotos_ast.specs.declared.types.TypeDef.{TypeDef}
 use Rattle.spec_core.specs.Lists.{Each, IsOneOf}
 use Rattle.spec_core.specs.Sorts.{OnSome, OperationFits, IsDeclaredSort, EquationFits, FitsData}
 use Rattle.spec_core.specs.Theories.{Premise, premise, ConditionalEquation, Theory}
-use Rattle.spec_core.proofs.Lists.{each-map}
-use Rattle.sort_overloads.proofs.InOrder.{each-from}
+use Rattle.spec_core.proofs.Lists.{each-map, each_get_or, each_take}
+use Rattle.spec_core.proofs.Members.{each_from, from_flat_map, from_filter, one_slice_get}
 use Rattle.type_contents.specs.Contents.{Content, no_content, contents}
 use Rattle.type_contents.specs.FormalTypes.{formal_types, is_formal_from}
 use Rattle.type_contents.specs.Items.{Item, Described, item_of, is_in}
@@ -32,7 +32,7 @@ use Rattle.static_laws.proofs.Closed.{IsUnrefused, unrefused, content-there, clo
 use Rattle.static_laws.proofs.Copied.{IsOf, by-image, AreOf, all-of}
 use Rattle.static_laws.proofs.Covered.{items_at, sort-covered}
 use Rattle.static_laws.proofs.Items.{IsDescribed, is-among, among-is, described, in-passing, number-there, description-at, image-number}
-use Rattle.static_laws.proofs.Membership.{in-any, any-in, gathered-from, kept-from, once-from, number-in, in-at, paired, pair-at}
+use Rattle.static_laws.proofs.Membership.{in-any, any-in, once-from, in-at, paired, pair-at}
 use Rattle.static_laws.proofs.Placed.{IsSortIn, IsOperationIn, numbers-changed, arguments-changed, result-changed, is-operation}
 use Rattle.static_laws.proofs.Typed.{IsOperationOf, HaveOneSortBy, PremiseFitsBy, changed-equation, from-equation}
 
@@ -70,18 +70,8 @@ same-fits types k e d names s h =
       premises = subst (λ zs. Each (PremiseFitsBy D (slice_get zs)) e.premises) sorts (subst (λ zs. Each (PremiseFitsBy D (slice_get d.sorts)) zs) premises h.premises);
     }
 
-each-taken : {A : Type 0} (P : A → Type 0) (n : ℕ) (xs : List A) → Each P xs → Each P (take n xs)
-each-taken P zero xs h = tt
-each-taken P (suc n) [] h = tt
-each-taken P (suc n) (x ∷ xs) h = (h.0, each-taken P n xs h.1)
-
-each-got : {A : Type 0} (P : A → Type 0) (xs : List A) (n : ℕ) (d : A) → n < length xs → Each P xs → P (get_or xs n d)
-each-got P [] n d within h = absurd (omega (arith, within))
-each-got P (x ∷ xs) zero d within h = h.0
-each-got P (x ∷ xs) (suc n) d within h = each-got P xs n d (omega (arith, within)) h.1
-
 placed : (all : List Described) (n : ℕ) (x : Item) → slice_get (map item_of all) n ≡ Some x → IsDescribed all x
-placed all n x at = number-in (map item_of all) x n at
+placed all n x at = one_slice_get (map item_of all) n x at
 
 module _ (types : List TypeDef) (h : IsUnrefused types) where
   -- the type of this number isn't formal
@@ -92,7 +82,7 @@ module _ (types : List TypeDef) (h : IsUnrefused types) where
   data-has k x d i =
       let c = slice_index_or (contents types) k no_content in
       in-any (λ (e : Bool × Content). not e.0 && is_in e.1.items x) (false, c) (zip (formal_types types) (contents types))
-      (number-in (zip (formal_types types) (contents types)) (false, c) k (paired (formal_types types) (contents types) k false c d.0 d.1)) (among-is (items_at types k) x i)
+      (one_slice_get (zip (formal_types types) (contents types)) k (false, c) (paired (formal_types types) (contents types) k false c d.0 d.1)) (among-is (items_at types k) x i)
 
   -- what belongs to the data, a type has that isn't formal
   pub of-type : (x : Item) → is_data types x ≡ true → (k : ℕ) × IsData k × IsOneOf x (items_at types k)
@@ -175,18 +165,18 @@ module _ (types : List TypeDef) (h : IsUnrefused types) where
     operation-fits d i = by-type (of-type d.item k.1)
       where
         k : IsOneOf d (all_operations types) × (is_data types d.item ≡ true)
-        k = kept-from (λ e. is_data types e.item) d (all_operations types) i
+        k = from_filter (λ e. is_data types e.item) d (all_operations types) i
 
         by-type : (j : ℕ) × IsData j × IsOneOf d.item (items_at types j) → OperationFits presented (operation (data_sorts types) d)
         by-type (j, data_type, has) =
             let there = number-there (all_operations types) d.item (described (all_operations types) d k.0) in
             let numbers : Each (IsDeclaredSort presented) (sort_numbers (data_sorts types) d.item.sorts) =
             each-map (IsDeclaredSort presented) (λ name. number_among (data_sorts types) (sort_item name)) d.item.sorts
-            (each-from (λ name. number_among (data_sorts types) (sort_item name) < length presented.sorts) d.item.sorts
+            (each_from (λ name. number_among (data_sorts types) (sort_item name) < length presented.sorts) d.item.sorts
             (λ name m. let c = closed types h j d.item has name m in sort-declared j data_type name (sort-covered types h.acyclic h.settled j (sort_item name) c refl) c)) in (
-              each-got (IsDeclaredSort presented) (sort_numbers (data_sorts types) d.item.sorts) (length (sort_numbers (data_sorts types) d.item.sorts) - 1) 0
+              each_get_or (IsDeclaredSort presented) (sort_numbers (data_sorts types) d.item.sorts) (length (sort_numbers (data_sorts types) d.item.sorts) - 1) 0
                   (omega (arith, (is-operation types h (number_among (all_operations types) d.item) d.item there).1, length-map d.item.sorts (λ name. number_among (data_sorts types) (sort_item name)))) numbers,
-              each-taken (IsDeclaredSort presented) (length (sort_numbers (data_sorts types) d.item.sorts) - 1) (sort_numbers (data_sorts types) d.item.sorts) numbers,
+              each_take (IsDeclaredSort presented) (length (sort_numbers (data_sorts types) d.item.sorts) - 1) (sort_numbers (data_sorts types) d.item.sorts) numbers,
             )
 
     module _ (rs : List Refusal) (read : AreOwnEquations types own rs) where
@@ -198,7 +188,7 @@ module _ (types : List TypeDef) (h : IsUnrefused types) where
 
       -- an equation that a type brings in
       brought-names : (e : ConditionalEquation) → IsOneOf e (all_equations found) → length e.names ≡ length e.sorts
-      brought-names e i = by-type (gathered-from (λ (z : Equations). z.brought) found e (once-from is_same_equation (flat_map (λ (z : Equations). z.brought) found) e i))
+      brought-names e i = by-type (from_flat_map (λ (z : Equations). z.brought) found e (once-from is_same_equation (flat_map (λ (z : Equations). z.brought) found) e i))
         where
           at-number : (z : Equations) → IsOneOf e z.brought → (k : ℕ) × (slice_get found k ≡ Some z) → length e.names ≡ length e.sorts
           at-number z j (k, at) = known.brought k e (subst (λ (y : Equations). IsOneOf e y.brought) (sym (get_or_from_slice_get found k z no_equations at)) j)
@@ -210,7 +200,7 @@ module _ (types : List TypeDef) (h : IsUnrefused types) where
       equation-fits e i = by-same (any-in (is_same_equation e) (of_data (λ (z : Equations). z.all) (formal_types types) found) k.1)
         where
           k : IsOneOf e (all_equations found) × (same.is_in (of_data (λ (z : Equations). z.all) (formal_types types) found) e ≡ true)
-          k = kept-from (same.is_in (of_data (λ (z : Equations). z.all) (formal_types types) found)) e (all_equations found) i
+          k = from_filter (same.is_in (of_data (λ (z : Equations). z.all) (formal_types types) found)) e (all_equations found) i
 
           if-data : (b : Bool) (d : ConditionalEquation) (all : List ConditionalEquation) → IsOneOf d (cond b [] all) → (b ≡ false) × IsOneOf d all
           if-data true d all j = absurd j
@@ -229,16 +219,16 @@ module _ (types : List TypeDef) (h : IsUnrefused types) where
           by-type d s (p, i, j) = at-number d s p j (in-at p (zip (formal_types types) found) i)
 
           by-same : (d : ConditionalEquation) × IsOneOf d (of_data (λ (z : Equations). z.all) (formal_types types) found) × (is_same_equation e d ≡ true) → EquationFits presented (equation_image (data_numbers types) e)
-          by-same (d, j, s) = by-type d s (gathered-from (λ (p : Bool × Equations). cond p.0 [] p.1.all) (zip (formal_types types) found) d j)
+          by-same (d, j, s) = by-type d s (from_flat_map (λ (p : Bool × Equations). cond p.0 [] p.1.all) (zip (formal_types types) found) d j)
 
       all-fit : length presented.sorts < 2 ^ 32 → length presented.operations < 2 ^ 32 → length presented.equations < 2 ^ 32 → FitsData presented
       all-fit sorts operations equations = record {
         sorts_are_few = sorts;
         operations_are_few = operations;
         equations_are_few = equations;
-        operations = each-map (OperationFits presented) (operation (data_sorts types)) (data_operations types) (each-from (λ d. OperationFits presented (operation (data_sorts types) d)) (data_operations types) operation-fits);
+        operations = each-map (OperationFits presented) (operation (data_sorts types)) (data_operations types) (each_from (λ d. OperationFits presented (operation (data_sorts types) d)) (data_operations types) operation-fits);
         equations = each-map (EquationFits presented) (equation_image (data_numbers types)) (data_equations types own)
-            (each-from (λ e. EquationFits presented (equation_image (data_numbers types) e)) (data_equations types own) equation-fits);
+            (each_from (λ e. EquationFits presented (equation_image (data_numbers types) e)) (data_equations types own) equation-fits);
       }
 
 pub presentations_fit : CyclesAreRefused → ContentsAreMadeFromContents → PresentationsFit

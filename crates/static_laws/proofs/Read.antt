@@ -20,13 +20,13 @@ use Rattle.spec_core.specs.Lists.{Each, IsOneOf}
 use Rattle.spec_core.specs.Sorts.{OnSome, HasSort, HaveSorts, PremiseFits, EquationFits}
 use Rattle.spec_core.specs.Terms.{TermTree, TermTrees, variable, apply, no_terms, and_term, instances}
 use Rattle.spec_core.specs.Theories.{Operation, Premise, premise, ConditionalEquation, Theory}
+use Rattle.spec_core.proofs.Lists.{both_empty, each_append}
+use Rattle.spec_core.proofs.Members.{each_from, each_one, from_flat_map, one_parts, one_left, one_right, one_slice_get, from_map}
 use Rattle.sort_overloads.specs.Expressions.{expression}
 use Rattle.sort_overloads.specs.Listed.{Typed, is_same_name}
 use Rattle.sort_overloads.specs.Overloads.{IsWanted}
 use Rattle.sort_overloads.specs.Readings.{Context, Declared}
 use Rattle.sort_overloads.specs.Refused.{is_sort_known, unknown_sort}
-use Rattle.sort_overloads.proofs.InOrder.{each-from, each-one}
-use Rattle.sort_overloads.proofs.Members.{one-mapped}
 use Rattle.static_equations.specs.Bodies.{AreJudgedOfSort, IsPartJudged, IsBodyJudged}
 use Rattle.static_equations.specs.Equations.{listed, equation_unless_refused, IsEquationJudged}
 use Rattle.static_equations.specs.Gathered.{Gathers, none, further, IfRead, UnlessRefused, refused_before, judged}
@@ -35,10 +35,9 @@ use Rattle.static_equations.specs.Premisses.{IsPremissJudged}
 use Rattle.static_equations.specs.Variables.{sort_named, declarations, variables_of, all_variables, unknown_sorts, under}
 use Rattle.static_laws.specs.Standing.{AgreesWithData}
 use Rattle.static_laws.proofs.Judgements.{IsOfItsSort, judged-sort, condition-fits}
-use Rattle.static_laws.proofs.Options.{each-append}
 use Rattle.static_laws.proofs.Readings.{on-some}
-use Rattle.static_laws.proofs.Closed.{both-empty, each-empty, passed}
-use Rattle.static_laws.proofs.Membership.{in-front, in-rest, in-either, gathered-from, first-there, in-once, once-from, number-in}
+use Rattle.static_laws.proofs.Closed.{each-empty, passed}
+use Rattle.static_laws.proofs.Membership.{first-there, in-once, once-from}
 
 -- the sorts and operations of which an expression may speak
 abbrev pub read_theory : Context → Theory
@@ -62,8 +61,8 @@ known-number sorts name e = by-first (first-there (λ other. is_same_name other 
 
 under-known : (c : Context) (lists : List ForAll) → AreKnown c → unknown_sorts c (declarations lists) ≡ [] → AreKnown (under c lists)
 under-known c lists known unrefused =
-    each-append (λ (v : Declared). v.sort < length c.sorts) c.variables (all_variables c.sorts (declarations lists)) known
-    (each-from (λ (v : Declared). v.sort < length c.sorts) (all_variables c.sorts (declarations lists)) (λ v h. by-declaration v (gathered-from (variables_of c.sorts) (declarations lists) v h)))
+    each_append (λ (v : Declared). v.sort < length c.sorts) c.variables (all_variables c.sorts (declarations lists)) known
+    (each_from (λ (v : Declared). v.sort < length c.sorts) (all_variables c.sorts (declarations lists)) (λ v h. by-declaration v (from_flat_map (variables_of c.sorts) (declarations lists) v h)))
   where
     by-name : (d : Declaration) → IsOneOf d (declarations lists) → (v : Declared) → (t : Token) × IsOneOf t d.names.items × (v ≡ record { name = t.text; sort = sort_named c.sorts d.sort.text }) → v.sort < length c.sorts
     by-name d i v (t, j, is) =
@@ -71,7 +70,7 @@ under-known c lists known unrefused =
         (known-number c.sorts d.sort.text (passed (is_sort_known c d.sort.text) _ (each-empty (λ (e : Declaration). unknown_sort c e.sort) (declarations lists) d unrefused i)))
 
     by-declaration : (v : Declared) → (d : Declaration) × IsOneOf d (declarations lists) × IsOneOf v (variables_of c.sorts d) → v.sort < length c.sorts
-    by-declaration v (d, i, j) = by-name d i v (one-mapped (λ (t : Token). record { name = t.text; sort = sort_named c.sorts d.sort.text }) d.names.items v j)
+    by-declaration v (d, i, j) = by-name d i v (from_map (λ (t : Token). record { name = t.text; sort = sort_named c.sorts d.sort.text }) d.names.items v j)
 
 -- Variables by first occurrence
 
@@ -119,7 +118,7 @@ found-in declared (y ∷ ys) v h = by-option (slice_get declared y) refl (found-
   where
     by-option : (o : Option Declared) → slice_get declared y ≡ o → (IsOneOf v (variables_at declared ys) → IsOneOf v declared) → IsOneOf v (cons_option o (variables_at declared ys)) → IsOneOf v declared
     by-option None e next i = next i
-    by-option (Some w) e next (inl q) = subst (λ z. IsOneOf z declared) (sym q) (number-in declared w y e)
+    by-option (Some w) e next (inl q) = subst (λ z. IsOneOf z declared) (sym q) (one_slice_get declared y w e)
     by-option (Some w) e next (inr i) = next i
 
 module _ (c : Context) where
@@ -138,15 +137,15 @@ module _ (c : Context) where
     all-occurring-there : (ts : TermTrees) (sorts : List ℕ) → HaveSorts (read_theory c) (variables_in c) ts sorts → (x : ℕ) → IsOneOf x (all_occurring ts) → IsThere c.variables x
     all-occurring-there no_terms sorts h x i = absurd i
     all-occurring-there (and_term t ts) [] h x i = absurd h
-    all-occurring-there (and_term t ts) (s ∷ sorts) h x i = elim (in-either x (occurring t) (all_occurring ts) i) [
+    all-occurring-there (and_term t ts) (s ∷ sorts) h x i = elim (one_parts x (occurring t) (all_occurring ts) i) [
       | inl j ↦ occurring-there t s h.0 x j
       | inr j ↦ all-occurring-there ts sorts h.1 x j
     ]
 
   premises-there : (ps : List Premise) → Each (PremiseFits (read_theory c) (variables_in c)) ps → (x : ℕ) → IsOneOf x (flat_map premise_occurring ps) → IsThere c.variables x
   premises-there [] h x i = absurd i
-  premises-there (premise a b ∷ ps) ((s, left, right), more) x i = elim (in-either x (occurring a ++ occurring b) (flat_map premise_occurring ps) i) [
-    | inl j ↦ elim (in-either x (occurring a) (occurring b) j) [
+  premises-there (premise a b ∷ ps) ((s, left, right), more) x i = elim (one_parts x (occurring a ++ occurring b) (flat_map premise_occurring ps) i) [
+    | inl j ↦ elim (one_parts x (occurring a) (occurring b) j) [
       | inl k ↦ occurring-there a s left x k
       | inr k ↦ occurring-there b s right x k
     ]
@@ -174,8 +173,8 @@ module _ (c : Context) where
       renumbered-sorts no_terms (s ∷ sorts) within h = absurd h
       renumbered-sorts (and_term t ts) [] within h = absurd h
       renumbered-sorts (and_term t ts) (s ∷ sorts) within h = (
-        renumbered-sort t s (λ x i. within x (in-front x (occurring t) (all_occurring ts) i)) h.0,
-        renumbered-sorts ts sorts (λ x i. within x (in-rest x (occurring t) (all_occurring ts) i)) h.1,
+        renumbered-sort t s (λ x i. within x (one_left x (occurring t) (all_occurring ts) i)) h.0,
+        renumbered-sorts ts sorts (λ x i. within x (one_right x (occurring t) (all_occurring ts) i)) h.1,
       )
 
     renumbered-premises : (ps : List Premise) → ((x : ℕ) → IsOneOf x (flat_map premise_occurring ps) → IsOneOf x numbers) → Each (PremiseFits (read_theory c) (variables_in c)) ps →
@@ -184,10 +183,10 @@ module _ (c : Context) where
     renumbered-premises (premise a b ∷ ps) within ((s, left, right), more) = (
       (
         s,
-        renumbered-sort a s (λ x i. within x (in-front x (occurring a ++ occurring b) (flat_map premise_occurring ps) (in-front x (occurring a) (occurring b) i))) left,
-        renumbered-sort b s (λ x i. within x (in-front x (occurring a ++ occurring b) (flat_map premise_occurring ps) (in-rest x (occurring a) (occurring b) i))) right,
+        renumbered-sort a s (λ x i. within x (one_left x (occurring a ++ occurring b) (flat_map premise_occurring ps) (one_left x (occurring a) (occurring b) i))) left,
+        renumbered-sort b s (λ x i. within x (one_left x (occurring a ++ occurring b) (flat_map premise_occurring ps) (one_right x (occurring a) (occurring b) i))) right,
       ),
-      renumbered-premises ps (λ x i. within x (in-rest x (occurring a ++ occurring b) (flat_map premise_occurring ps) i)) more,
+      renumbered-premises ps (λ x i. within x (one_right x (occurring a ++ occurring b) (flat_map premise_occurring ps) i)) more,
     )
 
     over-numbers : (known : AreKnown c) (place : Place) (premises : List Premise) (left right : TermTree) (s : ℕ) →
@@ -196,13 +195,13 @@ module _ (c : Context) where
         EquationFits (read_theory c) (equation_over c.variables place numbers premises left right)
     over-numbers known place premises left right s in-left in-premises in-right ps l r = record {
       one_name_each = length-map (variables_at c.variables numbers) (λ v. v.name) ∙ sym (length-map (variables_at c.variables numbers) (λ v. v.sort));
-      sorts = each-from (λ n. n < length c.sorts) (map (λ v. v.sort) (variables_at c.variables numbers)) (λ n i. of-variable n (one-mapped (λ (v : Declared). v.sort) (variables_at c.variables numbers) n i));
+      sorts = each_from (λ n. n < length c.sorts) (map (λ v. v.sort) (variables_at c.variables numbers)) (λ n i. of-variable n (from_map (λ (v : Declared). v.sort) (variables_at c.variables numbers) n i));
       sides = (s, renumbered-sort left s in-left l, renumbered-sort right s in-right r);
       premises = renumbered-premises premises in-premises ps;
     }
       where
         of-variable : (n : ℕ) → (v : Declared) × IsOneOf v (variables_at c.variables numbers) × (n ≡ v.sort) → n < length c.sorts
-        of-variable n (v, i, is) = subst (λ z. z < length c.sorts) (sym is) (each-one (λ (w : Declared). w.sort < length c.sorts) c.variables v known (found-in c.variables numbers v i))
+        of-variable n (v, i, is) = subst (λ z. z < length c.sorts) (sym is) (each_one (λ (w : Declared). w.sort < length c.sorts) c.variables v known (found-in c.variables numbers v i))
 
   in-variables : (zs : List ℕ) (x : ℕ) → IsOneOf x zs → IsOneOf x (with_variables [] zs)
   in-variables zs x h = by-same (in-once nat_eq (λ y. eq-eqb y y refl) zs x h)
@@ -214,17 +213,17 @@ module _ (c : Context) where
       HasSort (read_theory c) (variables_in c) left s → HasSort (read_theory c) (variables_in c) right s → EquationFits (read_theory c) (equation_of_terms c.variables place premises left right)
   terms-fit known place premises left right s ps l r =
       over-numbers (equation_variables premises left right) (λ y i. all-there y (once-from nat_eq (ins ++ flat_map premise_occurring premises ++ occurring right) y i)) known place premises left right s
-      (λ x i. in-variables (ins ++ flat_map premise_occurring premises ++ occurring right) x (in-front x (ins ++ flat_map premise_occurring premises) (occurring right) (in-front x ins (flat_map premise_occurring premises) i)))
-      (λ x i. in-variables (ins ++ flat_map premise_occurring premises ++ occurring right) x (in-front x (ins ++ flat_map premise_occurring premises) (occurring right) (in-rest x ins (flat_map premise_occurring premises) i)))
-      (λ x i. in-variables (ins ++ flat_map premise_occurring premises ++ occurring right) x (in-rest x (ins ++ flat_map premise_occurring premises) (occurring right) i))
+      (λ x i. in-variables (ins ++ flat_map premise_occurring premises ++ occurring right) x (one_left x (ins ++ flat_map premise_occurring premises) (occurring right) (one_left x ins (flat_map premise_occurring premises) i)))
+      (λ x i. in-variables (ins ++ flat_map premise_occurring premises ++ occurring right) x (one_left x (ins ++ flat_map premise_occurring premises) (occurring right) (one_right x ins (flat_map premise_occurring premises) i)))
+      (λ x i. in-variables (ins ++ flat_map premise_occurring premises ++ occurring right) x (one_right x (ins ++ flat_map premise_occurring premises) (occurring right) i))
       ps l r
     where
       ins : List ℕ
       ins = occurring left
 
       all-there : (y : ℕ) → IsOneOf y (occurring left ++ flat_map premise_occurring premises ++ occurring right) → IsThere c.variables y
-      all-there y i = elim (in-either y (occurring left ++ flat_map premise_occurring premises) (occurring right) i) [
-        | inl j ↦ elim (in-either y (occurring left) (flat_map premise_occurring premises) j) [
+      all-there y i = elim (one_parts y (occurring left ++ flat_map premise_occurring premises) (occurring right) i) [
+        | inl j ↦ elim (one_parts y (occurring left) (flat_map premise_occurring premises) j) [
           | inl k ↦ occurring-there left s l y k
           | inr k ↦ premises-there premises ps y k
         ]
@@ -236,7 +235,7 @@ module _ (c : Context) where
 pub gathered-each : {A B : Type 0} (P : A → List B → List Refusal → Type 0) (Q : B → Type 0) → ((x : A) (ys : List B) (rs : List Refusal) → P x ys rs → Each Q ys) →
     (xs : List A) (ys : List B) (rs : List Refusal) → Gathers P xs ys rs → Each Q ys
 gathered-each P Q h xs ys rs none = tt
-gathered-each P Q h xs ys rs (further x others some all r refusals p more) = each-append Q some all (h x some r p) (gathered-each P Q h others all refusals more)
+gathered-each P Q h xs ys rs (further x others some all r refusals p more) = each_append Q some all (h x some r p) (gathered-each P Q h others all refusals more)
 
 pub read-each : {B : Type 0} (P : Option B → List Refusal → Type 0) (Q : B → Type 0) → ((found : Option B) (rs : List Refusal) → P found rs → IfSome found Q) →
     (ys : List B) (rs : List Refusal) → IfRead P ys rs → Each Q ys
@@ -280,7 +279,7 @@ part-fits c known part =
     of-sort found rs unrefused (sort, is, h) =
         gathered-each (λ e. IfRead (IsEquationJudged (under c part.variables.items) sort e)) (EquationFits (read_theory c))
         (λ e ys r. read-each (IsEquationJudged (under c part.variables.items) sort e) (EquationFits (read_theory c))
-        (λ o q. equation-fits (under c part.variables.items) (under-known c part.variables.items known (both-empty (unknown_sort c part.sort) (unknown_sorts c (declarations part.variables.items)) unrefused).1) sort e o q) ys r)
+        (λ o q. equation-fits (under c part.variables.items) (under-known c part.variables.items known (both_empty (unknown_sort c part.sort) (unknown_sorts c (declarations part.variables.items)) unrefused).1) sort e o q) ys r)
         part.equations.items found rs h
 
 body-fits : (c : Context) → AreKnown c → (body : EquationBody) (found : List ConditionalEquation) (rs : List Refusal) → IsBodyJudged c body found rs → Each (EquationFits (read_theory c)) found

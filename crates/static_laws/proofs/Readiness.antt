@@ -3,6 +3,7 @@ use Rattle.std.proofs.Common.{ℕ, ◌≡◌, List, [], ◌++◌, length, sym, s
 use Rattle.std.proofs.Common.{inl, inr}
 use Rattle.std.specs.Prelude.{Some}
 use Rattle.std.specs.List.{slice_get}
+use Rattle.std.proofs.lemmas.Option.{same_Some}
 use Rattle.spec_core.specs.Code.{Node, Variable, Program, process}
 use Rattle.spec_core.specs.Executable.{IsExecutable}
 use Rattle.spec_core.specs.Functionality.{Functionality, HasFunctionality, ProcessFits}
@@ -19,9 +20,6 @@ use Rattle.static_laws.proofs.Parts.{node-fits}
 use Rattle.static_laws.proofs.PartsRows.{nodes-fit}
 use Rattle.static_laws.proofs.Whole.{construct-stands}
 
-some-same : {A : Type 0} (x y : A) → Some x ≡ Some y → x ≡ y
-some-same x y e = cc
-
 module _ (program : Program) (processes : ℕ → Functionality) (ds : List Definition) (whole : Placed)
     (h : IsAssembled program processes ds whole) where
   start-named : NamesBehaviour program program.start
@@ -34,7 +32,7 @@ module _ (program : Program) (processes : ℕ → Functionality) (ds : List Defi
   definition-parts number d e node at =
       let l = definition-located program processes ds whole h number d e in
       let same : process d.formal d.variables (root l.from d.body.read) ≡ node =
-      some-same (process d.formal d.variables (root l.from d.body.read)) node (sym l.node ∙ at) in
+      same_Some (process d.formal d.variables (root l.from d.body.read)) node (sym l.node ∙ at) in
       subst (PartsFit program number) same (record {
         names = ((nodes-fit program processes l.read (definition-agrees program processes ds whole h number d e).headings).last l.nodes, tt);
         calls = tt;
@@ -69,7 +67,7 @@ module _ (program : Program) (processes : ℕ → Functionality) (ds : List Defi
       let l = definition-located program processes ds whole h p d g.1 in
       let f = h.definitions p d g.1 in
       let same : process d.formal d.variables (root l.from d.body.read) ≡ process formal xs body =
-      some-same (process d.formal d.variables (root l.from d.body.read)) (process formal xs body) (sym l.node ∙ at) in
+      same_Some (process d.formal d.variables (root l.from d.body.read)) (process formal xs body) (sym l.node ∙ at) in
       let fits : NodeProcessFits p (process d.formal d.variables (root l.from d.body.read)) = (
         f.sorts,
         (

@@ -12,6 +12,7 @@ use Rattle.spec_core.specs.Lists.{Each}
 use Rattle.spec_core.specs.Names.{IsIdentifier}
 use Rattle.spec_core.specs.Ready.{AreNamed, IsReady}
 use Rattle.spec_core.specs.Theories.{Theory}
+use Rattle.spec_core.proofs.Lists.{both_empty}
 use Rattle.static_call_cycles.specs.MadeFrom.{AreAcyclic}
 use Rattle.type_names.specs.DuplicateNames.{names_twice}
 use Rattle.static_readings.specs.Joins.{Read}
@@ -19,7 +20,7 @@ use Rattle.static_readings.specs.Readings.{IsRead}
 use Rattle.static_check.specs.Headings.{declared, heading_refusals, twice_refusals, table_refusals, opening_refusals, functionality_refusals}
 use Rattle.static_check.specs.Processes.{Entry, entries}
 use Rattle.static_call_cycles.specs.Unguarded.{links, unguarded_refusals}
-use Rattle.static_call_cycles.proofs.Acyclic.{both_empty, nothing_refused_where_acyclic}
+use Rattle.static_call_cycles.proofs.Acyclic.{nothing_refused_where_acyclic}
 use Rattle.static_laws.proofs.Readiness.{ready}
 use Rattle.static_check.specs.Bodies.{Setting, Placed, ending_refusals, calls_from}
 use Rattle.static_check.specs.Compiled.{data_context, setting, start_site, assembled, program_if_read}

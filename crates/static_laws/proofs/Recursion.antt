@@ -6,6 +6,7 @@ use Rattle.std.proofs.lemmas.Option.{same_Some, none-some}
 use Rattle.lotos_ast.specs.declared.types.TypeDef.{TypeDef}
 use Rattle.spec_core.specs.Lists.{IsOneOf}
 use Rattle.spec_core.specs.Theories.{ConditionalEquation}
+use Rattle.spec_core.proofs.Members.{from_flat_map}
 use Rattle.static_call_cycles.specs.MadeFrom.{IsMadeFrom, directly, through, AreAcyclic}
 use Rattle.static_call_cycles.proofs.Walks.{linked_within}
 use Rattle.type_contents.specs.Numbering.{parts_from, parts}
@@ -17,7 +18,7 @@ use Rattle.type_equation_copies.specs.Needs.{needs}
 use Rattle.type_equation_copies.proofs.Agreeing.{made_agree}
 use Rattle.static_laws.specs.Presentation.{EquationsAreByRecursion}
 use Rattle.static_laws.proofs.Covered.{graph, graph-length, linked, parts_within}
-use Rattle.static_laws.proofs.Membership.{gathered-from, once-from, pair-at}
+use Rattle.static_laws.proofs.Membership.{once-from, pair-at}
 use Rattle.static_laws.proofs.Walking.{IsShort, all-short, short-next, none-short, IsMadeAt, made, past, made-at}
 
 -- what each type is made of
@@ -26,7 +27,7 @@ use Rattle.static_laws.proofs.Walking.{IsShort, all-short, short-next, none-shor
 link-made : (types : List TypeDef) (table : List (List ℕ)) (k : ℕ) (d : TypeDef) (j : ℕ) → slice_get types k ≡ Some d →
     ((i : ℕ) → IsOneOf j (slice_index_or table i []) → IsMadeFrom (graph types) i j) →
     IsOneOf j (flat_map (λ i. i ∷ slice_index_or table i []) (links types d)) → IsMadeFrom (graph types) k j
-link-made types table k d j at below h = by-link (gathered-from (λ i. i ∷ slice_index_or table i []) (links types d) j h)
+link-made types table k d j at below h = by-link (from_flat_map (λ i. i ∷ slice_index_or table i []) (links types d) j h)
   where
     by-link : (i : ℕ) × IsOneOf i (links types d) × IsOneOf j (i ∷ slice_index_or table i []) → IsMadeFrom (graph types) k j
     by-link (i, l, inl e) = directly (subst (λ z. Contains (slice_index_or (graph types) k []) z) (sym e) (linked types k d i at l))

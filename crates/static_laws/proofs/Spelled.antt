@@ -27,8 +27,8 @@ use Rattle.lotos_ast.specs.declared.types.TypeDef.{TypeDef}
 use Rattle.lotos_ast.specs.declared.types.TypeDef.TheVariants.{Library, Definition}
 use Rattle.spec_core.specs.Lists.{Each, IsOneOf}
 use Rattle.spec_core.specs.Names.{IsIdentifier, IsPlainName}
-use Rattle.sort_overloads.proofs.InOrder.{each-one}
-use Rattle.sort_overloads.proofs.Members.{one-mapped}
+use Rattle.spec_core.proofs.Lists.{both_empty}
+use Rattle.spec_core.proofs.Members.{each_one, from_flat_map, one_parts, one_map, one_slice_get, from_map}
 use Rattle.type_contents.specs.declared.item_kind.ItemKind.{ItemKind}
 use Rattle.type_contents.specs.Contents.{contents, items_of, formals_of}
 use Rattle.type_contents.specs.Images.{NewSort, NewOperation, Renaming, new_sort, new_operation, renaming_of, renames, for_sort, for_operation, named_by, sort_image, spelling_of_sort, described_image, has_formal_name, kept_renaming}
@@ -43,9 +43,9 @@ use Rattle.type_copies.specs.Copies.{Change, Copy, change_in, copy, gets}
 use Rattle.type_names.specs.Refused.{each_after}
 use Rattle.static_presentation.specs.Refusals.{bad_copy}
 use Rattle.static_laws.specs.NamedTypes.{IsNamed, IsOperationNamed, HasPlaces, IsDeclarationNamed, ArePairsNamed, AreItemsNamed, IsBodyNamed, IsTypeNamed}
-use Rattle.static_laws.proofs.Closed.{IsUnrefused, both-empty, each-empty}
+use Rattle.static_laws.proofs.Closed.{IsUnrefused, each-empty}
 use Rattle.static_laws.proofs.Items.{is-among, firsts-from}
-use Rattle.static_laws.proofs.Membership.{in-either, in-images, gathered-from, find-passes, none-same, number-in}
+use Rattle.static_laws.proofs.Membership.{find-passes, none-same}
 use Rattle.static_laws.proofs.Ordered.{ordered-from, copied-from}
 use Rattle.static_laws.proofs.Walking.{IsMadeAt, made, past, made-at}
 use Rattle.static_laws.proofs.WellMade.{IsOperationKind, NamesOperations, given, kept-only, in-some, renaming-names, kept-names}
@@ -93,15 +93,15 @@ pub record IsRenamingNamed (renaming : Renaming) : Type 0 where
 
 pub pairs-give : (pairs : Pairs) → ArePairsNamed pairs → IsRenamingNamed (renaming_of pairs)
 pairs-give pairs h = record {
-  sorts = λ n i. of-sort n (one-mapped new_sort (listed pairs.sorts) n i);
-  operations = λ n i. of-operation n (one-mapped new_operation (listed pairs.operations) n i);
+  sorts = λ n i. of-sort n (from_map new_sort (listed pairs.sorts) n i);
+  operations = λ n i. of-operation n (from_map new_operation (listed pairs.operations) n i);
 }
   where
     of-sort : (n : NewSort) → (p : SortPair) × IsOneOf p (listed pairs.sorts) × (n ≡ new_sort p) → IsSortGiven n
-    of-sort n (p, i, is) = subst IsSortGiven (sym is) (refl, each-one (λ (q : SortPair). IsNamed q.new) (listed pairs.sorts) p h.sorts i)
+    of-sort n (p, i, is) = subst IsSortGiven (sym is) (refl, each_one (λ (q : SortPair). IsNamed q.new) (listed pairs.sorts) p h.sorts i)
 
     of-operation : (n : NewOperation) → (p : OperationPair) × IsOneOf p (listed pairs.operations) × (n ≡ new_operation p) → IsOperationGiven n
-    of-operation n (p, i, is) = subst IsOperationGiven (sym is) (refl, each-one (λ (q : OperationPair). IsOperationNamed q.new) (listed pairs.operations) p h.operations i)
+    of-operation n (p, i, is) = subst IsOperationGiven (sym is) (refl, each_one (λ (q : OperationPair). IsOperationNamed q.new) (listed pairs.operations) p h.operations i)
 
 pub kept-give : (formals : List Item) (renaming : Renaming) (x : Item) → IsRenamingNamed renaming → IsRenamingNamed (kept_renaming formals renaming x)
 kept-give formals renaming x h = by-test (has_formal_name formals x)
@@ -168,28 +168,28 @@ operation-spelled o n h = (refl, by-name n.name h)
     by-name (Infix place name) h = (h.0, omega (arith, many, h.1))
 
 operations-spelled : (ds : List OperationDecl) → Each IsDeclarationNamed ds → (d : Described) → IsOneOf d (flat_map declared_operations ds) → IsSpelled d
-operations-spelled ds named d h = by-declaration (gathered-from declared_operations ds d h)
+operations-spelled ds named d h = by-declaration (from_flat_map declared_operations ds d h)
   where
     by-name : (o : OperationDecl) → IsOneOf o ds → (n : DeclaredName) × IsOneOf n o.names.items × (d ≡ declared_operation o n) → IsSpelled d
     by-name o i (n, j, is) =
         subst IsSpelled (sym is)
-        (operation-spelled o n (each-one (λ (m : DeclaredName). IsOperationNamed m.name × HasPlaces m.name (length (listed o.arguments))) o.names.items n (each-one IsDeclarationNamed ds o named i) j))
+        (operation-spelled o n (each_one (λ (m : DeclaredName). IsOperationNamed m.name × HasPlaces m.name (length (listed o.arguments))) o.names.items n (each_one IsDeclarationNamed ds o named i) j))
 
     by-declaration : (o : OperationDecl) × IsOneOf o ds × IsOneOf d (declared_operations o) → IsSpelled d
-    by-declaration (o, i, j) = by-name o i (one-mapped (declared_operation o) o.names.items d j)
+    by-declaration (o, i, j) = by-name o i (from_map (declared_operation o) o.names.items d j)
 
 sorts-spelled : (ts : List Token) → Each IsNamed ts → (d : Described) → IsOneOf d (map declared_sort ts) → IsSpelled d
-sorts-spelled ts named d h = by-token (one-mapped declared_sort ts d h)
+sorts-spelled ts named d h = by-token (from_map declared_sort ts d h)
   where
     by-token : (t : Token) × IsOneOf t ts × (d ≡ declared_sort t) → IsSpelled d
-    by-token (t, i, is) = subst IsSpelled (sym is) (refl, each-one IsNamed ts t named i)
+    by-token (t, i, is) = subst IsSpelled (sym is) (refl, each_one IsNamed ts t named i)
 
 own-spelled : (formals : Formals) (sorts : Option SortPart) (operations : Option OperationPart) (equations : Option EquationPart) → AreItemsNamed formals sorts operations equations →
     (d : Described) → IsOneOf d (own_items formals sorts operations) → IsSpelled d
 own-spelled formals sorts operations equations named d h =
-    elim (in-either d (formal_sorts formals ++ map declared_sort (part_sort_names sorts) ++ formal_operations formals) (flat_map declared_operations (part_operations operations)) h) [
-      | inl i ↦ elim (in-either d (formal_sorts formals ++ map declared_sort (part_sort_names sorts)) (formal_operations formals) i) [
-        | inl j ↦ elim (in-either d (formal_sorts formals) (map declared_sort (part_sort_names sorts)) j) [
+    elim (one_parts d (formal_sorts formals ++ map declared_sort (part_sort_names sorts) ++ formal_operations formals) (flat_map declared_operations (part_operations operations)) h) [
+      | inl i ↦ elim (one_parts d (formal_sorts formals ++ map declared_sort (part_sort_names sorts)) (formal_operations formals) i) [
+        | inl j ↦ elim (one_parts d (formal_sorts formals) (map declared_sort (part_sort_names sorts)) j) [
           | inl k ↦ sorts-spelled (sort_names formals.sorts) named.formal_sorts d k
           | inr k ↦ sorts-spelled (part_sort_names sorts) named.sorts_named d k
         ]
@@ -202,8 +202,8 @@ own-spelled formals sorts operations equations named d h =
 
 each-after-empty : {A : Type 0} (f : List A → A → List Refusal) (before xs : List A) (x : A) → each_after f before xs ≡ [] → IsOneOf x xs → (b : List A) × (f b x ≡ [])
 each-after-empty f before [] x e h = absurd h
-each-after-empty f before (y ∷ ys) x e (inl q) = (before, ap (f before) q ∙ (both-empty (f before y) (each_after f (before ++ y ∷ []) ys) e).0)
-each-after-empty f before (y ∷ ys) x e (inr h) = each-after-empty f (before ++ y ∷ []) ys x (both-empty (f before y) (each_after f (before ++ y ∷ []) ys) e).1 h
+each-after-empty f before (y ∷ ys) x e (inl q) = (before, ap (f before) q ∙ (both_empty (f before y) (each_after f (before ++ y ∷ []) ys) e).0)
+each-after-empty f before (y ∷ ys) x e (inr h) = each-after-empty f (before ++ y ∷ []) ys x (both_empty (f before y) (each_after f (before ++ y ∷ []) ys) e).1 h
 
 not-refused : {A : Type 0} (b : Bool) (r : A) → cond b (r ∷ []) [] ≡ [] → b ≡ false
 not-refused true r e = absurd (cc)
@@ -212,7 +212,7 @@ not-refused false r e = refl
 -- an operation that gets a name between arguments has two
 well-placed : (c : Copy) (pairs : Pairs) → bad_pairs c pairs ≡ [] → (p : OperationPair) → IsOneOf p (listed pairs.operations) → (x : Change) → IsOneOf x c.changes →
     gets c (new_operation p) x.item ≡ true → IsPlaced (new_operation p).new_kind x.item.sorts
-well-placed c pairs none p i x j g = by-pair (each-after-empty (bad_operation_pair c) [] (listed pairs.operations) p (both-empty (each_after (bad_sort_pair c) [] (listed pairs.sorts)) (each_after (bad_operation_pair c) [] (listed pairs.operations)) none).1 i)
+well-placed c pairs none p i x j g = by-pair (each-after-empty (bad_operation_pair c) [] (listed pairs.operations) p (both_empty (each_after (bad_sort_pair c) [] (listed pairs.sorts)) (each_after (bad_operation_pair c) [] (listed pairs.operations)) none).1 i)
   where
     n : NewOperation
     n = new_operation p
@@ -231,14 +231,14 @@ well-placed c pairs none p i x j g = by-pair (each-after-empty (bad_operation_pa
         let bad : is_bad_operation c (map new_operation b) n ≡ false = not-refused (is_bad_operation c (map new_operation b) n) _ e in
         let one = or_parts (not (list_any (λ z. renames z.item n) c.changes) || list_any (has_old_operation n) (map new_operation b) || list_any (is_misplaced c n) c.changes) (list_any (has_clash c (map new_operation b) n) c.changes) bad in
         let two = or_parts (not (list_any (λ z. renames z.item n) c.changes) || list_any (has_old_operation n) (map new_operation b)) (list_any (is_misplaced c n) c.changes) one.0 in
-        by-kind n.new_kind (each-one (λ (z : Change). is_misplaced c n z ≡ true → ⊥) c.changes x (none-same (is_misplaced c n) c.changes two.1) j)
+        by-kind n.new_kind (each_one (λ (z : Change). is_misplaced c n z ≡ true → ⊥) c.changes x (none-same (is_misplaced c n) c.changes two.1) j)
 
 -- the same of an item that is copied, by the name that it gets
 placed-by : (items replaced : List Item) (pairs : Pairs) (x : Item) → bad_pairs (copy items replaced (renaming_of pairs)) pairs ≡ [] → IsOneOf x items → has_formal_name replaced x ≡ false →
     (n : NewOperation) → for_operation (renaming_of pairs).operations x ≡ Some n → IsPlaced n.new_kind x.sorts
 placed-by items replaced pairs x none i free n e =
     let f : IsOneOf n (renaming_of pairs).operations × (renames x n ≡ true) = find-passes (renames x) (renaming_of pairs).operations n e in
-    by-pair f.1 (one-mapped new_operation (listed pairs.operations) n f.0)
+    by-pair f.1 (from_map new_operation (listed pairs.operations) n f.0)
   where
     c : Copy
     c = copy items replaced (renaming_of pairs)
@@ -246,7 +246,7 @@ placed-by items replaced pairs x none i free n e =
     by-pair : renames x n ≡ true → (p : OperationPair) × IsOneOf p (listed pairs.operations) × (n ≡ new_operation p) → IsPlaced n.new_kind x.sorts
     by-pair r (p, j, is) =
         subst (λ (z : NewOperation). IsPlaced z.new_kind x.sorts) (sym is)
-        (well-placed c pairs none p j (change_in replaced (renaming_of pairs) x) (in-images (change_in replaced (renaming_of pairs)) x items i)
+        (well-placed c pairs none p j (change_in replaced (renaming_of pairs) x) (one_map (change_in replaced (renaming_of pairs)) x items i)
         (and_from (renames x (new_operation p)) (not (has_formal_name replaced x)) (ap (renames x) (sym is) ∙ r) (not_from_false (has_formal_name replaced x) free)))
 
 kept-placed : (items formals : List Item) (pairs : Pairs) (x : Item) → bad_pairs (copy items formals (renaming_of pairs)) pairs ≡ [] → IsOneOf x items →
@@ -271,7 +271,7 @@ module _ (types : List TypeDef) (h : IsUnrefused types) (named : Each IsTypeName
   brings-spelled : (table : List (List Described)) → AreSpelled table → (place : Place) (name : Token) (body : TypeBody) → IsOneOf (Definition place name body) types → IsBodyNamed body →
       (e : Described) → IsOneOf e (brings_by types table body) → IsSpelled e
   brings-spelled table before place name (Declared p imports formals sorts operations equations) m b e i = own-spelled formals sorts operations equations b e i
-  brings-spelled table before place name (Renamed p source pairs) m b e i = by-source (gathered-from (new_image (described_image (renaming_of pairs))) (source_in_order types table source) e i)
+  brings-spelled table before place name (Renamed p source pairs) m b e i = by-source (from_flat_map (new_image (described_image (renaming_of pairs))) (source_in_order types table source) e i)
     where
       unrefused_pairs : bad_pairs (copy (items_of types (contents types) source) [] (renaming_of pairs)) pairs ≡ []
       unrefused_pairs = each-empty (bad_copy types (contents types) (all_sorts types ++ all_operations types)) types (Definition place name (Renamed p source pairs)) h.copies m
@@ -282,7 +282,7 @@ module _ (types : List TypeDef) (h : IsUnrefused types) (named : Each IsTypeName
           subst IsSpelled (sym (copied-from (described_image (renaming_of pairs)) d e k))
           (image-spelled (renaming_of pairs) d (pairs-give pairs b) (renaming-names pairs)
           (λ n q. placed-by (items_of types (contents types) source) [] pairs d.item unrefused_pairs s.1 refl n q) s.0)
-  brings-spelled table before place name (Actualized p source actuals pairs) m b e i = by-source (gathered-from (new_kept formals (renaming_of pairs)) (source_in_order types table source) e i)
+  brings-spelled table before place name (Actualized p source actuals pairs) m b e i = by-source (from_flat_map (new_kept formals (renaming_of pairs)) (source_in_order types table source) e i)
     where
       formals : List Item
       formals = formals_of types (contents types) source
@@ -291,7 +291,7 @@ module _ (types : List TypeDef) (h : IsUnrefused types) (named : Each IsTypeName
       all = all_sorts types ++ all_operations types
 
       unrefused_pairs : bad_pairs (copy (items_of types (contents types) source) formals (renaming_of pairs)) pairs ≡ []
-      unrefused_pairs = (both-empty (bad_pairs (copy (items_of types (contents types) source) formals (renaming_of pairs)) pairs)
+      unrefused_pairs = (both_empty (bad_pairs (copy (items_of types (contents types) source) formals (renaming_of pairs)) pairs)
           (bad_actuals name.place pairs formals (flat_map (items_of types (contents types)) actuals.items) all)
           (each-empty (bad_copy types (contents types) all) types (Definition place name (Actualized p source actuals pairs)) h.copies m)).0
 
@@ -316,7 +316,7 @@ module _ (types : List TypeDef) (h : IsUnrefused types) (named : Each IsTypeName
       by-definition before (Definition place name body) m b j = brings-spelled (rounds [] (brings types) types n) before place name body m b d j
 
       by-type : IsMadeAt [] (brings types (rounds [] (brings types) types n)) types (rounds [] (brings types) types (suc n)) k → AreSpelled (rounds [] (brings types) types n) → IsSpelled d
-      by-type (made e at is) before = let m = number-in types e k at in by-definition before e m (each-one IsTypeNamed types e named m) (subst (λ zs. IsOneOf d zs) is i)
+      by-type (made e at is) before = let m = one_slice_get types k e at in by-definition before e m (each_one IsTypeNamed types e named m) (subst (λ zs. IsOneOf d zs) is i)
       by-type (past at is) before = absurd (subst (λ zs. IsOneOf d zs) is i)
 
   pub all-spelled : (d : Described) → IsOneOf d (all_items types) → IsSpelled d

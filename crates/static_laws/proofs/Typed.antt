@@ -8,6 +8,7 @@ use Rattle.spec_core.specs.Lists.{Each}
 use Rattle.spec_core.specs.Sorts.{OnSome, HasSort, HaveSorts, HaveOneSort, IsDeclaredSort, PremiseFits, EquationFits}
 use Rattle.spec_core.specs.Terms.{TermTree, TermTrees, variable, apply, no_terms, and_term}
 use Rattle.spec_core.specs.Theories.{Operation, Premise, premise, ConditionalEquation, Theory}
+use Rattle.spec_core.proofs.Lists.{each_implied}
 
 -- the term has this sort, where an operation has these sorts of arguments and this sort
 abbrev mutual
@@ -182,15 +183,11 @@ module _ (D E : ℕ → List ℕ → ℕ → Type 0) (kept : (f : ℕ) (args : L
   more-one-sort : (a b : TermTree) → HaveOneSortBy D vars a b → HaveOneSortBy E vars a b
   more-one-sort a b (s, left, right) = (s, more-sort a s left, more-sort b s right)
 
-each-more : (S R : ℕ → Type 0) → ((s : ℕ) → S s → R s) → (sorts : List ℕ) → Each S sorts → Each R sorts
-each-more S R h [] g = tt
-each-more S R h (s ∷ sorts) g = (h s g.0, each-more S R h sorts g.1)
-
 pub more-fits : (D E : ℕ → List ℕ → ℕ → Type 0) → ((f : ℕ) (args : List ℕ) (s : ℕ) → D f args s → E f args s) → (S R : ℕ → Type 0) → ((s : ℕ) → S s → R s) →
     (e : ConditionalEquation) → EquationFitsBy D S e → EquationFitsBy E R e
 more-fits D E kept S R moved e h = record {
   one_name_each = h.one_name_each;
-  sorts = each-more S R moved e.sorts h.sorts;
+  sorts = each_implied S R e.sorts moved h.sorts;
   sides = more-one-sort D E kept (slice_get e.sorts) e.left e.right h.sides;
   premises = more-premises D E kept (slice_get e.sorts) e.premises h.premises;
 }

@@ -2,7 +2,7 @@
 use Rattle.std.proofs.Common.{ℕ, suc, ◌≡◌, ◌+◌, List, [], ◌∷◌, length, map, refl, sym, ap, subst, arith, add-one}
 use Rattle.std.specs.Prelude.{Option, Some, None, IfSome}
 use Rattle.std.specs.List.{enumerate_from}
-use Rattle.std.proofs.lemmas.Option.{IfSome_then}
+use Rattle.std.proofs.lemmas.Option.{IfSome_then, same_Some}
 use Rattle.lotos_ast.specs.declared.behaviour.Binding.{Binding}
 use Rattle.lotos_ast.specs.declared.behaviour.ExitValue.{ExitValue}
 use Rattle.lotos_ast.specs.declared.expression.Expr.{Expr}
@@ -29,9 +29,6 @@ use Rattle.static_laws.specs.Standing.{AgreesWithData}
 use Rattle.static_laws.proofs.Judgements.{judged-sort}
 use Rattle.static_laws.proofs.Options.{if-map, if-some, each-read}
 use Rattle.static_laws.proofs.CompiledVariables.{sort-of-fits, known-sort}
-
-some-same : (m n : ℕ) → Some m ≡ Some n → m ≡ n
-some-same m n e = cc
 
 module _ (theory : Theory) (s : Site) (vars : ℕ → Option ℕ) (agrees : AgreesWithData theory s.context vars) where
   -- a value of `exit`, with its sort
@@ -77,7 +74,7 @@ module _ (theory : Theory) (s : Site) (vars : ℕ → Option ℕ) (agrees : Agre
       IfSome (before y ys) (λ ts. ValuesFit theory vars ts (x ∷ xs))
   values-before x xs None ys h hs = tt
   values-before x xs (Some t) None h hs = tt
-  values-before x xs (Some t) (Some ts) h hs = (subst (λ n. HasSort theory vars t n) (sym (some-same x.sort h.0 h.1)) h.2, hs)
+  values-before x xs (Some t) (Some ts) h hs = (subst (λ n. HasSort theory vars t n) (sym (same_Some x.sort h.0 h.1)) h.2, hs)
 
   pub values-fit : (es : List Expr) (xs : List Variable) (found : Option (List TermTree)) (rs : List Refusal) →
       length es ≡ length xs → AreValuesRead s (map (λ x. Some x.sort) xs) es found rs →

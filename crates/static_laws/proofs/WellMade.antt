@@ -19,6 +19,7 @@ use Rattle.lotos_ast.specs.declared.types.TypeBody.TheVariants.{Declared, Rename
 use Rattle.lotos_ast.specs.declared.types.TypeDef.{TypeDef}
 use Rattle.lotos_ast.specs.declared.types.TypeDef.TheVariants.{Library, Definition}
 use Rattle.spec_core.specs.Lists.{Each, IsOneOf}
+use Rattle.spec_core.proofs.Members.{from_flat_map, one_parts, from_map}
 use Rattle.type_contents.specs.declared.item_kind.ItemKind.{ItemKind}
 use Rattle.type_contents.specs.Contents.{contents, items_of, formals_of}
 use Rattle.type_contents.specs.Images.{NewOperation, Renaming, new_operation, renaming_of, renames, for_operation, named_by, sort_image, sorts_renamed, image, described_image, has_formal_name, kept_renaming}
@@ -27,9 +28,8 @@ use Rattle.type_contents.specs.Lists.{listed}
 use Rattle.type_contents.specs.Numbering.{itself_and_parts, source_in_order, new_image, new_kept, brings_by, brings, brought, all_items}
 use Rattle.type_contents.specs.Own.{sort_item, kind_of, declared_sort, declared_operation, declared_operations, sort_names, part_sort_names, part_operations, formal_sorts, formal_operations, own_items}
 use Rattle.type_contents.specs.Rounds.{rounds}
-use Rattle.sort_overloads.proofs.Members.{one-mapped}
 use Rattle.static_laws.proofs.Items.{firsts-from}
-use Rattle.static_laws.proofs.Membership.{in-either, gathered-from, find-passes}
+use Rattle.static_laws.proofs.Membership.{find-passes}
 use Rattle.static_laws.proofs.Ordered.{ordered-from, copied-from}
 use Rattle.static_laws.proofs.Walking.{IsMadeAt, made, past, made-at}
 
@@ -174,25 +174,25 @@ some-behind [] y = omega arith
 some-behind (x ∷ xs) y = omega arith
 
 operations-made : (ds : List OperationDecl) (d : Described) → IsOneOf d (flat_map declared_operations ds) → IsWellMade d.item
-operations-made ds d h = by-declaration (gathered-from declared_operations ds d h)
+operations-made ds d h = by-declaration (from_flat_map declared_operations ds d h)
   where
     by-name : (o : OperationDecl) → (n : DeclaredName) × IsOneOf n o.names.items × (d ≡ declared_operation o n) → IsWellMade d.item
     by-name o (n, i, is) =
         subst (λ z. IsWellMade z.item) (sym is) (as-operation (kind_of n.name) (map small (listed o.arguments) ++ small o.result ∷ []) (kind-is n.name) (some-behind (map small (listed o.arguments)) (small o.result)))
 
     by-declaration : (o : OperationDecl) × IsOneOf o ds × IsOneOf d (declared_operations o) → IsWellMade d.item
-    by-declaration (o, i, h) = by-name o (one-mapped (declared_operation o) o.names.items d h)
+    by-declaration (o, i, h) = by-name o (from_map (declared_operation o) o.names.items d h)
 
 sorts-made : (ts : List Token) (d : Described) → IsOneOf d (map declared_sort ts) → IsWellMade d.item
-sorts-made ts d h = by-name (one-mapped declared_sort ts d h)
+sorts-made ts d h = by-name (from_map declared_sort ts d h)
   where
     by-name : (t : Token) × IsOneOf t ts × (d ≡ declared_sort t) → IsWellMade d.item
     by-name (t, i, is) = subst (λ z. IsWellMade z.item) (sym is) refl
 
 own-made : (formals : Formals) (sorts : Option SortPart) (operations : Option OperationPart) (d : Described) → IsOneOf d (own_items formals sorts operations) → IsWellMade d.item
-own-made formals sorts operations d h = elim (in-either d (formal_sorts formals ++ map declared_sort (part_sort_names sorts) ++ formal_operations formals) (flat_map declared_operations (part_operations operations)) h) [
-  | inl i ↦ elim (in-either d (formal_sorts formals ++ map declared_sort (part_sort_names sorts)) (formal_operations formals) i) [
-    | inl j ↦ elim (in-either d (formal_sorts formals) (map declared_sort (part_sort_names sorts)) j) [
+own-made formals sorts operations d h = elim (one_parts d (formal_sorts formals ++ map declared_sort (part_sort_names sorts) ++ formal_operations formals) (flat_map declared_operations (part_operations operations)) h) [
+  | inl i ↦ elim (one_parts d (formal_sorts formals ++ map declared_sort (part_sort_names sorts)) (formal_operations formals) i) [
+    | inl j ↦ elim (one_parts d (formal_sorts formals) (map declared_sort (part_sort_names sorts)) j) [
       | inl k ↦ sorts-made (sort_names formals.sorts) d k
       | inr k ↦ sorts-made (part_sort_names sorts) d k
     ]
@@ -218,13 +218,13 @@ kept-only false e xs h = h
 
 brings-made : (types : List TypeDef) (table : List (List Described)) → AreMade table → (body : TypeBody) (e : Described) → IsOneOf e (brings_by types table body) → IsWellMade e.item
 brings-made types table h (Declared place imports formals sorts operations equations) e i = own-made formals sorts operations e i
-brings-made types table h (Renamed place source pairs) e i = by-source (gathered-from (new_image (described_image (renaming_of pairs))) (source_in_order types table source) e i)
+brings-made types table h (Renamed place source pairs) e i = by-source (from_flat_map (new_image (described_image (renaming_of pairs))) (source_in_order types table source) e i)
   where
     by-source : (d : Described) × IsOneOf d (source_in_order types table source) × IsOneOf e (new_image (described_image (renaming_of pairs)) d) → IsWellMade e.item
     by-source (d, j, k) =
         subst (λ z. IsWellMade z.item) (sym (copied-from (described_image (renaming_of pairs)) d e k))
         (image-made (renaming_of pairs) d.item (renaming-names pairs) (source-made types table h source d j))
-brings-made types table h (Actualized place source actuals pairs) e i = by-source (gathered-from (new_kept (formals_of types (contents types) source) (renaming_of pairs)) (source_in_order types table source) e i)
+brings-made types table h (Actualized place source actuals pairs) e i = by-source (from_flat_map (new_kept (formals_of types (contents types) source) (renaming_of pairs)) (source_in_order types table source) e i)
   where
     kept : Described → Renaming
     kept d = kept_renaming (formals_of types (contents types) source) (renaming_of pairs) d.item
@@ -253,7 +253,7 @@ round-made types (suc n) k d i = by-type (made-at [] (brings types (rounds [] (b
 
 pub in-some : {A : Type 0} (table : List (List A)) (x : A) → IsOneOf x (flat_map (λ all. all) table) → (k : ℕ) × IsOneOf x (slice_index_or table k [])
 in-some [] x h = absurd h
-in-some (xs ∷ table) x h = elim (in-either x xs (flat_map (λ all. all) table) h) [
+in-some (xs ∷ table) x h = elim (one_parts x xs (flat_map (λ all. all) table) h) [
   | inl i ↦ (zero, i)
   | inr i ↦ let r : (k : ℕ) × IsOneOf x (slice_index_or table k []) = in-some table x i in (suc r.0, r.1)
 ]

@@ -1,10 +1,10 @@
 -- Lists, one more element at a time.
 use Rattle.std.proofs.Common.{ℕ, zero, suc, ◌≡◌, ◌<◌, ◌≤◌, ◌+◌, List, [], ◌∷◌, ◌++◌, Bool, true, false, length, map, take, get_or, refl, ap, sym, ◌∙◌, arith, if◌then◌else◌}
 use Rattle.std.specs.List.{enumerate_from, filter, position_or_len}
-use Rattle.std.proofs.lemmas.List.{length-map, length-take-le}
+use Rattle.std.proofs.lemmas.List.{length-map, length-take-le, map-append}
 use Rattle.std.proofs.lemmas.List.Elements.{filter-append}
-use Rattle.sort_overloads.proofs.Loops.{taken-next, map-join}
 use Rattle.spec_core.specs.Terms.{TermTree, and_term, terms}
+use Rattle.spec_core.proofs.Lists.{take_next}
 use Rattle.type_contents.specs.Lists.{numbers_of}
 use Rattle.static_presentation.specs.Moved.{moved_term, moved_terms}
 
@@ -36,12 +36,12 @@ numbers-next view p xs i x now later within at before more =
     let count : i ≡ 0 + length (map view (take i xs)) = omega (arith, many) in
     more ∙ ap (λ z. z ++ if_so (p (view x)) i) before
     ∙ ap (λ k. numbers_by p 0 (map view (take i xs)) ++ if_so (p (view x)) k) count
-    ∙ sym (ap (λ ys. numbers_of p (map view ys)) (taken-next xs i x within at) ∙ ap (numbers_of p) (map-join view (take i xs) (x ∷ [])) ∙ numbers_behind p 0 (map view (take i xs)) (view x))
+    ∙ sym (ap (λ ys. numbers_of p (map view ys)) (take_next xs i x within at) ∙ ap (numbers_of p) (map-append view (take i xs) (x ∷ [])) ∙ numbers_behind p 0 (map view (take i xs)) (view x))
 
 pub filter-next : {A B : Type 0} (view : A → B) (p : B → Bool) (xs : List A) (i : ℕ) (x : A) (now later : List B) → i < length xs → x ≡ get_or xs i x → now ≡ filter p (map view (take i xs)) → later ≡ now ++ (if p (view x) then view x ∷ [] else []) → later ≡ filter p (map view (take (i + 1) xs))
 filter-next view p xs i x now later within at before more =
     more ∙ ap (λ z. z ++ if_so (p (view x)) (view x)) before
-    ∙ sym (ap (λ ys. filter p (map view ys)) (taken-next xs i x within at) ∙ ap (filter p) (map-join view (take i xs) (x ∷ [])) ∙ filter-append p (map view (take i xs)) (view x ∷ []))
+    ∙ sym (ap (λ ys. filter p (map view ys)) (take_next xs i x within at) ∙ ap (filter p) (map-append view (take i xs) (x ∷ [])) ∙ filter-append p (map view (take i xs)) (view x ∷ []))
 
 -- the first of a mapped list that passes a test
 pub mapped-place : {A B : Type 0} (view : A → B) (p : B → Bool) (xs : List A) (i : ℕ) (x : A) → i < length xs → x ≡ get_or xs i x → ((k : ℕ) (d : A) → k < i → p (view (get_or xs k d)) ≡ false) → p (view x) ≡ true → i ≡ position_or_len p (map view xs)

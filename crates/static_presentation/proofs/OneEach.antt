@@ -1,12 +1,12 @@
 -- There is one list of own equations for each type.
-use Rattle.std.proofs.Common.{suc, ◌≡◌, ◌∙◌, refl, sym, ap, List, [], ◌∷◌, ◌++◌, length, map, arith, Some, Vec, Global}
-use Rattle.std.specs.List.{zip}
+use Rattle.std.proofs.Common.{suc, ◌≡◌, ◌∙◌, refl, sym, ap, List, [], ◌++◌, length, map, Some, Vec, Global}
 use Rattle.std.proofs.lemmas.List.{length-map}
 use Rattle.lotos_ast.specs.declared.refusal.Refusal.{Refusal}
 use Rattle.lotos_ast.specs.declared.types.TypeDef.{TypeDef}
 use Rattle.lotos_ast.specs.FirstRefusals.{first_refusal}
 use Rattle.spec_core.specs.declared.equation.Equation.{Equation}
 use Rattle.spec_core.specs.Theories.{ConditionalEquation, Theory}
+use Rattle.spec_core.proofs.Lists.{length_zip}
 use Rattle.static_equations.specs.Gathered.{Gathers, none, further}
 use Rattle.type_contents.specs.Contents.{Content, no_content, contents, made_from}
 use Rattle.type_contents.specs.Items.{Described}
@@ -23,13 +23,8 @@ one_each : (sorts operations : List Described) {es : List (TypeDef × Content)} 
 one_each sorts operations none = refl
 one_each sorts operations (further x xs ys all rs refusals (own, is, read) more) = ap (λ z. length (z ++ all)) is ∙ ap suc (one_each sorts operations more)
 
-zipped : {A B : Type 0} (xs : List A) (ys : List B) → length ys ≡ length xs → length (zip xs ys) ≡ length xs
-zipped [] ys h = refl
-zipped (x ∷ xs) [] h = absurd (omega (arith, h))
-zipped (x ∷ xs) (y ∷ ys) h = ap suc (zipped xs ys (omega (arith, h)))
-
 pub as_many : (types : List TypeDef) (own : List (Vec Equation Global)) → AreOwnEquations types (map equations_of own) [] → length own ≡ length types
-as_many types own h = sym (length-map own equations_of) ∙ one_each (all_sorts types) (all_operations types) h ∙ zipped types (contents types) (rounds_length no_content (made_from types) types (length types))
+as_many types own h = sym (length-map own equations_of) ∙ one_each (all_sorts types) (all_operations types) h ∙ length_zip types (contents types) (rounds_length no_content (made_from types) types (length types))
 
 pub presented : (types : List TypeDef) (own : List (Vec Equation Global)) (theory : Theory) → AreOwnEquations types (map equations_of own) []
     → theory ≡ data_of types (stated_by own) → IsPresentation types theory

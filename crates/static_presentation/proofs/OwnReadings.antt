@@ -4,15 +4,15 @@ use Rattle.std.specs.Prelude.{Vec, Some}
 use Rattle.lotos_ast.specs.FirstRefusals.{first_refusal}
 use Rattle.std.specs.declared.alloc.Global.{Global}
 use Rattle.std.specs.List.{zip}
-use Rattle.std.proofs.lemmas.List.{append-nil, get_or_default}
+use Rattle.std.proofs.lemmas.List.{append-nil, get_or_default, map-append, take_all}
 use Rattle.std.proofs.lemmas.Slice.Zip.{get_or-zip, length-zip}
 use Rattle.lotos_ast.specs.declared.refusal.Refusal.{Refusal}
 use Rattle.lotos_ast.specs.declared.types.EquationBody.{EquationBody}
 use Rattle.lotos_ast.specs.declared.types.TypeDef.{TypeDef}
 use Rattle.spec_core.specs.declared.equation.Equation.{Equation}
 use Rattle.spec_core.specs.Theories.{ConditionalEquation}
+use Rattle.spec_core.proofs.Lists.{take_next}
 use Rattle.sort_overloads.specs.Judged.{Adds}
-use Rattle.sort_overloads.proofs.Loops.{taken-next, taken-all, map-join}
 use Rattle.static_equations.specs.Bodies.{IsBodyJudged}
 use Rattle.static_equations.specs.Gathered.{Gathers, none, AddsBoth}
 use Rattle.static_equations.proofs.Gatherings.{adds-more, adds-next, adds-all, from-nothing}
@@ -31,13 +31,13 @@ use Rattle.static_presentation.specs.Views.{equations_of}
 pub mapped-more : {A B C : Type 0} (P : A → List B → List Refusal → Type 0) (view : C → A) (xs : List C) (i : ℕ) (x : C) (ys now later : List B) (before mid after : List Refusal) → i < length xs → x ≡ get_or xs i x →
     AddsBoth (Gathers P (map view (take i xs))) ys now before mid → AddsBoth (P (view x)) now later mid after → AddsBoth (Gathers P (map view (take (i + 1) xs))) ys later before after
 mapped-more P view xs i x ys now later before mid after within at h k =
-    subst (λ z. AddsBoth (Gathers P z) ys later before after) (sym (ap (map view) (taken-next xs i x within at) ∙ map-join view (take i xs) (x ∷ [])))
+    subst (λ z. AddsBoth (Gathers P z) ys later before after) (sym (ap (map view) (take_next xs i x within at) ∙ map-append view (take i xs) (x ∷ [])))
     (adds-more P (map view (take i xs)) (view x) ys now later before mid after h k)
 
 pub mapped-all : {A B C : Type 0} (P : A → List B → List Refusal → Type 0) (view : C → A) (xs : List C) (i : ℕ) (now : List B) (before after : List Refusal) → length xs ≤ i →
     AddsBoth (Gathers P (map view (take i xs))) [] now before after → Adds (Gathers P (map view xs) now) before after
 mapped-all P view xs i now before after past h =
-    from-nothing (Gathers P (map view xs)) now before after (subst (λ z. AddsBoth (Gathers P (map view z)) [] now before after) (taken-all xs i past) h)
+    from-nothing (Gathers P (map view xs)) now before after (subst (λ z. AddsBoth (Gathers P (map view z)) [] now before after) (take_all i xs past) h)
 
 module _ (sorts operations : List Described) where
   -- a type without equations
@@ -58,7 +58,7 @@ module _ (sorts operations : List Described) where
     found = equations_of v ∷ [];
     refusals = h.refusals;
     such = (equations_of v, refl, h.such);
-    found_behind = ap (map equations_of) f ∙ map-join equations_of all (v ∷ []);
+    found_behind = ap (map equations_of) f ∙ map-append equations_of all (v ∷ []);
     refused_behind = h.behind;
   }
 

@@ -1,9 +1,10 @@
 -- Processes that are put one after another, and those that stand in one `where` part.
 use Rattle.std.proofs.Common.{ℕ, ◌≡◌, ◌∙◌, ◌<◌, ◌≤◌, ◌+◌, sym, ap, arith, List, [], ◌∷◌, ◌++◌, length, get_or, take, drop, map, append-nil, append_assoc}
 use Rattle.std.specs.Prelude.{Option, if◌then◌else◌}
-use Rattle.std.proofs.lemmas.List.{map-append, length-append}
+use Rattle.std.proofs.lemmas.List.{map-append, length-append, drop_all, take_all}
+use Rattle.spec_core.proofs.Lists.{take_next}
 use Rattle.lotos_ast.specs.declared.spec.WhereItem.{WhereItem}
-use Rattle.sort_overloads.proofs.Loops.{taken-next, taken-all, dropped-next, dropped-all}
+use Rattle.sort_overloads.proofs.Loops.{dropped-next}
 use Rattle.static_processes.specs.Processes as processes
 use Rattle.static_processes.specs.Processes.{Entries, one_after_another, item_entries, stands_in, standing_from}
 use Rattle.static_processes.specs.declared.entry.Entry.{Entry}
@@ -33,12 +34,12 @@ items_next base now next ts i t around within at before more =
     ∙ ap (λ z. base ++ (put ++ z)) (sym (append-nil (item_entries t (length base + length put) around)))
     ∙ ap (λ z. base ++ z) (sym (joined front (item_entries t ∷ []) (length base) around))
     ∙ ap (λ fs. base ++ one_after_another fs (length base) around) (sym (map-append item_entries (take i ts) (t ∷ [])))
-    ∙ ap (λ us. base ++ one_after_another (map item_entries us) (length base) around) (sym (taken-next ts i t within at))
+    ∙ ap (λ us. base ++ one_after_another (map item_entries us) (length base) around) (sym (take_next ts i t within at))
 
 pub items_all : (base now : List processes.Entry) (ts : List WhereItem) (i : ℕ) (around : List ℕ) → length ts ≤ i
     → now ≡ base ++ one_after_another (map item_entries (take i ts)) (length base) around
     → now ≡ base ++ one_after_another (map item_entries ts) (length base) around
-items_all base now ts i around past h = h ∙ ap (λ us. base ++ one_after_another (map item_entries us) (length base) around) (taken-all ts i past)
+items_all base now ts i around past h = h ∙ ap (λ us. base ++ one_after_another (map item_entries us) (length base) around) (take_all i ts past)
 
 pub standing_next : (within : Option ℕ) (table : List Entry) (i : ℕ) (e : Entry) (all more whole : List ℕ) → i < length table → e ≡ get_or table i e
     → all ++ standing_from within i (map entry_of (drop i table)) ≡ whole
@@ -53,4 +54,4 @@ standing_next within table i e all more whole w at before put =
 pub standing_all : (within : Option ℕ) (table : List Entry) (i : ℕ) (all whole : List ℕ) → length table ≤ i
     → all ++ standing_from within i (map entry_of (drop i table)) ≡ whole → all ≡ whole
 standing_all within table i all whole past h =
-    sym (append-nil all) ∙ ap (λ es. all ++ standing_from within i (map entry_of es)) (sym (dropped-all table i past)) ∙ h
+    sym (append-nil all) ∙ ap (λ es. all ++ standing_from within i (map entry_of es)) (sym (drop_all i table past)) ∙ h

@@ -1,10 +1,11 @@
 -- Lists of sorts, headings and names, as loops go over them.
-use Rattle.std.proofs.Common.{ℕ, zero, suc, add-one, arith, ◌≡◌, ◌∙◌, ◌<◌, ◌≤◌, ◌+◌, refl, sym, ap, List, [], ◌∷◌, ◌++◌, length, get_or, take, drop, map, append_assoc, append-nil, Option, Some, None}
+use Rattle.std.proofs.Common.{ℕ, add-one, arith, ◌≡◌, ◌∙◌, ◌<◌, ◌≤◌, ◌+◌, refl, sym, ap, List, [], ◌∷◌, ◌++◌, length, get_or, take, drop, map, append_assoc, append-nil, Option, Some, None}
 use Rattle.std.specs.List.{flat_map, range_with_len}
 use Rattle.std.proofs.lemmas.Grind.{flat_map-append}
-use Rattle.std.proofs.lemmas.List.{map-append}
+use Rattle.std.proofs.lemmas.List.{map-append, drop_all, take_all}
+use Rattle.spec_core.proofs.Lists.{range_suc, take_next}
 use Rattle.lotos_ast.specs.declared.token.Token.{Token}
-use Rattle.sort_overloads.proofs.Loops.{taken-next, taken-all, dropped-next, dropped-all}
+use Rattle.sort_overloads.proofs.Loops.{dropped-next}
 use Rattle.sort_overloads.specs.Readings.{Context}
 use Rattle.static_readings.specs.ReadsAll.{before, all_before}
 use Rattle.static_readings.specs.Sites.{Heading}
@@ -34,7 +35,7 @@ further_none c ts i t ns within at found h =
 
 pub at_end : (c : Context) (ts : List Token) (i : ℕ) (ns : List ℕ) → length ts ≤ i → all_before (Some ns) (known_sorts c (drop i ts)) ≡ known_sorts c ts
     → Some ns ≡ known_sorts c ts
-at_end c ts i ns past h = ap Some (sym (append-nil ns)) ∙ ap (λ us. all_before (Some ns) (known_sorts c us)) (sym (dropped-all ts i past)) ∙ h
+at_end c ts i ns past h = ap Some (sym (append-nil ns)) ∙ ap (λ us. all_before (Some ns) (known_sorts c us)) (sym (drop_all i ts past)) ∙ h
 
 -- one more heading
 
@@ -50,7 +51,7 @@ heading_next c table i e all more whole w at is put =
 pub headings_all : (c : Context) (table : List Entry) (i : ℕ) (all whole : List Heading) → length table ≤ i
     → all ++ headings_from c i (map entry_of (drop i table)) ≡ whole → all ≡ whole
 headings_all c table i all whole past h =
-    sym (append-nil all) ∙ ap (λ es. all ++ headings_from c i (map entry_of es)) (sym (dropped-all table i past)) ∙ h
+    sym (append-nil all) ∙ ap (λ es. all ++ headings_from c i (map entry_of es)) (sym (drop_all i table past)) ∙ h
 
 -- what one more process adds
 
@@ -63,20 +64,16 @@ added_next f table i e base all more w at is put =
     ∙ ap (λ z. base ++ (flat_map f front ++ z)) (sym (append-nil (f (entry_of e))))
     ∙ ap (λ z. base ++ z) (sym (flat_map-append f front (entry_of e ∷ [])))
     ∙ ap (λ es. base ++ flat_map f es) (sym (map-append entry_of (take i table) (e ∷ [])))
-    ∙ ap (λ us. base ++ flat_map f (map entry_of us)) (sym (taken-next table i e w at))
+    ∙ ap (λ us. base ++ flat_map f (map entry_of us)) (sym (take_next table i e w at))
 
 pub added_all : {A : Type 0} (f : processes.Entry → List A) (table : List Entry) (i : ℕ) (base all : List A) → length table ≤ i
     → all ≡ base ++ flat_map f (map entry_of (take i table)) → all ≡ base ++ flat_map f (map entry_of table)
-added_all f table i base all past h = h ∙ ap (λ us. base ++ flat_map f (map entry_of us)) (taken-all table i past)
+added_all f table i base all past h = h ∙ ap (λ us. base ++ flat_map f (map entry_of us)) (take_all i table past)
 
 -- one more number of a range
 
-range_more : (a n : ℕ) → range_with_len a (suc n) ≡ range_with_len a n ++ (a + n) ∷ []
-range_more a zero = ap (λ z. z ∷ []) (omega arith)
-range_more a (suc n) = ap (λ zs. a ∷ zs) (range_more (a + 1) n) ∙ ap (λ z. a ∷ (range_with_len (a + 1) n ++ z ∷ [])) (omega arith)
-
 range_next : (n : ℕ) → range_with_len 0 (n + 1) ≡ range_with_len 0 n ++ n ∷ []
-range_next n = ap (range_with_len 0) (add-one n) ∙ range_more 0 n ∙ ap (λ z. range_with_len 0 n ++ z ∷ []) (omega arith)
+range_next n = ap (range_with_len 0) (add-one n) ∙ range_suc 0 n ∙ ap (λ z. range_with_len 0 n ++ z ∷ []) (omega arith)
 
 pub ranged_next : {A : Type 0} (f : ℕ → List A) (n : ℕ) (base all more : List A) → all ≡ base ++ flat_map f (range_with_len 0 n) → more ≡ all ++ f n
     → more ≡ base ++ flat_map f (range_with_len 0 (n + 1))
@@ -85,13 +82,3 @@ ranged_next f n base all more is put =
     ∙ ap (λ z. base ++ (flat_map f (range_with_len 0 n) ++ z)) (sym (append-nil (f n)))
     ∙ ap (λ z. base ++ z) (sym (flat_map-append f (range_with_len 0 n) (n ∷ [])))
     ∙ ap (λ zs. base ++ flat_map f zs) (sym (range_next n))
-
--- one more element
-
-pub flat_next : {A B : Type 0} (f : A → List B) (xs : List A) (i : ℕ) (x : A) (all more : List B) → i < length xs → x ≡ get_or xs i x
-    → all ≡ flat_map f (take i xs) → more ≡ all ++ f x → more ≡ flat_map f (take (i + 1) xs)
-flat_next f xs i x all more w at is put =
-    put ∙ ap (λ z. z ++ f x) is
-    ∙ ap (λ z. flat_map f (take i xs) ++ z) (sym (append-nil (f x)))
-    ∙ sym (flat_map-append f (take i xs) (x ∷ []))
-    ∙ ap (flat_map f) (sym (taken-next xs i x w at))

@@ -3,7 +3,7 @@ use Rattle.std.proofs.Common.{ℕ, suc, ◌≡◌, ◌∙◌, ◌<◌, ◌≤◌
 use Rattle.std.specs.Prelude.{option_map, Vec}
 use Rattle.std.specs.declared.alloc.Global.{Global}
 use Rattle.std.proofs.lemmas.Grind.{flat_map-append}
-use Rattle.std.proofs.lemmas.List.{map-append, length-append, length-map, length-take-le}
+use Rattle.std.proofs.lemmas.List.{map-append, length-append, length-map, length-take-le, take_all}
 use Rattle.lotos_ast.specs.declared.behaviour.Offer.{Offer}
 use Rattle.lotos_ast.specs.declared.behaviour.Offer.TheVariants.{Variables}
 use Rattle.lotos_ast.specs.declared.expression.Expr.{Expr}
@@ -14,11 +14,11 @@ use Rattle.lotos_ast.specs.declared.token.Token.{Token}
 use Rattle.spec_core.specs.Code as code
 use Rattle.spec_core.specs.Code.{ActionField, give, accept}
 use Rattle.spec_core.specs.Theories.{Premise}
+use Rattle.spec_core.proofs.Lists.{take_next}
 use Rattle.sort_overloads.specs.Judged.{Adds}
 use Rattle.sort_overloads.specs.Listed.{Typed}
 use Rattle.sort_overloads.specs.Readings.{Declared}
 use Rattle.sort_overloads.specs.Refused.{is_sort_known, unknown_sort}
-use Rattle.sort_overloads.proofs.Loops.{taken-next, taken-all}
 use Rattle.static_equations.specs.Premisses.{IsPremissJudged}
 use Rattle.static_equations.specs.Variables.{sort_named}
 use Rattle.static_readings.specs.Declarations.{numbered_from, of_one_sort}
@@ -60,12 +60,12 @@ taken_next n sort ts i t k now next within at is before put =
     put ∙ ap (λ z. z ++ accept (record { number = k; sort = sort }) ∷ []) before
     ∙ ap (λ j. accepted n sort (take i ts) ++ accept (record { number = j; sort = sort }) ∷ []) (is ∙ ap (λ j. n + j) (sym (length-take-le i ts (omega arith))))
     ∙ sym (accepted_more n sort (take i ts) t)
-    ∙ ap (accepted n sort) (sym (taken-next ts i t within at))
+    ∙ ap (accepted n sort) (sym (take_next ts i t within at))
 
 pub taken_all : (n sort : ℕ) (ts : List Token) (i : ℕ) (now : List ActionField) → length ts ≤ i
     → now ≡ map accept (numbered_from n (map (λ t. record { name = t.text; sort = sort }) (take i ts)))
     → now ≡ map accept (numbered_from n (map (λ t. record { name = t.text; sort = sort }) ts))
-taken_all n sort ts i now past h = h ∙ ap (accepted n sort) (taken-all ts i past)
+taken_all n sort ts i now past h = h ∙ ap (accepted n sort) (take_all i ts past)
 
 -- the same, where the sort is known
 
@@ -127,7 +127,7 @@ pub number_next : (n k j : ℕ) (os : List Offer) (i : ℕ) (o : Offer) → i < 
 number_next n k j os i o within at before more =
     let put = offered_names (take i os) in
     let names : offered_names (take (i + 1) os) ≡ put ++ names_of o =
-    ap offered_names (taken-next os i o within at) ∙ flat_map-append names_of (take i os) (o ∷ []) ∙ ap (λ z. put ++ z) (append-nil (names_of o)) in
+    ap offered_names (take_next os i o within at) ∙ flat_map-append names_of (take i os) (o ∷ []) ∙ ap (λ z. put ++ z) (append-nil (names_of o)) in
     let lengths : length (offered_names (take (i + 1) os)) ≡ length put + length (names_of o) = ap length names ∙ length-append put (names_of o) in
     omega (arith, before, more, lengths)
 
@@ -140,13 +140,13 @@ fields_next s f os i o k now after one old mid new within at counts h r is =
     let n = length s.context.variables in
     let front = numbered_offers n (take i os) in
     subst (λ z. Adds (ReadsAll (IsOfferRead s) z (option_map (map f) after)) old new)
-    (sym (ap (numbered_offers n) (taken-next os i o within at) ∙ offers_more n (take i os) o ∙ ap (λ j. front ++ (j, o) ∷ []) (sym counts)))
+    (sym (ap (numbered_offers n) (take_next os i o within at) ∙ offers_more n (take i os) o ∙ ap (λ j. front ++ (j, o) ∷ []) (sym counts)))
     (next_behind (IsOfferRead s) f front (k, o) now after one old mid new h r is)
 
 pub fields_all : (s : Site) (os : List Offer) (i : ℕ) (found : Option (List (List ActionField))) (old new : List Refusal) → length os ≤ i
     → Adds (ReadsAll (IsOfferRead s) (numbered_offers (length s.context.variables) (take i os)) found) old new → Adds (AreOffersRead s os found) old new
 fields_all s os i found old new past h =
-    subst (λ z. Adds (ReadsAll (IsOfferRead s) (numbered_offers (length s.context.variables) z) found) old new) (taken-all os i past) h
+    subst (λ z. Adds (ReadsAll (IsOfferRead s) (numbered_offers (length s.context.variables) z) found) old new) (take_all i os past) h
 
 -- a predicate
 

@@ -1,7 +1,8 @@
 -- Lists of which all elements are read, as a loop goes over them.
 use Rattle.std.proofs.Common.{ℕ, ◌≡◌, ◌∙◌, ◌<◌, ◌≤◌, ◌+◌, refl, sym, ap, List, [], ◌∷◌, ◌++◌, length, get_or, drop, append_assoc, append-nil, Option, Some, None}
+use Rattle.std.proofs.lemmas.List.{drop_all}
 use Rattle.lotos_ast.specs.declared.token.Token.{Token}
-use Rattle.sort_overloads.proofs.Loops.{dropped-next, dropped-all}
+use Rattle.sort_overloads.proofs.Loops.{dropped-next}
 use Rattle.static_readings.specs.Declarations.{gate_numbers}
 use Rattle.static_readings.specs.ReadsAll.{before, all_before}
 use Rattle.static_readings.specs.Sites.{Site, gate_number}
@@ -30,4 +31,4 @@ further_none s ts i t gs within at found h =
 
 pub at_end : (s : Site) (ts : List Token) (i : ℕ) (gs : List ℕ) → length ts ≤ i → all_before (Some gs) (gate_numbers s (drop i ts)) ≡ gate_numbers s ts
     → Some gs ≡ gate_numbers s ts
-at_end s ts i gs past h = ap Some (sym (append-nil gs)) ∙ ap (λ us. all_before (Some gs) (gate_numbers s us)) (sym (dropped-all ts i past)) ∙ h
+at_end s ts i gs past h = ap Some (sym (append-nil gs)) ∙ ap (λ us. all_before (Some gs) (gate_numbers s us)) (sym (drop_all i ts past)) ∙ h

@@ -2,11 +2,12 @@
 use Rattle.std.proofs.Common.{ℕ, ◌≡◌, ◌∙◌, ◌<◌, ◌≤◌, ◌+◌, refl, sym, ap, arith, List, [], ◌∷◌, ◌++◌, length, get_or, take, map, append-nil, append_assoc}
 use Rattle.std.specs.List.{flat_map}
 use Rattle.std.proofs.lemmas.Grind.{flat_map-append}
-use Rattle.std.proofs.lemmas.List.{map-append, take-map, take-append-le}
+use Rattle.std.proofs.lemmas.List.{map-append, take-map, take_all}
+use Rattle.std.proofs.Math.Seq.{take-append_seam}
 use Rattle.spec_core.specs.Theories.{Operation}
+use Rattle.spec_core.proofs.Lists.{take_next}
 use Rattle.lotos_ast.specs.declared.token.Token.{Token}
 use Rattle.sort_overloads.specs.Readings.{Declared}
-use Rattle.sort_overloads.proofs.Loops.{taken-next, taken-all}
 use Rattle.static_readings.specs.Calls.{variable_of}
 use Rattle.static_readings.specs.Declarations.{of_one_sort}
 use Rattle.static_readings.specs.Offers as offers
@@ -26,10 +27,10 @@ gates_joined s ts us =
 pub gates_next : (s now then : Site) (ts : List Token) (i : ℕ) (t : Token) → i < length ts → t ≡ get_or ts i t → now ≡ with_gates s (take i ts)
     → then ≡ with_gates now (t ∷ []) → then ≡ with_gates s (take (i + 1) ts)
 gates_next s now then ts i t within at before more =
-    more ∙ ap (λ z. with_gates z (t ∷ [])) before ∙ gates_joined s (take i ts) (t ∷ []) ∙ ap (with_gates s) (sym (taken-next ts i t within at))
+    more ∙ ap (λ z. with_gates z (t ∷ [])) before ∙ gates_joined s (take i ts) (t ∷ []) ∙ ap (with_gates s) (sym (take_next ts i t within at))
 
 pub gates_all : (s now : Site) (ts : List Token) (i : ℕ) → length ts ≤ i → now ≡ with_gates s (take i ts) → now ≡ with_gates s ts
-gates_all s now ts i past h = h ∙ ap (with_gates s) (taken-all ts i past)
+gates_all s now ts i past h = h ∙ ap (with_gates s) (take_all i ts past)
 
 pub variables_joined : (s : Site) (xs ys : List Declared) → with_variables (with_variables s xs) ys ≡ with_variables s (xs ++ ys)
 variables_joined s xs ys =
@@ -43,11 +44,11 @@ variables_next s now then ts i t sort v within at before one more =
     more ∙ ap (λ z. with_variables z (v ∷ [])) before ∙ variables_joined s (of_one_sort s.context.sorts (take i ts) sort) (v ∷ [])
     ∙ ap (λ vs. with_variables s (of_one_sort s.context.sorts (take i ts) sort ++ vs)) (sym one)
     ∙ ap (with_variables s) (sym (map-append (λ t. record { name = t.text; sort = sort_named s.context.sorts sort.text }) (take i ts) (t ∷ [])))
-    ∙ ap (λ us. with_variables s (of_one_sort s.context.sorts us sort)) (sym (taken-next ts i t within at))
+    ∙ ap (λ us. with_variables s (of_one_sort s.context.sorts us sort)) (sym (take_next ts i t within at))
 
 pub variables_all : (s now : Site) (ts : List Token) (i : ℕ) (sort : Token) → length ts ≤ i → now ≡ with_variables s (of_one_sort s.context.sorts (take i ts) sort)
     → now ≡ with_variables s (of_one_sort s.context.sorts ts sort)
-variables_all s now ts i sort past h = h ∙ ap (λ us. with_variables s (of_one_sort s.context.sorts us sort)) (taken-all ts i past)
+variables_all s now ts i sort past h = h ∙ ap (λ us. with_variables s (of_one_sort s.context.sorts us sort)) (take_all i ts past)
 
 -- the first variables and gates, as the program has them
 pub first_left : {V G : Type 0} (f : V → Declared) (g : G → List ℕ) (sorts : List (List ℕ)) (operations : List Operation) (first : ℕ) (processes : List Heading)
@@ -70,11 +71,11 @@ put_next f s now then keeps xs i x within at before more =
     ∙ ap (λ vs. with_variables (with_variables s put) vs) (keeps put x)
     ∙ variables_joined s put (f s x)
     ∙ ap (with_variables s) (sym (flat_map-append (f s) (take i xs) (x ∷ []) ∙ ap (λ z. put ++ z) (append-nil (f s x))))
-    ∙ ap (λ ys. with_variables s (flat_map (f s) ys)) (sym (taken-next xs i x within at))
+    ∙ ap (λ ys. with_variables s (flat_map (f s) ys)) (sym (take_next xs i x within at))
 
 put_all : {A : Type 0} (f : List A → List Declared) (s now : Site) (xs : List A) (i : ℕ) → length xs ≤ i → now ≡ with_variables s (f (take i xs))
     → now ≡ with_variables s (f xs)
-put_all f s now xs i past h = h ∙ ap (λ ys. with_variables s (f ys)) (taken-all xs i past)
+put_all f s now xs i past h = h ∙ ap (λ ys. with_variables s (f ys)) (take_all i xs past)
 
 pub declared_next : (s now then : Site) (ds : List Declaration) (i : ℕ) (d : Declaration) → i < length ds → d ≡ get_or ds i d
     → now ≡ with_variables s (all_variables s.context.sorts (take i ds)) → then ≡ with_variables now (of_one_sort now.context.sorts d.names.items d.sort)
@@ -107,16 +108,13 @@ bound_next s now then bs i b within at before more =
     more ∙ ap (λ z. with_variables z (variable_of z b ∷ [])) before
     ∙ variables_joined s (map (variable_of s) (take i bs)) (variable_of s b ∷ [])
     ∙ ap (with_variables s) (sym (map-append (variable_of s) (take i bs) (b ∷ [])))
-    ∙ ap (λ ys. with_variables s (map (variable_of s) ys)) (sym (taken-next bs i b within at))
+    ∙ ap (λ ys. with_variables s (map (variable_of s) ys)) (sym (take_next bs i b within at))
 
 pub bound_all : (s now : Site) (bs : List Binding) (i : ℕ) → length bs ≤ i → now ≡ with_variables s (map (variable_of s) (take i bs))
     → now ≡ with_variables s (map (variable_of s) bs)
 bound_all s now bs i past h = put_all (map (variable_of s)) s now bs i past h
 
 -- nothing more is in scope than the first variables and gates
-
-first_of : {A : Type 0} (xs ys : List A) → take (length xs) (xs ++ ys) ≡ xs
-first_of xs ys = take-append-le (length xs) xs ys (omega arith) ∙ taken-all xs (length xs) (omega arith)
 
 pub variables_left : (s : Site) (vs : List Declared) → with_first (with_variables s vs) (length s.context.variables) (length s.gates) ≡ s
 variables_left s vs =
@@ -125,9 +123,9 @@ variables_left s vs =
       gates = take (length s.gates) s.gates;
       first_gate = s.first_gate;
       processes = s.processes;
-    }) (first_of s.context.variables vs)
+    }) (take-append_seam s.context.variables vs)
     ∙ ap (λ gs. record { context = s.context; gates = gs; first_gate = s.first_gate; processes = s.processes })
-    (taken-all s.gates (length s.gates) (omega arith))
+    (take_all (length s.gates) s.gates (omega arith))
 
 pub gates_left : (s : Site) (ts : List Token) → with_first (with_gates s ts) (length s.context.variables) (length s.gates) ≡ s
 gates_left s ts =
@@ -137,9 +135,9 @@ gates_left s ts =
       first_gate = s.first_gate;
       processes = s.processes;
     })
-    (taken-all s.context.variables (length s.context.variables) (omega arith))
+    (take_all (length s.context.variables) s.context.variables (omega arith))
     ∙ ap (λ gs. record { context = s.context; gates = gs; first_gate = s.first_gate; processes = s.processes })
-    (first_of s.gates (map (λ t. t.text) ts))
+    (take-append_seam s.gates (map (λ t. t.text) ts))
 
 pub site_left : (s : Site) → with_first s (length s.context.variables) (length s.gates) ≡ s
 site_left s =
@@ -149,6 +147,6 @@ site_left s =
       first_gate = s.first_gate;
       processes = s.processes;
     })
-    (taken-all s.context.variables (length s.context.variables) (omega arith))
+    (take_all (length s.context.variables) s.context.variables (omega arith))
     ∙ ap (λ gs. record { context = s.context; gates = gs; first_gate = s.first_gate; processes = s.processes })
-    (taken-all s.gates (length s.gates) (omega arith))
+    (take_all (length s.gates) s.gates (omega arith))

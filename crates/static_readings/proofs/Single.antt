@@ -1,6 +1,7 @@
 -- What single values are read as.
 use Rattle.std.proofs.Common.{ℕ, ◌≡◌, sym, subst, List, [], ◌∷◌, ◌++◌, length, length-append, append-nil, arith, Option, Some, None, append_assoc, if◌then◌else◌, Bool, true, false, refl, ◌∙◌, ap}
 use Rattle.std.specs.Prelude.{option_map}
+use Rattle.std.proofs.lemmas.List.{nil_from_length}
 use Rattle.lotos_ast.specs.declared.behaviour.ExitValue.{ExitValue}
 use Rattle.lotos_ast.specs.declared.behaviour.ExitValue.TheVariants.{Any}
 use Rattle.lotos_ast.specs.declared.expression.Expr.{Expr}
@@ -40,16 +41,12 @@ value_read s sort e x old new h = added_as old new (λ rs p. sorted sort e (Some
 
 -- for a parameter whose sort isn't known: a variable where nothing was added, and else nothing
 
-no_elements : (rs : List Refusal) → length rs ≡ 0 → rs ≡ []
-no_elements [] e = refl
-no_elements (r ∷ rs) e = absurd (omega (arith, e))
-
 pub argument_open : (s : Site) (e : Expr) (t : Option TermTree) (old new : List Refusal) → Adds (IsValueRead s None e t) old new
     → length new ≡ length old → Adds (IsArgumentRead s None e (Some (variable 0))) old new
 argument_open s e t old new h same =
     let l = length-append old h.refusals in
     let b = ap length h.behind in
-    let n : h.refusals ≡ [] = no_elements h.refusals (omega (arith, l, b, same)) in
+    let n : h.refusals ≡ [] = nil_from_length h.refusals (omega (arith, l, b, same)) in
     record {
       refusals = h.refusals;
       such = subst (λ u. IsArgumentRead s None e u h.refusals) (ap (λ rs. fitting None rs t) n) (fitted t h.refusals h.such);

@@ -3,11 +3,11 @@ use Rattle.std.proofs.Common.{ℕ, ◌≡◌, ◌∙◌, ◌<◌, ◌≤◌, ◌
 use Rattle.std.specs.Prelude.{option_map}
 use Rattle.std.specs.List.{zip, enumerate_from}
 use Rattle.std.proofs.lemmas.List.FromFn.{get_or-enumerate_from, length-enumerate_from}
-use Rattle.std.proofs.lemmas.List.{map-append, get_or-map, length-map}
+use Rattle.std.proofs.lemmas.List.{map-append, get_or-map, length-map, take_all}
 use Rattle.std.proofs.lemmas.Slice.Zip.{get_or-zip, length-zip}
+use Rattle.spec_core.proofs.Lists.{take_next}
 use Rattle.lotos_ast.specs.declared.refusal.Refusal.{Refusal}
 use Rattle.sort_overloads.specs.Judged.{Adds}
-use Rattle.sort_overloads.proofs.Loops.{taken-next, taken-all}
 use Rattle.static_readings.specs.ReadsAll.{before, all_before, ReadsAll, none, further}
 
 -- an element as a list
@@ -57,12 +57,12 @@ pub next : {A B C : Type 0} (P : A → Option C → List Refusal → Type 0) (f 
     (old mid new : List Refusal) → i < length xs → x ≡ get_or xs i x → Adds (ReadsAll P (take i xs) (option_map (map f) now)) old mid
     → Adds (P x (option_map f one)) mid new → then ≡ all_before now (alone one) → Adds (ReadsAll P (take (i + 1) xs) (option_map (map f) then)) old new
 next P f xs i x now then one old mid new within at h k is =
-    subst (λ z. Adds (ReadsAll P z (option_map (map f) then)) old new) (sym (taken-next xs i x within at))
+    subst (λ z. Adds (ReadsAll P z (option_map (map f) then)) old new) (sym (take_next xs i x within at))
     (next_behind P f (take i xs) x now then one old mid new h k is)
 
 pub ended : {A C : Type 0} (P : A → Option C → List Refusal → Type 0) (xs : List A) (i : ℕ) (ys : Option (List C)) (old new : List Refusal)
     → length xs ≤ i → Adds (ReadsAll P (take i xs) ys) old new → Adds (ReadsAll P xs ys) old new
-ended P xs i ys old new past h = subst (λ z. Adds (ReadsAll P z ys) old new) (taken-all xs i past) h
+ended P xs i ys old new past h = subst (λ z. Adds (ReadsAll P z ys) old new) (take_all i xs past) h
 
 -- two lists side by side
 

@@ -4,9 +4,12 @@ use Rattle.std.proofs.Common.{Option, Some, None, Bool, true, false, option_map,
 use Rattle.std.specs.Str.{bytes_eq}
 use Rattle.std.proofs.lemmas.Bool.Decides.{Decides-eqb}
 use Rattle.std.proofs.lemmas.Slice.Eq.{bytes_eq-Decides}
+use Rattle.std.proofs.lemmas.Bool.{and_from, and_parts, or_left, false≢true, or_right}
+use Rattle.std.proofs.lemmas.Option.{none-some, same_Some}
 use Rattle.spec_core.specs.Lists.{Each}
 use Rattle.spec_core.specs.Theories.{Theory}
 use Rattle.spec_core.specs.Code.{Variable}
+use Rattle.spec_core.proofs.Options.{map_some, then_some}
 use Rattle.rule_model.specs.declared.offer.Field.{Field}
 use Rattle.rule_model.specs.declared.offer.Field.TheVariants.{Give, Take}
 use Rattle.rule_model.specs.declared.offer.Offer.{Offer}
@@ -16,28 +19,10 @@ use Rattle.symbolic_rules.specs.MarkedFields.{MarkedField, told, chosen, given, 
 use Rattle.symbolic_rules.specs.Trees.{FieldMayMeet, FieldsMayMeet, MayMeet}
 use Rattle.symbolic_composites.specs.Kinds.{same_kind}
 use Rattle.symbolic_composites.specs.OpenFields.{is_listed}
-use Rattle.symbolic_composites.proofs.Tests.{both_true, each_true, left_true, right_true, same_kind_so}
+use Rattle.symbolic_composites.proofs.Tests.{same_kind_so}
 use Rattle.symbolic_actions.specs.Deciding.{field_where, agreed, all_agreed, have_sorts, is_within, all_within, field_may_meet, fields_may_meet}
 use Rattle.symbolic_actions.specs.Deciding.{may_meet}
 use Rattle.symbolic_actions.specs.Laws.{FieldsAreDecidedByFunctions}
-
-pub no_true : false ≡ true → ⊥
-no_true e = cc
-
-pub no_some : {A : Type 0} {a : A} → None ≡ Some a → ⊥
-no_some e = cc
-
-pub some_same : {A : Type 0} {a b : A} → Some a ≡ Some b → a ≡ b
-some_same e = cc
-
-pub then_some : {A B : Type 0} (o : Option A) (f : A → Option B) (b : B) → option_and_then f o ≡ Some b →
-    (a : A) × (o ≡ Some a) × (f a ≡ Some b)
-then_some None f b e = absurd (no_some e)
-then_some (Some a) f b e = (a, refl, e)
-
-pub map_some : {A B : Type 0} (o : Option A) (f : A → B) (b : B) → option_map f o ≡ Some b → (a : A) × (o ≡ Some a) × (f a ≡ b)
-map_some None f b e = absurd (no_some e)
-map_some (Some a) f b e = (a, refl, some_same e)
 
 same_value : (v u : List ℕ) → (v ≡ u) ↔ (bytes_eq v u ≡ true)
 same_value v u = ((bytes_eq-Decides v u).1, (bytes_eq-Decides v u).0)
@@ -46,22 +31,19 @@ same_number : (a b : ℕ) → (a ≡ b) ↔ ((a == b) ≡ true)
 same_number a b = ((Decides-eqb a b).1, (Decides-eqb a b).0)
 
 pub both_so : (P Q : Type 0) (b c : Bool) → P ↔ (b ≡ true) → Q ↔ (c ≡ true) → (P × Q) ↔ (b && c ≡ true)
-both_so P Q b c p q = (λ h. both_true b c (p.0 h.0) (q.0 h.1), λ e. let r = each_true b c e in (p.1 r.0, q.1 r.1))
+both_so P Q b c p q = (λ h. and_from b c (p.0 h.0) (q.0 h.1), λ e. let r = and_parts b c e in (p.1 r.0, q.1 r.1))
 
 always : (P : Type 0) → P → P ↔ (true ≡ true)
 always P h = (λ k. refl, λ e. h)
 
-never : false ≡ true → ⊥
-never e = no_true e
-
 -- a value that stands in the list
 listed : (v : List ℕ) (values : List (List ℕ)) → Contains values v ↔ (is_listed v values ≡ true)
-listed v [] = (λ c. let l = c.1 in absurd (omega arith), λ e. absurd (no_true e))
+listed v [] = (λ c. let l = c.1 in absurd (omega arith), λ e. absurd (false≢true e))
 listed v (u ∷ values) = (to (listed v values).0, back (bytes_eq u v) refl (listed v values).1)
   where
     to : (Contains values v → is_listed v values ≡ true) → Contains (u ∷ values) v → bytes_eq u v || is_listed v values ≡ true
-    to r (zero, l, e) = left_true (bytes_eq u v) (is_listed v values) ((same_value u v).0 e)
-    to r (suc i, l, e) = right_true (bytes_eq u v) (is_listed v values) (r (i, omega arith, e))
+    to r (zero, l, e) = or_left (bytes_eq u v) (is_listed v values) ((same_value u v).0 e)
+    to r (suc i, l, e) = or_right (bytes_eq u v) (is_listed v values) (r (i, omega arith, e))
 
     back : (b : Bool) → bytes_eq u v ≡ b → (is_listed v values ≡ true → Contains values v) → b || is_listed v values ≡ true →
         Contains (u ∷ values) v
@@ -70,11 +52,11 @@ listed v (u ∷ values) = (to (listed v values).0, back (bytes_eq u v) refl (lis
 
 -- a field where a test is passed
 where_so : (b : Bool) (P : Type 0) (f h : MarkedField) → P ↔ (b ≡ true) → (P × (h ≡ f)) ↔ (field_where b f ≡ Some h)
-where_so true P f h d = (λ k. ap Some (sym k.1), λ e. (d.1 refl, sym (some_same e)))
-where_so false P f h d = (λ k. absurd (no_true (d.0 k.0)), λ e. absurd (no_some e))
+where_so true P f h d = (λ k. ap Some (sym k.1), λ e. (d.1 refl, sym (same_Some _ _ e)))
+where_so false P f h d = (λ k. absurd (false≢true (d.0 k.0)), λ e. absurd (none-some _ e))
 
 nowhere : (h : MarkedField) → ⊥ ↔ (None ≡ Some h)
-nowhere h = (λ k. absurd k, λ e. no_some e)
+nowhere h = (λ k. absurd k, λ e. none-some _ e)
 
 module _ (theory : Theory) where
   agree_so : (f g h : MarkedField) → Agree theory f g h ↔ (agreed theory f g ≡ Some h)
@@ -96,7 +78,7 @@ module _ (theory : Theory) where
   agree_so (free sort) (free other) h = where_so (sort == other) (sort ≡ other) (free sort) h (same_number sort other)
 
   pub all_agree_so : (fs gs hs : List MarkedField) → AllAgree theory fs gs hs ↔ (all_agreed theory fs gs ≡ Some hs)
-  all_agree_so [] [] hs = (λ e. ap Some (sym e), λ e. sym (some_same e))
+  all_agree_so [] [] hs = (λ e. ap Some (sym e), λ e. sym (same_Some _ _ e))
   all_agree_so (f ∷ fs) (g ∷ gs) [] = (λ k. absurd k, none)
     where
       none : all_agreed theory (f ∷ fs) (g ∷ gs) ≡ Some [] → ⊥
@@ -121,16 +103,16 @@ module _ (theory : Theory) where
           let head : i.0 ≡ h = cc in
           let rest : j.0 ≡ hs = cc in
           (subst (Agree theory f g) head ((agree_so f g i.0).1 i.1), subst (AllAgree theory fs gs) rest (r j.0 j.1))
-  all_agree_so [] (g ∷ gs) hs = (λ k. absurd k, λ e. no_some e)
-  all_agree_so (f ∷ fs) [] hs = (λ k. absurd k, λ e. no_some e)
+  all_agree_so [] (g ∷ gs) hs = (λ k. absurd k, λ e. none-some _ e)
+  all_agree_so (f ∷ fs) [] hs = (λ k. absurd k, λ e. none-some _ e)
 
   pub sorts_so : (xs : List Variable) (fs : List MarkedField) → HaveSortsOf theory xs fs ↔ (have_sorts theory xs fs ≡ true)
   sorts_so [] [] = always (Unit {0}) tt
   sorts_so (x ∷ xs) (f ∷ fs) =
       both_so (sort_of_field theory f ≡ x.sort) (HaveSortsOf theory xs fs) (sort_of_field theory f == x.sort) (have_sorts theory xs fs)
       (same_number (sort_of_field theory f) x.sort) (sorts_so xs fs)
-  sorts_so [] (f ∷ fs) = (λ k. absurd k, λ e. no_true e)
-  sorts_so (x ∷ xs) [] = (λ k. absurd k, λ e. no_true e)
+  sorts_so [] (f ∷ fs) = (λ k. absurd k, λ e. false≢true e)
+  sorts_so (x ∷ xs) [] = (λ k. absurd k, λ e. false≢true e)
 
 module _ (theory : Theory) (w : Windows) where
   within_so : (f : MarkedField) → IsWithin theory w f ↔ (is_within theory w f ≡ true)
@@ -153,7 +135,7 @@ module _ (theory : Theory) (w : Windows) where
   field_meets_so (told v) (Give u) = same_value v u
   field_meets_so (chosen v) (Give u) = same_value v u
   field_meets_so (given sort) (Give u) = same_number (sort_of_value theory u) sort
-  field_meets_so (free sort) (Give u) = (λ k. absurd k, λ e. no_true e)
+  field_meets_so (free sort) (Give u) = (λ k. absurd k, λ e. false≢true e)
   field_meets_so (told v) (Take sort) =
       alone_so (sort_of_value theory v ≡ sort.0) (sort_of_value theory v == sort.0) (same_number (sort_of_value theory v) sort.0)
   field_meets_so (chosen v) (Take sort) =
@@ -168,20 +150,20 @@ module _ (theory : Theory) (w : Windows) where
   fields_meet_so (f ∷ fs) (field ∷ fields) =
       both_so (FieldMayMeet theory w f field) (FieldsMayMeet theory w fs fields) (field_may_meet theory w f field)
       (fields_may_meet theory w fs fields) (field_meets_so f field) (fields_meet_so fs fields)
-  fields_meet_so [] (field ∷ fields) = (λ k. absurd k, λ e. no_true e)
-  fields_meet_so (f ∷ fs) [] = (λ k. absurd k, λ e. no_true e)
+  fields_meet_so [] (field ∷ fields) = (λ k. absurd k, λ e. false≢true e)
+  fields_meet_so (f ∷ fs) [] = (λ k. absurd k, λ e. false≢true e)
 
 -- kinds that the test finds to be one
 pub kinds_same : (j k : Kind) → same_kind j k ≡ true → j ≡ k
 kinds_same inside inside e = refl
 kinds_same ends ends e = refl
 kinds_same (at_gate g) (at_gate h) e = ap at_gate ((same_number g h).1 e)
-kinds_same inside ends e = absurd (no_true e)
-kinds_same inside (at_gate h) e = absurd (no_true e)
-kinds_same ends inside e = absurd (no_true e)
-kinds_same ends (at_gate h) e = absurd (no_true e)
-kinds_same (at_gate g) inside e = absurd (no_true e)
-kinds_same (at_gate g) ends e = absurd (no_true e)
+kinds_same inside ends e = absurd (false≢true e)
+kinds_same inside (at_gate h) e = absurd (false≢true e)
+kinds_same ends inside e = absurd (false≢true e)
+kinds_same ends (at_gate h) e = absurd (false≢true e)
+kinds_same (at_gate g) inside e = absurd (false≢true e)
+kinds_same (at_gate g) ends e = absurd (false≢true e)
 
 meets_so : (theory : Theory) (w : Windows) (k : Kind) (fs : List MarkedField) (o : Option Offer) →
     MayMeet theory w k fs o ↔ (may_meet theory w k fs o ≡ true)

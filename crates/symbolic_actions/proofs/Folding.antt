@@ -1,8 +1,11 @@
 -- What operators may do by rules over their parts.
 use Rattle.std.proofs.Common.{ℕ, ◌≡◌, ◌↔◌, ◌&&◌, not, List, [], refl, sym, ap, subst, ◌∙◌, Option, Some, None, Bool, true, false}
 use Rattle.std.proofs.Common.{if◌then◌else◌, option_map, option_and_then}
+use Rattle.std.proofs.lemmas.Bool.{and_from, and_parts, false≢true, not-true}
+use Rattle.std.proofs.lemmas.Option.{none-some, same_Some}
 use Rattle.spec_core.specs.Lists.{Each}
 use Rattle.spec_core.specs.Code.{Program, Variable, Relabelling, Synchronised}
+use Rattle.spec_core.proofs.Options.{map_some}
 use Rattle.rule_model.specs.Actions.{Kind, inside, ends, at_gate, among, synchronises, IsAlone, IsJoint, IsUnhidden, IsNoEnd, IsEnd}
 use Rattle.rule_model.specs.Behaviours.{Behaviour, parallel, hide, enable}
 use Rattle.rule_model.specs.Derivations.{Derivation, both}
@@ -12,7 +15,7 @@ use Rattle.symbolic_rules.specs.MarkedFields.{MarkedField, AllAgree, HaveSortsOf
 use Rattle.symbolic_rules.specs.MayDerive.{renamed_kind, MayDeriveWith}
 use Rattle.symbolic_composites.specs.Evaluations.{Evaluation, IsExact}
 use Rattle.symbolic_composites.specs.Kinds.{is_alone, is_joint, is_hidden, is_end, same_kind}
-use Rattle.symbolic_composites.proofs.Tests.{if_true, both_true, each_true, not_so, is_alone_so, is_joint_so, is_end_so}
+use Rattle.symbolic_composites.proofs.Tests.{if_true, is_alone_so, is_joint_so, is_end_so}
 use Rattle.symbolic_composites.proofs.Tests.{same_kind_so}
 use Rattle.symbolic_composites.proofs.Trees.{trees_show_one_action}
 use Rattle.symbolic_actions.specs.Deciding.{all_agreed, have_sorts, all_within}
@@ -20,40 +23,40 @@ use Rattle.symbolic_actions.specs.Shows.{Show, ShowsWith, PartRule, of_left, of_
 use Rattle.symbolic_actions.specs.Shows.{handed_to, undisabled, ended, disabling, renamed_by, tree_over, IsOver, show_where, internal_show}
 use Rattle.symbolic_actions.specs.Shows.{over_part, over_both}
 use Rattle.symbolic_actions.specs.Laws.{RulesFoldShows, ShowsAreMadeOfShows}
-use Rattle.symbolic_actions.proofs.Deciding.{no_true, no_some, some_same, map_some, both_so, all_agree_so, sorts_so, all_within_so}
+use Rattle.symbolic_actions.proofs.Deciding.{both_so, all_agree_so, sorts_so, all_within_so}
 use Rattle.symbolic_actions.proofs.Deciding.{kinds_same}
 
 -- kinds
 
 alone_test : (gates : Synchronised) (k : Kind) → IsAlone gates k ↔ (is_alone gates k ≡ true)
 alone_test gates inside = (is_alone_so gates inside, λ e. tt)
-alone_test gates ends = (is_alone_so gates ends, λ e. no_true e)
-alone_test gates (at_gate g) = (is_alone_so gates (at_gate g), not_so (synchronises gates g))
+alone_test gates ends = (is_alone_so gates ends, λ e. false≢true e)
+alone_test gates (at_gate g) = (is_alone_so gates (at_gate g), not-true (synchronises gates g))
 
 joint_test : (gates : Synchronised) (k : Kind) → IsJoint gates k ↔ (is_joint gates k ≡ true)
-joint_test gates inside = (is_joint_so gates inside, λ e. no_true e)
+joint_test gates inside = (is_joint_so gates inside, λ e. false≢true e)
 joint_test gates ends = (is_joint_so gates ends, λ e. tt)
 joint_test gates (at_gate g) = (is_joint_so gates (at_gate g), λ e. e)
 
 unhidden_test : (gates : List ℕ) (k : Kind) → IsUnhidden gates k ↔ (not (is_hidden gates k) ≡ true)
 unhidden_test gates inside = (λ h. refl, λ e. tt)
 unhidden_test gates ends = (λ h. refl, λ e. tt)
-unhidden_test gates (at_gate g) = (λ h. ap not h, not_so (among g gates))
+unhidden_test gates (at_gate g) = (λ h. ap not h, not-true (among g gates))
 
 end_test : (k : Kind) → IsEnd k ↔ (is_end k ≡ true)
-end_test inside = (is_end_so inside, λ e. no_true e)
+end_test inside = (is_end_so inside, λ e. false≢true e)
 end_test ends = (is_end_so ends, λ e. tt)
-end_test (at_gate g) = (is_end_so (at_gate g), λ e. no_true e)
+end_test (at_gate g) = (is_end_so (at_gate g), λ e. false≢true e)
 
 no_end_test : (k : Kind) → IsNoEnd k ↔ (not (is_end k) ≡ true)
 no_end_test inside = (λ h. refl, λ e. tt)
-no_end_test ends = (λ h. absurd h, λ e. no_true e)
+no_end_test ends = (λ h. absurd h, λ e. false≢true e)
 no_end_test (at_gate g) = (λ h. refl, λ e. tt)
 
 -- what is shown, where a test is passed
 shown_so : (b : Bool) (s t : Show) → show_where b s ≡ Some t → (b ≡ true) × (s ≡ t)
-shown_so true s t e = (refl, some_same e)
-shown_so false s t e = absurd (no_some e)
+shown_so true s t e = (refl, same_Some _ _ e)
+shown_so false s t e = absurd (none-some _ e)
 
 -- In this module: Q says what the part may do.
 module _ (Q : Kind → List MarkedField → Type 0) where
@@ -67,7 +70,7 @@ module _ (Q : Kind → List MarkedField → Type 0) where
   unchanged : (k : Kind) (fs : List MarkedField) → Q k fs ↔ LeadsTo (λ s. Some s) k fs
   unchanged k fs = (
     λ q. (record { kind = k; fields = fs }, q, refl),
-    λ h. same_show h.0 (record { kind = k; fields = fs }) (some_same h.2) h.1,
+    λ h. same_show h.0 (record { kind = k; fields = fs }) (same_Some _ _ h.2) h.1,
   )
 
   passes : (P : Kind → Type 0) (test : Kind → Bool) → ((k : Kind) → P k ↔ (test k ≡ true)) → (k : Kind) (fs : List MarkedField) →
@@ -133,7 +136,7 @@ module _ (Q : Kind → List MarkedField → Type 0) where
       back : LeadsTo (λ s. Some (record { kind = renamed_kind pairs s.kind; fields = s.fields })) k fs →
           ((j : Kind) × Q j fs × (k ≡ renamed_kind pairs j))
       back h =
-          let same : record { kind = renamed_kind pairs h.0.kind; fields = h.0.fields } ≡ record { kind = k; fields = fs } = some_same h.2 in (
+          let same : record { kind = renamed_kind pairs h.0.kind; fields = h.0.fields } ≡ record { kind = k; fields = fs } = same_Some _ _ h.2 in (
             h.0.kind,
             subst (Q h.0.kind) (ap (λ (z : Show). z.fields) same) h.1,
             ap (λ (z : Show). z.kind) (sym same),
@@ -150,8 +153,8 @@ module _ (program : Program) (w : Windows) where
 
   hidden_test : (gates : List ℕ) (k : Kind) (fs : List MarkedField) →
       IsHidden gates k fs ↔ (is_hidden gates k && all_within program.theory w fs ≡ true)
-  hidden_test gates inside fs = (λ h. let e : inside ≡ at_gate h.0 = h.1 in absurd cc, λ e. absurd (no_true e))
-  hidden_test gates ends fs = (λ h. let e : ends ≡ at_gate h.0 = h.1 in absurd cc, λ e. absurd (no_true e))
+  hidden_test gates inside fs = (λ h. let e : inside ≡ at_gate h.0 = h.1 in absurd cc, λ e. absurd (false≢true e))
+  hidden_test gates ends fs = (λ h. let e : ends ≡ at_gate h.0 = h.1 in absurd cc, λ e. absurd (false≢true e))
   hidden_test gates (at_gate g) fs = (to, back)
     where
       gate_of : (h : ℕ) → at_gate g ≡ at_gate h → h ≡ g
@@ -159,12 +162,12 @@ module _ (program : Program) (w : Windows) where
 
       to : IsHidden gates (at_gate g) fs → among g gates && all_within program.theory w fs ≡ true
       to h =
-          both_true (among g gates) (all_within program.theory w fs) (subst (λ x. among x gates ≡ true) (gate_of h.0 h.1) h.2)
+          and_from (among g gates) (all_within program.theory w fs) (subst (λ x. among x gates ≡ true) (gate_of h.0 h.1) h.2)
           ((all_within_so program.theory w fs).0 h.3)
 
       back : among g gates && all_within program.theory w fs ≡ true → IsHidden gates (at_gate g) fs
       back e =
-          let r = each_true (among g gates) (all_within program.theory w fs) e in
+          let r = and_parts (among g gates) (all_within program.theory w fs) e in
           (g, refl, r.0, (all_within_so program.theory w fs).1 r.1)
 
   -- a termination with fields of these sorts, and what is only chosen lies in its window
@@ -263,7 +266,7 @@ module _ (program : Program) (w : Windows) where
     made gates k gs hs fs joint agree =
         if_true (same_kind k k && is_joint gates k)
         (option_map (of_kind k) (all_agreed program.theory gs hs)) None
-        (both_true (same_kind k k) (is_joint gates k) (same_kind_so k k refl) (is_joint_so gates k joint))
+        (and_from (same_kind k k) (is_joint gates k) (same_kind_so k k refl) (is_joint_so gates k joint))
         ∙ ap (option_map (of_kind k)) ((all_agree_so program.theory gs hs fs).0 agree)
 
     -- what is known of two shows that make one
@@ -280,9 +283,9 @@ module _ (program : Program) (w : Windows) where
         by_test : (b : Bool) → same_kind s.kind t.kind && is_joint gates s.kind ≡ b →
             (if b then option_map (of_kind s.kind) (all_agreed program.theory s.fields t.fields) else None) ≡
             Some (record { kind = k; fields = fs }) → AreMade gates s t k fs
-        by_test false q i = absurd (no_some i)
+        by_test false q i = absurd (none-some _ i)
         by_test true q i =
-            let r = each_true (same_kind s.kind t.kind) (is_joint gates s.kind) q in
+            let r = and_parts (same_kind s.kind t.kind) (is_joint gates s.kind) q in
             let j = map_some (all_agreed program.theory s.fields t.fields) (of_kind s.kind) (of_kind k fs) i in
             let kind : s.kind ≡ k = ap (λ (z : Show). z.kind) j.2 in
             let fields : j.0 ≡ fs = ap (λ (z : Show). z.fields) j.2 in
@@ -341,7 +344,7 @@ module _ (program : Program) (e : Evaluation) (w : Windows) (exact : IsExact pro
       by_answer None q = λ k fs h.
           let i = (fold_part program w m r b c is d k fs).0 h in
           let same = only_show c d s i.0 shown i.1 in
-          no_some (sym q ∙ subst (λ z. over_part program.theory w r z ≡ Some (record { kind = k; fields = fs })) same i.2)
+          none-some _ (sym q ∙ subst (λ z. over_part program.theory w r z ≡ Some (record { kind = k; fields = fs })) same i.2)
       by_answer (Some t) q = (fold_part program w m r b c is d t.kind t.fields).1 (s, shown, q)
 
   both_shown : (gates : Synchronised) (x y : Behaviour) (d f : Derivation) (o p : Option Show) → ShowsWith program w m x d o →
@@ -362,7 +365,7 @@ module _ (program : Program) (e : Evaluation) (w : Windows) (exact : IsExact pro
           let i = (fold_both program w m gates x y d f k fs).0 h in
           let first = only_show x d s i.0 left i.2 in
           let second = only_show y f t i.1 right i.3 in
-          no_some (sym q ∙ subst (λ z. over_both program.theory gates s z ≡ Some (record { kind = k; fields = fs })) second
+          none-some _ (sym q ∙ subst (λ z. over_both program.theory gates s z ≡ Some (record { kind = k; fields = fs })) second
           (subst (λ z. over_both program.theory gates z i.1 ≡ Some (record { kind = k; fields = fs })) first i.4))
       by_answer (Some z) q = (fold_both program w m gates x y d f z.kind z.fields).1 (s, t, left, right, q)
 

@@ -1,5 +1,7 @@
 -- The exact answers about a specification that is ready.
 use Rattle.std.proofs.Common.{ℕ, ◌≡◌, ◌↔◌, inl, inr, refl, sym, ap, subst, Bool, true, false, Option, Some, None}
+use Rattle.std.proofs.lemmas.Option.{none-some, same_Some}
+use Rattle.std.proofs.lemmas.Bool.{false≢true}
 use Rattle.spec_core.specs.Terms.{TermTree, preorder}
 use Rattle.spec_core.specs.Theories.{Theory}
 use Rattle.spec_core.specs.Sorts.{HasSort, no_variables}
@@ -17,13 +19,9 @@ use Rattle.symbolic_composites.specs.Evaluations.{Definition, Evaluation, IsExac
 use Rattle.symbolic_composites.proofs.One.{IsKnown, One, known_as}
 use Rattle.symbolic_composites.proofs.Parts.{same_value_known}
 use Rattle.symbolic_composites.specs.ReadyLaws.{ExactAnswersExist}
-use Rattle.symbolic_composites.proofs.Options.{no_some, some_same}
 use Rattle.symbolic_composites.proofs.Sorts.{one_sort_of}
 use Rattle.symbolic_composites.proofs.Standing.{one_definition}
 use Rattle.symbolic_composites.proofs.Reading.{one_spelled}
-
-not_true : false ≡ true → ⊥
-not_true e = cc
 
 -- what is so of one thing, as an answer
 abbrev the_one : {A : Type 0} (P : A → Type 0) → One P → Option A
@@ -31,8 +29,8 @@ the_one P (inl one) = Some one.0
 the_one P (inr out) = None
 
 answers_one : {A : Type 0} (P : A → Type 0) (one : One P) (a : A) → P a ↔ (the_one P one ≡ Some a)
-answers_one {A} P (inl one) a = (λ h. ap Some (sym (one.2 a h)), λ e. subst P (some_same e) one.1)
-answers_one P (inr out) a = (λ h. absurd (out a h), λ e. absurd (no_some e))
+answers_one {A} P (inl one) a = (λ h. ap Some (sym (one.2 a h)), λ e. subst P (same_Some _ _ e) one.1)
+answers_one P (inr out) a = (λ h. absurd (out a h), λ e. absurd (none-some _ e))
 
 -- whether something is so, as an answer
 abbrev holds : (P : Type 0) → IsKnown P → Bool
@@ -41,7 +39,7 @@ holds P (inr out) = false
 
 answers_known : (P : Type 0) (known : IsKnown P) → P ↔ (holds P known ≡ true)
 answers_known P (inl p) = (λ h. refl, λ e. p)
-answers_known P (inr out) = (λ h. absurd (out h), λ e. absurd (not_true e))
+answers_known P (inr out) = (λ h. absurd (out h), λ e. absurd (false≢true e))
 
 module _ (theory : Theory) (ex : IsExecutable theory) where
   one_value_of : (t : TermTree) → One (HasValue theory t)

@@ -7,7 +7,6 @@ pub mod Meeting
 pub mod Nesting
 pub mod One
 pub mod OpenFields
-pub mod Options
 pub mod Origins
 pub mod Parts
 pub mod Reading

@@ -2,9 +2,12 @@
 use Rattle.std.proofs.Common.{ℕ, zero, suc, ◌≡◌, ◌+◌, ◌++◌, ◌&&◌, List, [], ◌∷◌, map, flat_map, inl, refl, sym, ap, subst, ◌∙◌, arith}
 use Rattle.std.proofs.Common.{Option, Some, None, true, false, option_map, option_and_then}
 use Rattle.std.specs.List.{slice_get}
+use Rattle.std.proofs.lemmas.Bool.{and_from}
+use Rattle.std.proofs.lemmas.Option.{same_Some}
 use Rattle.spec_core.specs.Lists.{Each, IsOneOf}
 use Rattle.spec_core.specs.Terms.{TermTree, preorder}
 use Rattle.spec_core.specs.Code.{Program, Relabelling, Synchronised, ExitValue, exit_given, exit_any, ActionField, give, accept}
+use Rattle.spec_core.proofs.Members.{one_flat_map, one_left, one_map, one_right}
 use Rattle.rule_model.specs.declared.rules.Slot.{Slot}
 use Rattle.rule_model.specs.declared.rules.Slot.TheVariants.{Of, Mark, Blank}
 use Rattle.rule_model.specs.Actions.{Kind, inside, ends, at_gate, pairs_of}
@@ -26,14 +29,11 @@ use Rattle.symbolic_composites.specs.OpenFields.{window_slots, all_choices, choi
 use Rattle.symbolic_composites.specs.Composites.{Composite, from_option, under, relabelled, turned, alone, paired, joint, by_hiding, by_enabling}
 use Rattle.symbolic_composites.specs.Composites.{by_disabling, of_relabel, of_gates, filled, composites}
 use Rattle.symbolic_composites.specs.TreeLists.{Nests}
-use Rattle.symbolic_composites.proofs.Lists.{one_left, one_right, one_map, one_flat, one_option, one_contained}
-use Rattle.symbolic_composites.proofs.Tests.{if_true, if_false, both_true, is_alone_so, is_joint_so, is_unhidden_so, is_end_so, is_no_end_so}
+use Rattle.symbolic_composites.proofs.Lists.{one_option, one_contained}
+use Rattle.symbolic_composites.proofs.Tests.{if_true, if_false, is_alone_so, is_joint_so, is_unhidden_so, is_end_so, is_no_end_so}
 use Rattle.symbolic_composites.proofs.Tests.{same_kind_so}
 use Rattle.symbolic_composites.proofs.Exact.{value_is, chosen_is, premise_is, bindings_are, arguments_are}
 use Rattle.symbolic_composites.proofs.OpenFields.{Fits, AllFit, Suffice, AllSuffice, all_fit_together, mark_stands, all_within_suffice, at_once_suffices}
-
-some_same : {A : Type 0} {a b : A} → Some a ≡ Some b → a ≡ b
-some_same e = cc
 
 module _ (program : Program) (e : Evaluation) (exact : IsExact program e) (w : Windows) where
   abbrev Fit : List OpenField → List MarkedField → Type 0
@@ -55,7 +55,7 @@ module _ (program : Program) (e : Evaluation) (exact : IsExact program e) (w : W
       (choices : List (List Slot)) → Enough choices h.composite.fields fs → IsOneOf d (filled h.composite choices)
   filled_one cs d k fs h choices enough =
       let those = at_once_suffices program.theory w choices h.composite.fields fs h.fits enough in
-      one_flat h.composite.trees those.0 (choices_at_once h.composite.fields choices) d those.1 (h.filled those.0 those.2)
+      one_flat_map h.composite.trees those.0 (choices_at_once h.composite.fields choices) d those.1 (h.filled those.0 those.2)
 
   -- fields of actions and exits
 
@@ -100,7 +100,7 @@ module _ (program : Program) (e : Evaluation) (exact : IsExact program e) (w : W
   one_slot of more slot slots next c cs f fs a h [] k = absurd k
   one_slot of more slot slots next c cs f fs a h (those ∷ choices) k =
       subst (IsOneOf (slot ∷ slots)) (sym (next those choices))
-      (one_flat (λ s. map (λ others. s ∷ others) (of choices)) slot those (slot ∷ slots) (a those k.0)
+      (one_flat_map (λ s. map (λ others. s ∷ others) (of choices)) slot those (slot ∷ slots) (a those k.0)
       (one_map (λ others. slot ∷ others) slots (of choices) (h choices k.1)))
 
   pub given_opened : (m : MarkedAssignment) (t : TermTree) (fields : List ActionField) (k : MarkedTerm) (cs : List OpenField) →
@@ -204,7 +204,7 @@ module _ (program : Program) (e : Evaluation) (exact : IsExact program e) (w : W
       IsOneOf x xs → IsListed (f x) d k fs → IsListed (flat_map f xs) d k fs
   listed_flat f x xs d k fs i h = record {
     composite = h.composite;
-    listed = one_flat f x xs h.composite i h.listed;
+    listed = one_flat_map f x xs h.composite i h.listed;
     kind = h.kind;
     fits = h.fits;
     filled = h.filled;
@@ -244,7 +244,7 @@ module _ (program : Program) (e : Evaluation) (exact : IsExact program e) (w : W
       (subst (λ z. is_alone gates z ≡ true) (sym h.kind) t) in
       record {
         composite = under row h.composite;
-        listed = one_flat (alone gates row) h.composite cs (under row h.composite) h.listed
+        listed = one_flat_map (alone gates row) h.composite cs (under row h.composite) h.listed
             (subst (IsOneOf (under row h.composite)) (sym here) (inl refl));
         kind = h.kind;
         fits = h.fits;
@@ -258,7 +258,7 @@ module _ (program : Program) (e : Evaluation) (exact : IsExact program e) (w : W
   listed_both gates cs ds d f k gs hs fs t agree h i =
       let j = all_fit_together program.theory w h.composite.fields i.composite.fields gs hs fs h.fits i.fits agree in
       let c : Composite = paired h.composite i.composite j.0 in
-      let test = both_true (same_kind h.composite.kind i.composite.kind) (is_joint gates h.composite.kind)
+      let test = and_from (same_kind h.composite.kind i.composite.kind) (is_joint gates h.composite.kind)
       (same_kind_so h.composite.kind i.composite.kind (h.kind ∙ sym i.kind)) (subst (λ z. is_joint gates z ≡ true) (sym h.kind) t) in
       let all = all_together program.theory h.composite.fields i.composite.fields in
       let here = if_true (same_kind h.composite.kind i.composite.kind && is_joint gates h.composite.kind)
@@ -267,13 +267,13 @@ module _ (program : Program) (e : Evaluation) (exact : IsExact program e) (w : W
       let there = subst (IsOneOf c) (sym here) one in
       record {
         composite = c;
-        listed = one_flat (λ z. flat_map (joint program.theory gates z) ds) h.composite cs c h.listed
-            (one_flat (joint program.theory gates h.composite) i.composite ds c i.listed there);
+        listed = one_flat_map (λ z. flat_map (joint program.theory gates z) ds) h.composite cs c h.listed
+            (one_flat_map (joint program.theory gates h.composite) i.composite ds c i.listed there);
         kind = h.kind;
         fits = j.2;
         filled = λ choices a.
             let u = j.3 choices a in
-            one_flat (λ left. map (both left) (i.composite.trees choices)) d (h.composite.trees choices) (both d f) (h.filled choices u.0)
+            one_flat_map (λ left. map (both left) (i.composite.trees choices)) d (h.composite.trees choices) (both d f) (h.filled choices u.0)
             (one_map (both d) f (i.composite.trees choices) (i.filled choices u.1));
       }
 
@@ -294,7 +294,7 @@ module _ (program : Program) (e : Evaluation) (exact : IsExact program e) (w : W
   listed_gate g n i j [] h cs d k fs q s a = let no : None ≡ Some h = q in absurd cc
   listed_gate g n zero j (here ∷ gates) h cs d k fs q s a =
       let at : j ≡ n = omega (arith, s) in
-      let same : h ≡ here = sym (some_same q) in
+      let same : h ≡ here = sym (same_Some _ _ q) in
       let those = of_relabel (record { from = g; to = here } ∷ []) cs in
       listed_left (map (under (gate n)) those) (of_gates g (suc n) gates cs) (gate j d) k fs
       (subst (λ z. IsListed (map (under (gate n)) those) (gate z d) k fs) (sym at)

@@ -1,29 +1,9 @@
 -- Elements of lists.
-use Rattle.std.proofs.Common.{zero, suc, ◌≡◌, inl, inr, ◌++◌, List, [], ◌∷◌, map, filter, flat_map, refl, sym, ap, subst, arith, Option}
+use Rattle.std.proofs.Common.{zero, suc, ◌≡◌, inl, inr, List, [], ◌∷◌, map, filter, refl, sym, ap, subst, arith, Option}
 use Rattle.std.proofs.Common.{Some}
 use Rattle.std.proofs.Common.{Bool, true, false, cond, Contains}
 use Rattle.spec_core.specs.Lists.{IsOneOf}
 use Rattle.symbolic_composites.specs.Composites.{from_option}
-
-pub one_left : {A : Type 0} (x : A) (xs ys : List A) → IsOneOf x xs → IsOneOf x (xs ++ ys)
-one_left x [] ys h = absurd h
-one_left x (y ∷ xs) ys (inl e) = inl e
-one_left x (y ∷ xs) ys (inr h) = inr (one_left x xs ys h)
-
-pub one_right : {A : Type 0} (x : A) (xs ys : List A) → IsOneOf x ys → IsOneOf x (xs ++ ys)
-one_right x [] ys h = h
-one_right x (y ∷ xs) ys h = inr (one_right x xs ys h)
-
-pub one_map : {A B : Type 0} (f : A → B) (x : A) (xs : List A) → IsOneOf x xs → IsOneOf (f x) (map f xs)
-one_map f x [] h = absurd h
-one_map f x (y ∷ xs) (inl e) = inl (ap f e)
-one_map f x (y ∷ xs) (inr h) = inr (one_map f x xs h)
-
-pub one_flat : {A B : Type 0} (f : A → List B) (x : A) (xs : List A) (y : B) → IsOneOf x xs → IsOneOf y (f x) →
-    IsOneOf y (flat_map f xs)
-one_flat f x [] y h k = absurd h
-one_flat f x (z ∷ xs) y (inl e) k = one_left y (f z) (flat_map f xs) (subst (λ u. IsOneOf y (f u)) e k)
-one_flat f x (z ∷ xs) y (inr h) k = one_right y (f z) (flat_map f xs) (one_flat f x xs y h k)
 
 pub one_option : {A B : Type 0} (o : Option A) (f : A → List B) (a : A) (y : B) → o ≡ Some a → IsOneOf y (f a) →
     IsOneOf y (from_option o f)
@@ -34,16 +14,6 @@ pub one_contained : {A B : Type 0} (f : A → B) (xs : List A) (x : A) → Conta
 one_contained f [] x (i, l, e) = absurd (omega arith)
 one_contained f (y ∷ xs) x (zero, l, e) = inl (ap f (sym e))
 one_contained f (y ∷ xs) x (suc i, l, e) = inr (one_contained f xs x (i, omega arith, e))
-
-pub filter_keeps : {A : Type 0} (p : A → Bool) (x : A) (xs : List A) → IsOneOf x xs → p x ≡ true → IsOneOf x (filter p xs)
-filter_keeps p x [] h e = absurd h
-filter_keeps p x (y ∷ xs) (inl q) e =
-    subst (λ b. IsOneOf x (cond b (y ∷ filter p xs) (filter p xs))) (sym (subst (λ z. p z ≡ true) q e)) (inl q)
-filter_keeps p x (y ∷ xs) (inr h) e = by_test (p y) (filter_keeps p x xs h e)
-  where
-    by_test : (b : Bool) → IsOneOf x (filter p xs) → IsOneOf x (cond b (y ∷ filter p xs) (filter p xs))
-    by_test true k = inr k
-    by_test false k = k
 
 pub filter_passes : {A : Type 0} (p : A → Bool) (x : A) (xs : List A) → IsOneOf x (filter p xs) → p x ≡ true
 filter_passes p x [] h = absurd h

@@ -1,9 +1,10 @@
 -- In a tree no more calls stand in one another than the code has constructs.
-use Rattle.std.proofs.Common.{ℕ, zero, suc, ◌≡◌, ◌⊎◌, ◌≤◌, ◌<◌, ◌+◌, inl, inr, List, [], ◌∷◌, length, refl, sym, subst, arith, Some, false}
+use Rattle.std.proofs.Common.{ℕ, zero, suc, ◌≡◌, ◌⊎◌, ◌≤◌, ◌<◌, ◌+◌, inl, inr, List, [], ◌∷◌, length, refl, sym, subst, arith, false}
 use Rattle.std.proofs.Common.{eqb}
-use Rattle.std.specs.List.{slice_get, IsDistinct, AllByRecursion}
+use Rattle.std.specs.List.{IsDistinct, AllByRecursion}
 use Rattle.std.proofs.lemmas.Bool.Decides.{eqb_tells}
 use Rattle.std.proofs.lemmas.Map.Keys.{IsDistinct-cons}
+use Rattle.std.proofs.lemmas.Option.{slice_get_within}
 use Rattle.spec_core.specs.Code as code
 use Rattle.spec_core.specs.Terms.{TermTree}
 use Rattle.spec_core.specs.Code.{Program, Variable}
@@ -21,7 +22,6 @@ use Rattle.symbolic_rules.specs.MarkedFields.{MarkedField}
 use Rattle.symbolic_rules.specs.MayDerive.{MayDeriveWith}
 use Rattle.symbolic_composites.specs.TreeLists.{Nests}
 use Rattle.symbolic_composites.specs.ReadyLaws.{CallsNestWithinTheCode}
-use Rattle.symbolic_composites.proofs.Options.{no_some}
 
 -- the behaviour calls the process before any action
 abbrev Calls : Behaviour → ℕ → Type 0
@@ -37,11 +37,6 @@ Calls (disable b c) q = Calls b q ⊎ Calls c q
 Calls (call p gates terms) q = p ≡ q
 Calls (relabel pairs b) q = Calls b q
 Calls _ q = ⊥
-
-has_place : {A : Type 0} (xs : List A) (n : ℕ) (x : A) → slice_get xs n ≡ Some x → n < length xs
-has_place [] n x e = absurd (no_some e)
-has_place (y ∷ xs) zero x e = omega arith
-has_place (y ∷ xs) (suc n) x e = let l = has_place xs n x e in omega (arith, l)
 
 module _ (program : Program) (no_cycle : IsGuarded program) where
   calls_at_once : (n : ℕ) (b : Behaviour) (q : ℕ) → StandsAt program n b → Calls b q → CallsAtOnce program q n
@@ -96,7 +91,7 @@ module _ (program : Program) (no_cycle : IsGuarded program) where
       IsDefinition program p gates xs body → Below ps (call p actual terms) → Below (p ∷ ps) (relabel (pairs_of gates actual) body)
   below_call p gates xs body actual terms ps h below = record {
     distinct = IsDistinct-cons eqb p ps (all_others p ps leads) below.distinct;
-    in_code = (has_place program.code p node h.defines, below.in_code);
+    in_code = (slice_get_within program.code p node h.defines, below.in_code);
     lead = λ q i. (one_call (called q i), all_further p q ps (called q i) leads);
   }
     where

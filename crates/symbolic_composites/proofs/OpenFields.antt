@@ -2,8 +2,11 @@
 use Rattle.std.proofs.Common.{ℕ, ◌≡◌, ◌==◌, inl, inr, ◌++◌, ◌||◌, not, List, [], ◌∷◌, map, refl, sym, ap, subst, ◌∙◌, Option, Some, None}
 use Rattle.std.proofs.Common.{Bool, true, false, if◌then◌else◌, Contains, flat_map, option_map, option_and_then}
 use Rattle.std.specs.Str.{bytes_eq}
+use Rattle.std.proofs.lemmas.Bool.{or_left, or_from, or_right}
+use Rattle.std.proofs.lemmas.Slice.Eq.{bytes_eq-Decides}
 use Rattle.spec_core.specs.Lists.{Each, IsOneOf}
 use Rattle.spec_core.specs.Theories.{Theory}
+use Rattle.spec_core.proofs.Members.{one_flat_map, one_left, one_map, one_right}
 use Rattle.rule_model.specs.declared.offer.Field.{Field}
 use Rattle.rule_model.specs.declared.offer.Field.TheVariants.{Give, Take}
 use Rattle.rule_model.specs.declared.offer.Offer.{Offer}
@@ -16,8 +19,8 @@ use Rattle.symbolic_rules.specs.Trees.{FieldMayMeet, FieldsMayMeet, MayMeet}
 use Rattle.symbolic_composites.specs.OpenFields.{OpenField, fixed, blank, together, all_together, mark_unless, is_listed, unless_listed, choices}
 use Rattle.symbolic_composites.specs.OpenFields.{all_choices, given_in, is_marked, any_marked, one_each, choices_at_once}
 use Rattle.symbolic_composites.specs.TreeLists.{offered}
-use Rattle.symbolic_composites.proofs.Lists.{one_left, one_right, one_map, one_flat, one_contained}
-use Rattle.symbolic_composites.proofs.Tests.{if_true, left_true, right_true, neither_true, same_value, values_same, same_number}
+use Rattle.symbolic_composites.proofs.Lists.{one_contained}
+use Rattle.symbolic_composites.proofs.Tests.{if_true, same_value, same_number}
 
 module _ (theory : Theory) (w : Windows) where
   -- a field of a tree is one of those that the open field leaves open
@@ -77,10 +80,10 @@ module _ (theory : Theory) (w : Windows) where
         if_true (bytes_eq a b) (Some (fixed (m || n) a)) None (same_value a b same),
         p,
         λ slots k. (
-          (k.0, λ i. k.1 (left_true m n i)),
+          (k.0, λ i. k.1 (or_left m n i)),
           (
             value_as a b slots same k.0,
-            λ i. mark_as (sort_of_value theory a) (sort_of_value theory b) slots (sort_as a b same) (k.1 (right_true m n i)),
+            λ i. mark_as (sort_of_value theory a) (sort_of_value theory b) slots (sort_as a b same) (k.1 (or_right m n i)),
           ),
         ),
       )
@@ -91,8 +94,8 @@ module _ (theory : Theory) (w : Windows) where
         if_true (sort_of_value theory a == s) (Some (fixed (m || n) a)) None (same_number (sort_of_value theory a) s same),
         p,
         λ slots k. (
-          (k.0, λ i. k.1 (left_true m n i)),
-          (value_as a u slots (p ∙ r.0) k.0, λ i. mark_as (sort_of_value theory a) s slots same (k.1 (right_true m n i))),
+          (k.0, λ i. k.1 (or_left m n i)),
+          (value_as a u slots (p ∙ r.0) k.0, λ i. mark_as (sort_of_value theory a) s slots same (k.1 (or_right m n i))),
         ),
       )
   fit_together (fixed m a) (blank n s) (told v) (given t) h p q r =
@@ -101,7 +104,7 @@ module _ (theory : Theory) (w : Windows) where
         fixed (m || n) a,
         if_true (sort_of_value theory a == s) (Some (fixed (m || n) a)) None (same_number (sort_of_value theory a) s same),
         p,
-        λ slots k. ((k.0, λ i. k.1 (left_true m n i)), mark_as (sort_of_value theory a) s slots same (k.1 (right_true m n q.0))),
+        λ slots k. ((k.0, λ i. k.1 (or_left m n i)), mark_as (sort_of_value theory a) s slots same (k.1 (or_right m n q.0))),
       )
   fit_together (blank m s) (fixed n b) (chosen v) (told u) h p q r =
       let same : sort_of_value theory b ≡ s = sort_as b v (q ∙ sym r.0) ∙ p in
@@ -110,8 +113,8 @@ module _ (theory : Theory) (w : Windows) where
         if_true (sort_of_value theory b == s) (Some (fixed (m || n) b)) None (same_number (sort_of_value theory b) s same),
         q ∙ sym r.0,
         λ slots k. (
-          (value_as b v slots (q ∙ sym r.0) k.0, λ i. mark_as (sort_of_value theory b) s slots same (k.1 (left_true m n i))),
-          (k.0, λ i. k.1 (right_true m n i)),
+          (value_as b v slots (q ∙ sym r.0) k.0, λ i. mark_as (sort_of_value theory b) s slots same (k.1 (or_left m n i))),
+          (k.0, λ i. k.1 (or_right m n i)),
         ),
       )
   fit_together (blank m s) (blank n t) (chosen v) (chosen u) h p q r =
@@ -120,7 +123,7 @@ module _ (theory : Theory) (w : Windows) where
         blank (m || n) s,
         if_true (s == t) (Some (blank (m || n) s)) None (same_number s t same),
         p,
-        λ slots k. ((k.0, λ i. k.1 (left_true m n i)), (value_as v u slots r.0 k.0, λ i. mark_as s t slots same (k.1 (right_true m n i)))),
+        λ slots k. ((k.0, λ i. k.1 (or_left m n i)), (value_as v u slots r.0 k.0, λ i. mark_as s t slots same (k.1 (or_right m n i)))),
       )
   fit_together (blank m s) (blank n t) (chosen v) (given x) h p q r =
       let same : s ≡ t = sym p ∙ r.0 ∙ q.1 in
@@ -128,7 +131,7 @@ module _ (theory : Theory) (w : Windows) where
         blank (m || n) s,
         if_true (s == t) (Some (blank (m || n) s)) None (same_number s t same),
         p,
-        λ slots k. ((k.0, λ i. k.1 (left_true m n i)), mark_as s t slots same (k.1 (right_true m n q.0))),
+        λ slots k. ((k.0, λ i. k.1 (or_left m n i)), mark_as s t slots same (k.1 (or_right m n q.0))),
       )
   fit_together (blank m s) (fixed n b) (given x) (told u) h p q r =
       let same : sort_of_value theory b ≡ s = sort_as b u q ∙ r.0 ∙ p.1 in
@@ -136,7 +139,7 @@ module _ (theory : Theory) (w : Windows) where
         fixed (m || n) b,
         if_true (sort_of_value theory b == s) (Some (fixed (m || n) b)) None (same_number (sort_of_value theory b) s same),
         q,
-        λ slots k. (mark_as (sort_of_value theory b) s slots same (k.1 (left_true m n p.0)), (k.0, λ i. k.1 (right_true m n i))),
+        λ slots k. (mark_as (sort_of_value theory b) s slots same (k.1 (or_left m n p.0)), (k.0, λ i. k.1 (or_right m n i))),
       )
   fit_together (blank m s) (blank n t) (given x) (chosen u) h p q r =
       let same : s ≡ t = sym p.1 ∙ sym r.0 ∙ q in
@@ -144,14 +147,14 @@ module _ (theory : Theory) (w : Windows) where
         blank (m || n) s,
         if_true (s == t) (Some (blank (m || n) s)) None (same_number s t same),
         q ∙ sym same,
-        λ slots k. (k.1 (left_true m n p.0), (k.0, λ i. mark_as s t slots same (k.1 (right_true m n i)))),
+        λ slots k. (k.1 (or_left m n p.0), (k.0, λ i. mark_as s t slots same (k.1 (or_right m n i)))),
       )
   fit_together (blank m s) (blank n t) (given x) (given y) h p q r =
       let same : s ≡ t = sym p.1 ∙ r.0 ∙ q.1 in
       subst (Meeting (blank m s) (blank n t) (given x) (given y)) (sym r.1) (
         blank (m || n) s,
         if_true (s == t) (Some (blank (m || n) s)) None (same_number s t same),
-        (left_true m n p.0, p.1),
+        (or_left m n p.0, p.1),
         λ slots k. (k, mark_as s t slots same k),
       )
   fit_together (blank m s) (blank n t) (given x) (free y) h p q r =
@@ -159,7 +162,7 @@ module _ (theory : Theory) (w : Windows) where
       subst (Meeting (blank m s) (blank n t) (given x) (free y)) (sym r.1) (
         blank (m || n) s,
         if_true (s == t) (Some (blank (m || n) s)) None (same_number s t same),
-        (left_true m n p.0, p.1),
+        (or_left m n p.0, p.1),
         λ slots k. (k, mark_as s t slots same k),
       )
   fit_together (blank m s) (blank n t) (free x) (given y) h p q r =
@@ -167,7 +170,7 @@ module _ (theory : Theory) (w : Windows) where
       subst (Meeting (blank m s) (blank n t) (free x) (given y)) (sym r.1) (
         blank (m || n) s,
         if_true (s == t) (Some (blank (m || n) s)) None (same_number s t same),
-        (right_true m n q.0, p.1),
+        (or_right m n q.0, p.1),
         λ slots k. (k, mark_as s t slots same k),
       )
   fit_together (blank m s) (blank n t) (free x) (free y) h p q r =
@@ -175,7 +178,7 @@ module _ (theory : Theory) (w : Windows) where
       subst (Meeting (blank m s) (blank n t) (free x) (free y)) (sym r.1) (
         blank (m || n) s,
         if_true (s == t) (Some (blank (m || n) s)) None (same_number s t same),
-        (neither_true m n p.0 q.0, p.1, p.2),
+        (or_from m n p.0 q.0, p.1, p.2),
         λ slots k. (k, mark_as s t slots same k),
       )
   fit_together (fixed m a) d (chosen v) g h p q r = absurd p
@@ -233,7 +236,7 @@ listed_stands v (u ∷ values) e = by_test (bytes_eq u v) refl (listed_stands v 
   where
     by_test : (b : Bool) → bytes_eq u v ≡ b → (is_listed v values ≡ true → IsOneOf (Of v) (map Of values)) →
         b || is_listed v values ≡ true → IsOneOf (Of v) (map Of (u ∷ values))
-    by_test true q r i = inl (ap Of (sym (values_same u v q)))
+    by_test true q r i = inl (ap Of (sym ((bytes_eq-Decides u v).0 q)))
     by_test false q r i = inr (r i)
 
 module _ (theory : Theory) (w : Windows) where
@@ -349,7 +352,7 @@ module _ (theory : Theory) (w : Windows) where
       let one = one_suffices slots c f h.0 p.0 k.0 in
       let others = one_each_suffices choices cs fs h.1 p.1 k.1 in (
         (one.0 ∷ []) ∷ others.0,
-        one_flat (λ slot. map (λ those. (slot ∷ []) ∷ those) (one_each choices)) one.0 slots ((one.0 ∷ []) ∷ others.0) one.1
+        one_flat_map (λ slot. map (λ those. (slot ∷ []) ∷ those) (one_each choices)) one.0 slots ((one.0 ∷ []) ∷ others.0) one.1
             (one_map (λ those. (one.0 ∷ []) ∷ those) others.0 (one_each choices) others.1),
         (one.2, others.2),
       )

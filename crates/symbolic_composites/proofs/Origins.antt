@@ -1,5 +1,5 @@
 -- The composites of a behaviour with terms put in are those of the code with these terms for its variables.
-use Rattle.std.proofs.Common.{ℕ, ◌≡◌, ◌==◌, ◌⊎◌, inl, inr, ◌++◌, map, flat_map, List, [], ◌∷◌, refl, sym, ap, subst, ◌∙◌, Option, Some}
+use Rattle.std.proofs.Common.{ℕ, ◌≡◌, ◌==◌, ◌⊎◌, inl, inr, map, flat_map, List, [], ◌∷◌, refl, sym, ap, subst, ◌∙◌, Option, Some}
 use Rattle.std.proofs.Common.{None}
 use Rattle.std.proofs.Common.{Bool, true, false, if◌then◌else◌, option_map, option_and_then}
 use Rattle.std.proofs.lemmas.Bool.{eqb-true}
@@ -7,6 +7,7 @@ use Rattle.spec_core.specs.Terms.{TermTree, TermTrees, variable, apply, no_terms
 use Rattle.spec_core.specs.Theories.{Premise, premise, Theory}
 use Rattle.spec_core.specs.Code.{Variable, Binding, ExitValue, exit_given, exit_any, ActionField, give, accept}
 use Rattle.spec_core.specs.Functionality.{bound_variables}
+use Rattle.spec_core.proofs.Lists.{flat_map_same}
 use Rattle.rule_model.specs.declared.rules.Slot.{Slot}
 use Rattle.rule_model.specs.Actions.{ends, at_gate, pairs_of}
 use Rattle.rule_model.specs.Behaviours.{Behaviour, stop, exit, inner, action, choice, guarded, bound, value_choice, gate_choice, parallel}
@@ -54,10 +55,6 @@ with_one_bound x k r s t leads y = by_test (y == x.number) refl (leads y)
         IsPutFor y (if b then variable x.number else s y) (if b then k else r y) (if b then k else t y)
     by_test true e h = inl (ap variable (sym (eqb-true y x.number e)), refl)
     by_test false e h = h
-
-flat_same : {A B : Type 0} (f g : A → List B) (xs : List A) → ((x : A) → f x ≡ g x) → flat_map f xs ≡ flat_map g xs
-flat_same f g [] h = refl
-flat_same f g (x ∷ xs) h = ap (λ z. z ++ flat_map f xs) (h x) ∙ ap (λ z. g x ++ z) (flat_same f g xs h)
 
 from_same : {A B : Type 0} (o : Option A) (f g : A → List B) → ((a : A) → f a ≡ g a) → from_option o f ≡ from_option o g
 from_same None f g h = refl
@@ -198,7 +195,7 @@ module _ (theory : Theory) (e : Evaluation) where
         (λ l k h. ap (map (under letting)) (behaviour_put b l inside k h))
     behaviour_put (value_choice x b) r s t leads =
         let inside = with_term x (variable x.number) s in
-        flat_same (λ v. from_option (chosen_term theory e w v x.sort) (λ k. map (under (val v)) (of (with_marked x k r) (put inside b))))
+        flat_map_same (λ v. from_option (chosen_term theory e w v x.sort) (λ k. map (under (val v)) (of (with_marked x k r) (put inside b))))
         (λ v. from_option (chosen_term theory e w v x.sort) (λ k. map (under (val v)) (of (with_marked x k t) b))) (window_slots w x.sort)
         (λ v. from_same (chosen_term theory e w v x.sort) (λ k. map (under (val v)) (of (with_marked x k r) (put inside b)))
         (λ k. map (under (val v)) (of (with_marked x k t) b))

@@ -4,6 +4,8 @@ use Rattle.std.specs.Str.{bytes_eq}
 use Rattle.std.specs.Bool.{Decides}
 use Rattle.std.proofs.lemmas.Bool.Decides.{Decides-eqb}
 use Rattle.std.proofs.lemmas.Slice.Eq.{bytes_eq-Decides}
+use Rattle.std.proofs.lemmas.Bool.{true≢false, false≢true}
+use Rattle.std.proofs.lemmas.Option.{none-some, same_Some}
 use Rattle.spec_core.specs.Terms.{TermTree}
 use Rattle.spec_core.specs.Theories.{Premise, premise}
 use Rattle.spec_core.specs.Code.{Program, Variable, Binding, ExitValue, exit_given, exit_any, ActionField, give, accept, Synchronised}
@@ -19,30 +21,18 @@ use Rattle.symbolic_rules.specs.MarkedFields.{Chooses, FieldsMayHave, ExitMayHav
 use Rattle.symbolic_composites.specs.Evaluations.{Evaluation, IsExact}
 use Rattle.symbolic_composites.proofs.One.{IsKnown, One, known_as, one_then}
 
-some_same : {A : Type 0} {a b : A} → Some a ≡ Some b → a ≡ b
-some_same e = cc
-
-no_some : {A : Type 0} {a : A} → None ≡ Some a → ⊥
-no_some e = cc
-
-pub no_true : false ≡ true → ⊥
-no_true e = cc
-
-pub no_false : true ≡ false → ⊥
-no_false e = cc
-
 -- facts that are decided by a test
 
 pub by_decision : (b : Bool) (P : Type 0) → Decides b P → IsKnown P
 by_decision true P d = inl (d.0 refl)
-by_decision false P d = inr (λ p. no_true (d.1 p))
+by_decision false P d = inr (λ p. false≢true (d.1 p))
 
 pub is_true_known : (b : Bool) → IsKnown (b ≡ true)
 is_true_known true = inl refl
-is_true_known false = inr no_true
+is_true_known false = inr false≢true
 
 pub is_false_known : (b : Bool) → IsKnown (b ≡ false)
-is_false_known true = inr no_false
+is_false_known true = inr true≢false
 is_false_known false = inl refl
 
 pub same_value_known : (v u : List ℕ) → IsKnown (v ≡ u)
@@ -97,11 +87,11 @@ module _ (program : Program) (e : Evaluation) (exact : IsExact program e) (w : W
   one_value (plain t) = by_answer (e.value t) refl
     where
       by_answer : (o : Option TermTree) → e.value t ≡ o → One (MayHaveValue program.theory (plain t))
-      by_answer None q = inr (λ k h. no_some (sym q ∙ (exact.value t h.0).0 h.1))
+      by_answer None q = inr (λ k h. none-some _ (sym q ∙ (exact.value t h.0).0 h.1))
       by_answer (Some n) q = inl (
         plain n,
         (n, (exact.value t n).1 q, refl),
-        λ k h. h.2 ∙ ap plain (some_same (sym ((exact.value t h.0).0 h.1) ∙ q)),
+        λ k h. h.2 ∙ ap plain (same_Some _ _ (sym ((exact.value t h.0).0 h.1) ∙ q)),
       )
 
   pub one_choice : (slot : Slot) (sort : ℕ) → One (Chooses program.theory w slot sort)
@@ -114,11 +104,11 @@ module _ (program : Program) (e : Evaluation) (exact : IsExact program e) (w : W
   one_choice (Of v) sort = by_answer (e.spelled v sort) refl
     where
       by_answer : (o : Option TermTree) → e.spelled v sort ≡ o → One (Chooses program.theory w (Of v) sort)
-      by_answer None q = inr (λ k h. no_some (sym q ∙ (exact.spelled v sort h.0).0 h.1))
+      by_answer None q = inr (λ k h. none-some _ (sym q ∙ (exact.spelled v sort h.0).0 h.1))
       by_answer (Some n) q = inl (
         plain n,
         (n, (exact.spelled v sort n).1 q, refl),
-        λ k h. h.2 ∙ ap plain (some_same (sym ((exact.spelled v sort h.0).0 h.1) ∙ q)),
+        λ k h. h.2 ∙ ap plain (same_Some _ _ (sym ((exact.spelled v sort h.0).0 h.1) ∙ q)),
       )
 
   equal_known : (k l : MarkedTerm) → IsKnown (MayBeEqual program.theory k l)

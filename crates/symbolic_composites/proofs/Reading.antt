@@ -3,6 +3,7 @@ use Rattle.std.proofs.Common.{ℕ, zero, suc, ◌≡◌, ◌<◌, ◌+◌, inl, 
 use Rattle.std.proofs.Common.{Option, Some, None, append_assoc}
 use Rattle.std.specs.List.{slice_get}
 use Rattle.std.proofs.lemmas.List.{append-nil}
+use Rattle.std.proofs.lemmas.Option.{none-some}
 use Rattle.spec_core.specs.Terms.{TermTree, TermTrees, variable, apply, no_terms, and_term, preorder, preorders}
 use Rattle.spec_core.specs.Theories.{Operation, Theory}
 use Rattle.spec_core.specs.Sorts.{OnSome, HasSort, HaveSorts, no_variables}
@@ -10,7 +11,6 @@ use Rattle.spec_core.specs.Constructors.{IsConstructed}
 use Rattle.rule_model.specs.Fields.{Spells}
 use Rattle.symbolic_composites.proofs.One.{IsKnown, One}
 use Rattle.symbolic_composites.proofs.Parts.{same_number_known}
-use Rattle.symbolic_composites.proofs.Options.{no_some}
 use Rattle.symbolic_composites.proofs.Constructed.{constructed_known}
 
 first_of : (f g : ℕ) (v u : List ℕ) → f ∷ v ≡ g ∷ u → (f ≡ g) × (v ≡ u)
@@ -35,7 +35,7 @@ module _ (theory : Theory) where
   nothing_read sort = inr none
     where
       none : (p : TermTree × List ℕ) → Reads sort [] p → ⊥
-      none (variable x, rest) h = no_some h.1
+      none (variable x, rest) h = none-some _ h.1
       none (apply f ts, rest) h = none_first f (preorders ts ++ rest) h.0
 
   -- an operation, and its arguments behind it
@@ -44,7 +44,7 @@ module _ (theory : Theory) where
   read_operation sort f v all None q = inr none
     where
       none : (p : TermTree × List ℕ) → Reads sort (f ∷ v) p → ⊥
-      none (variable x, rest) h = no_some h.1
+      none (variable x, rest) h = none-some _ h.1
       none (apply g ts, rest) h =
           let e = first_of f g v (preorders ts ++ rest) h.0 in
           subst (λ o. OnSome o (λ d. (d.result ≡ sort) × HaveSorts theory no_variables ts d.args))
@@ -64,12 +64,12 @@ module _ (theory : Theory) where
       by_args (inr out) all = inr none
         where
           none : (p : TermTree × List ℕ) → Reads sort (f ∷ v) p → ⊥
-          none (variable x, rest) h = no_some h.1
+          none (variable x, rest) h = none-some _ h.1
           none (apply g ts, rest) h = out (args_of g ts rest h).2
       by_args (inl s) (inr out) = inr none
         where
           none : (p : TermTree × List ℕ) → Reads sort (f ∷ v) p → ⊥
-          none (variable x, rest) h = no_some h.1
+          none (variable x, rest) h = none-some _ h.1
           none (apply g ts, rest) h = let a = args_of g ts rest h in out (ts, rest) (a.1, a.3)
       by_args (inl s) (inl one) = inl (
         (apply f one.0.0, one.0.1),
@@ -81,7 +81,7 @@ module _ (theory : Theory) where
       )
         where
           only : (p : TermTree × List ℕ) → Reads sort (f ∷ v) p → p ≡ (apply f one.0.0, one.0.1)
-          only (variable x, rest) h = absurd (no_some h.1)
+          only (variable x, rest) h = absurd (none-some _ h.1)
           only (apply g ts, rest) h =
               let a = args_of g ts rest h in
               ap (λ n. (apply n ts, rest)) (sym a.0) ∙ ap (λ (z : TermTrees × List ℕ). (apply f z.0, z.1)) (one.2 (ts, rest) (a.1, a.3))

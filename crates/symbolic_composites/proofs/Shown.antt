@@ -3,10 +3,12 @@ use Rattle.std.proofs.Common.{ℕ, zero, suc, ◌≡◌, ◌==◌, ◌⊎◌, in
 use Rattle.std.proofs.Common.{◌∙◌, arith, Option, Some, None, Bool, true, false, if◌then◌else◌, option_map, option_and_then}
 use Rattle.std.specs.Str.{bytes_eq}
 use Rattle.std.specs.List.{slice_get}
+use Rattle.std.proofs.lemmas.Option.{same_Some}
 use Rattle.spec_core.specs.Lists.{IsOneOf}
 use Rattle.spec_core.specs.Terms.{TermTree, preorder}
 use Rattle.spec_core.specs.Theories.{Theory}
 use Rattle.spec_core.specs.Code.{Program, Relabelling, Synchronised, ExitValue, exit_given, exit_any, ActionField, give, accept}
+use Rattle.spec_core.proofs.Members.{one_parts, from_flat_map}
 use Rattle.rule_model.specs.declared.rules.Slot.{Slot}
 use Rattle.rule_model.specs.declared.rules.Slot.TheVariants.{Of, Mark, Blank}
 use Rattle.rule_model.specs.Actions.{Kind, inside, ends, at_gate, pairs_of}
@@ -27,37 +29,15 @@ use Rattle.symbolic_composites.specs.OpenFields.{exit_slots_of, window_slots, al
 use Rattle.symbolic_composites.specs.Composites.{Composite, from_option, under, relabelled, turned, alone, paired, joint, by_hiding, by_enabling}
 use Rattle.symbolic_composites.specs.Composites.{by_disabling, of_relabel, of_gates, filled, below_calls, composites}
 use Rattle.symbolic_composites.specs.Shown.{IsAdmitted, AreAdmitted, ShownIsAdmitted}
-use Rattle.symbolic_composites.proofs.Tests.{values_same}
 use Rattle.symbolic_composites.proofs.Exact.{chosen_is, bindings_are, arguments_are}
 use Rattle.symbolic_composites.proofs.Listing.{given_opened, given_left}
 
 -- where an element of a list comes from
 
-some_is : {A : Type 0} {a b : A} → Some a ≡ Some b → a ≡ b
-some_is e = cc
-
-from_append : {A : Type 0} (x : A) (xs ys : List A) → IsOneOf x (xs ++ ys) → IsOneOf x xs ⊎ IsOneOf x ys
-from_append x [] ys h = inr h
-from_append x (z ∷ xs) ys (inl e) = inl (inl e)
-from_append x (z ∷ xs) ys (inr h) = by_case (from_append x xs ys h)
-  where
-    by_case : IsOneOf x xs ⊎ IsOneOf x ys → IsOneOf x (z ∷ xs) ⊎ IsOneOf x ys
-    by_case (inl i) = inl (inr i)
-    by_case (inr i) = inr i
-
 from_map : {A B : Type 0} (f : A → B) (y : B) (xs : List A) → IsOneOf y (map f xs) → (x : A) × IsOneOf x xs × (f x ≡ y)
 from_map f y [] h = absurd h
 from_map f y (x ∷ xs) (inl e) = (x, inl refl, sym e)
 from_map f y (x ∷ xs) (inr h) = let r = from_map f y xs h in (r.0, inr r.1, r.2)
-
-from_flat : {A B : Type 0} (f : A → List B) (y : B) (xs : List A) → IsOneOf y (flat_map f xs) → (x : A) × IsOneOf x xs × IsOneOf y (f x)
-from_flat f y [] h = absurd h
-from_flat {A} f y (x ∷ xs) h = by_case (λ i. from_flat f y xs i) (from_append y (f x) (flat_map f xs) h)
-  where
-    by_case : (IsOneOf y (flat_map f xs) → (z : A) × IsOneOf z xs × IsOneOf y (f z)) →
-        IsOneOf y (f x) ⊎ IsOneOf y (flat_map f xs) → (z : A) × IsOneOf z (x ∷ xs) × IsOneOf y (f z)
-    by_case others (inl i) = (x, inl refl, i)
-    by_case others (inr i) = let r = others i in (r.0, inr r.1, r.2)
 
 from_given : {A B : Type 0} (o : Option A) (f : A → List B) (y : B) → IsOneOf y (from_option o f) → (a : A) × (o ≡ Some a) × IsOneOf y (f a)
 from_given None f y h = absurd h
@@ -143,12 +123,12 @@ module _ (theory : Theory) where
       option_and_then (λ a. option_map (f a) q) o ≡ Some c → (a : A) × (b : B) × (o ≡ Some a) × (q ≡ Some b) × (f a b ≡ c)
   both_some None q f c e = absurd (cc)
   both_some (Some a) None f c e = absurd (cc)
-  both_some (Some a) (Some b) f c e = (a, b, refl, refl, some_is e)
+  both_some (Some a) (Some b) f c e = (a, b, refl, refl, same_Some _ _ e)
 
   all_admitted : (cs ds es : List OpenField) (choices : List (List Slot)) (fs gs hs : List MarkedField) → AreAdmitted theory cs choices fs →
       AreAdmitted theory ds choices gs → AllAgree theory fs gs hs → all_together theory cs ds ≡ Some es → AreAdmitted theory es choices hs
   all_admitted [] [] es choices [] [] hs p q r made =
-      subst (λ z. AreAdmitted theory z choices hs) (some_is made) (subst (AreAdmitted theory [] choices) (sym r) tt)
+      subst (λ z. AreAdmitted theory z choices hs) (same_Some _ _ made) (subst (AreAdmitted theory [] choices) (sym r) tt)
   all_admitted (c ∷ cs) (d ∷ ds) es (slots ∷ choices) (f ∷ fs) (g ∷ gs) (h ∷ hs) p q r made =
       let o = both_some (together theory c d) (all_together theory cs ds) (λ x xs. x ∷ xs) es made in
       subst (λ z. AreAdmitted theory z (slots ∷ choices) (h ∷ hs)) o.4
@@ -188,7 +168,7 @@ module _ (program : Program) (e : Evaluation) (exact : IsExact program e) (w : W
   slot_from : (slot : Slot) (slots those : List Slot) (others : List (List Slot)) →
       IsOneOf (slot ∷ slots) (flat_map (λ s. map (λ z. s ∷ z) others) those) → IsOneOf slot those × IsOneOf slots others
   slot_from slot slots those others h =
-      let r = from_flat (λ s. map (λ z. s ∷ z) others) (slot ∷ slots) those h in
+      let r = from_flat_map (λ s. map (λ z. s ∷ z) others) those (slot ∷ slots) h in
       let q = from_map (λ z. r.0 ∷ z) (slot ∷ slots) others r.2 in
       let first : r.0 ≡ slot = cc (q.2) in
       let rest : q.0 ≡ slots = cc (q.2) in
@@ -292,7 +272,7 @@ module _ (program : Program) (e : Evaluation) (exact : IsExact program e) (w : W
 
   shows_append : (cs ds : List Composite) (d : Derivation) (k : Kind) (fs : List MarkedField) → Shows cs d k fs → Shows ds d k fs →
       Shows (cs ++ ds) d k fs
-  shows_append cs ds d k fs g h c i choices t = by_case (from_append c cs ds i)
+  shows_append cs ds d k fs g h c i choices t = by_case (one_parts c cs ds i)
     where
       by_case : IsOneOf c cs ⊎ IsOneOf c ds → Says c choices k fs
       by_case (inl j) = g c j choices t
@@ -300,7 +280,7 @@ module _ (program : Program) (e : Evaluation) (exact : IsExact program e) (w : W
 
   shows_flat : {A : Type 0} (f : A → List Composite) (xs : List A) (d : Derivation) (k : Kind) (fs : List MarkedField) →
       ((x : A) → IsOneOf x xs → Shows (f x) d k fs) → Shows (flat_map f xs) d k fs
-  shows_flat f xs d k fs h c i choices t = let from = from_flat f c xs i in h from.0 from.1 c from.2 choices t
+  shows_flat f xs d k fs h c i choices t = let from = from_flat_map f xs c i in h from.0 from.1 c from.2 choices t
 
   shows_option : {A : Type 0} (o : Option A) (f : A → List Composite) (d : Derivation) (k : Kind) (fs : List MarkedField) →
       ((a : A) → o ≡ Some a → Shows (f a) d k fs) → Shows (from_option o f) d k fs
@@ -310,7 +290,7 @@ module _ (program : Program) (e : Evaluation) (exact : IsExact program e) (w : W
   shows_known : {A : Type 0} (o : Option A) (f : A → List Composite) (a : A) (d : Derivation) (k : Kind) (fs : List MarkedField) →
       o ≡ Some a → Shows (f a) d k fs → Shows (from_option o f) d k fs
   shows_known o f a d k fs is h =
-      shows_option o f d k fs (λ x q. subst (λ z. Shows (f z) d k fs) (some_is (sym is ∙ q)) h)
+      shows_option o f d k fs (λ x q. subst (λ z. Shows (f z) d k fs) (same_Some _ _ (sym is ∙ q)) h)
 
   shows_test : (b : Bool) (cs : List Composite) (d : Derivation) (k : Kind) (fs : List MarkedField) → Shows cs d k fs →
       Shows (if b then cs else []) d k fs
@@ -348,7 +328,7 @@ module _ (program : Program) (e : Evaluation) (exact : IsExact program e) (w : W
       IsOneOf x (flat_map (λ left. map (both left) (o.trees choices)) (c.trees choices)) →
       (t u : Derivation) × IsOneOf t (c.trees choices) × IsOneOf u (o.trees choices) × (both t u ≡ x)
   tree_of_both d f x c o choices h =
-      let left = from_flat (λ left. map (both left) (o.trees choices)) x (c.trees choices) h in
+      let left = from_flat_map (λ left. map (both left) (o.trees choices)) (c.trees choices) x h in
       let right = from_map (both left.0) x (o.trees choices) left.2 in
       (left.0, right.0, left.1, right.1, right.2)
 
@@ -539,7 +519,7 @@ module _ (program : Program) (e : Evaluation) (exact : IsExact program e) (w : W
       let one : s ≡ slot = cc (tree.2) in
       let same : tree.0 ≡ d = cc (tree.2) in
       let chosen = chosen_is program e exact w slot x.sort h.0 h.1 in
-      let term : j ≡ h.0 = some_is (sym is ∙ ap (λ z. chosen_term program.theory e w z x.sort) one ∙ chosen) in
+      let term : j ≡ h.0 = same_Some _ _ (sym is ∙ ap (λ z. chosen_term program.theory e w z x.sort) one ∙ chosen) in
       subst (λ (z : Composite). Says z choices k fs) from.2
       (part from.0 (subst (λ z. IsOneOf from.0 (of n (with_marked x z m) body)) term from.1) choices
       (subst (λ z. IsOneOf z (from.0.trees choices)) same tree.1))))
@@ -548,7 +528,7 @@ module _ (program : Program) (e : Evaluation) (exact : IsExact program e) (w : W
       shows_gates g 1 j gates (of n m body) d k fs
       (λ i x q s.
       let place = place_is i h.0 j h.2 s in
-      let one : h.1 ≡ x = some_is (sym h.3 ∙ ap (slice_get gates) (sym place) ∙ q) in
+      let one : h.1 ≡ x = same_Some _ _ (sym h.3 ∙ ap (slice_get gates) (sym place) ∙ q) in
       subst (λ z. Shows (of_relabel (record { from = g; to = z } ∷ []) (of n m body)) d k fs) one part)
   all_shown (guard d) n (guarded p body) m k fs h =
       shows_test (premise_may_hold program.theory e m p) (map (under guard) (of n m body)) (guard d) k fs

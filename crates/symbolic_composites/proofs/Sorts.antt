@@ -1,12 +1,12 @@
 -- Whether a term has a sort, and which.
 use Rattle.std.proofs.Common.{ℕ, ◌≡◌, inl, inr, List, [], ◌∷◌, refl, sym, subst, Option, Some, None}
 use Rattle.std.specs.List.{slice_get}
+use Rattle.std.proofs.lemmas.Option.{none-some}
 use Rattle.spec_core.specs.Terms.{TermTree, TermTrees, variable, apply, no_terms, and_term}
 use Rattle.spec_core.specs.Theories.{Operation, Theory}
 use Rattle.spec_core.specs.Sorts.{OnSome, HasSort, HaveSorts, no_variables}
 use Rattle.symbolic_composites.proofs.One.{IsKnown, One}
 use Rattle.symbolic_composites.proofs.Parts.{same_number_known}
-use Rattle.symbolic_composites.proofs.Options.{no_some}
 
 module _ (theory : Theory) where
   -- an operation over terms of which it is known whether they have given sorts
@@ -39,7 +39,7 @@ module _ (theory : Theory) where
 
   mutual
     pub one_sort_of : (t : TermTree) → One (HasSort theory no_variables t)
-    one_sort_of (variable x) = inr (λ sort h. no_some h)
+    one_sort_of (variable x) = inr (λ sort h. none-some _ h)
     one_sort_of (apply f ts) = applied f ts (λ sorts. sorts_known ts sorts) (slice_get theory.operations f) refl
 
     sorts_known : (ts : TermTrees) (sorts : List ℕ) → IsKnown (HaveSorts theory no_variables ts sorts)

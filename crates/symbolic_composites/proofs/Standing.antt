@@ -1,6 +1,7 @@
 -- Which behaviour stands at a number of a specification that is ready, and which process a number names.
 use Rattle.std.proofs.Common.{ℕ, zero, suc, ◌≡◌, ◌<◌, inl, inr, List, refl, sym, ap, subst, ◌∙◌, arith, Option, Some, None}
 use Rattle.std.specs.List.{slice_get}
+use Rattle.std.proofs.lemmas.Option.{none-some, same_Some}
 use Rattle.spec_core.specs.Code as code
 use Rattle.spec_core.specs.Code.{Program, Variable}
 use Rattle.spec_core.specs.Ready.{IsProcess, IsReady}
@@ -10,7 +11,6 @@ use Rattle.rule_model.specs.Code.{StandsAt, IsDefinition}
 use Rattle.rule_laws.proofs.OneStep.{one_behaviour}
 use Rattle.symbolic_composites.specs.Evaluations.{Definition}
 use Rattle.symbolic_composites.proofs.One.{One}
-use Rattle.symbolic_composites.proofs.Options.{no_some, some_same}
 
 module _ (program : Program) (ready : IsReady program) where
   abbrev Stands : ℕ → Type 0
@@ -101,7 +101,7 @@ module _ (program : Program) (ready : IsReady program) where
 
   -- what isn't a process is no definition
   no_definition : (p : ℕ) (node : code.Node) → slice_get program.code p ≡ Some node → (IsProcess node → ⊥) → One (Defines p)
-  no_definition p node q np = inr (λ d h. np (subst IsProcess (sym (some_same (sym q ∙ h.defines))) tt))
+  no_definition p node q np = inr (λ d h. np (subst IsProcess (sym (same_Some _ _ (sym q ∙ h.defines))) tt))
 
   by_node : (p : ℕ) (node : code.Node) → slice_get program.code p ≡ Some node → One (Defines p)
   by_node p (code.process gates xs part) q =
@@ -115,7 +115,7 @@ module _ (program : Program) (ready : IsReady program) where
     where
       only : (r : Stands part) (d : Definition) → Defines p d → d ≡ record { gates = gates; variables = xs; body = r.0 }
       only r d h =
-          let e = process_parts d.gates gates d.variables xs h.part part (some_same (sym h.defines ∙ q)) in
+          let e = process_parts d.gates gates d.variables xs h.part part (same_Some _ _ (sym h.defines ∙ q)) in
           let same : d.body ≡ r.0 = one_behaviour program part d.body r.0 (subst (λ n. StandsAt program n d.body) e.2 h.stands) r.1 in
           let definition : List ℕ → List Variable → Behaviour → Definition =
           λ g x b. record { gates = g; variables = x; body = b } in
@@ -126,5 +126,5 @@ module _ (program : Program) (ready : IsReady program) where
   one_definition p = by_place (slice_get program.code p) refl
     where
       by_place : (o : Option code.Node) → slice_get program.code p ≡ o → One (Defines p)
-      by_place None q = inr (λ d h. no_some (sym q ∙ h.defines))
+      by_place None q = inr (λ d h. none-some _ (sym q ∙ h.defines))
       by_place (Some node) q = by_node p node q

@@ -1,5 +1,5 @@
 -- What tests say.
-use Rattle.std.proofs.Common.{ℕ, ◌≡◌, ◌==◌, ◌||◌, ◌&&◌, not, List, refl, sym, ap, subst, Bool, true, false, if◌then◌else◌}
+use Rattle.std.proofs.Common.{ℕ, ◌≡◌, ◌==◌, not, List, refl, ap, subst, Bool, true, false, if◌then◌else◌}
 use Rattle.std.specs.Str.{bytes_eq}
 use Rattle.std.proofs.lemmas.Bool.Decides.{Decides-eqb}
 use Rattle.std.proofs.lemmas.Slice.Eq.{bytes_eq-Decides}
@@ -13,32 +13,8 @@ if_true b x y e = ap (λ z. if z then x else y) e
 pub if_false : {A : Type 0} (b : Bool) (x y : A) → b ≡ false → (if b then x else y) ≡ y
 if_false b x y e = ap (λ z. if z then x else y) e
 
-pub both_true : (x y : Bool) → x ≡ true → y ≡ true → x && y ≡ true
-both_true x y p q = subst (λ z. z && y ≡ true) (sym p) q
-
-pub each_true : (x y : Bool) → x && y ≡ true → (x ≡ true) × (y ≡ true)
-each_true true y e = (refl, e)
-each_true false y e = let n : false ≡ true = e in absurd cc
-
-pub left_true : (x y : Bool) → x ≡ true → x || y ≡ true
-left_true x y e = ap (λ z. z || y) e
-
-pub right_true : (x y : Bool) → y ≡ true → x || y ≡ true
-right_true true y e = refl
-right_true false y e = e
-
-pub neither_true : (x y : Bool) → x ≡ false → y ≡ false → x || y ≡ false
-neither_true x y p q = subst (λ z. z || y ≡ false) (sym p) q
-
-pub not_so : (x : Bool) → not x ≡ true → x ≡ false
-not_so true e = let n : false ≡ true = e in absurd cc
-not_so false e = refl
-
 pub same_value : (v u : List ℕ) → v ≡ u → bytes_eq v u ≡ true
 same_value v u e = (bytes_eq-Decides v u).1 e
-
-pub values_same : (v u : List ℕ) → bytes_eq v u ≡ true → v ≡ u
-values_same v u e = (bytes_eq-Decides v u).0 e
 
 pub same_number : (a b : ℕ) → a ≡ b → (a == b) ≡ true
 same_number a b e = (Decides-eqb a b).1 e

@@ -1,5 +1,7 @@
 -- The lists hold the trees that are seen, and all of them.
 use Rattle.std.proofs.Common.{◌⊎◌, inl, inr, ◌&&◌, not, List, ap}
+use Rattle.std.proofs.lemmas.Bool.{and_from, and_parts, not-true}
+use Rattle.spec_core.proofs.Members.{one_filter, one_flat_map}
 use Rattle.rule_model.specs.Actions.{kind_of}
 use Rattle.rule_model.specs.Derivations.{Derivation}
 use Rattle.symbolic_rules.specs.MarkedTerms.{unmarked}
@@ -9,15 +11,14 @@ use Rattle.symbolic_composites.specs.OpenFields.{all_choices}
 use Rattle.symbolic_composites.specs.Composites.{Composite, filled, composites}
 use Rattle.symbolic_composites.specs.TreeLists.{offered, candidates, windowed_trees, beyond_trees}
 use Rattle.symbolic_composites.specs.Laws.{SeenTreesAreCandidates, ListsHold, ListsHoldTheirTrees, EmptyListsNoStep}
-use Rattle.symbolic_composites.proofs.Lists.{one_flat, filter_keeps, filter_passes, empty_has_none}
-use Rattle.symbolic_composites.proofs.Tests.{both_true, each_true, not_so}
+use Rattle.symbolic_composites.proofs.Lists.{filter_passes, empty_has_none}
 use Rattle.symbolic_composites.proofs.OpenFields.{seen_suffices}
 use Rattle.symbolic_composites.proofs.Listing.{all_listed, filled_one}
 
 pub seen_trees_are_candidates : SeenTreesAreCandidates
 seen_trees_are_candidates program e w exact n b o d k nests h =
     let c = all_listed program e exact w d n b unmarked k h.fields nests h.derives in
-    one_flat (λ (c : Composite). filled c (all_choices program.theory w (offered o) c.fields)) c.composite
+    one_flat_map (λ (c : Composite). filled c (all_choices program.theory w (offered o) c.fields)) c.composite
     (composites program.theory e w n unmarked b) d c.listed
     (filled_one program e exact w (composites program.theory e w n unmarked b) d k h.fields c
     (all_choices program.theory w (offered o) c.composite.fields)
@@ -26,19 +27,19 @@ seen_trees_are_candidates program e w exact n b o d k nests h =
 pub lists_hold_their_trees : ListsHoldTheirTrees
 lists_hold_their_trees program e w exact n b o is_seen tests = record {
   windowed = λ d h.
-      let c = each_true (not (has_mark d)) (is_seen d) (filter_passes (λ x. not (has_mark x) && is_seen x) d all h) in
+      let c = and_parts (not (has_mark d)) (is_seen d) (filter_passes (λ x. not (has_mark x) && is_seen x) d all h) in
       let s = (tests d).0 c.1 in
-      (s.0, (s.1, not_so (has_mark d) c.0));
+      (s.0, (s.1, not-true (has_mark d) c.0));
   beyond = λ d h.
-      let c = each_true (has_mark d) (is_seen d) (filter_passes (λ x. has_mark x && is_seen x) d all h) in
+      let c = and_parts (has_mark d) (is_seen d) (filter_passes (λ x. has_mark x && is_seen x) d all h) in
       let s = (tests d).0 c.1 in
       (s.0, (s.1, c.0));
   each_windowed = λ d k nests h.
-      filter_keeps (λ x. not (has_mark x) && is_seen x) d all (seen_trees_are_candidates program e w exact n b o d k nests h.0)
-      (both_true (not (has_mark d)) (is_seen d) (ap not h.1) ((tests d).1 (k, h.0)));
+      one_filter (λ x. not (has_mark x) && is_seen x) d all (seen_trees_are_candidates program e w exact n b o d k nests h.0)
+      (and_from (not (has_mark d)) (is_seen d) (ap not h.1) ((tests d).1 (k, h.0)));
   each_beyond = λ d k nests h.
-      filter_keeps (λ x. has_mark x && is_seen x) d all (seen_trees_are_candidates program e w exact n b o d k nests h.0)
-      (both_true (has_mark d) (is_seen d) h.1 ((tests d).1 (k, h.0)));
+      one_filter (λ x. has_mark x && is_seen x) d all (seen_trees_are_candidates program e w exact n b o d k nests h.0)
+      (and_from (has_mark d) (is_seen d) h.1 ((tests d).1 (k, h.0)));
 }
   where
     all : List Derivation

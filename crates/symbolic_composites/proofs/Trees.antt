@@ -2,6 +2,8 @@
 use Rattle.std.proofs.Common.{ℕ, zero, suc, ◌≡◌, inl, inr, List, [], ◌∷◌, refl, sym, ap, subst, ◌∙◌, Option, Some, None, Bool, true}
 use Rattle.std.proofs.Common.{false}
 use Rattle.std.specs.List.{slice_get}
+use Rattle.std.proofs.lemmas.Option.{none-some, same_Some}
+use Rattle.std.proofs.lemmas.Bool.{false≢true}
 use Rattle.spec_core.specs.Lists.{Each}
 use Rattle.spec_core.specs.Code.{Program, Variable, Relabelling}
 use Rattle.rule_model.specs.declared.offer.Offer.{Offer}
@@ -20,7 +22,7 @@ use Rattle.symbolic_rules.specs.Trees.{MayMeet, IsSeen}
 use Rattle.symbolic_composites.specs.Evaluations.{Definition, Evaluation, IsExact}
 use Rattle.symbolic_composites.specs.TestableLaws.{TreesShowOneAction, SeenCanBeTested}
 use Rattle.symbolic_composites.proofs.One.{IsKnown, One, known_both, known_as, one_as, one_where, one_then}
-use Rattle.symbolic_composites.proofs.Parts.{no_true, is_true_known, same_kind_known, alone_known, joint_known, unhidden_known}
+use Rattle.symbolic_composites.proofs.Parts.{is_true_known, same_kind_known, alone_known, joint_known, unhidden_known}
 use Rattle.symbolic_composites.proofs.Parts.{no_end_known, end_known, one_choice, premise_known, guard_known, one_binding, one_argument}
 use Rattle.symbolic_composites.proofs.Parts.{one_fields, one_exit}
 use Rattle.symbolic_composites.proofs.Meeting.{all_agree, sorts_known, all_within_known, within_known, meets_known}
@@ -28,12 +30,6 @@ use Rattle.symbolic_composites.proofs.Meeting.{all_agree, sorts_known, all_withi
 -- the kind of an action, and its fields
 abbrev Shown : Type 0
 Shown = Kind × List MarkedField
-
-some_same : {A : Type 0} {a b : A} → Some a ≡ Some b → a ≡ b
-some_same e = cc
-
-no_some : {A : Type 0} {a : A} → None ≡ Some a → ⊥
-no_some e = cc
 
 -- the gate at a place of the list
 abbrev IsGateAt : List ℕ → ℕ → ℕ × ℕ → Type 0
@@ -47,13 +43,13 @@ one_gate gates (suc i) = by_place (slice_get gates i) refl
     place p h = let e : suc i ≡ suc p.0 = h.0 in cc
 
     by_place : (o : Option ℕ) → slice_get gates i ≡ o → One (IsGateAt gates (suc i))
-    by_place None q = inr (λ p h. no_some (sym q ∙ subst (λ n. slice_get gates n ≡ Some p.1) (place p h) h.1))
+    by_place None q = inr (λ p h. none-some _ (sym q ∙ subst (λ n. slice_get gates n ≡ Some p.1) (place p h) h.1))
     by_place (Some g) q = inl ((i, g), (refl, q), only)
       where
         only : (p : ℕ × ℕ) → IsGateAt gates (suc i) p → p ≡ (i, g)
         only p h =
             let at : slice_get gates i ≡ Some p.1 = subst (λ n. slice_get gates n ≡ Some p.1) (place p h) h.1 in
-            ap (λ n. (n, p.1)) (place p h) ∙ ap (λ n. (i, n)) (some_same (sym at ∙ q))
+            ap (λ n. (n, p.1)) (place p h) ∙ ap (λ n. (i, n)) (same_Some _ _ (sym at ∙ q))
 
 module _ (program : Program) (e : Evaluation) (exact : IsExact program e) (w : Windows) where
   abbrev MayShow : MarkedAssignment → Behaviour → Derivation → Shown → Type 0
@@ -68,8 +64,8 @@ module _ (program : Program) (e : Evaluation) (exact : IsExact program e) (w : W
   one_definition p = by_answer (e.definition p) refl
     where
       by_answer : (o : Option Definition) → e.definition p ≡ o → One (λ (d : Definition). IsDefinition program p d.gates d.variables d.body)
-      by_answer None q = inr (λ d h. no_some (sym q ∙ (exact.definition p d).0 h))
-      by_answer (Some d) q = inl (d, (exact.definition p d).1 q, λ c h. some_same (sym ((exact.definition p c).0 h) ∙ q))
+      by_answer None q = inr (λ d h. none-some _ (sym q ∙ (exact.definition p d).0 h))
+      by_answer (Some d) q = inl (d, (exact.definition p d).1 q, λ c h. same_Some _ _ (sym ((exact.definition p c).0 h) ∙ q))
 
   -- what turns internal, where a condition holds of it
   one_turned : (Q : Shown → Type 0) (R : Shown → Type 0) → One Q → ((p : Shown) → IsKnown (R p)) →
@@ -282,7 +278,7 @@ answer (inr out) = false
 
 answer_so : {P : Type 0} (known : IsKnown P) → answer known ≡ true → P
 answer_so (inl p) e = p
-answer_so (inr out) e = absurd (no_true e)
+answer_so (inr out) e = absurd (false≢true e)
 
 so_answer : {P : Type 0} (known : IsKnown P) → P → answer known ≡ true
 so_answer (inl p) h = refl

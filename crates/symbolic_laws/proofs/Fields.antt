@@ -1,12 +1,14 @@
 -- The fields of an action, loosened.
 use Rattle.std.proofs.Common.{ℕ, ◌≡◌, ◌∙◌, ◌⊎◌, ◌||◌, refl, sym, ap, subst, inl, inr, List, [], ◌∷◌, Bool, true, false, not, if◌then◌else◌}
 use Rattle.std.proofs.Common.{Contains}
+use Rattle.std.proofs.lemmas.Bool.{or_cases, or_left, both_ways, or_right}
 use Rattle.spec_core.specs.Lists.{Each}
 use Rattle.spec_core.specs.Terms.{TermTree, instance, preorder}
 use Rattle.spec_core.specs.Theories.{Theory}
 use Rattle.spec_core.specs.Sorts.{FitsData}
 use Rattle.spec_core.specs.Windows.{IsMember}
 use Rattle.spec_core.specs.Code.{Variable, ExitValue, exit_given, exit_any, ActionField, give, accept}
+use Rattle.spec_core.proofs.Booleans.{or_first_false, or_second_false}
 use Rattle.rule_model.specs.declared.offer.Field.{Field}
 use Rattle.rule_model.specs.declared.offer.Field.TheVariants.{Give, Take}
 use Rattle.rule_model.specs.declared.rules.Slot.{Slot}
@@ -23,10 +25,9 @@ use Rattle.symbolic_rules.proofs.Sorts.{sort_of_ground, sort_of_spelled, spelled
 use Rattle.symbolic_rules.proofs.Standing.{StandsForTerm, StandsForAll, instance_stands, with_one_more, value_stands}
 use Rattle.symbolic_rules.proofs.Windows.{spelled_within}
 use Rattle.symbolic_composites.specs.OpenFields.{is_listed}
-use Rattle.symbolic_composites.proofs.Tests.{left_true, right_true}
 use Rattle.symbolic_laws.specs.Loosened.{Marking, told_in, told_at_exit, either_told, given_for, loosened_slot, loosened_slots}
 use Rattle.symbolic_laws.specs.Loosened.{loosened_at_exit}
-use Rattle.symbolic_laws.proofs.Listed.{either_true, left_false, right_false, not_both, listed_there, listed_so}
+use Rattle.symbolic_laws.proofs.Listed.{listed_there, listed_so}
 use Rattle.symbolic_laws.proofs.Marking.{is_marked, Agrees, term_mark}
 
 -- as many places as values
@@ -48,7 +49,7 @@ covers_itself (t ∷ places) = (λ e. e, covers_itself places)
 pub covers_left : (places xs ys : List Bool) (values : List (List ℕ)) → AreAsMany xs values → AreAsMany ys values →
     Covers places (either_told xs ys) → Covers places xs
 covers_left [] [] [] [] h k c = tt
-covers_left (g ∷ places) (x ∷ xs) (y ∷ ys) (v ∷ values) h k c = (λ e. c.0 (left_true x y e), covers_left places xs ys values h k c.1)
+covers_left (g ∷ places) (x ∷ xs) (y ∷ ys) (v ∷ values) h k c = (λ e. c.0 (or_left x y e), covers_left places xs ys values h k c.1)
 covers_left [] (x ∷ xs) (y ∷ ys) values h k c = absurd c
 covers_left (g ∷ places) [] [] values h k c = absurd c
 covers_left places [] (y ∷ ys) [] h k c = absurd k
@@ -59,7 +60,7 @@ covers_left places (x ∷ xs) [] (v ∷ values) h k c = absurd k
 pub covers_right : (places xs ys : List Bool) (values : List (List ℕ)) → AreAsMany xs values → AreAsMany ys values →
     Covers places (either_told xs ys) → Covers places ys
 covers_right [] [] [] [] h k c = tt
-covers_right (g ∷ places) (x ∷ xs) (y ∷ ys) (v ∷ values) h k c = (λ e. c.0 (right_true x y e), covers_right places xs ys values h k c.1)
+covers_right (g ∷ places) (x ∷ xs) (y ∷ ys) (v ∷ values) h k c = (λ e. c.0 (or_right x y e), covers_right places xs ys values h k c.1)
 covers_right [] (x ∷ xs) (y ∷ ys) values h k c = absurd c
 covers_right (g ∷ places) [] [] values h k c = absurd c
 covers_right places [] (y ∷ ys) [] h k c = absurd k
@@ -107,7 +108,7 @@ module _ (theory : Theory) (w : Windows) where
   is_within t v (chosen u) h = by_cause h.2
     where
       by_cause : (t ≡ true) ⊎ Contains (w.values (sort_of_value theory u)) u → IsWithin theory w (chosen u)
-      by_cause (inl e) = absurd (not_both t e h.1)
+      by_cause (inl e) = absurd (both_ways t h.1 e)
       by_cause (inr c) = c
 
   pub are_within : (places : List Bool) (values : List (List ℕ)) (fs : List MarkedField) → AreFor places places values fs →
@@ -140,28 +141,28 @@ module _ (theory : Theory) (w : Windows) where
   -- a value that stays, and one that doesn't, aren't one at one place
   never_both : (g : Bool) (v u : List ℕ) (sort : ℕ) → u ≡ v → (g ≡ true) ⊎ Contains (w.values (sort_of_value theory u)) u →
       sort_of_value theory v ≡ sort → g ≡ false → (Contains (w.values sort) v → ⊥) → ⊥
-  never_both g v u sort e (inl h) at off out = not_both g h off
+  never_both g v u sort e (inl h) at off out = both_ways g off h
   never_both g v u sort e (inr c) at off out =
       out (subst (λ s. Contains (w.values s) v) at (subst (λ z. Contains (w.values (sort_of_value theory z)) z) e c))
 
   -- two fields that are for one value agree
   agreed : (g x y : Bool) (v : List ℕ) (e f : MarkedField) → (x || y ≡ true → g ≡ true) → IsFor g x v e → IsFor g y v f →
       (h : MarkedField) × Agree theory e f h × IsFor g (x || y) v h
-  agreed g x y v (told a) (told b) c p q = (told a, (p.0 ∙ sym q.0, refl), (p.0, left_true x y p.1))
-  agreed g x y v (told a) (chosen b) c p q = (told a, (p.0 ∙ sym q.0, refl), (p.0, left_true x y p.1))
-  agreed g x y v (told a) (given s) c p q = (told a, (ap (sort_of_value theory) p.0 ∙ q.0, refl), (p.0, left_true x y p.1))
-  agreed g x y v (told a) (free s) c p q = absurd (not_both g (c (left_true x y p.1)) q.2)
-  agreed g x y v (chosen a) (told b) c p q = (told a, (p.0 ∙ sym q.0, refl), (p.0, right_true x y q.1))
+  agreed g x y v (told a) (told b) c p q = (told a, (p.0 ∙ sym q.0, refl), (p.0, or_left x y p.1))
+  agreed g x y v (told a) (chosen b) c p q = (told a, (p.0 ∙ sym q.0, refl), (p.0, or_left x y p.1))
+  agreed g x y v (told a) (given s) c p q = (told a, (ap (sort_of_value theory) p.0 ∙ q.0, refl), (p.0, or_left x y p.1))
+  agreed g x y v (told a) (free s) c p q = absurd (both_ways g q.2 (c (or_left x y p.1)))
+  agreed g x y v (chosen a) (told b) c p q = (told a, (p.0 ∙ sym q.0, refl), (p.0, or_right x y q.1))
   agreed g x y v (chosen a) (chosen b) c p q = (chosen a, (p.0 ∙ sym q.0, refl), (p.0, ap (λ z. z || y) p.1 ∙ q.1, p.2))
   agreed g x y v (chosen a) (given s) c p q =
       (chosen a, (ap (sort_of_value theory) p.0 ∙ q.0, refl), (p.0, ap (λ z. z || y) p.1 ∙ q.1, p.2))
   agreed g x y v (chosen a) (free s) c p q = absurd (never_both g v a s p.0 p.2 q.0 q.2 q.3)
-  agreed g x y v (given s) (told b) c p q = (told b, (ap (sort_of_value theory) q.0 ∙ p.0, refl), (q.0, right_true x y q.1))
+  agreed g x y v (given s) (told b) c p q = (told b, (ap (sort_of_value theory) q.0 ∙ p.0, refl), (q.0, or_right x y q.1))
   agreed g x y v (given s) (chosen b) c p q =
       (chosen b, (ap (sort_of_value theory) q.0 ∙ p.0, refl), (q.0, ap (λ z. z || y) p.1 ∙ q.1, q.2))
   agreed g x y v (given s) (given r) c p q = (given s, (sym p.0 ∙ q.0, refl), (p.0, ap (λ z. z || y) p.1 ∙ q.1))
   agreed g x y v (given s) (free r) c p q = (given s, (sym p.0 ∙ q.0, refl), (p.0, ap (λ z. z || y) p.1 ∙ q.1))
-  agreed g x y v (free s) (told b) c p q = absurd (not_both g (c (right_true x y q.1)) p.2)
+  agreed g x y v (free s) (told b) c p q = absurd (both_ways g p.2 (c (or_right x y q.1)))
   agreed g x y v (free s) (chosen b) c p q = absurd (never_both g v b s q.0 q.2 p.0 p.2 p.3)
   agreed g x y v (free s) (given r) c p q = (given s, (sym p.0 ∙ q.0, refl), (p.0, ap (λ z. z || y) p.1 ∙ q.1))
   agreed g x y v (free s) (free r) c p q = (free s, (sym p.0 ∙ q.0, refl), (p.0, ap (λ z. z || y) p.1 ∙ q.1, p.2, p.3))
@@ -246,18 +247,18 @@ module _ (theory : Theory) (fits : FitsData theory) (w : Windows)
       stays (inr h) = inr (spelled_within theory w o n sort spells (listed_there o (w.values sort) h))
 
       out : is_listed o (w.values sort) ≡ false → Contains (w.values sort) o → ⊥
-      out h c = not_both (is_listed o (w.values sort)) (listed_so o (w.values sort) c) h
+      out h c = both_ways (is_listed o (w.values sort)) h (listed_so o (w.values sort) c)
 
       by_test : (b : Bool) → g || is_listed o (w.values sort) ≡ b → Chosen g (if b then Of o else Mark) v n sort
       by_test true h = record {
         term = plain n;
         chooses = (n, spells, refl);
         stands = refl;
-        is_for = (sym spells.spelled ∙ e, refl, stays (either_true g (is_listed o (w.values sort)) h));
+        is_for = (sym spells.spelled ∙ e, refl, stays (or_cases g (is_listed o (w.values sort)) h));
         marked = refl;
       }
       by_test false h =
-          let lost = out (right_false g (is_listed o (w.values sort)) h) in
+          let lost = out (or_second_false g (is_listed o (w.values sort)) h) in
           record {
             term = mark sort;
             chooses = (beyond sort o (spelled_is_member theory o n sort spells) lost, refl);
@@ -265,7 +266,7 @@ module _ (theory : Theory) (fits : FitsData theory) (w : Windows)
             is_for = (
               ap (sort_of_value theory) (sym e) ∙ sort_of_spelled theory o n sort spells,
               refl,
-              left_false g (is_listed o (w.values sort)) h,
+              or_first_false g (is_listed o (w.values sort)) h,
               λ c. lost (subst (Contains (w.values sort)) (sym e) c),
             );
             marked = refl;

@@ -1,6 +1,7 @@
 -- The operators over plans make the composites that those over composites make.
 use Rattle.std.proofs.Common.{ℕ, suc, ◌≡◌, ◌++◌, ◌&&◌, List, [], ◌∷◌, map, flat_map, refl, ap, ◌∙◌, Option, Some, None}
 use Rattle.std.proofs.Common.{Bool, true, false, if◌then◌else◌}
+use Rattle.std.proofs.lemmas.List.{map-append}
 use Rattle.spec_core.specs.Theories.{Theory}
 use Rattle.spec_core.specs.Code.{Relabelling, Synchronised}
 use Rattle.rule_model.specs.Derivations.{enend, hiding}
@@ -16,10 +17,6 @@ use Rattle.symbolic_plans.specs.OpenPlans.{OpenPlan, composite_of, under_row, un
 use Rattle.symbolic_plans.specs.OpenPlans.{plans_joint, plan_by_hiding, plan_by_enabling, plan_by_disabling, plans_of_gates}
 use Rattle.symbolic_plans.specs.Laws.{PlansMakeComposites}
 
-pub map_append : {A B : Type 0} (f : A → B) (xs ys : List A) → map f (xs ++ ys) ≡ map f xs ++ map f ys
-map_append f [] ys = refl
-map_append f (x ∷ xs) ys = ap (λ z. f x ∷ z) (map_append f xs ys)
-
 -- a function on images, and the image of a function
 map_through : {A B C D : Type 0} (f : B → D) (g : A → B) (h : C → D) (k : A → C) → ((x : A) → f (g x) ≡ h (k x)) → (xs : List A) →
     map f (map g xs) ≡ map h (map k xs)
@@ -30,7 +27,7 @@ flat_through : {A B C D : Type 0} (f : B → D) (g : A → List B) (h : C → Li
     (xs : List A) → map f (flat_map g xs) ≡ flat_map h (map k xs)
 flat_through f g h k e [] = refl
 flat_through f g h k e (x ∷ xs) =
-    map_append f (g x) (flat_map g xs) ∙ ap (λ z. z ++ map f (flat_map g xs)) (e x) ∙ ap (λ z. h (k x) ++ z) (flat_through f g h k e xs)
+    map-append f (g x) (flat_map g xs) ∙ ap (λ z. z ++ map f (flat_map g xs)) (e x) ∙ ap (λ z. h (k x) ++ z) (flat_through f g h k e xs)
 
 module _ (theory : Theory) (w : Windows) where
   abbrev of : OpenPlan → Composite
@@ -95,7 +92,7 @@ module _ (theory : Theory) (w : Windows) where
   gate_copies g n [] ps = refl
   gate_copies g n (h ∷ hs) ps =
       let pairs : List Relabelling = record { from = g; to = h } ∷ [] in
-      map_append of (map (under_row (Gate n)) (map (under_relabelling pairs) ps)) (plans_of_gates g (suc n) hs ps)
+      map-append of (map (under_row (Gate n)) (map (under_relabelling pairs) ps)) (plans_of_gates g (suc n) hs ps)
       ∙ ap (λ z. z ++ map of (plans_of_gates g (suc n) hs ps))
       (rows (Gate n) (map (under_relabelling pairs) ps) ∙ ap (map (under (put_row (Gate n)))) (relabels pairs ps))
       ∙ ap (λ z. map (under (put_row (Gate n))) (map (relabelled pairs) (map of ps)) ++ z) (gate_copies g (suc n) hs ps)
@@ -109,18 +106,18 @@ plans_make_composites theory w = record {
   one_disabling = one_disabling theory w;
   rows = rows theory w;
   choice = λ ps qs.
-      map_append (of theory w) (map (under_row Chl) ps) (map (under_row Chr) qs)
+      map-append (of theory w) (map (under_row Chl) ps) (map (under_row Chr) qs)
       ∙ ap (λ z. z ++ map (of theory w) (map (under_row Chr) qs)) (rows theory w Chl ps)
       ∙ ap (λ z. map (under (put_row Chl)) (map (of theory w) ps) ++ z) (rows theory w Chr qs);
   parallel = λ gates ps qs.
       let lefts = flat_map (plans_alone gates Parl) ps in
       let rights = flat_map (plans_alone gates Parr) qs in
       let boths = flat_map (λ p. flat_map (plans_joint theory gates p) qs) ps in
-      map_append (of theory w) lefts (rights ++ boths)
+      map-append (of theory w) lefts (rights ++ boths)
       ∙ ap (λ z. z ++ map (of theory w) (rights ++ boths))
       (flat_through (of theory w) (plans_alone gates Parl) (alone gates (put_row Parl)) (of theory w) (one_alone theory w gates Parl) ps)
       ∙ ap (λ z. flat_map (alone gates (put_row Parl)) (map (of theory w) ps) ++ z)
-      (map_append (of theory w) rights boths
+      (map-append (of theory w) rights boths
       ∙ ap (λ z. z ++ map (of theory w) boths)
       (flat_through (of theory w) (plans_alone gates Parr) (alone gates (put_row Parr)) (of theory w) (one_alone theory w gates Parr) qs)
       ∙ ap (λ z. flat_map (alone gates (put_row Parr)) (map (of theory w) qs) ++ z) (joints theory w gates ps qs));
@@ -128,7 +125,7 @@ plans_make_composites theory w = record {
       map_through (of theory w) (plan_by_hiding gates) (by_hiding theory w gates) (of theory w) (one_hiding theory w gates) ps;
   enable = λ ps. map_through (of theory w) plan_by_enabling (by_enabling theory w) (of theory w) (one_enabling theory w) ps;
   disable = λ ps qs.
-      map_append (of theory w) (map plan_by_disabling ps) (map (under_row Distake) qs)
+      map-append (of theory w) (map plan_by_disabling ps) (map (under_row Distake) qs)
       ∙ ap (λ z. z ++ map (of theory w) (map (under_row Distake) qs))
       (map_through (of theory w) plan_by_disabling by_disabling (of theory w) (one_disabling theory w) ps)
       ∙ ap (λ z. map by_disabling (map (of theory w) ps) ++ z) (rows theory w Distake qs);

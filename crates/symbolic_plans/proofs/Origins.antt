@@ -1,10 +1,11 @@
 -- The plans of a behaviour with terms put in are those of the code with these terms for its variables.
-use Rattle.std.proofs.Common.{◌≡◌, ◌∷◌, ◌++◌, [], List, map, flat_map, refl, ap, ◌∙◌, Option, Some, None, false}
+use Rattle.std.proofs.Common.{◌≡◌, ◌∷◌, [], List, map, refl, ap, ◌∙◌, Option, Some, None, false}
 use Rattle.std.proofs.Common.{if◌then◌else◌, option_map, option_and_then}
 use Rattle.spec_core.specs.Terms.{variable, instance}
 use Rattle.spec_core.specs.Theories.{Theory}
 use Rattle.spec_core.specs.Code.{ExitValue, exit_given, exit_any, ActionField, give, accept}
 use Rattle.spec_core.specs.Functionality.{bound_variables}
+use Rattle.spec_core.proofs.Lists.{flat_map_same}
 use Rattle.rule_model.specs.Actions.{ends, at_gate, pairs_of}
 use Rattle.rule_model.specs.Behaviours.{Behaviour, stop, exit, inner, action, choice, guarded, bound, value_choice, gate_choice, parallel}
 use Rattle.rule_model.specs.Behaviours.{hide, enable, disable, call, relabel}
@@ -23,10 +24,6 @@ use Rattle.symbolic_plans.specs.OwnPlans.{takes_value, takes_any, own_plans_in, 
 use Rattle.symbolic_plans.specs.OwnLaws.{OwnPlansOfOrigins}
 
 -- lists that are made in the same way
-
-flat_same : {A B : Type 0} (f g : A → List B) (xs : List A) → ((x : A) → f x ≡ g x) → flat_map f xs ≡ flat_map g xs
-flat_same f g [] h = refl
-flat_same f g (x ∷ xs) h = λ i. h x i ++ flat_same f g xs h i
 
 from_same : {A B : Type 0} (o : Option A) (f g : A → List B) → ((a : A) → f a ≡ g a) → from_option o f ≡ from_option o g
 from_same None f g h = refl
@@ -94,7 +91,7 @@ module _ (theory : Theory) (e : Evaluation) (w : Windows) (called : MarkedAssign
       (λ l k h. ap (map (under_row Let)) (plans_put b l inside k h))
   plans_put (value_choice x b) r s t leads =
       let inside = with_term x (variable x.number) s in
-      flat_same (λ v. from_option (chosen_term theory e w v x.sort) (λ k. map (under_row (Val v)) (of (with_marked x k r) (put inside b))))
+      flat_map_same (λ v. from_option (chosen_term theory e w v x.sort) (λ k. map (under_row (Val v)) (of (with_marked x k r) (put inside b))))
       (λ v. from_option (chosen_term theory e w v x.sort) (λ k. map (under_row (Val v)) (of (with_marked x k t) b))) (window_slots w x.sort)
       (λ v. from_same (chosen_term theory e w v x.sort) (λ k. map (under_row (Val v)) (of (with_marked x k r) (put inside b)))
       (λ k. map (under_row (Val v)) (of (with_marked x k t) b))

@@ -1,6 +1,7 @@
 -- The plans that a behaviour's constructs make are those of its composites.
 use Rattle.std.proofs.Common.{ℕ, zero, suc, ◌≡◌, ◌++◌, ◌∙◌, ◌∷◌, [], List, map, flat_map, refl, ap, Bool, true, false}
 use Rattle.std.proofs.Common.{if◌then◌else◌, Option, Some, None}
+use Rattle.std.proofs.lemmas.List.{map-append}
 use Rattle.spec_core.specs.Theories.{Theory}
 use Rattle.spec_core.specs.Code.{ExitValue, exit_given, exit_any, ActionField, give, accept}
 use Rattle.rule_model.specs.declared.rules.Slot.{Slot}
@@ -18,7 +19,7 @@ use Rattle.symbolic_plans.specs.declared.scheme.Row.TheVariants.{Guard, Let, Val
 use Rattle.symbolic_plans.specs.Plans.{prefix, termination, taken_slots}
 use Rattle.symbolic_plans.specs.OpenPlans.{OpenPlan, composite_of, under_row, under_relabelling}
 use Rattle.symbolic_plans.specs.Laws.{PlansAreOfComposites}
-use Rattle.symbolic_plans.proofs.Made.{map_append, plans_make_composites}
+use Rattle.symbolic_plans.proofs.Made.{plans_make_composites}
 use Rattle.symbolic_plans.specs.OwnPlans.{takes_value, takes_any, own_plans_in, own_plans_below}
 use Rattle.symbolic_plans.specs.OwnLaws.{OwnPlansAreThose}
 
@@ -51,7 +52,7 @@ flat_images : {A B C : Type 0} (f : B → C) (g : A → List B) (h : A → List 
     map f (flat_map g xs) ≡ flat_map h xs
 flat_images f g h e [] = refl
 flat_images f g h e (x ∷ xs) =
-    map_append f (g x) (flat_map g xs) ∙ ap (λ z. z ++ map f (flat_map g xs)) (e x) ∙ ap (λ z. h x ++ z) (flat_images f g h e xs)
+    map-append f (g x) (flat_map g xs) ∙ ap (λ z. z ++ map f (flat_map g xs)) (e x) ∙ ap (λ z. h x ++ z) (flat_images f g h e xs)
 
 module _ (theory : Theory) (e : Evaluation) (w : Windows) where
   abbrev of : OpenPlan → Composite

@@ -1,6 +1,7 @@
 -- By each windowed tree the behaviour acts.
 use Rattle.std.proofs.Common.{ℕ, ◌≡◌, ◌==◌, List, [], ◌∷◌, refl, sym, ap, subst, ◌∙◌, Option, Some, None, Bool, true, false}
 use Rattle.std.proofs.Common.{if◌then◌else◌}
+use Rattle.std.proofs.lemmas.Bool.{or_parts, true≢false}
 use Rattle.spec_core.specs.Lists.{Each}
 use Rattle.spec_core.specs.Terms.{TermTree, TermTrees, variable, apply, no_terms, and_term, preorder, instance, instances}
 use Rattle.spec_core.specs.Theories.{Premise, premise, Theory}
@@ -34,7 +35,6 @@ use Rattle.symbolic_rules.specs.MayDerive.{renamed_kind, MayDeriveWith}
 use Rattle.symbolic_rules.specs.Trees.{MeetsIfOffered, FieldMayMeet, FieldsMayMeet, MayMeet, is_mark, has_marks, has_mark}
 use Rattle.symbolic_rules.specs.Laws.{WindowedTreesAct}
 use Rattle.symbolic_rules.proofs.Sorts.{sort_of_spelled, value_is_spelled}
-use Rattle.symbolic_rules.proofs.Marks.{neither}
 
 module _ (theory : Theory) (m : MarkedAssignment) (s : Assignment) (all : AllPlain m s) where
   mutual
@@ -103,9 +103,6 @@ renamed_of pairs inside values = refl
 renamed_of pairs ends values = refl
 renamed_of pairs (at_gate g) values = refl
 
-no_mark : true ≡ false → ⊥
-no_mark e = cc
-
 -- values that agree are one
 plain_agree : (theory : Theory) (f g h : MarkedField) → Agree theory f g h → IsPlain theory f → IsPlain theory g →
     IsPlain theory h × (value_in f ≡ value_in h) × (value_in g ≡ value_in h)
@@ -144,7 +141,7 @@ pub record IsChosen (theory : Theory) (slot : Slot) (sort : ℕ) (k : MarkedTerm
 chosen_value : (theory : Theory) (w : Windows) (slot : Slot) (sort : ℕ) (k : MarkedTerm) → is_mark slot ≡ false →
     Chooses theory w slot sort k → IsChosen theory slot sort k
 chosen_value theory w (Of v) sort k u h = record { value = v; slot_is = refl; term = h.0; spells = h.1; known = h.2 }
-chosen_value theory w Mark sort k u h = absurd (no_mark u)
+chosen_value theory w Mark sort k u h = absurd (true≢false u)
 chosen_value theory w Blank sort k u h = absurd h
 
 -- the field that a chosen value makes is plain, and has this value
@@ -183,7 +180,7 @@ module _ (theory : Theory) (fits : FitsData theory) (w : Windows) (m : MarkedAss
       let rest = fields_have fields slots fs l r t i u h.1 in
       ((one.0, rest.0), (rest.1.0, ((n.0, one.1), rest.1.1), rest.1.2))
   fields_have (accept x ∷ fields) (slot ∷ slots) (f ∷ fs) l r t i u h =
-      let v = neither (is_mark slot) (has_marks slots) u in
+      let v = or_parts (is_mark slot) (has_marks slots) u in
       let c = chosen_value theory w slot x.sort h.0 v.0 h.1 in
       let one = chosen_is_plain theory f slot x.sort h.0 h.2 c in
       let rest = fields_have fields slots fs (with_marked x h.0 l) r (with_term x c.term t)
@@ -207,7 +204,7 @@ module _ (theory : Theory) (fits : FitsData theory) (w : Windows) (m : MarkedAss
       let rest = exit_has fields slots fs u h.1 in
       ((one.0, rest.0), ((n.0, one.1), rest.1))
   exit_has (exit_any sort ∷ fields) (slot ∷ slots) (f ∷ fs) u h =
-      let v = neither (is_mark slot) (has_marks slots) u in
+      let v = or_parts (is_mark slot) (has_marks slots) u in
       let c = chosen_value theory w slot sort h.0.0 v.0 h.0.1 in
       let one = chosen_is_plain theory f slot sort h.0.0 h.0.2 c in
       let rest = exit_has fields slots fs v.1 h.1 in (
@@ -272,7 +269,7 @@ module _ (program : Program) (fits : FitsData program.theory) (w : Windows) wher
   act (chl d) (choice x y) m s k fs all u h = act d x m s k fs all u h
   act (chr d) (choice x y) m s k fs all u h = act d y m s k fs all u h
   act (val slot d) (value_choice x body) m s k fs all u h =
-      let v = neither (is_mark slot) (has_mark d) u in
+      let v = or_parts (is_mark slot) (has_mark d) u in
       let c = chosen_value program.theory w slot x.sort h.0 v.0 h.1 in
       let r = act d body (with_marked x h.0 m) (with_term x c.term s) k fs (with_one_plain program.theory m s all x h.0 c.term c.known) v.1
       h.3 in (
@@ -300,7 +297,7 @@ module _ (program : Program) (fits : FitsData program.theory) (w : Windows) wher
       let r = act d y m s k fs all u h.0 in
       (r.0, (parallel gates (put s x) r.1.0, (r.1.0, r.1.1, subst (IsAlone gates) (own_kind k (values_in fs)) h.1, refl)))
   act (both d e) (parallel gates x y) m s k fs all u h =
-      let v = neither (has_mark d) (has_mark e) u in
+      let v = or_parts (has_mark d) (has_mark e) u in
       let r = act d x m s k h.0 all v.0 h.2 in
       let q = act e y m s k h.1 all v.1 h.3 in
       let z = all_plain_agree program.theory h.0 h.1 fs h.5 r.0 q.0 in (

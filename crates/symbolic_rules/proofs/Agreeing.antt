@@ -1,5 +1,6 @@
 -- Examples of sides that agree.
-use Rattle.std.proofs.Common.{ℕ, ◌≡◌, List, [], ◌∷◌, refl, sym, ap, subst, ◌∙◌, Bool, true, false, Some, None, inl, inr, ◌⊎◌}
+use Rattle.std.proofs.Common.{ℕ, ◌≡◌, List, [], ◌∷◌, refl, sym, ap, subst, ◌∙◌, Some, None, inl, inr, ◌⊎◌}
+use Rattle.std.proofs.lemmas.Bool.{both_ways}
 use Rattle.spec_core.specs.Terms.{TermTree, variable, preorder}
 use Rattle.spec_core.specs.Theories.{Premise, premise}
 use Rattle.spec_core.specs.Code.{Program, Variable}
@@ -71,9 +72,6 @@ agreed_values program w g sort = record {
   );
 }
 
-no_both : (b : Bool) → b ≡ true → b ≡ false → ⊥
-no_both b h k = cc
-
 pub complete_answers : (program : Program) (w : Windows) (g f sort other : ℕ) → CompleteAnswers program w g f sort other
 complete_answers program w g f sort other = record {
   beyond = λ result e v s. (
@@ -103,7 +101,7 @@ complete_answers program w g f sort other = record {
   );
   no_mark = λ complete o d k h.
       let t = mark_taken program.theory w unmarked unmarked h.derives.3.0 (y_of other) h.derives.1 h.derives.3.2 in
-      no_both (w.complete other) complete t.0;
+      both_ways (w.complete other) t.0 complete;
 }
 
 pub given_marks : (program : Program) (w : Windows) (g sort : ℕ) (e : TermTree) → GivenMarks program w g sort e

@@ -1,5 +1,6 @@
 -- Where all windows are complete, nothing is marked.
-use Rattle.std.proofs.Common.{ℕ, ◌≡◌, List, [], ◌∷◌, refl, Bool, true, false, ◌||◌}
+use Rattle.std.proofs.Common.{ℕ, ◌≡◌, List, [], ◌∷◌, refl, true, false}
+use Rattle.std.proofs.lemmas.Bool.{both_ways, or_from}
 use Rattle.spec_core.specs.Theories.{Theory}
 use Rattle.spec_core.specs.Code.{Program, ExitValue, exit_given, exit_any, ActionField, give, accept}
 use Rattle.rule_model.specs.declared.rules.Slot.{Slot}
@@ -16,19 +17,11 @@ use Rattle.symbolic_rules.specs.MayDerive.{MayDeriveWith}
 use Rattle.symbolic_rules.specs.Trees.{is_mark, has_marks, has_mark}
 use Rattle.symbolic_rules.specs.Laws.{CompleteWindowsHaveNoBeyond}
 
-no_both : (b : Bool) → b ≡ true → b ≡ false → ⊥
-no_both b h k = cc
-
--- neither of two is
-or_false : (x y : Bool) → x ≡ false → y ≡ false → x || y ≡ false
-or_false false y h k = k
-or_false true y h k = h
-
 module _ (w : Windows) (complete : (sort : ℕ) → w.complete sort ≡ true) where
   module _ (theory : Theory) where
     slot_unmarked : (slot : Slot) (sort : ℕ) (k : MarkedTerm) → Chooses theory w slot sort k → is_mark slot ≡ false
     slot_unmarked (Of v) sort k h = refl
-    slot_unmarked Mark sort k h = absurd (no_both (w.complete sort) (complete sort) h.0)
+    slot_unmarked Mark sort k h = absurd (both_ways (w.complete sort) h.0 (complete sort))
     slot_unmarked Blank sort k h = refl
 
     fields_unmarked : (m l r : MarkedAssignment) (fields : List ActionField) (slots : List Slot) (fs : List MarkedField) →
@@ -36,7 +29,7 @@ module _ (w : Windows) (complete : (sort : ℕ) → w.complete sort ≡ true) wh
     fields_unmarked m l r [] [] [] h = refl
     fields_unmarked m l r (give e ∷ fields) slots (f ∷ fs) h = fields_unmarked m l r fields slots fs h.1
     fields_unmarked m l r (accept x ∷ fields) (slot ∷ slots) (f ∷ fs) h =
-        or_false (is_mark slot) (has_marks slots) (slot_unmarked slot x.sort h.0 h.1)
+        or_from (is_mark slot) (has_marks slots) (slot_unmarked slot x.sort h.0 h.1)
         (fields_unmarked m (with_marked x h.0 l) r fields slots fs h.3)
     fields_unmarked m l r _ _ _ h = absurd h
 
@@ -45,7 +38,7 @@ module _ (w : Windows) (complete : (sort : ℕ) → w.complete sort ≡ true) wh
     exit_unmarked m [] [] [] h = refl
     exit_unmarked m (exit_given e ∷ fields) slots (f ∷ fs) h = exit_unmarked m fields slots fs h.1
     exit_unmarked m (exit_any sort ∷ fields) (slot ∷ slots) (f ∷ fs) h =
-        or_false (is_mark slot) (has_marks slots) (slot_unmarked slot sort h.0.0 h.0.1) (exit_unmarked m fields slots fs h.1)
+        or_from (is_mark slot) (has_marks slots) (slot_unmarked slot sort h.0.0 h.0.1) (exit_unmarked m fields slots fs h.1)
     exit_unmarked m _ _ _ h = absurd h
 
   tree_unmarked : (program : Program) (d : Derivation) (b : Behaviour) (m : MarkedAssignment) (k : Kind) (fs : List MarkedField) →
@@ -56,7 +49,7 @@ module _ (w : Windows) (complete : (sort : ℕ) → w.complete sort ≡ true) wh
   tree_unmarked program (chl d) (choice x y) m k fs h = tree_unmarked program d x m k fs h
   tree_unmarked program (chr d) (choice x y) m k fs h = tree_unmarked program d y m k fs h
   tree_unmarked program (val slot d) (value_choice x body) m k fs h =
-      or_false (is_mark slot) (has_mark d) (slot_unmarked program.theory slot x.sort h.0 h.1)
+      or_from (is_mark slot) (has_mark d) (slot_unmarked program.theory slot x.sort h.0 h.1)
       (tree_unmarked program d body (with_marked x h.0 m) k fs h.3)
   tree_unmarked program (gate n d) (gate_choice g gates body) m k fs h =
       tree_unmarked program d (relabel (record { from = g; to = h.1 } ∷ []) body) m k fs h.4
@@ -65,7 +58,7 @@ module _ (w : Windows) (complete : (sort : ℕ) → w.complete sort ≡ true) wh
   tree_unmarked program (parl d) (parallel gates x y) m k fs h = tree_unmarked program d x m k fs h.0
   tree_unmarked program (parr d) (parallel gates x y) m k fs h = tree_unmarked program d y m k fs h.0
   tree_unmarked program (both d e) (parallel gates x y) m k fs h =
-      or_false (has_mark d) (has_mark e) (tree_unmarked program d x m k h.0 h.2) (tree_unmarked program e y m k h.1 h.3)
+      or_from (has_mark d) (has_mark e) (tree_unmarked program d x m k h.0 h.2) (tree_unmarked program e y m k h.1 h.3)
   tree_unmarked program (hiding d) (hide gates body) m k fs h = tree_unmarked program d body m (at_gate h.0) h.1 h.2
   tree_unmarked program (pass d) (hide gates body) m k fs h = tree_unmarked program d body m k fs h.0
   tree_unmarked program (enstep d) (enable x xs y) m k fs h = tree_unmarked program d x m k fs h.0
@@ -80,4 +73,4 @@ module _ (w : Windows) (complete : (sort : ℕ) → w.complete sort ≡ true) wh
 
 pub complete_windows_have_no_beyond : CompleteWindowsHaveNoBeyond
 complete_windows_have_no_beyond program w complete b o d k h =
-    no_both (has_mark d) h.1 (tree_unmarked w complete program d b _ k h.0.fields h.0.derives)
+    both_ways (has_mark d) (tree_unmarked w complete program d b _ k h.0.fields h.0.derives) h.1

@@ -1,5 +1,6 @@
 -- Trees with marks in the places of some values.
-use Rattle.std.proofs.Common.{◌≡◌, List, [], ◌∷◌, refl, ap, subst, ◌∙◌, inl, inr, Bool, true, false, ◌||◌}
+use Rattle.std.proofs.Common.{◌≡◌, List, [], ◌∷◌, refl, ap, subst, ◌∙◌, inl, inr, true, false}
+use Rattle.std.proofs.lemmas.Bool.{or_parts}
 use Rattle.rule_model.specs.declared.rules.Slot.{Slot}
 use Rattle.rule_model.specs.Derivations.{Derivation, pre, int, exiting, chl, chr, val, gate, guard, letting, parl, parr, both, hiding, pass}
 use Rattle.rule_model.specs.Derivations.{enstep, enend, disstep, disend, distake, calling, rel}
@@ -91,10 +92,6 @@ marked_twice (rel d) e f h k =
     let j = subst (λ (t : Derivation). IsMarkedAs t f) h.1 k in (j.0, j.1, marked_twice d h.0 j.0 h.2 j.2)
 
 -- a tree that got no mark is as it was
-pub neither : (x y : Bool) → x || y ≡ false → (x ≡ false) × (y ≡ false)
-neither false y e = (refl, e)
-neither true y e = let no : true ≡ false = e in absurd cc
-
 own_slot : (s t : Slot) → IsSlotMarkedAs s t → is_mark t ≡ false → t ≡ s
 own_slot s t (inl e) u = e
 own_slot s t (inr e) u = let no : true ≡ false = subst (λ (x : Slot). is_mark x ≡ false) e u in absurd cc
@@ -102,7 +99,7 @@ own_slot s t (inr e) u = let no : true ≡ false = subst (λ (x : Slot). is_mark
 own_slots : (ss ts : List Slot) → AreSlotsMarkedAs ss ts → has_marks ts ≡ false → ts ≡ ss
 own_slots [] ts h u = h
 own_slots (s ∷ ss) ts h u =
-    let v = neither (is_mark h.0) (has_marks h.1) (subst (λ (l : List Slot). has_marks l ≡ false) h.2 u) in
+    let v = or_parts (is_mark h.0) (has_marks h.1) (subst (λ (l : List Slot). has_marks l ≡ false) h.2 u) in
     h.2 ∙ ap (λ (x : Slot). x ∷ h.1) (own_slot s h.0 h.3 v.0) ∙ ap (λ (l : List Slot). s ∷ l) (own_slots ss h.1 h.4 v.1)
 
 pub own_tree : (d e : Derivation) → IsMarkedAs d e → has_mark e ≡ false → e ≡ d
@@ -112,7 +109,7 @@ own_tree (exiting slots) e h u = h.1 ∙ ap exiting (own_slots slots h.0 h.2 (su
 own_tree (chl d) e h u = h.1 ∙ ap chl (own_tree d h.0 h.2 (subst (λ (t : Derivation). has_mark t ≡ false) h.1 u))
 own_tree (chr d) e h u = h.1 ∙ ap chr (own_tree d h.0 h.2 (subst (λ (t : Derivation). has_mark t ≡ false) h.1 u))
 own_tree (val s d) e h u =
-    let v = neither (is_mark h.0) (has_mark h.1) (subst (λ (t : Derivation). has_mark t ≡ false) h.2 u) in
+    let v = or_parts (is_mark h.0) (has_mark h.1) (subst (λ (t : Derivation). has_mark t ≡ false) h.2 u) in
     h.2 ∙ ap (λ (x : Slot). val x h.1) (own_slot s h.0 h.3 v.0) ∙ ap (val s) (own_tree d h.1 h.4 v.1)
 own_tree (gate n d) e h u = h.1 ∙ ap (gate n) (own_tree d h.0 h.2 (subst (λ (t : Derivation). has_mark t ≡ false) h.1 u))
 own_tree (guard d) e h u = h.1 ∙ ap guard (own_tree d h.0 h.2 (subst (λ (t : Derivation). has_mark t ≡ false) h.1 u))
@@ -120,7 +117,7 @@ own_tree (letting d) e h u = h.1 ∙ ap letting (own_tree d h.0 h.2 (subst (λ (
 own_tree (parl d) e h u = h.1 ∙ ap parl (own_tree d h.0 h.2 (subst (λ (t : Derivation). has_mark t ≡ false) h.1 u))
 own_tree (parr d) e h u = h.1 ∙ ap parr (own_tree d h.0 h.2 (subst (λ (t : Derivation). has_mark t ≡ false) h.1 u))
 own_tree (both d g) e h u =
-    let v = neither (has_mark h.0) (has_mark h.1) (subst (λ (t : Derivation). has_mark t ≡ false) h.2 u) in
+    let v = or_parts (has_mark h.0) (has_mark h.1) (subst (λ (t : Derivation). has_mark t ≡ false) h.2 u) in
     h.2 ∙ ap (λ (x : Derivation). both x h.1) (own_tree d h.0 h.3 v.0) ∙ ap (both d) (own_tree g h.1 h.4 v.1)
 own_tree (hiding d) e h u = h.1 ∙ ap hiding (own_tree d h.0 h.2 (subst (λ (t : Derivation). has_mark t ≡ false) h.1 u))
 own_tree (pass d) e h u = h.1 ∙ ap pass (own_tree d h.0 h.2 (subst (λ (t : Derivation). has_mark t ≡ false) h.1 u))

@@ -1,6 +1,7 @@
 -- Sorts of values, and of terms that are provably equal.
 use Rattle.std.proofs.Common.{ℕ, ◌≡◌, List, refl, sym, ap, subst, ◌∙◌, Option, Some, None}
 use Rattle.std.specs.List.{slice_get}
+use Rattle.std.proofs.lemmas.Option.{none-some}
 use Rattle.spec_core.specs.Terms.{TermTree, variable, apply, preorder}
 use Rattle.spec_core.specs.Theories.{Operation, Theory}
 use Rattle.spec_core.specs.Sorts.{OnSome, HasSort, HaveSorts, no_variables, FitsData}
@@ -12,9 +13,6 @@ use Rattle.rule_model.specs.Meets.{declared_result}
 use Rattle.symbolic_rules.specs.Windows.{sort_of_value}
 use Rattle.symbolic_rules.specs.Laws.{EqualTermsHaveOneSort}
 
-no_sort : (sort : ℕ) → None ≡ Some sort → ⊥
-no_sort sort e = cc
-
 declared : (o : Option Operation) (sort : ℕ) (P : Operation → Type 0) → OnSome o (λ d. (d.result ≡ sort) × P d) → declared_result o ≡ sort
 declared None sort P h = absurd h
 declared (Some d) sort P h = h.0
@@ -22,7 +20,7 @@ declared (Some d) sort P h = h.0
 -- a ground term has the result sort of its first operation
 pub sort_of_ground : (theory : Theory) (t : TermTree) (sort : ℕ) → HasSort theory no_variables t sort →
     sort_of_value theory (preorder t) ≡ sort
-sort_of_ground theory (variable x) sort h = absurd (no_sort sort h)
+sort_of_ground theory (variable x) sort h = absurd (none-some sort h)
 sort_of_ground theory (apply f ts) sort h =
     declared (slice_get theory.operations f) sort (λ d. HaveSorts theory no_variables ts d.args) h
 

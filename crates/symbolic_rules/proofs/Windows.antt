@@ -1,11 +1,11 @@
 -- What a window says of values outside it.
 use Rattle.std.proofs.Common.{ℕ, zero, suc, ◌≡◌, ◌⊎◌, List, [], ◌∷◌, refl, sym, subst, inl, inr, arith, Bool, true, false}
-use Rattle.std.proofs.Common.{Some, None}
 use Rattle.std.proofs.Common.{IsTrue, Contains}
 use Rattle.std.specs.Bool.{Decides}
 use Rattle.std.specs.Str.{bytes_eq}
 use Rattle.std.specs.List.{slice_get}
 use Rattle.std.proofs.lemmas.Slice.Eq.{bytes_eq-Decides}
+use Rattle.std.proofs.lemmas.Option.{none-some}
 use Rattle.spec_core.specs.Lists.{Each}
 use Rattle.spec_core.specs.Terms.{TermTree, variable, apply, preorder}
 use Rattle.spec_core.specs.Theories.{Operation, Theory}
@@ -40,12 +40,9 @@ result_is_declared theory [] f sort P e h = absurd h
 result_is_declared theory (d ∷ operations) zero sort P e h = subst (IsDeclaredSort theory) h.0 e.0.0
 result_is_declared theory (d ∷ operations) (suc f) sort P e h = result_is_declared theory operations f sort P e.1 h
 
-no_sort : (sort : ℕ) → None ≡ Some sort → ⊥
-no_sort sort e = cc
-
 sort_is_declared : (theory : Theory) → FitsData theory → (t : TermTree) (sort : ℕ) → HasSort theory no_variables t sort →
     IsDeclaredSort theory sort
-sort_is_declared theory fits (variable x) sort h = absurd (no_sort sort h)
+sort_is_declared theory fits (variable x) sort h = absurd (none-some sort h)
 sort_is_declared theory fits (apply f ts) sort h =
     result_is_declared theory theory.operations f sort (λ d. HaveSorts theory no_variables ts d.args) fits.operations h
 

@@ -1,17 +1,18 @@
 -- Ways to fill fields, and lists of slots of an action.
-use Rattle.std.proofs.Common.{ℕ, zero, suc, ◌≡◌, ◌<◌, ◌-◌, ◌^◌, ◌*◌, ◌%◌, ◌/◌, ◌∙◌, List, [], ◌∷◌, map, flat_map, length, refl, sym, ap}
-use Rattle.std.proofs.Common.{subst, arith}
+use Rattle.std.proofs.Common.{ℕ, ◌≡◌, ◌<◌, ◌-◌, ◌^◌, ◌*◌, ◌%◌, ◌/◌, ◌∙◌, List, [], ◌∷◌, map, flat_map, length, refl, sym, ap}
+use Rattle.std.proofs.Common.{arith}
 use Rattle.std.proofs.Common.{Bool, true, false, if◌then◌else◌, Option, Some, None}
 use Rattle.std.specs.Prelude.{option_map, option_and_then}
 use Rattle.std.specs.List.{slice_get}
 use Rattle.std.proofs.lemmas.List.{length-map}
 use Rattle.std.proofs.lemmas.Option.{slice_get-map}
 use Rattle.spec_core.specs.Lists.{Each}
+use Rattle.spec_core.proofs.Lists.{each_always, each_slice_get, each_implied, each_image}
 use Rattle.rule_model.specs.declared.rules.Slot.{Slot}
 use Rattle.symbolic_composites.specs.OpenFields.{OpenField, any_marked, one_each, choices_at_once}
 use Rattle.symbolic_plans.specs.Plans.{taken_slots}
 use Rattle.symbolic_trees.specs.Numbers.{counted}
-use Rattle.symbolic_trees.proofs.Pieces.{each_image, each_flat, each_by, each_all, length_pieces}
+use Rattle.symbolic_trees.proofs.Pieces.{each_flat, length_pieces}
 use Rattle.symbolic_trees.proofs.Capped.{capped_times, get_capped, get_empty}
 
 -- the greatest number that 64 bits count
@@ -24,7 +25,7 @@ module _ {A B : Type 0} (join : A → B → B) (ys : List B) where
   in_front x = map (join x) ys
 
   pub front_length : (xs : List A) → Each (λ x. length (in_front x) ≡ length ys) xs
-  front_length xs = each_all (λ x. length (in_front x) ≡ length ys) xs (λ x. length-map ys (join x))
+  front_length xs = each_always (λ x. length (in_front x) ≡ length ys) xs (λ x. length-map ys (join x))
 
   pub fronts_count : (xs : List A) → length (flat_map in_front xs) ≡ length xs * length ys
   fronts_count xs = length_pieces in_front (length ys) xs (front_length xs)
@@ -86,11 +87,6 @@ each_width (slots ∷ choices) =
     (λ slot. each_image (λ x. widths x ≡ map (λ own. 1) choices) (λ x. widths x ≡ map (λ own. 1) (slots ∷ choices))
     (λ others. (slot ∷ []) ∷ others) (one_each choices) (λ x e. ap (λ z. 1 ∷ z) e) (each_width choices))
 
-each_at : {A : Type 0} (P : A → Type 0) (xs : List A) (n : ℕ) (x : A) → Each P xs → slice_get xs n ≡ Some x → P x
-each_at P [] n x h e = cc
-each_at P (y ∷ ys) zero x (p, h) e = let q : y ≡ x = cc in subst P q p
-each_at P (y ∷ ys) (suc n) x (p, h) e = each_at P ys n x h e
-
 -- all ways to fill fields give each field as many slots as the first one does
 pub ways_width : (fields : List OpenField) (choices first : List (List Slot)) → slice_get (choices_at_once fields choices) 0 ≡ Some first →
     Each (λ x. widths x ≡ widths first) (choices_at_once fields choices)
@@ -100,9 +96,9 @@ ways_width fields choices first e = by_mark (any_marked fields) e
         Each (λ x. widths x ≡ widths first) (if b then choices ∷ [] else one_each choices)
     by_mark true e = let q : choices ≡ first = cc in (ap widths q, tt)
     by_mark false e =
-        let ones : widths first ≡ map (λ slots. 1) choices = each_at (λ x. widths x ≡ map (λ slots. 1) choices) (one_each choices) 0 first
+        let ones : widths first ≡ map (λ slots. 1) choices = each_slice_get (λ x. widths x ≡ map (λ slots. 1) choices) (one_each choices) 0 first
         (each_width choices) e in
-        each_by (λ x. widths x ≡ map (λ slots. 1) choices) (λ x. widths x ≡ widths first) (one_each choices) (λ x h. h ∙ sym ones)
+        each_implied (λ x. widths x ≡ map (λ slots. 1) choices) (λ x. widths x ≡ widths first) (one_each choices) (λ x h. h ∙ sym ones)
         (each_width choices)
 
 pub taken_same : (takes : List Bool) (xs ys : List (List Slot)) → widths xs ≡ widths ys →

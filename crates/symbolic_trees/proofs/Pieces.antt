@@ -1,5 +1,5 @@
 -- Lists that are joined of pieces of one length.
-use Rattle.std.proofs.Common.{ℕ, zero, suc, ◌≡◌, ◌≤◌, ◌<◌, ◌+◌, ◌-◌, ◌*◌, ◌/◌, ◌%◌, ◌++◌, ◌∙◌, List, [], ◌∷◌, map, flat_map, length, refl}
+use Rattle.std.proofs.Common.{ℕ, zero, suc, ◌≡◌, ◌≤◌, ◌<◌, ◌+◌, ◌-◌, ◌*◌, ◌/◌, ◌%◌, ◌++◌, ◌∙◌, List, [], ◌∷◌, flat_map, length, refl}
 use Rattle.std.proofs.Common.{sym, ap}
 use Rattle.std.proofs.Common.{arith, inl, inr, length-append, ◌⊎◌}
 use Rattle.std.specs.Prelude.{option_and_then}
@@ -7,27 +7,11 @@ use Rattle.std.specs.List.{slice_get}
 use Rattle.std.proofs.lemmas.Bool.{cases_lt}
 use Rattle.std.proofs.Math.Nat.{div-eq-sub-div, mod-eq-sub-mod, div-eq_of_lt, mod-eq_of_lt}
 use Rattle.spec_core.specs.Lists.{Each}
-
-pub each_join : {A : Type 0} (P : A → Type 0) (xs ys : List A) → Each P xs → Each P ys → Each P (xs ++ ys)
-each_join P [] ys h k = k
-each_join P (x ∷ xs) ys (p, h) k = (p, each_join P xs ys h k)
-
-pub each_image : {A B : Type 0} (Q : A → Type 0) (P : B → Type 0) (f : A → B) (xs : List A) → ((x : A) → Q x → P (f x)) → Each Q xs →
-    Each P (map f xs)
-each_image Q P f [] e h = tt
-each_image Q P f (x ∷ xs) e (q, h) = (e x q, each_image Q P f xs e h)
+use Rattle.spec_core.proofs.Lists.{each_append}
 
 pub each_flat : {A B : Type 0} (P : B → Type 0) (f : A → List B) (xs : List A) → ((x : A) → Each P (f x)) → Each P (flat_map f xs)
 each_flat P f [] e = tt
-each_flat P f (x ∷ xs) e = each_join P (f x) (flat_map f xs) (e x) (each_flat P f xs e)
-
-pub each_by : {A : Type 0} (Q P : A → Type 0) (xs : List A) → ((x : A) → Q x → P x) → Each Q xs → Each P xs
-each_by Q P [] e h = tt
-each_by Q P (x ∷ xs) e (q, h) = (e x q, each_by Q P xs e h)
-
-pub each_all : {A : Type 0} (P : A → Type 0) (xs : List A) → ((x : A) → P x) → Each P xs
-each_all P [] e = tt
-each_all P (x ∷ xs) e = (e x, each_all P xs e)
+each_flat P f (x ∷ xs) e = each_append P (f x) (flat_map f xs) (e x) (each_flat P f xs e)
 
 -- as long as all pieces together
 pub length_pieces : {A B : Type 0} (f : A → List B) (c : ℕ) (xs : List A) → Each (λ x. length (f x) ≡ c) xs →

@@ -1,12 +1,13 @@
 -- Trees of plans.
 use Rattle.std.proofs.Common.{ℕ, ◌≡◌, ◌<◌, ◌*◌, ◌/◌, ◌%◌, ◌∙◌, List, [], ◌∷◌, map, flat_map, length, refl, sym, ap, arith, Option, Some}
 use Rattle.std.proofs.Common.{None}
-use Rattle.std.specs.Prelude.{option_and_then, option_map, Result, Ok, Err, IfOk}
+use Rattle.std.specs.Prelude.{option_and_then, option_map}
 use Rattle.std.proofs.lemmas.Option.{slice_get-map}
 use Rattle.std.specs.List.{slice_get}
 use Rattle.std.proofs.lemmas.List.{length-map}
 use Rattle.spec_core.specs.Lists.{Each}
 use Rattle.spec_core.specs.Theories.{Theory}
+use Rattle.spec_core.proofs.Lists.{each_implied}
 use Rattle.rule_model.specs.declared.rules.Slot.{Slot}
 use Rattle.rule_model.specs.Derivations.{Derivation, pre, exiting, both}
 use Rattle.symbolic_rules.specs.Windows.{Windows}
@@ -14,7 +15,7 @@ use Rattle.symbolic_composites.specs.OpenFields.{OpenField, choices_at_once}
 use Rattle.symbolic_plans.specs.Plans.{Plan, prefix, internal, termination, below, hidden, handed_on, together, taken_slots, trees_of}
 use Rattle.symbolic_plans.specs.Plans.{put_row}
 use Rattle.symbolic_trees.specs.Numbers.{counted, trees_at_once}
-use Rattle.symbolic_trees.proofs.Pieces.{each_by, length_pieces}
+use Rattle.symbolic_trees.proofs.Pieces.{length_pieces}
 use Rattle.symbolic_trees.proofs.Capped.{capped_both, get_capped, get_empty}
 use Rattle.symbolic_trees.proofs.Fronts.{most, widths, fronts_count, ways_width, taken_same}
 
@@ -42,7 +43,7 @@ module _ (theory : Theory) (w : Windows) where
     each_way : slice_get (choices_at_once fields choices) 0 ≡ Some first →
         Each (λ x. length (trees_of theory w p x) ≡ length (trees_of theory w p first)) (choices_at_once fields choices)
     each_way e =
-        each_by (λ x. widths x ≡ widths first) (λ x. length (trees_of theory w p x) ≡ length (trees_of theory w p first))
+        each_implied (λ x. widths x ≡ widths first) (λ x. length (trees_of theory w p x) ≡ length (trees_of theory w p first))
         (choices_at_once fields choices) (λ x h. trees_same p x first h) (ways_width fields choices first e)
 
     pub some_counted : (ways each r : ℕ) → Some first ≡ slice_get (choices_at_once fields choices) 0 →
@@ -110,7 +111,3 @@ mapped_none f xs n e = sym (slice_get-map f xs n ∙ ap (option_map f) (sym e))
 pub mapped_some : {A B : Type 0} (f : A → B) (xs : List A) (n : ℕ) (x : A) (y : B) → Some x ≡ slice_get xs n → y ≡ f x →
     Some y ≡ slice_get (map f xs) n
 mapped_some f xs n x y e g = ap Some g ∙ sym (slice_get-map f xs n ∙ ap (option_map f) (sym e))
-
-pub if_ok_so : {A E : Type 0} {P Q : A → Type 0} (r : Result A E) → ((x : A) → P x → Q x) → IfOk r P → IfOk r Q
-if_ok_so (Ok x) f p = f x p
-if_ok_so (Err e) f p = p

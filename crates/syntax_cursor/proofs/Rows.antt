@@ -1,5 +1,6 @@
 -- The rows of Reads for one token, and those of Stops for the reason that a parser's fault tells.
 use Rattle.std.proofs.Common.{List, ◌∷◌, true, false, Some, ◌≡◌, refl, sym, subst, ◌∙◌}
+use Rattle.std.proofs.lemmas.Option.{same_Some}
 use Rattle.lotos_ast.specs.declared.mark.Mark.{Mark}
 use Rattle.lotos_ast.specs.declared.token.Token.{Token}
 use Rattle.lotos_ast.specs.MarkNumbers.{is_same_mark}
@@ -19,29 +20,26 @@ use Rattle.syntax_cursor.specs.Parsers.{reason_of, Halts}
 pub halts_memory : (d : Nesting) (g : Syntax) (s r : List Token) → Halts Memory d g s r
 halts_memory d g s r = record { stops = λ f i. cc }
 
-pub some_equal : {f g : Fault} → Some f ≡ Some g → f ≡ g
-some_equal h = cc
-
 pub halts_unexpected : (e : ParseFault) (d : Nesting) (k : Mark) (s : List Token) →
     is_same_mark k (mark_at s) ≡ false → reason_of e ≡ Some (fault_at (is_within d) (mark_at s)) →
     Halts e d (quoted k) s s
-halts_unexpected e d k s h i = record { stops = λ f j. stops_quoted h (some_equal (sym i ∙ j)) refl }
+halts_unexpected e d k s h i = record { stops = λ f j. stops_quoted h (same_Some _ _ (sym i ∙ j)) refl }
 
 pub halts_unkept : (e : ParseFault) (d : Nesting) (w : Wanted) (s : List Token) →
     fits w (mark_at s) ≡ false → reason_of e ≡ Some (fault_at (is_within d) (mark_at s)) →
     Halts e d (kept w) s s
-halts_unkept e d w s h i = record { stops = λ f j. stops_kept h (some_equal (sym i ∙ j)) refl }
+halts_unkept e d w s h i = record { stops = λ f j. stops_kept h (same_Some _ _ (sym i ∙ j)) refl }
 
 pub halts_too_deep : (d : Nesting) (k : Mark) (s : List Token) →
     is_same_mark k (mark_at s) ≡ true → is_within d ≡ false →
     Halts (Stopped Fault.TooDeep) d (quoted k) s s
 halts_too_deep d k s h i =
-    record { stops = λ f j. subst (λ z. Stops d z (quoted k) s s) (some_equal j) (deep_quoted (sym (same_equal k (mark_at s) h)) i refl) }
+    record { stops = λ f j. subst (λ z. Stops d z (quoted k) s s) (same_Some _ _ j) (deep_quoted (sym (same_equal k (mark_at s) h)) i refl) }
 
 pub halts_kept_too_deep : (d : Nesting) (w : Wanted) (s : List Token) →
     fits w (mark_at s) ≡ true → is_within d ≡ false →
     Halts (Stopped Fault.TooDeep) d (kept w) s s
-halts_kept_too_deep d w s h i = record { stops = λ f j. subst (λ z. Stops d z (kept w) s s) (some_equal j) (deep_kept h i refl) }
+halts_kept_too_deep d w s h i = record { stops = λ f j. subst (λ z. Stops d z (kept w) s s) (same_Some _ _ j) (deep_kept h i refl) }
 
 pub reads_passed : (d : Nesting) (k : Mark) (t : Token) (s r : List Token) →
     s ≡ t ∷ r → is_same_mark k (mark_at s) ≡ true → is_within d ≡ true →

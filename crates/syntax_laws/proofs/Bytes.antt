@@ -42,10 +42,6 @@ each-below (b ∷ s) h (suc i) = each-below s h.1 i
 pub ascii-told : (s : List ℕ) → Each (λ b. b < 128) s → utf8_lossy s ≡ s
 ascii-told s h = utf8_lossy-IsUtf8 s (IsUtf8-from_ascii s (each-below s h))
 
-pub each-weaker : {P Q : ℕ → Type 0} → ((b : ℕ) → P b → Q b) → (s : List ℕ) → Each P s → Each Q s
-each-weaker h [] g = tt
-each-weaker h (b ∷ s) g = (h b g.0, each-weaker h s g.1)
-
 alphanumeric-below : (b : ℕ) → is_ascii_alphanumeric b ≡ true → b < 128
 alphanumeric-below b h = grind (arith, nat_tests, h)
 

@@ -13,9 +13,10 @@ use Rattle.lotos_ast.specs.Marks.{keyword_of, symbol_of}
 use Rattle.lotos_ast.specs.Pieces.{gap, spelling, begins, comment_length, has_word, comment_mark, marked, comment_piece, word_rest, word_kind, operation_kind, symbols_where, first_length, symbol_piece, word_piece, operation_piece, first_piece}
 use Rattle.lotos_ast.specs.Tokenizes.{IsSpelled, ends, parted, spelled}
 use Rattle.spec_core.specs.Lists.{Each, IsOneOf}
+use Rattle.spec_core.proofs.Lists.{each_implied}
 use Rattle.syntax_laws.specs.NameLaws.{TokensAreNamed}
 use Rattle.syntax_laws.specs.Tokens.{IsNameOf, IsTokenNamed}
-use Rattle.syntax_laws.proofs.Bytes.{front-taken, passing-front, one-of-bytes, ascii-told, each-weaker, word-byte-below, among-below, letter-of}
+use Rattle.syntax_laws.proofs.Bytes.{front-taken, passing-front, one-of-bytes, ascii-told, word-byte-below, among-below, letter-of}
 use Rattle.syntax_laws.proofs.Words.{is-word, rest-bytes}
 
 same-kind : (k j : TokenKind) (n m : ℕ) → spelling k n ≡ spelling j m → k ≡ j
@@ -85,7 +86,7 @@ of-word b s kind n h e =
     let text : take n (b ∷ s) ≡ b ∷ take (word_rest s) s = ap (λ k. take k (b ∷ s)) (sym many) ∙ front-taken (word_rest s) b s in
     subst (λ k. Names (b ∷ s) k n) class
     (subst (λ zs. IsNameOf (word_kind b (b ∷ take (word_rest s) s)) (utf8_lossy zs)) (sym text)
-    (subst (λ zs. IsNameOf (word_kind b (b ∷ take (word_rest s) s)) zs) (sym (ascii-told (b ∷ take (word_rest s) s) (each-weaker word-byte-below (b ∷ take (word_rest s) s) (inl h, rest-bytes s)))) (word-named b s h)))
+    (subst (λ zs. IsNameOf (word_kind b (b ∷ take (word_rest s) s)) zs) (sym (ascii-told (b ∷ take (word_rest s) s) (each_implied _ _ (b ∷ take (word_rest s) s) word-byte-below (inl h, rest-bytes s)))) (word-named b s h)))
 
 -- operation strings
 
@@ -116,7 +117,7 @@ of-operation b s kind n h e =
     let bytes : Each (λ c. IsOneOf c (codes "#%&*+-./<=>@\\^~{}")) run = passing-front is_operation_byte string-byte (b ∷ s) in
     subst (λ k. Names (b ∷ s) k n) (same-kind (operation_kind run) kind m n e)
     (subst (λ k. IsNameOf (operation_kind run) (utf8_lossy (take k (b ∷ s)))) (same-length (operation_kind run) kind m n e)
-    (subst (λ zs. IsNameOf (operation_kind run) zs) (sym (ascii-told run (each-weaker (λ c i. among-below (codes "#%&*+-./<=>@\\^~{}") c refl i) run bytes))) (string-named run bytes some)))
+    (subst (λ zs. IsNameOf (operation_kind run) zs) (sym (ascii-told run (each_implied _ _ run (λ c i. among-below (codes "#%&*+-./<=>@\\^~{}") c refl i) bytes))) (string-named run bytes some)))
   where
     by-test : (x : Bool) → is_operation_byte b ≡ x → x ≡ true → 0 < length (take (cond x (1 + prefix_len is_operation_byte s) 0) (b ∷ s))
     by-test true e q = subst (λ (zs : List ℕ). 0 < length zs) (sym (front-taken (prefix_len is_operation_byte s) b s)) (omega arith)

@@ -2,11 +2,8 @@
 use Rattle.std.proofs.Common.{ℕ, ◌≡◌, List, [], ◌∷◌, ◌++◌, Option, Some, None, IsSome, IfSome, refl, sym, ap, subst, ◌∙◌, flat_map, append_assoc}
 use Rattle.std.proofs.lemmas.List.{append-nil}
 use Rattle.spec_core.specs.Lists.{Each}
+use Rattle.spec_core.proofs.Lists.{each_push}
 use Rattle.trace_reader.specs.Cursors.{Finds, IsLeft, Reading}
-
-pub each_put : {X : Type 0} (P : X → Type 0) (xs : List X) (x : X) → Each P xs → P x → Each P (xs ++ x ∷ [])
-each_put P [] x h k = (k, tt)
-each_put P (y ∷ xs) x h k = (h.0, each_put P xs x h.1 k)
 
 -- one step: what it found, and where the cursor then stands
 pub record IsStep {X : Type 0} (text_of : X → List ℕ) (Fits : X → Type 0) (Ends EndsOne : List ℕ → Type 0) (now new : Option (List ℕ)) (o : Option X) :
@@ -47,7 +44,7 @@ module _ {X : Type 0} (text_of : X → List ℕ) (Fits : X → Type 0) (Ends End
     reading_next y here after e = subst (λ l. Reading text_of Fits Ends start before l new) (sym e) (record {
       collects = λ xs rest fits ends a.
           let k = so_far.collects xs rest fits ends a in next_left y here (before ++ xs) k.more rest ends k.fits k.whole k.left;
-      fits = λ h k. each_put Fits done y (so_far.fits h (step.kept k)) (subst (λ z. IfSome z Fits) here (step.fits k));
+      fits = λ h k. each_push Fits done y (so_far.fits h (step.kept k)) (subst (λ z. IfSome z Fits) here (step.fits k));
       kept = λ k. so_far.kept (step.kept k);
     })
 

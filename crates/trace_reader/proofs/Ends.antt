@@ -1,8 +1,8 @@
 -- What may follow the parts of a line.
 use Rattle.std.proofs.Common.{ℕ, ◌≡◌, ◌&&◌, Bool, true, false, List, [], ◌∷◌, ◌++◌, codes, Option, Some, None, refl, sym, subst, flat_map, if◌then◌else◌}
+use Rattle.std.proofs.lemmas.Bool.{and_parts}
 use Rattle.value_reader.specs.Ends.{ends_there, goes_no_further}
 use Rattle.value_reader.specs.Items.{Piece, word, opening, closing, comma, of_sort, other, items, items_in, pieces, as_sort, is_of, is_word}
-use Rattle.value_reader.proofs.Finding.{both_true}
 use Rattle.value_reader.proofs.Values.{ends_term}
 use Rattle.value_text.proofs.Names.{EndsTerm}
 use Rattle.rule_model.specs.Events.{OfferName}
@@ -44,7 +44,7 @@ nothing_value rest e = subst EndsValue (sym e) refl
 
 -- behind a value, and behind a name
 pub value_term : (rest : List ℕ) → EndsValue rest → EndsTerm rest
-value_term rest h = ends_term rest (both_true (ends_there rest) (goes_no_further (items rest)) h).0
+value_term rest h = ends_term rest (and_parts (ends_there rest) (goes_no_further (items rest)) h).0
 
 -- the offer that an action takes, and what is behind it
 pub by_ends : (by : Option OfferName) (rest : List ℕ) → EndsFields (by_text by ++ (codes " rules " ++ rest))

@@ -13,6 +13,7 @@ use Rattle.spec_core.specs.Sorts.{FitsData, FitsGround, HasSort, HaveSorts, Oper
 use Rattle.spec_core.specs.Terms.{TermTree, TermTrees, variable, apply, no_terms, and_term, width}
 use Rattle.spec_core.specs.TermText.{gap_before, head_name}
 use Rattle.spec_core.specs.Theories.{Operation, Theory}
+use Rattle.spec_core.proofs.Lists.{each_slice_get}
 use Rattle.rule_model.specs.declared.action.Action.{Action}
 use Rattle.rule_model.specs.declared.action.Action.TheVariants.{Inner, Exit, At}
 use Rattle.rule_model.specs.declared.offer.Field.{Field}
@@ -32,7 +33,7 @@ use Rattle.trace_text.specs.Trace.{Names, action_text, answer_word, by_text, end
 use Rattle.trace_text.specs.Trace.{offer_word, slot_text, slots_text, tree_text, values_text}
 use Rattle.value_text.specs.Bytes.{is_name_byte}
 use Rattle.value_text.specs.Values.{IsGroundList, is_shared, name_at, value_text}
-use Rattle.value_text.proofs.Names.{at_place, each_at, identifier_run, plain_run}
+use Rattle.value_text.proofs.Names.{at_place, identifier_run, plain_run}
 use Rattle.value_text.proofs.Operations.{of_sort}
 use Rattle.value_text.proofs.OneTerm.{Form, plain, infixed, IsOver, over, text, suffix, gap, commas, constant_text, prefix_text, infix_text, first_sort, form_at}
 use Rattle.value_text.proofs.OneValue.{value_is_term}
@@ -118,7 +119,7 @@ module _ (program : Program) (fits : FitsData program.theory) (named : AreNamed 
       go true =
           joined (codes " of " ++ name_at theory.sorts d.result) r
           (joined (codes " of ") (name_at theory.sorts d.result) (all_so (codes " of ") refl)
-          (named_so theory.sorts d.result named.sorts (each_at (OperationFits theory) theory.operations f d fits.operations at).0)) h
+          (named_so theory.sorts d.result named.sorts (each_slice_get (OperationFits theory) theory.operations f d fits.operations at).0)) h
       go false = h
 
   gap_so : (name r : List ℕ) → IsOneLine r → IsOneLine (gap_before name ++ r)

@@ -7,6 +7,7 @@ use Rattle.spec_core.specs.Code.{Program}
 use Rattle.spec_core.specs.Lists.{Each}
 use Rattle.spec_core.specs.Ready.{AreNamed}
 use Rattle.spec_core.specs.Sorts.{FitsData}
+use Rattle.spec_core.proofs.Lists.{each_push}
 use Rattle.rule_model.specs.Events.{Event, pended, acted, replied, stalled, left, Ending, exits}
 use Rattle.trace_text.specs.Fits.{EventFits, EndingFits, CountsActions, HasTrace}
 use Rattle.trace_text.specs.Names.{names_in}
@@ -18,7 +19,6 @@ use Rattle.trace_reader.specs.LineSays.{IsNoLine}
 use Rattle.trace_reader.specs.Lines.{IsOneLine, is_no_line_feed, lines_text}
 use Rattle.trace_reader.specs.Reading.{HasRead, heading}
 use Rattle.trace_reader.specs.Traces.{GoesOn, IsBadBehind, bad_line, ends_early, IsFirstBad, IsTrace, trace_limit}
-use Rattle.trace_reader.proofs.Collecting.{each_put}
 use Rattle.trace_reader.proofs.OneLine.{event_so, end_so}
 
 -- a text up to its first LF
@@ -126,7 +126,7 @@ module _ (program : Program) where
       HasRead program text log actions number rest → rest ≡ here ++ (10 ∷ behind) → EventFits program e → IsNumbered actions e →
       here ≡ event_line names e → HasRead program text (log ++ e ∷ []) (actions_behind actions e) (number + 1) behind
   read_next text log actions number rest here behind e h parts fits numbered is = record {
-    fits = each_put (EventFits program) log e h.fits fits;
+    fits = each_push (EventFits program) log e h.fits fits;
     counts = λ later k.
         subst (CountsActions 0) (sym (append_assoc log (e ∷ []) later)) (h.counts (e ∷ later) (counted_so actions e later numbered k));
     whole =
@@ -287,7 +287,7 @@ module _ (program : Program) where
         end_parts f g r s = simp append_assoc
 
         each_texts : (xs : List (List ℕ)) (x : List ℕ) → Each IsOneLine xs → IsOneLine x → Each IsOneLine (xs ++ x ∷ [])
-        each_texts xs x a b = each_put IsOneLine xs x a b
+        each_texts xs x a b = each_push IsOneLine xs x a b
 
         bad_there : (behind ≡ [] → ⊥) → IsOneLine behind ⊎ IsSplit behind → IsBadBehind program text (lines_text all_texts) behind
         bad_there some (inl one) = ends_early one (λ other another t.

@@ -1,5 +1,5 @@
 -- Values and terms that are found.
-use Rattle.std.proofs.Common.{ℕ, ◌≡◌, Bool, true, false, List, [], ◌∷◌, ◌++◌, codes, Option, Some, None, refl, sym, ap, subst, ◌∙◌, length, arith, IfNone}
+use Rattle.std.proofs.Common.{ℕ, ◌≡◌, Bool, true, false, List, ◌∷◌, ◌++◌, codes, Option, Some, None, refl, sym, ap, subst, ◌∙◌, arith}
 use Rattle.spec_core.specs.Code.{Program}
 use Rattle.spec_core.specs.Ready.{AreNamed}
 use Rattle.spec_core.specs.Sorts.{FitsData, FitsGround}
@@ -22,10 +22,6 @@ use Rattle.trace_reader.proofs.Ends.{value_term}
 
 pub some_alike : (x y : List ℕ) → Some x ≡ Some y → x ≡ y
 some_alike x y h = cc
-
-pub nil_of : {A : Type 0} (xs : List A) → length xs ≡ 0 → xs ≡ []
-nil_of [] h = refl
-nil_of (x ∷ xs) h = absurd (omega (arith, h))
 
 -- what stands behind a word that was taken
 pub taken_so : (word text : List ℕ) (old new : Option (List ℕ)) (b : Bool) → Takes (past word old) old b new → b ≡ true → old ≡ Some text →
@@ -54,10 +50,6 @@ module _ (program : Program) (fits : FitsData program.theory) (named : AreNamed 
       let behind : rest ≡ k.0 = cc in
       (refl, k.2 ∙ ap Some (sym behind))
   slot_marked Blank rest old new b fit takes here e = absurd fit
-
-pub none_of : {A : Type 0} {P : Type 0} (o : Option A) → o ≡ None → IfNone o P → P
-none_of None e h = h
-none_of (Some x) e h = absurd (cc)
 
 module _ (theory : Theory) where
   pub ground_list : (t : TermTree) → FitsGround theory t → IsGroundList theory (preorder t)

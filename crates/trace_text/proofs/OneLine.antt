@@ -11,6 +11,7 @@ use Rattle.spec_core.specs.Sorts.{FitsData, FitsGround, IsDeclaredSort}
 use Rattle.spec_core.specs.Terms.{TermTree}
 use Rattle.spec_core.specs.declared.items.Gate.{Gate}
 use Rattle.spec_core.specs.declared.items.Sort.{Sort}
+use Rattle.spec_core.proofs.Members.{one_slice_get}
 use Rattle.rule_model.specs.declared.action.Action.{Action}
 use Rattle.rule_model.specs.declared.action.Action.TheVariants.{Inner, Exit, At}
 use Rattle.rule_model.specs.declared.offer.Field.{Field}
@@ -23,7 +24,7 @@ use Rattle.trace_text.specs.Fits.{IsClient, NameFits, ByFits, FieldFits, OfferFi
 use Rattle.trace_text.specs.Trace.{Names, name_text, by_text, limit_word, field_text, offer_text, values_text, action_text}
 use Rattle.trace_text.specs.Names.{names_in}
 use Rattle.value_text.specs.Values.{IsGroundList, value_text}
-use Rattle.value_text.proofs.Names.{one_of_at, EndsTerm, at_place, identifier_run, one_named, stops}
+use Rattle.value_text.proofs.Names.{EndsTerm, at_place, identifier_run, one_named, stops}
 use Rattle.value_text.proofs.OneTerm.{one_term}
 use Rattle.value_text.proofs.OneValue.{one_value}
 use Rattle.value_text.proofs.Runs.{Stops, one_number, one_run}
@@ -213,10 +214,10 @@ module _ (program : Program) (fits : FitsData program.theory) (named : AreNamed 
       (given_alike x y one.0, one.1)
 
   pub internal : IsOneOf (map to_ascii_lowercase (codes "i")) reserved_words
-  internal = one_of_at reserved_words 18 (codes "i") refl
+  internal = one_slice_get reserved_words 18 (codes "i") refl
 
   pub ending : IsOneOf (map to_ascii_lowercase (codes "exit")) reserved_words
-  ending = one_of_at reserved_words 11 (codes "exit") refl
+  ending = one_slice_get reserved_words 11 (codes "exit") refl
 
   -- no gate has a reserved word as its name
   pub free_gate : (g : Gate) (word x y : List ℕ) → g.0 < length program.gates → IsOneOf (map to_ascii_lowercase word) reserved_words →

@@ -3,6 +3,7 @@ use Rattle.std.proofs.Common.{◌≡◌, ℕ, ◌<◌, true, false, List, [], �
 use Rattle.std.specs.Prelude.{All, Contains, map}
 use Rattle.std.specs.List.{AllByRecursion}
 use Rattle.std.proofs.lemmas.List.Elements.{All-from_recursion}
+use Rattle.std.proofs.lemmas.Bool.{cases_Bool}
 use mathlib.Core.Option.{some, some-injective}
 use lib.ListN.{get_elem?}
 use Rattle.atomic_table.specs.Table.{State, Final, Seen}
@@ -13,7 +14,6 @@ use Rattle.turn_lock.specs.Entries.{Begins, made_by, NamesBelow}
 use Rattle.turn_lock.specs.Seats.{SeatModel, AgreesWith}
 use Rattle.turn_lock.specs.Rule.{HasSlot, HasNumber, FitsList, AllFit, accounts_of, IsSlot, KeepsRule}
 use Rattle.turn_lock.specs.Closing.{account_of, HasAccount, AllNoted}
-use Rattle.turn_lock.proofs.Places.{bool_cases}
 use Rattle.turn_lock.proofs.EntryLists.{begins_on}
 use Rattle.turn_lock.proofs.Accounts.{place_of_number}
 use Rattle.turn_lock.proofs.Rows.{all_and_last, number_is_noted}
@@ -43,7 +43,7 @@ module _ {T E F : Type 0} (list : T → List E) (fixed : T → F) (maker : E →
   at_home : (s : St) (r : Rule s) (id : ℕ) (v : View E F) →
       get_elem? s.views id ≡ some v → v.phase ≡ Idle → v.spent ≡ false → ((n : ℕ) → n < seats → HasNumber n (accounts_of v)) →
       r.out ≡ false
-  at_home s r id v at idle alive all = ⊎_elim (λ out. absurd (no_one out)) (λ home. home) (bool_cases r.out)
+  at_home s r id v at idle alive all = ⊎_elim (λ out. absurd (no_one out)) (λ home. home) (cases_Bool r.out)
     where
       no_one : r.out ≡ true → ⊥
       no_one out =
@@ -61,7 +61,7 @@ module _ {T E F : Type 0} (list : T → List E) (fixed : T → F) (maker : E →
           ∙ mine in
           let is : b.0 ≡ v = some-injective b.0 v (sym b.1 ∙ (ap (get_elem? s.views) same ∙ at)) in
           subst HasSlot (ap (λ (y : View E F). y.phase) is ∙ idle) b.2)
-          (bool_cases b.0.spent)
+          (cases_Bool b.0.spent)
 
   -- the value that the slot then has
   pub closing : (id : ℕ) (v : View E F) (words : List ℕ) (slots : List (Option T)) (row : List (SeatModel E)) (last : SeatModel E)

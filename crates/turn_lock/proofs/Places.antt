@@ -1,7 +1,6 @@
 -- Lists by their places, and functions that are changed at one point.
-use Rattle.std.proofs.Common.{◌≡◌, ◌≢◌, ◌⊎◌, ℕ, zero, suc, Bool, true, false, true≢false, List, [], ◌∷◌, ◌++◌, length, set, refl, sym, ap}
+use Rattle.std.proofs.Common.{◌≡◌, ◌≢◌, ◌⊎◌, ℕ, zero, suc, List, [], ◌∷◌, ◌++◌, length, set, refl, sym, ap}
 use Rattle.std.proofs.Common.{◌∙◌, subst, inl, inr, ⊎_elim}
-use Rattle.std.specs.Prelude.{◌||◌}
 use mathlib.Core.Logic.{dite}
 use mathlib.Core.Option.{some, some-injective, some-ne-none}
 use native.Mathlib.Decide.{ℕ_discrete}
@@ -31,17 +30,6 @@ put_else f i c j other = go (ℕ_discrete j i)
     go : (d : Dec (j ≡ i)) → pick d c (f j) ≡ f j
     go (yes e) = absurd (other e)
     go (no _) = refl
-
-pub bool_cases : (b : Bool) → (b ≡ true) ⊎ (b ≡ false)
-bool_cases true = inl refl
-bool_cases false = inr refl
-
-pub or_true : (b : Bool) → b || true ≡ true
-or_true true = refl
-or_true false = refl
-
-pub not_both : (b : Bool) → b ≡ true → b ≡ false → ⊥
-not_both b t f = true≢false (sym t ∙ f)
 
 module _ {A : Type 0} where
   pub set_at : (l : List A) (i : ℕ) (a b : A) → get_elem? l i ≡ some a → get_elem? (set l i b) i ≡ some b

@@ -2,6 +2,8 @@
 use Rattle.std.proofs.Common.{◌≡◌, ◌≢◌, ℕ, ◌+◌, ◌<◌, ◌≤◌, Bool, true, false, true≢false, cond, List, [], ◌∷◌, ◌++◌, length, set, Option}
 use Rattle.std.proofs.Common.{Some, refl, sym, ap, ◌∙◌, subst, ⊎_elim, inl, inr, arith, length-set}
 use Rattle.std.specs.Prelude.{◌||◌}
+use Rattle.std.proofs.lemmas.Bool.{cases_Bool}
+use Rattle.spec_core.proofs.Booleans.{or_true}
 use mathlib.Core.Logic.{dite}
 use mathlib.Core.Option.{some, some-injective}
 use native.Mathlib.Decide.{ℕ_discrete}
@@ -16,7 +18,7 @@ use Rattle.turn_lock.specs.Entries.{made_by, NamesBelow}
 use Rattle.turn_lock.specs.Rule.{HasTicket, HasSlot, FitsPhase, HasNumber, AnswersFor, accounts_of, origin_of, first_view, FitsView}
 use Rattle.turn_lock.specs.Rule.{KeepsRule}
 use Rattle.turn_lock.specs.Steps.{after_split, new_view, after_join, spent_view}
-use Rattle.turn_lock.proofs.Places.{put, put_here, put_else, bool_cases, or_true, set_at, at_end, at_only, at_changed}
+use Rattle.turn_lock.proofs.Places.{put, put_here, put_else, set_at, at_end, at_only, at_changed}
 use Rattle.turn_lock.proofs.EntryLists.{begins_all, either_begins}
 use Rattle.turn_lock.proofs.Accounts.{has_number_left, has_number_right, has_number_cases, differ_append, place_of_number, all_fit_moved}
 use Rattle.turn_lock.proofs.Accounts.{all_fit_append}
@@ -326,4 +328,4 @@ module _ {T E F : Type 0} (list : T → List E) (fixed : T → F) (maker : E →
             t.2
                 ∙ sym (put_else (λ k. k) other id r.first_at (λ z. apart (sym z ∙ sym t.2))),
           ))
-          (λ off. absurd (true≢false (sym h ∙ (λ i. off i || is i)))) (bool_cases v.is_first)
+          (λ off. absurd (true≢false (sym h ∙ (λ i. off i || is i)))) (cases_Bool v.is_first)

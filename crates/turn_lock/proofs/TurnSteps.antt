@@ -2,6 +2,7 @@
 use Rattle.std.proofs.Common.{◌≡◌, ◌≢◌, ℕ, ◌+◌, ◌-◌, ◌%◌, ◌^◌, ◌<◌, ◌≤◌, eqb, Bool, true, false, true≢false, List, [], ◌∷◌, length, get_or}
 use Rattle.std.proofs.Common.{set, Option, Some, refl, sym, ap, ◌∙◌, subst, ⊎_elim, arith, eq-eqb, ne_eqb}
 use Rattle.std.proofs.lemmas.List.{set-get_or}
+use Rattle.std.proofs.lemmas.Bool.{cases_Bool, both_ways}
 use mathlib.Core.Logic.{dite}
 use mathlib.Core.Option.{none, some}
 use mathlib.Core.Option as maybe
@@ -16,7 +17,7 @@ use Rattle.turn_lock.specs.declared.rule.Phase.TheVariants.{Idle, Drawn, Called,
 use Rattle.turn_lock.specs.Entries.{Begins, made_by, NamesBelow, Continues}
 use Rattle.turn_lock.specs.Rule.{HasTicket, HasSlot, FitsPhase, AnswersFor, accounts_of, origin_of, IsSlot, FitsView, KeepsRule}
 use Rattle.turn_lock.specs.Steps.{in_phase, with_lists, drew, passed, looked, published}
-use Rattle.turn_lock.proofs.Places.{put, put_here, put_else, bool_cases, not_both, set_at, at_changed}
+use Rattle.turn_lock.proofs.Places.{put, put_here, put_else, set_at, at_changed}
 use Rattle.turn_lock.proofs.EntryLists.{begins_all, begins_on, made_by_more, continues_itself, names_below_longer}
 use Rattle.turn_lock.proofs.Accounts.{place_of_number, all_fit_longer}
 
@@ -81,7 +82,7 @@ module _ {T E F : Type 0} (list : T → List E) (fixed : T → F) (maker : E →
             r.first_at x.0 x.1)
             (λ i. (sym t.0 i, t.1 i)) record {
               origin_stays = me.origin_stays;
-              spent_is_idle = λ h. absurd (not_both v.spent h alive);
+              spent_is_idle = λ h. absurd (both_ways v.spent alive h);
               phase = mine;
               accounts = λ h. (
                 record { prefix = prefix; own = own; below = p.below; here = p.here },
@@ -186,7 +187,7 @@ module _ {T E F : Type 0} (list : T → List E) (fixed : T → F) (maker : E →
               omega arith,
               ap (put r.holder r.ticket id) as_ticket
                   ∙ put_here r.holder r.ticket id,
-              λ e. ⊎_elim (λ o. let b = out_below s r o in absurd (omega arith)) (λ o. o) (bool_cases r.out),
+              λ e. ⊎_elim (λ o. let b = out_below s r o in absurd (omega arith)) (λ o. o) (cases_Bool r.out),
             )
             (λ j u _ _ k. beside_draw r.serving r.ticket id r.longest r.out r.holder j u.account.seen u.phase k)
             (λ u lo hi. dite (ℕ_discrete u r.ticket)
@@ -225,8 +226,8 @@ module _ {T E F : Type 0} (list : T → List E) (fixed : T → F) (maker : E →
   beside_call serving ticket id t0 longest out holder j seen Idle apart mine now home k = tt
   beside_call serving ticket id t0 longest out holder j seen (Drawn t) apart mine now home k =
       (k.0, k.1, k.2, λ e. absurd (apart (sym k.2 ∙ (ap holder (e ∙ now) ∙ mine))))
-  beside_call serving ticket id t0 longest out holder j seen (Called t) apart mine now home k = absurd (not_both out k.3 home)
-  beside_call serving ticket id t0 longest out holder j seen (Published t) apart mine now home k = absurd (not_both out k.3 home)
+  beside_call serving ticket id t0 longest out holder j seen (Called t) apart mine now home k = absurd (both_ways out home k.3)
+  beside_call serving ticket id t0 longest out holder j seen (Published t) apart mine now home k = absurd (both_ways out home k.3)
 
   pub look_keeps_rule : (slots id t : ℕ) (fixed_part : Option F) (count : ℕ) (me : M) →
       fixed_part ≡ Some (fixed opened) → count ≡ seats → me.0.phase ≡ Drawn t → me.0.spent ≡ false
@@ -285,7 +286,7 @@ module _ {T E F : Type 0} (list : T → List E) (fixed : T → F) (maker : E →
       → FitsPhase serving ticket longest out holder j seen p → FitsPhase serving ticket longest' true holder j seen p
   beside_slot serving ticket id t0 longest longest' out holder j seen Idle apart mine now away k = tt
   beside_slot serving ticket id t0 longest longest' out holder j seen (Drawn t) apart mine now away k =
-      (k.0, k.1, k.2, λ e. absurd (not_both out away (k.3 e)))
+      (k.0, k.1, k.2, λ e. absurd (both_ways out (k.3 e) away))
   beside_slot serving ticket id t0 longest longest' out holder j seen (Called t) apart mine now away k =
       absurd (apart (sym k.2 ∙ (ap holder (sym k.0 ∙ now) ∙ mine)))
   beside_slot serving ticket id t0 longest longest' out holder j seen (Published t) apart mine now away k =
@@ -322,7 +323,7 @@ module _ {T E F : Type 0} (list : T → List E) (fixed : T → F) (maker : E →
       → FitsPhase serving ticket longest out holder j seen p → FitsPhase (serving + 1) ticket longest false holder j seen p
   beside_pass serving ticket id t0 longest out holder j seen Idle apart mine now away k = tt
   beside_pass serving ticket id t0 longest out holder j seen (Drawn t) apart mine now away k =
-      dite (ℕ_discrete t serving) (λ e. absurd (not_both out away (k.3 e))) (λ ne. let a = k.0 in (omega arith, k.1, k.2, λ _. refl))
+      dite (ℕ_discrete t serving) (λ e. absurd (both_ways out (k.3 e) away)) (λ ne. let a = k.0 in (omega arith, k.1, k.2, λ _. refl))
   beside_pass serving ticket id t0 longest out holder j seen (Called t) apart mine now away k =
       absurd (apart (sym k.2 ∙ (ap holder (sym k.0 ∙ now) ∙ mine)))
   beside_pass serving ticket id t0 longest out holder j seen (Published t) apart mine now away k =

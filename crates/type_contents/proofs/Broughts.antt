@@ -1,8 +1,9 @@
 -- What types bring in, found one after another.
-use Rattle.std.proofs.Common.{◌≡◌, ◌∙◌, refl, sym, ap, subst, List, [], ◌∷◌, ◌++◌, ℕ, suc, ◌<◌, ◌≤◌, length, map, set, get_or, Option, None, Some, is_some, option_map, Bool, true, false, ◌||◌, nat_eq}
+use Rattle.std.proofs.Common.{◌≡◌, ◌∙◌, refl, sym, ap, subst, List, [], ◌∷◌, ℕ, suc, ◌<◌, ◌≤◌, length, map, set, get_or, Option, None, Some, is_some, option_map, Bool, true, false, ◌||◌, nat_eq}
 use Rattle.std.specs.List.{list_all, list_any, filter, flat_map, slice_index_or, range_with_len}
 use Rattle.std.proofs.lemmas.List.{length-map}
 use Rattle.std.proofs.lemmas.Bool.{eqb-true}
+use Rattle.spec_core.proofs.Lists.{flat_map_same}
 use Rattle.lotos_ast.specs.declared.types.TypeDef.{TypeDef}
 use Rattle.lotos_ast.specs.declared.types.TypeDef.TheVariants.{Library, Definition}
 use Rattle.lotos_ast.specs.declared.types.TypeBody.{TypeBody}
@@ -35,12 +36,8 @@ brought_agree t u among content k h = by_test (list_any (nat_eq k) among) refl
     by_test true e = rw e (ap (filter (λ d. is_in content d.item)) (agree_among t u among k h e))
     by_test false e = rw e refl
 
-each_agree : {A B : Type 0} (f g : A → List B) → ((x : A) → f x ≡ g x) → (xs : List A) → flat_map f xs ≡ flat_map g xs
-each_agree f g h [] = refl
-each_agree f g h (x ∷ xs) = ap (λ z. z ++ flat_map f xs) (h x) ∙ ap (λ z. g x ++ z) (each_agree f g h xs)
-
 order_agrees : (count : ℕ) (t u : List (List Described)) (among : List ℕ) (content : List Item) → AgreeOn [] t u among → in_order count t among content ≡ in_order count u among content
-order_agrees count t u among content h = ap firsts (each_agree (brought_by t among content) (brought_by u among content) (λ k. brought_agree t u among content k h) (range_with_len 0 count))
+order_agrees count t u among content h = ap firsts (flat_map_same (brought_by t among content) (brought_by u among content) (range_with_len 0 count) (λ k. brought_agree t u among content k h))
 
 brings_agree_by : (types : List TypeDef) (t u : List (List Described)) (body : TypeBody) → AgreeOn [] t u (needs_by types body) → brings_by types t body ≡ brings_by types u body
 brings_agree_by types t u (Declared place imports formals sorts operations equations) h = refl

@@ -1,12 +1,12 @@
 -- Loops that add each item once.
-use Rattle.std.proofs.Common.{◌≡◌, ◌∙◌, refl, sym, ap, List, [], ◌∷◌, ◌++◌, ℕ, zero, suc, ◌+◌, ◌<◌, length, map, take, get_or, Bool, true, false, arith, add-one}
+use Rattle.std.proofs.Common.{◌≡◌, ◌∙◌, refl, sym, ap, List, [], ◌∷◌, ◌++◌, ℕ, ◌+◌, ◌<◌, length, map, take, get_or, Bool, true, false, arith, add-one}
 use Rattle.std.specs.Prelude.{if◌then◌else◌}
 use Rattle.std.specs.List.{filter, fold, flat_map, range_with_len}
 use Rattle.std.proofs.lemmas.List.{map-append, append-nil}
 use Rattle.std.proofs.lemmas.List.Sums.{fold-append}
 use Rattle.std.proofs.lemmas.List.Elements.{filter-append}
 use Rattle.std.proofs.lemmas.Grind.{flat_map-append}
-use Rattle.type_contents.proofs.Lists.{take_next}
+use Rattle.spec_core.proofs.Lists.{range_suc, take_next}
 
 one_filtered : {A B : Type 0} (w : B → A → B) (p : A → Bool) (a : B) (y : A) → fold w a (filter p (y ∷ [])) ≡ (if p y then w a y else a)
 one_filtered {A = A} {B = B} w p a y = by_test (p y) refl
@@ -21,10 +21,6 @@ filtered_next w p g a now next xs i x within at before more =
     more ∙ sym (one_filtered w p now (g x)) ∙ ap (λ z. fold w z (filter p (g x ∷ []))) before ∙ sym (fold-append w a (filter p (map g (take i xs))) (filter p (g x ∷ [])))
     ∙ ap (fold w a) (sym (ap (λ zs. filter p (map g zs)) (take_next xs i x within at) ∙ ap (filter p) (map-append g (take i xs) (x ∷ [])) ∙ filter-append p (map g (take i xs)) (g x ∷ [])))
 
-range_more : (a n : ℕ) → range_with_len a (suc n) ≡ range_with_len a n ++ (a + n) ∷ []
-range_more a zero = let e : a ≡ a + 0 = omega arith in ap (λ z. z ∷ []) e
-range_more a (suc n) = let e : (a + 1) + n ≡ a + suc n = omega arith in ap (λ z. a ∷ z) (range_more (a + 1) n ∙ ap (λ z. range_with_len (a + 1) n ++ z ∷ []) e)
-
 zero_plus : (k : ℕ) → 0 + k ≡ k
 zero_plus k = omega arith
 
@@ -32,7 +28,7 @@ zero_plus k = omega arith
 pub ranged_next : {A B : Type 0} (w : B → A → B) (f : ℕ → List A) (a now next : B) (k : ℕ) → now ≡ fold w a (flat_map f (range_with_len 0 k)) → next ≡ fold w now (f k) → next ≡ fold w a (flat_map f (range_with_len 0 (k + 1)))
 ranged_next w f a now next k before more =
     rw add-one (more ∙ ap (λ z. fold w z (f k)) before ∙ sym (fold-append w a (flat_map f (range_with_len 0 k)) (f k))
-    ∙ ap (fold w a) (sym (ap (flat_map f) (range_more 0 k ∙ ap (λ z. range_with_len 0 k ++ z ∷ []) (zero_plus k)) ∙ flat_map-append f (range_with_len 0 k) (k ∷ []) ∙ ap (λ z. flat_map f (range_with_len 0 k) ++ z) (append-nil (f k)))))
+    ∙ ap (fold w a) (sym (ap (flat_map f) (range_suc 0 k ∙ ap (λ z. range_with_len 0 k ++ z ∷ []) (zero_plus k)) ∙ flat_map-append f (range_with_len 0 k) (k ∷ []) ∙ ap (λ z. flat_map f (range_with_len 0 k) ++ z) (append-nil (f k)))))
 
 -- one more element
 pub folded_next : {A B C : Type 0} (w : B → A → B) (g : C → A) (a now next : B) (xs : List C) (i : ℕ) (x : C) → i < length xs → x ≡ get_or xs i x → now ≡ fold w a (map g (take i xs)) → next ≡ w now (g x) → next ≡ fold w a (map g (take (i + 1) xs))

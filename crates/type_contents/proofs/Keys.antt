@@ -1,5 +1,5 @@
 -- Equality of keys in maps is that of items.
-use Rattle.std.proofs.Common.{◌≡◌, ◌&&◌, ◌∙◌, refl, sym, ap, Global, List, [], ◌∷◌, ℕ, Bool, true, false}
+use Rattle.std.proofs.Common.{◌≡◌, ◌&&◌, ◌∙◌, refl, sym, ap, Global, List, [], ◌∷◌, ℕ, true, false}
 use Rattle.std.specs.Cmp.Derive.Mapped.{pointwise-map}
 use Rattle.std.specs.Cmp.Lexicographic.{pointwise, same_text}
 use Rattle.std.specs.Str.{bytes_eq}
@@ -8,6 +8,7 @@ use Rattle.std.specs.List.{AllByRecursion, IsDistinct}
 use Rattle.std.proofs.lemmas.Option.{slice_get-map}
 use Rattle.std.specs.String.{string_eq}
 use Rattle.std.proofs.Math.Bool.{and_assoc}
+use Rattle.std.proofs.lemmas.Bool.{and_parts}
 use denote.Enum.Bare.{sameb}
 use Rattle.type_contents.specs.contracts.item_kind.ItemKind as kind
 use Rattle.type_contents.specs.declared.item.Item.{Item}
@@ -16,12 +17,6 @@ use Rattle.type_contents.specs.declared.item_kind.ItemKind.TheVariants.{Sort, Pr
 use Rattle.type_contents.specs.Items as items
 use Rattle.type_contents.specs.Items.{is_same_item, is_same_kind, has_same_name}
 use Rattle.type_contents.specs.Views.{item_of}
-
-both : (a b : Bool) → (a && b) ≡ true → (a ≡ true) × (b ≡ true)
-both true true e = (refl, refl)
-both true false e = absurd (cc)
-both false true e = absurd (cc)
-both false false e = absurd (cc)
 
 same_kind : (a b : ItemKind) → sameb kind.the_type a b ≡ is_same_kind a b
 same_kind Sort Sort = refl
@@ -47,7 +42,7 @@ same_names [] [] e = refl
 same_names [] (y ∷ ys) e = absurd (cc)
 same_names (x ∷ xs) [] e = absurd (cc)
 same_names (x ∷ xs) (y ∷ ys) e =
-    let h : (bytes_eq x y ≡ true) × (pointwise bytes_eq xs ys ≡ true) = both (bytes_eq x y) (pointwise bytes_eq xs ys) e in
+    let h : (bytes_eq x y ≡ true) × (pointwise bytes_eq xs ys ≡ true) = and_parts (bytes_eq x y) (pointwise bytes_eq xs ys) e in
     ap (λ z. z ∷ xs) (same_text x y (sym h.0)) ∙ ap (λ zs. y ∷ zs) (same_names xs ys h.1)
 
 one_kind : (a b : ItemKind) → is_same_kind a b ≡ true → a ≡ b
@@ -67,8 +62,8 @@ made k k' n n' s s' e f g =
 
 pub one_item : (a b : items.Item) → is_same_item a b ≡ true → a ≡ b
 one_item a b e =
-    let h : (has_same_name a b ≡ true) × (pointwise bytes_eq a.sorts b.sorts ≡ true) = both (has_same_name a b) (pointwise bytes_eq a.sorts b.sorts) e in
-    let i : (is_same_kind a.kind b.kind ≡ true) × (bytes_eq a.name b.name ≡ true) = both (is_same_kind a.kind b.kind) (bytes_eq a.name b.name) h.0 in
+    let h : (has_same_name a b ≡ true) × (pointwise bytes_eq a.sorts b.sorts ≡ true) = and_parts (has_same_name a b) (pointwise bytes_eq a.sorts b.sorts) e in
+    let i : (is_same_kind a.kind b.kind ≡ true) × (bytes_eq a.name b.name ≡ true) = and_parts (is_same_kind a.kind b.kind) (bytes_eq a.name b.name) h.0 in
     made a.kind b.kind a.name b.name a.sorts b.sorts (one_kind a.kind b.kind i.0) (same_text a.name b.name (sym i.1)) (same_names a.sorts b.sorts h.1)
 
 -- a key that is the item which was looked for

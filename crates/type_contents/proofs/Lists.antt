@@ -1,9 +1,10 @@
 -- Loops over lists.
 use Rattle.std.proofs.Common.{◌≡◌, ◌∙◌, refl, sym, ap, subst, List, [], ◌∷◌, ◌++◌, ℕ, zero, suc, ◌+◌, ◌-◌, ◌<◌, ◌≤◌, length, map, take, drop, get_or, ◌||◌, arith, Bool, false}
 use Rattle.std.specs.List.{position_or_len, flat_map, list_any, AllByRecursion}
-use Rattle.std.proofs.lemmas.List.{map-append, take_more, append-nil}
+use Rattle.std.proofs.lemmas.List.{map-append, append-nil, take_all}
 use Rattle.std.proofs.Common.{append_assoc}
 use Rattle.std.proofs.lemmas.Grind.{flat_map-append}
+use Rattle.spec_core.proofs.Lists.{take_next}
 
 -- no element passes a test
 pub none_is : {A : Type 0} (p : A → Bool) (xs : List A) (i : ℕ) → length xs ≤ i → ((k : ℕ) (d : A) → k < i → p (get_or xs k d) ≡ false) → length xs ≡ position_or_len p xs
@@ -12,15 +13,6 @@ none_is p (x ∷ xs) zero past none = absurd (omega (arith, past))
 none_is p (x ∷ xs) (suc i) past none =
     let h : length xs ≡ position_or_len p xs = none_is p xs i (omega (arith, past)) (λ k d h. none (suc k) d (omega (arith, h))) in
     rw (none 0 x (omega arith)) (omega (arith, h))
-
-pub take_next : {A : Type 0} (xs : List A) (i : ℕ) (x : A) → i < length xs → x ≡ get_or xs i x → take (i + 1) xs ≡ take i xs ++ x ∷ []
-take_next xs i x within at = take_more xs i x within ∙ ap (λ y. take i xs ++ y ∷ []) (sym at)
-
--- one more element, through two functions
-pub mapped_next : {A B C : Type 0} (f : B → C) (g : A → B) (now then : List C) (xs : List A) (i : ℕ) (x : A) → i < length xs → x ≡ get_or xs i x → now ≡ map f (map g (take i xs)) → then ≡ now ++ f (g x) ∷ [] → then ≡ map f (map g (take (i + 1) xs))
-mapped_next f g now then xs i x within at before more =
-    more ∙ ap (λ zs. zs ++ f (g x) ∷ []) before
-    ∙ sym (ap (λ zs. map f (map g zs)) (take_next xs i x within at) ∙ ap (map f) (map-append g (take i xs) (x ∷ [])) ∙ map-append f (map g (take i xs)) (g x ∷ []))
 
 -- what one more element gives, through a function
 pub gathered_next : {A B C : Type 0} (f : B → List C) (g : A → B) (now then : List C) (xs : List A) (i : ℕ) (x : A) → i < length xs → x ≡ get_or xs i x → now ≡ flat_map f (map g (take i xs)) → then ≡ now ++ f (g x) → then ≡ flat_map f (map g (take (i + 1) xs))
@@ -34,11 +26,6 @@ all_at P [] i x h within at = absurd (omega (arith, within))
 all_at P (y ∷ ys) zero x h within at = subst P (sym at) h.0
 all_at P (y ∷ ys) (suc i) x h within at = all_at P ys i x h.1 (omega (arith, within)) at
 
-pub joined_next : {A C : Type 0} (f : A → List C) (now then : List C) (xs : List A) (i : ℕ) (x : A) → i < length xs → x ≡ get_or xs i x → now ≡ flat_map f (take i xs) → then ≡ now ++ f x → then ≡ flat_map f (take (i + 1) xs)
-joined_next f now then xs i x within at before more =
-    more ∙ ap (λ zs. zs ++ f x) before
-    ∙ sym (ap (flat_map f) (take_next xs i x within at) ∙ flat_map-append f (take i xs) (x ∷ []) ∙ ap (λ z. flat_map f (take i xs) ++ z) (append-nil (f x)))
-
 -- one more element behind others
 pub appended_next : {A C : Type 0} (f : A → C) (h now then : List C) (xs : List A) (i : ℕ) (x : A) → i < length xs → x ≡ get_or xs i x → now ≡ h ++ map f (take i xs) → then ≡ now ++ f x ∷ [] → then ≡ h ++ map f (take (i + 1) xs)
 appended_next f h now then xs i x within at before more =
@@ -47,12 +34,6 @@ appended_next f h now then xs i x within at before more =
 
 -- the first doesn't pass a test
 
-take_all : {A : Type 0} (xs : List A) (i : ℕ) → length xs ≤ i → take i xs ≡ xs
-take_all [] zero h = refl
-take_all [] (suc i) h = refl
-take_all (x ∷ xs) zero h = absurd (omega (arith, h))
-take_all (x ∷ xs) (suc i) h = ap (λ zs. x ∷ zs) (take_all xs i (omega (arith, h)))
-
 pub any_rest : {A : Type 0} (p : A → Bool) (xs : List A) (x : A) (r : Bool) → 1 ≤ length xs → x ≡ get_or xs 0 x → p x ≡ false → r ≡ list_any p (take (length xs - 1) (drop 1 xs)) → r ≡ list_any p xs
 any_rest p [] x r some at h more = absurd (omega (arith, some))
-any_rest p (y ∷ ys) x r some at h more = more ∙ ap (list_any p) (take_all ys (length (y ∷ ys) - 1) (omega arith)) ∙ sym (ap (λ z. z || list_any p ys) (ap p (sym at) ∙ h))
+any_rest p (y ∷ ys) x r some at h more = more ∙ ap (list_any p) (take_all (length (y ∷ ys) - 1) ys (omega arith)) ∙ sym (ap (λ z. z || list_any p ys) (ap p (sym at) ∙ h))

@@ -2,6 +2,8 @@
 use Rattle.std.proofs.Common.{◌≡◌, ◌∙◌, refl, sym, ap, subst, List, [], ◌∷◌, ◌++◌, ℕ, zero, suc, ◌+◌, ◌<◌, ◌≤◌, length, map, take, set, get_or, Option, None, Some, is_some, option_map, true, ◌||◌, ◌&&◌, nat_le}
 use Rattle.std.specs.List.{list_all, slice_index_or}
 use Rattle.std.proofs.lemmas.List.{get_or-map, length-map, map-append}
+use Rattle.std.proofs.lemmas.Option.{none-some}
+use Rattle.spec_core.proofs.Lists.{take_next}
 use Rattle.lotos_ast.specs.declared.types.TypeDef.{TypeDef}
 use Rattle.type_contents.specs.declared.numbers.Numbers.{Numbers}
 use Rattle.type_contents.specs.Items.{Item}
@@ -13,7 +15,6 @@ use Rattle.type_contents.proofs.Tables.{grown_length}
 use Rattle.type_contents.proofs.Made.{made_stays, made_within_more}
 use Rattle.type_contents.proofs.Looks.{made_agree}
 use Rattle.type_contents.proofs.Settled.{settle_one, all_settled}
-use Rattle.type_contents.proofs.Lists.{take_next}
 
 -- what has been found, through a function
 
@@ -81,16 +82,13 @@ all_made types t made n settled le same each =
 
 -- nothing is made yet
 
-no_some : {A : Type 0} (x : A) → None ≡ Some x → ⊥
-no_some x e = cc
-
 nothing_read : {A : Type 0} (types : List TypeDef) (f : Numbers → A) (k : ℕ) → slice_index_or (map (option_map f) (map (λ _. None) types)) k None ≡ None
 nothing_read [] f k = refl
 nothing_read (d ∷ ds) f zero = refl
 nothing_read (d ∷ ds) f (suc k) = nothing_read ds f k
 
 pub none_settled : (types : List TypeDef) (t : List Item) (made : List (Option Numbers)) → made ≡ map (λ _. None) types → AreSettled types t made 0
-none_settled types t made is k x at m le = absurd (no_some x (sym (nothing_read types (content_at t) k) ∙ sym (ap (λ z. slice_index_or (map (option_map (content_at t)) z) k None) is) ∙ at))
+none_settled types t made is k x at m le = absurd (none-some x (sym (nothing_read types (content_at t) k) ∙ sym (ap (λ z. slice_index_or (map (option_map (content_at t)) z) k None) is) ∙ at))
 
 nothing_within : (bound : ℕ) (types : List TypeDef) → AreMadeWithin bound (map (λ _. None) types)
 nothing_within bound [] = tt

@@ -1,20 +1,12 @@
 -- What is made once, from what is settled, is settled.
-use Rattle.std.proofs.Common.{◌≡◌, ◌≢◌, ◌∙◌, refl, sym, ap, subst, List, [], ◌∷◌, ℕ, zero, suc, ◌<◌, ◌≤◌, length, set, get_or, Option, None, Some, is_some, unwrap_or, arith, Bool, true, false, ◌||◌, ◌&&◌, nat_le, nat_eq}
+use Rattle.std.proofs.Common.{◌≡◌, ◌≢◌, ◌∙◌, refl, sym, ap, subst, List, [], ◌∷◌, ℕ, zero, suc, ◌<◌, ◌≤◌, length, set, get_or, Option, None, Some, is_some, unwrap_or, arith, Bool, true, false, ◌||◌, nat_le, nat_eq}
 use Rattle.std.specs.List.{AllByRecursion, list_all, slice_index_or}
 use Rattle.std.proofs.lemmas.List.{ext_get_or, get_or-map, length-map, get_or-set_same, get_or-set_other}
 use Rattle.std.proofs.lemmas.Grind.{common_steps}
-use Rattle.std.proofs.lemmas.Bool.{eqb-true, eq-eqb}
+use Rattle.std.proofs.lemmas.Bool.{eqb-true, eq-eqb, and_parts}
+use Rattle.std.proofs.lemmas.Option.{same_Some}
 use Rattle.type_contents.specs.Rounds.{rounds, table}
 use Rattle.type_contents.specs.Settled.{is_ready, are_ready, known, IsSettled}
-
-both : (a b : Bool) → (a && b) ≡ true → (a ≡ true) × (b ≡ true)
-both true true e = (refl, refl)
-both true false e = absurd (cc)
-both false true e = absurd (cc)
-both false false e = absurd (cc)
-
-same_some : {A : Type 0} (x y : A) → Some x ≡ Some y → x ≡ y
-same_some x y e = cc
 
 differ : (j k : ℕ) → nat_eq j k ≡ false → j ≢ k
 differ j k e h = absurd (false_true (sym e ∙ eq-eqb j k h))
@@ -24,8 +16,8 @@ differ j k e h = absurd (false_true (sym e ∙ eq-eqb j k h))
 
 some_at : {A : Type 0} (found : List (Option A)) (i : ℕ) → list_all is_some found ≡ true → i < length found → is_some (slice_index_or found i None) ≡ true
 some_at [] i each h = absurd (omega (arith, h))
-some_at (x ∷ xs) zero each h = let p : (is_some x ≡ true) × (list_all is_some xs ≡ true) = both (is_some x) (list_all is_some xs) each in p.0
-some_at (x ∷ xs) (suc i) each h = let p : (is_some x ≡ true) × (list_all is_some xs ≡ true) = both (is_some x) (list_all is_some xs) each in some_at xs i p.1 (omega (arith, h))
+some_at (x ∷ xs) zero each h = let p : (is_some x ≡ true) × (list_all is_some xs ≡ true) = and_parts (is_some x) (list_all is_some xs) each in p.0
+some_at (x ∷ xs) (suc i) each h = let p : (is_some x ≡ true) × (list_all is_some xs ≡ true) = and_parts (is_some x) (list_all is_some xs) each in some_at xs i p.1 (omega (arith, h))
 
 pub past_all : {A : Type 0} (xs : List A) (k : ℕ) (d : A) → length xs ≤ k → slice_index_or xs k d ≡ d
 past_all [] k d h = refl
@@ -58,7 +50,7 @@ agree_at {A = A} nothing make all found n m j settled same le ready = by_test (n
 all_agree : {D A : Type 0} (nothing : A) (make : List A → D → A) (all : List D) (found : List (Option A)) (n m : ℕ) (used : List ℕ) → IsSettled nothing make all found n → length found ≡ length all → n ≤ m → are_ready found used ≡ true → AllByRecursion (λ j. slice_index_or (rounds nothing make all m) j nothing ≡ slice_index_or (known nothing found) j nothing) used
 all_agree nothing make all found n m [] settled same le ready = tt
 all_agree nothing make all found n m (j ∷ js) settled same le ready =
-    let h : (is_ready found j ≡ true) × (are_ready found js ≡ true) = both (is_ready found j) (are_ready found js) ready in
+    let h : (is_ready found j ≡ true) × (are_ready found js ≡ true) = and_parts (is_ready found j) (are_ready found js) ready in
     (agree_at nothing make all found n m j settled same le h.0, all_agree nothing make all found n m js settled same le h.1)
 
 pub settle_one : {D A : Type 0} (nothing : A) (make : List A → D → A) (all : List D) (found : List (Option A)) (n k : ℕ) (d : D) (x : A) (used : List ℕ)
@@ -78,7 +70,7 @@ settle_one nothing make all found n k d x used looks settled same within at read
         let h : j ≡ k = eqb-true j k e in
         let v : k < length found = subst (λ z. k < z) (sym same) within in
         ap (λ z. slice_index_or (rounds nothing make all m) z nothing) h ∙ by_round m le
-        ∙ same_some x y (sym (get_or-set_same found k (Some x) None v) ∙ sym (ap (λ z. get_or (set found k (Some x)) z None) h) ∙ is)
+        ∙ same_Some x y (sym (get_or-set_same found k (Some x) None v) ∙ sym (ap (λ z. get_or (set found k (Some x)) z None) h) ∙ is)
     by_number false e = settled j y (sym (get_or-set_other found k j (Some x) None (differ j k e)) ∙ is) m (omega (arith, le))
 
 pub all_settled : {D A : Type 0} (nothing : A) (make : List A → D → A) (all : List D) (found : List (Option A)) (n : ℕ) → IsSettled nothing make all found n → n ≤ length all → length found ≡ length all → list_all is_some found ≡ true → known nothing found ≡ table nothing make all

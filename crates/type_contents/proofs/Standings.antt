@@ -2,6 +2,7 @@
 use Rattle.std.proofs.Common.{◌≡◌, ◌∙◌, refl, sym, ap, subst, List, [], ◌∷◌, ◌++◌, ℕ, zero, suc, ◌<◌, ◌≤◌, length, map, set, get_or, Option, None, Some, is_some, option_map, Bool, true, false, ◌||◌, nat_eq}
 use Rattle.std.specs.List.{AllByRecursion, list_all, list_any, flat_map, slice_index_or}
 use Rattle.std.proofs.lemmas.List.{get_or-map, length-map}
+use Rattle.std.proofs.lemmas.Option.{none-some}
 use Rattle.lotos_ast.specs.declared.token.Token.{Token}
 use Rattle.lotos_ast.specs.declared.types.TypeDef.{TypeDef}
 use Rattle.lotos_ast.specs.declared.types.TypeDef.TheVariants.{Library, Definition}
@@ -82,16 +83,13 @@ all_parts types found n settled le same each =
 
 -- nothing is found yet
 
-no_some : {A : Type 0} (x : A) → None ≡ Some x → ⊥
-no_some x e = cc
-
 nothing_read : {S A : Type 0} (types : List TypeDef) (f : S → A) (k : ℕ) → slice_index_or (map (option_map f) (map (λ _. None) types)) k None ≡ None
 nothing_read [] f k = refl
 nothing_read (d ∷ ds) f zero = refl
 nothing_read (d ∷ ds) f (suc k) = nothing_read ds f k
 
 pub none_at : {S A : Type 0} (nothing : A) (make : List A → TypeDef → A) (view : S → A) (types : List TypeDef) (found : List (Option S)) → found ≡ map (λ _. None) types → IsSettled nothing make types (map (option_map view) found) 0
-none_at nothing make view types found is k x at m le = absurd (no_some x (sym (nothing_read types view k) ∙ sym (ap (λ z. slice_index_or (map (option_map view) z) k None) is) ∙ at))
+none_at nothing make view types found is k x at m le = absurd (none-some x (sym (nothing_read types view k) ∙ sym (ap (λ z. slice_index_or (map (option_map view) z) k None) is) ∙ at))
 
 pub none_stand : (types : List TypeDef) (found : List (Option Standing)) → found ≡ map (λ _. None) types → AreStandingsSettled types found 0
 none_stand types found is = (none_at false (is_formal_from types) (λ s. s.formal) types found is, none_at [] (parts_from types) (λ s. s.parts.items) types found is)

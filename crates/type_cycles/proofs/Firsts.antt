@@ -1,6 +1,6 @@
 -- The first number of a range for which something is there.
-use Rattle.std.proofs.Common.{ℕ, zero, suc, ◌≡◌, ◌<◌, ◌≤◌, ◌+◌, ◌⊎◌, inl, inr, List, [], ◌∷◌, ◌++◌, map, arith, ap, sym, ◌∙◌, refl, Option, Some, None, true, false, below_more}
-use Rattle.std.specs.Prelude.{is_some, option_map}
+use Rattle.std.proofs.Common.{ℕ, zero, suc, ◌≡◌, ◌<◌, ◌≤◌, ◌+◌, ◌⊎◌, inl, inr, List, [], ◌∷◌, ◌++◌, map, arith, ap, sym, ◌∙◌, refl, Option, Some, None, true, below_more}
+use Rattle.std.specs.Prelude.{is_some}
 use Rattle.std.specs.List.{range_with_len, Contains}
 use Rattle.std.specs.Option.{option_or}
 use Rattle.std.proofs.lemmas.List.Elements.{Contains-append_right}
@@ -56,10 +56,6 @@ pub is_there : {B : Type 0} (o : Option B) → is_some o ≡ true → o ≡ None
 is_there None t e = cc
 is_there (Some b) t e = cc
 
-pub is_not_there : {B : Type 0} (o : Option B) → is_some o ≡ false → o ≡ None
-is_not_there None t = refl
-is_not_there (Some b) t = absurd (cc)
-
 -- where nothing is there, nothing is for any element
 
 none_of_both : {B : Type 0} (o p : Option B) → option_or o p ≡ None → (o ≡ None) × (p ≡ None)
@@ -79,7 +75,3 @@ none_in_range f a (suc n) j e from within =
       | inl same ↦ ap f (sym same) ∙ parts.0
       | inr h ↦ none_in_range f (a + 1) n j parts.1 (omega (arith, h)) (omega (arith, within))
     ]
-
-pub unmapped : {A B : Type 0} (f : A → B) (o : Option A) → option_map f o ≡ None → o ≡ None
-unmapped f None e = refl
-unmapped f (Some a) e = absurd (cc)

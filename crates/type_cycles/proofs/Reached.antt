@@ -1,13 +1,16 @@
 -- Ways between types.
-use Rattle.std.proofs.Common.{ℕ, zero, suc, ◌≡◌, ◌<◌, ◌≤◌, ◌+◌, List, [], ◌∷◌, length, map, arith, ap, sym, ◌∙◌, refl, Option, Some, None, Bool, true, false, nat_eq, ◌⊎◌, inl, inr, subst}
+use Rattle.std.proofs.Common.{ℕ, zero, suc, ◌≡◌, ◌≤◌, ◌+◌, List, [], ◌∷◌, length, map, arith, ap, sym, ◌∙◌, refl, Option, Some, None, Bool, true, false, nat_eq, ◌⊎◌, inl, inr, subst}
 use Rattle.std.specs.Prelude.{option_map, if◌then◌else◌, ◌==◌}
 use Rattle.std.specs.List.{range_with_len, slice_index_or, Contains}
 use Rattle.std.proofs.lemmas.List.FromFn.{get_or-map-range_with_len, length-map-range_with_len}
 use Rattle.std.proofs.lemmas.List.{get_or_past}
 use Rattle.std.proofs.lemmas.Grind.{common_steps}
+use Rattle.std.proofs.lemmas.Option.{none-some}
+use Rattle.std.proofs.lemmas.Bool.{cases_lt}
+use Rattle.spec_core.proofs.Options.{not_mapped}
 use Rattle.type_cycles.specs.Cycles.{first_some, way_from, ways_to, cycle_of}
 use Rattle.type_cycles.specs.Ends.{Ends, ends}
-use Rattle.type_cycles.proofs.Firsts.{first_is_none, first_of_none, found_in, none_at, unmapped}
+use Rattle.type_cycles.proofs.Firsts.{first_is_none, first_of_none, found_in, none_at}
 use Rattle.type_cycles.proofs.Walks.{linked_within}
 
 -- a way from one type to another in so many steps
@@ -15,25 +18,19 @@ pub data Reaches (links : List (List ℕ)) : ℕ → ℕ → ℕ → Type 0 wher
   here : {k : ℕ} → Reaches links zero k k
   there : {n k j to : ℕ} → Contains (slice_index_or links k []) j → Reaches links n j to → Reaches links (suc n) k to
 
-within_or_past : (k n : ℕ) → (k < n) ⊎ (n ≤ k)
-within_or_past k n = grind arith
-
 same_number : (a b : ℕ) → nat_eq a b ≡ true → a ≡ b
 same_number a b h = grind (arith, common_steps)
-
-none_some : {B : Type 0} (b : B) → None ≡ Some b → ⊥
-none_some b e = cc
 
 -- tables by numbers, past their ends too
 
 pub table_at : {A : Type 0} (f : ℕ → Option A) (n k : ℕ) (a : A) → slice_index_or (map f (range_with_len 0 n)) k None ≡ Some a → f k ≡ Some a
-table_at f n k a e = elim (within_or_past k n) [
+table_at f n k a e = elim (cases_lt k n) [
   | inl h ↦ sym (get_or-map-range_with_len f 0 n k k None h (omega arith)) ∙ e
-  | inr h ↦ absurd (none_some a (sym (get_or_past (map f (range_with_len 0 n)) k None (omega (arith, length-map-range_with_len f 0 n, h))) ∙ e))
+  | inr h ↦ absurd (none-some a (sym (get_or_past (map f (range_with_len 0 n)) k None (omega (arith, length-map-range_with_len f 0 n, h))) ∙ e))
 ]
 
 table_of_none : {A : Type 0} (f : ℕ → Option A) (n : ℕ) → ((k : ℕ) → f k ≡ None) → (k : ℕ) → slice_index_or (map f (range_with_len 0 n)) k None ≡ None
-table_of_none f n none k = elim (within_or_past k n) [
+table_of_none f n none k = elim (cases_lt k n) [
   | inl h ↦ get_or-map-range_with_len f 0 n k k None h (omega arith) ∙ none k
   | inr h ↦ get_or_past (map f (range_with_len 0 n)) k None (omega (arith, length-map-range_with_len f 0 n, h))
 ]
@@ -58,7 +55,7 @@ no_more_ways links to n (suc m) within none = by_end (λ h. no_more_ways links t
 pub no_way_onward : (links : List (List ℕ)) (to n k j : ℕ) → Contains (slice_index_or links k []) j
     → slice_index_or (ways_to links to (suc n)) k None ≡ None → slice_index_or (ways_to links to n) j None ≡ None
 no_way_onward links to n k j c e = none_at (λ j. slice_index_or (ways_to links to n) j None) (slice_index_or links k [])
-    (unmapped (λ way. k ∷ way) (first_some (λ j. slice_index_or (ways_to links to n) j None) (slice_index_or links k []))
+    (not_mapped (λ way. k ∷ way) (first_some (λ j. slice_index_or (ways_to links to n) j None) (slice_index_or links k []))
     (sym (get_or-map-range_with_len (λ k. way_from (ways_to links to n) k (slice_index_or links k [])) 0 (length links) k k None
     (linked_within links k j c) (omega arith)) ∙ e))
     j c
@@ -75,7 +72,7 @@ way_reaches links to (suc n) k way e = by_first (λ j w at. way_reaches links to
     onwards shorter w (j, within, at) = there within (shorter j w at)
 
     by_first : ((j : ℕ) (w : List ℕ) → slice_index_or (ways_to links to n) j None ≡ Some w → Reaches links n j to) → (o : Option (List ℕ)) → first_some (λ j. slice_index_or (ways_to links to n) j None) (slice_index_or links k []) ≡ o → option_map (λ w. k ∷ w) (first_some (λ j. slice_index_or (ways_to links to n) j None) (slice_index_or links k [])) ≡ Some way → Reaches links (suc n) k to
-    by_first shorter None t h = absurd (none_some way (sym (ap (option_map (λ w. k ∷ w)) t) ∙ h))
+    by_first shorter None t h = absurd (none-some way (sym (ap (option_map (λ w. k ∷ w)) t) ∙ h))
     by_first shorter (Some w) t h = onwards shorter w (found_in (λ j. slice_index_or (ways_to links to n) j None) (slice_index_or links k []) w t)
 
 extended : {links : List (List ℕ)} {n a b c : ℕ} → Reaches links n a b → Contains (slice_index_or links b []) c → Reaches links (suc n) a c
@@ -100,7 +97,7 @@ no_cycle_of links k h = no_cycle_unless links k (not_back h)
 
 -- a type is on no cycle where it has no way back in so many steps, and no type has one in one step more
 pub none_by : (links : List (List ℕ)) (to n : ℕ) → ((m : ℕ) → 1 ≤ m → m ≤ n → slice_index_or (ways_to links to m) to None ≡ None) → ((k : ℕ) → slice_index_or (ways_to links to (n + 1)) k None ≡ None) → cycle_of links to ≡ None
-none_by links to n few more = first_is_none (λ m. slice_index_or (ways_to links to m) to None) 1 (length links) (λ m from within. elim (within_or_past n m) [
+none_by links to n few more = first_is_none (λ m. slice_index_or (ways_to links to m) to None) 1 (length links) (λ m from within. elim (cases_lt n m) [
   | inl h ↦ no_more_ways links to (n + 1) m (omega arith) more to
   | inr h ↦ few m from h
 ])

@@ -1,21 +1,14 @@
 -- Marks of what one type is made of.
-use Rattle.std.proofs.Common.{ℕ, zero, suc, ◌≡◌, ◌≢◌, ◌<◌, ◌≤◌, ◌+◌, ◌⊎◌, inl, inr, List, [], ◌∷◌, ◌++◌, length, take, get_or, set, replicate, arith, ap, subst, sym, ◌∙◌, Bool, true, false, None}
+use Rattle.std.proofs.Common.{ℕ, zero, suc, ◌≡◌, ◌<◌, ◌≤◌, ◌+◌, inl, inr, List, [], ◌∷◌, ◌++◌, length, take, get_or, set, replicate, arith, ap, subst, sym, ◌∙◌, Bool, true, false, None}
 use Rattle.std.specs.List.{slice_index_or, Contains}
 use Rattle.std.proofs.lemmas.List.{take_more, get_or_past, get_or-replicate, get_or-set_same, get_or-set_other, length-set}
 use Rattle.std.proofs.lemmas.List.Elements.{Contains-append_cases, Contains-append_left, Contains-append_right}
+use Rattle.std.proofs.lemmas.Bool.{cases_eq, cases_lt}
+use Rattle.spec_core.proofs.Members.{contains_none}
 use Rattle.type_cycles.specs.Cycles.{cycle_of}
 use Rattle.type_cycles.specs.Ends.{is_marked}
 use Rattle.type_cycles.specs.Closed.{IsClosedBut, Marks, IsReached}
 use Rattle.type_cycles.proofs.Reached.{Reaches, here, there, no_cycle_unless}
-
-same_or_not : (k n : ℕ) → (k ≡ n) ⊎ (k ≢ n)
-same_or_not k n = grind arith
-
-within_or_past : (k n : ℕ) → (k < n) ⊎ (n ≤ k)
-within_or_past k n = grind arith
-
-not_in_none : (j : ℕ) → Contains [] j → ⊥
-not_in_none j (k, within, at) = omega arith
 
 in_one : (x j : ℕ) → Contains (x ∷ []) j → x ≡ j
 in_one x j (zero, within, at) = at
@@ -32,12 +25,12 @@ reached_past links k marks waiting past = reached_before links k marks waiting (
 
 pub reached_new : (links : List (List ℕ)) (k : ℕ) (marks : List Bool) (before waiting used : List ℕ) → k < length marks → used ≡ slice_index_or links k [] → waiting ≡ before ++ used → IsReached links k marks (set marks k true) before waiting
 reached_new links k marks before waiting used within at more = record {
-  kept = λ i h. elim (same_or_not i k) [
+  kept = λ i h. elim (cases_eq i k) [
     | inl e ↦ subst (λ z. is_marked (set marks k true) z ≡ true) (sym e) (get_or-set_same marks k true true within)
     | inr d ↦ get_or-set_other marks k i true true d ∙ h
   ];
   marked = get_or-set_same marks k true true within;
-  waits = λ i j h c. elim (same_or_not i k) [
+  waits = λ i j h c. elim (cases_eq i k) [
     | inl e ↦ inr (subst (λ zs. Contains zs j) (sym more) (Contains-append_right before used j (subst (λ zs. Contains zs j) (ap (λ z. slice_index_or links z []) e ∙ sym at) c)))
     | inr d ↦ inl (sym (get_or-set_other marks k i true true d) ∙ h)
   ];
@@ -45,7 +38,7 @@ reached_new links k marks before waiting used within at more = record {
 }
 
 pub no_marks : (links : List (List ℕ)) (marks : List Bool) → Marks links [] marks marks []
-no_marks links marks = record { kept = λ i h. h; marked = λ j c. absurd (not_in_none j c); waits = λ i j h c. inl h }
+no_marks links marks = record { kept = λ i h. h; marked = λ j c. absurd (contains_none j c); waits = λ i j h c. inl h }
 
 pub marks_next : (links : List (List ℕ)) (types : List ℕ) (i x : ℕ) (old now then : List Bool) (before waiting : List ℕ) → i < length types → x ≡ get_or types i x → Marks links (take i types) old now before → IsReached links x now then before waiting → Marks links (take (i + 1) types) old then waiting
 marks_next links types i x old now then before waiting within at m r = record {
@@ -62,9 +55,9 @@ marks_next links types i x old now then before waiting within at m r = record {
 
 pub first_closed : (links : List (List ℕ)) (k : ℕ) (marks : List Bool) (waiting : List ℕ) → marks ≡ replicate (length links) false → waiting ≡ slice_index_or links k [] → IsClosedBut links k marks waiting
 first_closed links k marks waiting none at = record {
-  from_marked = λ i j h c. elim (within_or_past i (length links)) [
+  from_marked = λ i j h c. elim (cases_lt i (length links)) [
     | inl w ↦ absurd (differ (sym (get_or-replicate (length links) i false true w) ∙ sym (ap (λ zs. get_or zs i true) none) ∙ h))
-    | inr p ↦ absurd (not_in_none j (subst (λ zs. Contains zs j) (get_or_past links i [] p) c))
+    | inr p ↦ absurd (contains_none j (subst (λ zs. Contains zs j) (get_or_past links i [] p) c))
   ];
   from_this = λ j c. inr (subst (λ zs. Contains zs j) (sym at) c);
 }
@@ -83,7 +76,7 @@ closed_next links k old new before waiting h m = record {
 
 carried : {links : List (List ℕ)} {k n a b : ℕ} {marks : List Bool} → IsClosedBut links k marks [] → Reaches links n a b → is_marked marks a ≡ true → is_marked marks b ≡ true
 carried h here m = m
-carried {a = a} h (there {j = j} c r) m = carried h r (elim (h.from_marked a j m c) [ inl f ↦ f | inr w ↦ absurd (not_in_none j w) ])
+carried {a = a} h (there {j = j} c r) m = carried h r (elim (h.from_marked a j m c) [ inl f ↦ f | inr w ↦ absurd (contains_none j w) ])
 
 pub no_cycle_closed : (links : List (List ℕ)) (k : ℕ) (marks : List Bool) (waiting : List ℕ) → waiting ≡ [] → IsClosedBut links k marks waiting → is_marked marks k ≡ false → cycle_of links k ≡ None
 no_cycle_closed links k marks waiting none h unmarked = no_cycle_unless links k (λ n r. by_first (subst (IsClosedBut links k marks) none h) r)
@@ -92,4 +85,4 @@ no_cycle_closed links k marks waiting none h unmarked = no_cycle_unless links k 
     differ e = cc
 
     by_first : {n : ℕ} → IsClosedBut links k marks [] → Reaches links (suc n) k k → ⊥
-    by_first closed (there {j = j} c r) = differ (sym (carried closed r (elim (closed.from_this j c) [ inl f ↦ f | inr w ↦ absurd (not_in_none j w) ])) ∙ unmarked)
+    by_first closed (there {j = j} c r) = differ (sym (carried closed r (elim (closed.from_this j c) [ inl f ↦ f | inr w ↦ absurd (contains_none j w) ])) ∙ unmarked)

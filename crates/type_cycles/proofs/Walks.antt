@@ -2,9 +2,10 @@
 use Rattle.std.proofs.Common.{ℕ, ◌≡◌, ◌<◌, ◌≤◌, ◌⊎◌, inl, inr, List, [], ◌∷◌, length, arith, ap, subst, sym, ◌∙◌, refl, Bool, true, false, nat_eq, ◌||◌}
 use Rattle.std.specs.List.{slice_index_or, Contains, AllByRecursion, IsDistinct, list_any}
 use Rattle.std.proofs.lemmas.List.{get_or_past}
-use Rattle.std.proofs.lemmas.Bool.{eqb-true, eq-eqb}
+use Rattle.std.proofs.lemmas.Bool.{eqb-true, eq-eqb, true≢false, or_cases, or_parts, cases_lt}
 use Rattle.std.proofs.lemmas.Map.Keys.{IsDistinct-cons, IsDistinct-tail}
 use Rattle.std.proofs.lemmas.Map.Steps.{length-le_from_distinct_below}
+use Rattle.spec_core.proofs.Members.{contains_none}
 use Rattle.type_cycles.specs.MadeFrom.{IsMadeFrom, directly, through, AreAcyclic}
 
 none_twice : IsDistinct nat_eq []
@@ -16,28 +17,11 @@ abbrev pub Walks : List (List ℕ) → ℕ → List ℕ → ℕ → Type 0
 Walks links k [] to = k ≡ to
 Walks links k (x ∷ xs) to = (x ≡ k) × ((j : ℕ) × Contains (slice_index_or links k []) j × Walks links j xs to)
 
-differ : true ≡ false → ⊥
-differ e = cc
-
-either : (a b : Bool) → (a || b) ≡ true → (a ≡ true) ⊎ (b ≡ true)
-either true b e = inl refl
-either false b e = inr e
-
-neither : (a b : Bool) → (a || b) ≡ false → (a ≡ false) × (b ≡ false)
-neither true b e = absurd (differ e)
-neither false b e = (refl, e)
-
-pub within_or_past : (k n : ℕ) → (k < n) ⊎ (n ≤ k)
-within_or_past k n = grind arith
-
-not_in_none : (j : ℕ) → Contains [] j → ⊥
-not_in_none j (k, within, at) = omega arith
-
 -- what is made from something is of the list
 pub linked_within : (links : List (List ℕ)) (k j : ℕ) → Contains (slice_index_or links k []) j → k < length links
-linked_within links k j c = elim (within_or_past k (length links)) [
+linked_within links k j c = elim (cases_lt k (length links)) [
   | inl w ↦ w
-  | inr p ↦ absurd (not_in_none j (subst (λ zs. Contains zs j) (get_or_past links k [] p) c))
+  | inr p ↦ absurd (contains_none j (subst (λ zs. Contains zs j) (get_or_past links k [] p) c))
 ]
 
 pub walk_made : (links : List (List ℕ)) (k x : ℕ) (xs : List ℕ) (to : ℕ) → Walks links k (x ∷ xs) to → IsMadeFrom links k to
@@ -53,15 +37,15 @@ made_walk {links = links} {k = k} {to = to} (through {j = j} c m) = more (made_w
 
 -- the types on a walk are of the list
 pub walk_within : (links : List (List ℕ)) (k : ℕ) (xs : List ℕ) (to q : ℕ) → Walks links k xs to → list_any (nat_eq q) xs ≡ true → q < length links
-walk_within links k [] to q w h = absurd (differ (sym h))
-walk_within links k (x ∷ xs) to q (e, (j, c, w)) h = elim (either (nat_eq q x) (list_any (nat_eq q) xs) h) [
+walk_within links k [] to q w h = absurd (true≢false (sym h))
+walk_within links k (x ∷ xs) to q (e, (j, c, w)) h = elim (or_cases (nat_eq q x) (list_any (nat_eq q) xs) h) [
   | inl s ↦ subst (λ z. z < length links) (sym (eqb-true q x s ∙ e)) (linked_within links k j c)
   | inr s ↦ walk_within links j xs to q w s
 ]
 
 pub all_apart : (k : ℕ) (ys : List ℕ) → list_any (nat_eq k) ys ≡ false → AllByRecursion (λ y. nat_eq k y ≡ false) ys
 all_apart k [] h = tt
-all_apart k (y ∷ ys) h = let n : (nat_eq k y ≡ false) × (list_any (nat_eq k) ys ≡ false) = neither (nat_eq k y) (list_any (nat_eq k) ys) h in (n.0, all_apart k ys n.1)
+all_apart k (y ∷ ys) h = let n : (nat_eq k y ≡ false) × (list_any (nat_eq k) ys ≡ false) = or_parts (nat_eq k y) (list_any (nat_eq k) ys) h in (n.0, all_apart k ys n.1)
 
 -- a walk that comes to no type twice, and to its end only at its end
 pub record Direct (links : List (List ℕ)) (k to : ℕ) : Type 0 where
@@ -72,14 +56,14 @@ pub record Direct (links : List (List ℕ)) (k to : ℕ) : Type 0 where
 
 -- where a walk comes to a type, it goes on from there
 from_there : (links : List (List ℕ)) (j k : ℕ) (ys : List ℕ) (to : ℕ) → Walks links j ys to → IsDistinct nat_eq ys → list_any (nat_eq to) ys ≡ false → list_any (nat_eq k) ys ≡ true → Direct links k to
-from_there links j k [] to w d n h = absurd (differ (sym h))
-from_there links j k (y ∷ ys) to (e, (i, c, w)) d n h = elim (either (nat_eq k y) (list_any (nat_eq k) ys) h) [
+from_there links j k [] to w d n h = absurd (true≢false (sym h))
+from_there links j k (y ∷ ys) to (e, (i, c, w)) d n h = elim (or_cases (nat_eq k y) (list_any (nat_eq k) ys) h) [
   | inl s ↦ subst (λ z. Direct links z to) (sym (eqb-true k y s ∙ e)) (record { types = y ∷ ys; walk = (e, (i, c, w)); distinct = d; not_the_end = n })
-  | inr s ↦ from_there links i k ys to w (IsDistinct-tail nat_eq y ys d) (let m : (nat_eq to y ≡ false) × (list_any (nat_eq to) ys ≡ false) = neither (nat_eq to y) (list_any (nat_eq to) ys) n in m.1) s
+  | inr s ↦ from_there links i k ys to w (IsDistinct-tail nat_eq y ys d) (let m : (nat_eq to y ≡ false) × (list_any (nat_eq to) ys ≡ false) = or_parts (nat_eq to y) (list_any (nat_eq to) ys) n in m.1) s
 ]
 
 differ_numbers : (j k : ℕ) → nat_eq j k ≡ false → j ≡ k → ⊥
-differ_numbers j k e h = differ (sym (eq-eqb j k h) ∙ e)
+differ_numbers j k e h = true≢false (sym (eq-eqb j k h) ∙ e)
 
 pub direct : (links : List (List ℕ)) (k : ℕ) (xs : List ℕ) (to : ℕ) → Walks links k xs to → Direct links k to
 direct links k [] to w = record { types = []; walk = w; distinct = none_twice; not_the_end = refl }
@@ -101,8 +85,8 @@ direct links k (x ∷ xs) to (e, (j, c, w)) = by_end (direct links j xs to w) (n
 -- on a walk through types of which none is made from itself, no type stands twice
 
 later : (links : List (List ℕ)) (k : ℕ) (xs : List ℕ) (to q : ℕ) → Walks links k xs to → list_any (nat_eq q) xs ≡ true → (q ≡ k) ⊎ IsMadeFrom links k q
-later links k [] to q w h = absurd (differ (sym h))
-later links k (x ∷ xs) to q (e, (j, c, w)) h = elim (either (nat_eq q x) (list_any (nat_eq q) xs) h) [
+later links k [] to q w h = absurd (true≢false (sym h))
+later links k (x ∷ xs) to q (e, (j, c, w)) h = elim (or_cases (nat_eq q x) (list_any (nat_eq q) xs) h) [
   | inl s ↦ inl (eqb-true q x s ∙ e)
   | inr s ↦ inr (by_next (later links j xs to q w s))
 ]
@@ -126,8 +110,8 @@ acyclic_distinct links acyclic k (x ∷ xs) to (e, (j, c, w)) =
 
 -- from each type on a walk one comes to its end
 walk_ends : (links : List (List ℕ)) (k : ℕ) (xs : List ℕ) (to q : ℕ) → Walks links k xs to → list_any (nat_eq q) xs ≡ true → IsMadeFrom links q to
-walk_ends links k [] to q w h = absurd (differ (sym h))
-walk_ends links k (x ∷ xs) to q (e, (j, c, w)) h = elim (either (nat_eq q x) (list_any (nat_eq q) xs) h) [
+walk_ends links k [] to q w h = absurd (true≢false (sym h))
+walk_ends links k (x ∷ xs) to q (e, (j, c, w)) h = elim (or_cases (nat_eq q x) (list_any (nat_eq q) xs) h) [
   | inl s ↦ subst (λ z. IsMadeFrom links z to) (sym (eqb-true q x s ∙ e)) (walk_made links k k xs to (refl, (j, c, w)))
   | inr s ↦ walk_ends links j xs to q w s
 ]
@@ -141,7 +125,7 @@ acyclic_short links acyclic k xs to within w = omega (arith, bounded)
     by_test false h = h
 
     each_within : (q : ℕ) → list_any (nat_eq q) (to ∷ xs) ≡ true → q < length links
-    each_within q h = elim (either (nat_eq q to) (list_any (nat_eq q) xs) h) [
+    each_within q h = elim (or_cases (nat_eq q to) (list_any (nat_eq q) xs) h) [
       | inl s ↦ subst (λ z. z < length links) (sym (eqb-true q to s)) within
       | inr s ↦ walk_within links k xs to q w s
     ]

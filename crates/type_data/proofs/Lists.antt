@@ -1,11 +1,11 @@
 -- Loops over lists.
-use Rattle.std.proofs.Common.{◌≡◌, ◌∙◌, refl, sym, ap, List, [], ◌∷◌, ◌++◌, ℕ, zero, suc, ◌+◌, ◌<◌, length, map, take, get_or, append_assoc, arith, add-one, Bool, true, false, ◌&&◌, ◌||◌, not, cond, if◌then◌else◌}
+use Rattle.std.proofs.Common.{◌≡◌, ◌∙◌, refl, sym, ap, List, [], ◌∷◌, ◌++◌, ℕ, zero, suc, ◌+◌, ◌<◌, length, map, take, get_or, append_assoc, arith, add-one, Bool, true, false, ◌&&◌, ◌||◌, not, if◌then◌else◌}
 use Rattle.std.specs.List.{filter, list_any, slice_index_or, zip}
 use Rattle.std.proofs.lemmas.List.{map-append, append-nil}
-use Rattle.std.proofs.lemmas.List.Elements.{filter-append}
+use Rattle.std.proofs.lemmas.List.Elements.{filter-append, filter_agree}
+use Rattle.spec_core.proofs.Lists.{take_next}
 use Rattle.type_contents.specs.Items.{Item, Described, is_in}
 use Rattle.type_contents.specs.Contents.{Content}
-use Rattle.type_contents.proofs.Lists.{take_next}
 use Rattle.type_data.specs.Data.{of_data}
 
 -- one more type
@@ -45,12 +45,8 @@ any_of_data (b ∷ bs) [] x = refl
 any_of_data (true ∷ bs) (c ∷ cs) x = any_of_data bs cs x
 any_of_data (false ∷ bs) (c ∷ cs) x = any_joined _ c.items (of_data (λ z. z.items) bs cs) ∙ ap (λ z. is_in c.items x || z) (any_of_data bs cs x)
 
-same_filter : {A : Type 0} (p q : A → Bool) → ((x : A) → p x ≡ q x) → (xs : List A) → filter p xs ≡ filter q xs
-same_filter p q h [] = refl
-same_filter p q h (x ∷ xs) = ap (λ b. cond b (x ∷ filter p xs) (filter p xs)) (h x) ∙ ap (λ zs. cond (q x) (x ∷ zs) zs) (same_filter p q h xs)
-
 pub same_data : (formal : List Bool) (all : List Content) (ds : List Described) → filter (λ d. is_in (of_data (λ c. c.items) formal all) d.item) ds ≡ filter (λ d. list_any (λ e. not e.0 && is_in e.1.items d.item) (zip formal all)) ds
-same_data formal all ds = same_filter (λ d. is_in (of_data (λ c. c.items) formal all) d.item) (λ d. list_any (λ e. not e.0 && is_in e.1.items d.item) (zip formal all)) (λ d. any_of_data formal all d.item) ds
+same_data formal all ds = filter_agree (λ d. is_in (of_data (λ c. c.items) formal all) d.item) (λ d. list_any (λ e. not e.0 && is_in e.1.items d.item) (zip formal all)) (λ d. any_of_data formal all d.item) ds
 
 pub data_filter : (f g : List Bool) (c d : List Content) (s t : List Described) → f ≡ g → c ≡ d → s ≡ t → filter (λ x. is_in (of_data (λ z. z.items) f c) x.item) s ≡ filter (λ x. list_any (λ e. not e.0 && is_in e.1.items x.item) (zip g d)) t
 data_filter f g c d s t e h i =

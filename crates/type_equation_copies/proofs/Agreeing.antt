@@ -8,6 +8,7 @@ use Rattle.lotos_ast.specs.declared.types.TypeDef.TheVariants.{Library, Definiti
 use Rattle.lotos_ast.specs.declared.types.TypeBody.{TypeBody}
 use Rattle.lotos_ast.specs.declared.types.TypeBody.TheVariants.{Declared, Renamed, Actualized}
 use Rattle.spec_core.specs.Theories.{ConditionalEquation}
+use Rattle.spec_core.proofs.Lists.{flat_map_same}
 use Rattle.type_contents.specs.Lists.{listed}
 use Rattle.type_contents.specs.Uses.{number_of, uses_by}
 use Rattle.type_contents.specs.Numbering.{parts, itself_and_parts}
@@ -53,12 +54,8 @@ brought_agree t u among content k h = by_test (list_any (nat_eq k) among) refl
     by_test true e = rw e (ap (λ x. filter (is_in content) x.brought) (agree_among t u among k h e))
     by_test false e = rw e refl
 
-each_agree : {A B : Type 0} (f g : A → List B) → ((x : A) → f x ≡ g x) → (xs : List A) → flat_map f xs ≡ flat_map g xs
-each_agree f g h [] = refl
-each_agree f g h (x ∷ xs) = ap (λ z. z ++ flat_map f xs) (h x) ∙ ap (λ z. g x ++ z) (each_agree f g h xs)
-
 order_agrees : (count : ℕ) (t u : List Equations) (among : List ℕ) (content : List ConditionalEquation) → AgreeOn t u among → in_order count t among content ≡ in_order count u among content
-order_agrees count t u among content h = ap firsts (each_agree (brought_by t among content) (brought_by u among content) (λ k. brought_agree t u among content k h) (range_with_len 0 count))
+order_agrees count t u among content h = ap firsts (flat_map_same (brought_by t among content) (brought_by u among content) (range_with_len 0 count) (λ k. brought_agree t u among content k h))
 
 source_agrees : (types : List TypeDef) (t u : List Equations) (source : Token) → AgreeOn t u (itself_and_parts types source) → source_in_order types t source ≡ source_in_order types u source
 source_agrees types t u source h =

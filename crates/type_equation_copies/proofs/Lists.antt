@@ -3,7 +3,7 @@ use Rattle.std.proofs.Common.{◌≡◌, ◌∙◌, sym, ap, List, [], ◌∷◌
 use Rattle.std.specs.List.{flat_map}
 use Rattle.std.proofs.lemmas.List.{append-nil}
 use Rattle.std.proofs.lemmas.Grind.{flat_map-append}
-use Rattle.type_contents.proofs.Lists.{take_next}
+use Rattle.spec_core.proofs.Lists.{take_next}
 
 -- what one more element gives, behind others
 pub gathered_behind : {A C : Type 0} (f : A → List C) (h now then : List C) (xs : List A) (i : ℕ) (x : A) → i < length xs → x ≡ get_or xs i x → now ≡ h ++ flat_map f (take i xs) → then ≡ now ++ f x → then ≡ h ++ flat_map f (take (i + 1) xs)

@@ -5,8 +5,8 @@ use Rattle.std.specs.List.{list_any, position_or_len}
 use Rattle.std.specs.Str.{bytes_eq}
 use Rattle.std.specs.Cmp.Lexicographic.{pointwise}
 use Rattle.std.proofs.lemmas.List.{map-append}
+use Rattle.spec_core.proofs.Lists.{take_next}
 use Rattle.type_contents.specs.Items.{Item, is_same_item, is_same_kind}
-use Rattle.type_contents.proofs.Lists.{take_next}
 use Rattle.type_equation_copies.specs.Indexes.{named_from, first_number}
 
 plus_one : (n k : ℕ) → (n + 1) + k ≡ n + suc k

@@ -1,11 +1,12 @@
 -- Equations of types that are found one after another.
 use Rattle.std.proofs.Common.{◌≡◌, ◌∙◌, refl, sym, ap, subst, List, [], ◌∷◌, ◌++◌, ℕ, zero, suc, ◌<◌, ◌≤◌, length, map, take, set, get_or, Option, None, Some, is_some, option_map, true, arith, Vec, Global}
 use Rattle.std.specs.List.{list_all, slice_index_or, zip}
-use Rattle.std.proofs.lemmas.List.{get_or-map, length-map, map-append}
-use Rattle.spec_core.proofs.Lists.{all_taken}
+use Rattle.std.proofs.lemmas.List.{get_or-map, length-map, map-append, take_all}
+use Rattle.std.proofs.lemmas.Option.{none-some}
 use Rattle.lotos_ast.specs.declared.types.TypeDef.{TypeDef}
 use Rattle.spec_core.specs.declared.equation.Equation.{Equation}
 use Rattle.spec_core.specs.Theories.{ConditionalEquation, equation_of}
+use Rattle.spec_core.proofs.Lists.{length_zip}
 use Rattle.type_contents.specs.Settled.{are_ready, known, IsSettled}
 use Rattle.type_contents.proofs.Settled.{settle_one, all_settled}
 use Rattle.type_contents.proofs.Schedules.{ready_through, set_through, each_through}
@@ -16,11 +17,6 @@ use Rattle.type_equation_copies.specs.Views.{equations_of, made_at, stated_by, A
 use Rattle.type_equation_copies.proofs.Agreeing.{made_agree}
 
 -- types and their own equations
-
-length_zip : {A B : Type 0} (xs : List A) (ys : List B) → length ys ≡ length xs → length (zip xs ys) ≡ length xs
-length_zip [] ys e = refl
-length_zip (x ∷ xs) [] e = absurd (cc)
-length_zip (x ∷ xs) (y ∷ ys) e = let r : length (zip xs ys) ≡ length xs = length_zip xs ys (grind (arith, e)) in omega (arith, r)
 
 zip_at : {A B : Type 0} (xs : List A) (ys : List B) (k : ℕ) (x : A) (y : B) → k < length xs → k < length ys → x ≡ get_or xs k x → y ≡ get_or ys k y → (x, y) ≡ get_or (zip xs ys) k (x, y)
 zip_at [] ys k x y h w e f = absurd (omega (arith, h))
@@ -70,16 +66,13 @@ all_made types own found n settled le whole same each =
 
 -- nothing is found yet
 
-no_some : {A : Type 0} (x : A) → None ≡ Some x → ⊥
-no_some x e = cc
-
 nothing_read : {A : Type 0} (types : List TypeDef) (f : TypeEquations → A) (k : ℕ) → slice_index_or (map (option_map f) (map (λ _. None) types)) k None ≡ None
 nothing_read [] f k = refl
 nothing_read (d ∷ ds) f zero = refl
 nothing_read (d ∷ ds) f (suc k) = nothing_read ds f k
 
 pub none_settled : (types : List TypeDef) (own : List (List ConditionalEquation)) (found : List (Option TypeEquations)) → found ≡ map (λ _. None) types → AreEquationsSettled types own found 0
-none_settled types own found is k x at m le = absurd (no_some x (sym (nothing_read types equations_of k) ∙ sym (ap (λ z. slice_index_or (map (option_map equations_of) z) k None) is) ∙ at))
+none_settled types own found is k x at m le = absurd (none-some x (sym (nothing_read types equations_of k) ∙ sym (ap (λ z. slice_index_or (map (option_map equations_of) z) k None) is) ∙ at))
 
 nothing_made : {B : Type 0} (types : List TypeDef) (own : List B) → length own ≡ length types → map made_at (map (λ _. None) types) ≡ map (λ _. no_equations) (zip types own)
 nothing_made [] own e = refl
@@ -101,7 +94,7 @@ round_next types own table now then one i d o whole less at owned before more is
     ∙ sym (zip_next (made_from types table) types (stated_by own) i d (map equation_of o.items) less ws at (stated_at own i o w owned))
 
 pub round_all : (types : List TypeDef) (own : List (Vec Equation Global)) (table : List Equations) (i : ℕ) → length own ≡ length types → length types ≤ i → map (made_from types table) (take i (zip types (stated_by own))) ≡ map (made_from types table) (zip types (stated_by own))
-round_all types own table i whole past = ap (map (made_from types table)) (all_taken (zip types (stated_by own)) i (subst (λ z. z ≤ i) (sym (length_zip types (stated_by own) (length-map own (λ (v : Vec Equation Global). map equation_of v.items) ∙ whole))) past))
+round_all types own table i whole past = ap (map (made_from types table)) (take_all i (zip types (stated_by own)) (subst (λ z. z ≤ i) (sym (length_zip types (stated_by own) (length-map own (λ (v : Vec Equation Global). map equation_of v.items) ∙ whole))) past))
 
 -- the tables of needs
 

@@ -4,19 +4,16 @@ use Rattle.std.specs.List.{filter}
 use Rattle.std.proofs.lemmas.Bool.{eq-eqb}
 use Rattle.spec_core.specs.Theories.{ConditionalEquation}
 use Rattle.std.specs.Cmp.Lexicographic.{pointwise}
+use Rattle.spec_core.proofs.Booleans.{and_first_true}
 use Rattle.type_images.specs.Same.{is_same_term, is_same_premise, is_same_equation, is_in}
 use Rattle.type_images.specs.Groups.{term_key, key_of}
 use Rattle.type_images.proofs.Terms.{one_term}
-
-first_of : (a b : Bool) → (a && b) ≡ true → a ≡ true
-first_of true b e = refl
-first_of false b e = absurd (cc)
 
 one_key : (e d : ConditionalEquation) → is_same_equation e d ≡ true → nat_eq (key_of e) (key_of d) ≡ true
 one_key e d h =
     let sides = is_same_term e.left d.left && is_same_term e.right d.right in
     let with_premises = sides && pointwise is_same_premise e.premises d.premises in
-    let left : is_same_term e.left d.left ≡ true = first_of (is_same_term e.left d.left) (is_same_term e.right d.right) (first_of sides (pointwise is_same_premise e.premises d.premises) (first_of with_premises (pointwise nat_eq e.sorts d.sorts) h)) in
+    let left : is_same_term e.left d.left ≡ true = and_first_true (is_same_term e.left d.left) (is_same_term e.right d.right) (and_first_true sides (pointwise is_same_premise e.premises d.premises) (and_first_true with_premises (pointwise nat_eq e.sorts d.sorts) h)) in
     eq-eqb (key_of e) (key_of d) (ap (term_key 0) (one_term e.left d.left left))
 
 apart : (e d : ConditionalEquation) → nat_eq (key_of e) (key_of d) ≡ false → is_same_equation e d ≡ false

@@ -1,6 +1,6 @@
 -- Terms: when two are equal, and their images.
 use Rattle.std.proofs.Common.{◌≡◌, ◌↔◌, ◌∙◌, refl, sym, ap, List, [], ◌∷◌, ℕ, Bool, true, false, ◌&&◌, nat_eq, map, IsTrue}
-use Rattle.std.proofs.lemmas.Bool.{eqb-true, eq-eqb}
+use Rattle.std.proofs.lemmas.Bool.{eqb-true, eq-eqb, and_parts}
 use Rattle.std.proofs.Common.{Vec, Global}
 use Rattle.spec_core.specs.declared.items.Op.{Op}
 use Rattle.spec_core.specs.declared.term.Term.{Term}
@@ -11,19 +11,13 @@ use Rattle.spec_core.specs.Terms.{TermTree, TermTrees, variable, apply, no_terms
 use Rattle.type_images.specs.Same.{is_same_term, are_same_terms}
 use Rattle.type_images.specs.Images.{term_image, term_images}
 
-both : (a b : Bool) → (a && b) ≡ true → (a ≡ true) × (b ≡ true)
-both true true e = (refl, refl)
-both true false e = absurd (cc)
-both false true e = absurd (cc)
-both false false e = absurd (cc)
-
 mutual
   pub one_term : (s t : TermTree) → is_same_term s t ≡ true → s ≡ t
   one_term (variable x) (variable y) e = ap variable (eqb-true x y e)
   one_term (variable x) (apply g ts) e = absurd (cc)
   one_term (apply f ss) (variable y) e = absurd (cc)
   one_term (apply f ss) (apply g ts) e =
-      let h : (nat_eq f g ≡ true) × (are_same_terms ss ts ≡ true) = both (nat_eq f g) (are_same_terms ss ts) e in
+      let h : (nat_eq f g ≡ true) × (are_same_terms ss ts ≡ true) = and_parts (nat_eq f g) (are_same_terms ss ts) e in
       ap (λ z. apply z ss) (eqb-true f g h.0) ∙ ap (apply g) (one_terms ss ts h.1)
 
   one_terms : (ss ts : TermTrees) → are_same_terms ss ts ≡ true → ss ≡ ts
@@ -31,7 +25,7 @@ mutual
   one_terms no_terms (and_term t ts) e = absurd (cc)
   one_terms (and_term s ss) no_terms e = absurd (cc)
   one_terms (and_term s ss) (and_term t ts) e =
-      let h : (is_same_term s t ≡ true) × (are_same_terms ss ts ≡ true) = both (is_same_term s t) (are_same_terms ss ts) e in
+      let h : (is_same_term s t ≡ true) × (are_same_terms ss ts ≡ true) = and_parts (is_same_term s t) (are_same_terms ss ts) e in
       ap (λ z. and_term z ss) (one_term s t h.0) ∙ ap (and_term t) (one_terms ss ts h.1)
 
 mutual

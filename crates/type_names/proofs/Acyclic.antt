@@ -2,6 +2,7 @@
 use Rattle.std.proofs.Common.{ℕ, zero, suc, ◌+◌, ◌≡◌, ◌∙◌, refl, sym, ap, subst, ◌≤◌, List, [], ◌∷◌, ◌++◌, length, map, arith, Option, None, Some}
 use Rattle.std.specs.Prelude.{option_map}
 use Rattle.std.specs.List.{Contains, slice_index_or, range_with_len, flat_map}
+use Rattle.spec_core.proofs.Members.{contains_none}
 use Rattle.lotos_ast.specs.declared.token.Token.{Token}
 use Rattle.lotos_ast.specs.declared.types.TypeDef.{TypeDef}
 use Rattle.lotos_ast.specs.declared.types.TypeDef.TheVariants.{Library, Definition}
@@ -28,13 +29,10 @@ way_begins links to n k way e = by_first (first_some (λ j. slice_index_or (ways
     by_first None h = absurd (cc)
     by_first (Some w) h = (w, cc)
 
-not_in_none : (j : ℕ) → Contains [] j → ⊥
-not_in_none j (k, within, at) = omega (arith, within)
-
 -- a type that is made of another is a definition, and so has a name
 named : (types all : List TypeDef) (k j : ℕ) → Contains (slice_index_or (map (links types) all) k []) j → name_at all k ≡ [] → ⊥
-named types [] k j c e = not_in_none j c
-named types (Library place names ∷ ds) zero j c e = not_in_none j c
+named types [] k j c e = contains_none j c
+named types (Library place names ∷ ds) zero j c e = contains_none j c
 named types (Definition place name body ∷ ds) zero j c e = cc
 named types (d ∷ ds) (suc k) j c e = named types ds k j c e
 

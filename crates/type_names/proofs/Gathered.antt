@@ -3,9 +3,9 @@ use Rattle.std.proofs.Common.{ℕ, ◌≡◌, ◌<◌, ◌+◌, List, [], ◌∷
 use Rattle.std.specs.List.{flat_map}
 use Rattle.std.proofs.lemmas.List.{map-append, append-nil}
 use Rattle.std.proofs.lemmas.List.Concat.{flat_map-append}
+use Rattle.spec_core.proofs.Lists.{take_next}
 use Rattle.lotos_ast.specs.declared.refusal.Refusal.{Refusal}
 use Rattle.type_names.specs.Refused.{each_after}
-use Rattle.type_names.proofs.Lists.{take_next}
 
 each_after_append : {A : Type 0} (f : List A → A → List Refusal) (before xs ys : List A) → each_after f before (xs ++ ys) ≡ each_after f before xs ++ each_after f (before ++ xs) ys
 each_after_append f before [] ys = ap (λ z. each_after f z ys) (sym (append-nil before))

@@ -1,4 +1,3 @@
 mod Acyclic
-pub mod Lists
 pub mod Gathered
 mod Rounds

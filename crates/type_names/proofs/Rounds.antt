@@ -2,10 +2,12 @@
 use Rattle.std.proofs.Common.{ℕ, zero, suc, ◌≡◌, ◌∙◌, refl, sym, ap, subst, ◌<◌, ◌≤◌, ◌⊎◌, inl, inr, List, [], ◌∷◌, length, map, get_or, arith}
 use Rattle.std.specs.List.{AllByRecursion, Contains, slice_index_or}
 use Rattle.std.proofs.lemmas.List.{ext_get_or, get_or-map, length-map}
+use Rattle.std.proofs.lemmas.Bool.{cases_lt}
+use Rattle.spec_core.proofs.Members.{contains_first, contains_later}
 use Rattle.type_contents.specs.Rounds.{rounds, table}
 use Rattle.type_contents.proofs.Settled.{past_all, rounds_length}
 use Rattle.type_cycles.specs.MadeFrom.{AreAcyclic}
-use Rattle.type_cycles.proofs.Walks.{Walks, acyclic_short, within_or_past}
+use Rattle.type_cycles.proofs.Walks.{Walks, acyclic_short}
 
 -- from the n-th round on, each has this element as the n-th
 SameFrom : {D A : Type 0} → A → (List A → D → A) → List D → ℕ → ℕ → Type 0
@@ -24,21 +26,15 @@ element [] k h = absurd (omega (arith, h))
 element (x ∷ xs) zero h = (x, refl)
 element (x ∷ xs) (suc k) h = element xs k (omega (arith, h))
 
-first_in : {A : Type 0} (x : A) (xs : List A) → Contains (x ∷ xs) x
-first_in x xs = (0, omega arith, refl)
-
-later_in : {A : Type 0} (x y : A) (xs : List A) → Contains xs y → Contains (x ∷ xs) y
-later_in x y xs (i, within, at) = (suc i, omega (arith, within), at)
-
 -- all of them, or one of which it isn't so
 all_or_one : (P Q : ℕ → Type 0) → ((j : ℕ) → P j ⊎ Q j) → (used : List ℕ) → AllByRecursion P used ⊎ ((j : ℕ) × Contains used j × Q j)
 all_or_one P Q either [] = inl tt
 all_or_one P Q either (j ∷ js) = by_first (either j) (all_or_one P Q either js)
   where
     by_first : P j ⊎ Q j → AllByRecursion P js ⊎ ((i : ℕ) × Contains js i × Q i) → AllByRecursion P (j ∷ js) ⊎ ((i : ℕ) × Contains (j ∷ js) i × Q i)
-    by_first (inr q) rest = inr (j, first_in j js, q)
+    by_first (inr q) rest = inr (j, contains_first j js, q)
     by_first (inl p) (inl ps) = inl (p, ps)
-    by_first (inl p) (inr (i, within, q)) = inr (i, later_in j i js within, q)
+    by_first (inl p) (inr (i, within, q)) = inr (i, contains_later j i js within, q)
 
 -- elements past the end
 past_same : {D A : Type 0} (nothing : A) (make : List A → D → A) (all : List D) (n k : ℕ) → length all ≤ k → SameFrom nothing make all n k
@@ -76,11 +72,11 @@ one_more uses all n k d within at (j, used, w) = record {
 same_or_walk : {D A : Type 0} (nothing : A) (make : List A → D → A) (uses : D → List ℕ) (all : List D)
     → ((d : D) (t u : List A) → AllByRecursion (λ j. slice_index_or t j nothing ≡ slice_index_or u j nothing) (uses d) → make t d ≡ make u d)
     → (n k : ℕ) → SameFrom nothing make all n k ⊎ WalkOf uses all n k
-same_or_walk nothing make uses all looks zero k = elim (within_or_past k (length all)) [
+same_or_walk nothing make uses all looks zero k = elim (cases_lt k (length all)) [
   | inl h ↦ inr (record { types = []; to = k; within = h; walk = refl; steps = refl })
   | inr h ↦ inl (past_same nothing make all zero k h)
 ]
-same_or_walk {D = D} nothing make uses all looks (suc n) k = elim (within_or_past k (length all)) [
+same_or_walk {D = D} nothing make uses all looks (suc n) k = elim (cases_lt k (length all)) [
   | inl h ↦ by_uses h (element all k h) (λ used. all_or_one (SameFrom nothing make all n) (WalkOf uses all n) (λ j. same_or_walk nothing make uses all looks n j) used)
   | inr h ↦ inl (past_same nothing make all (suc n) k h)
 ]

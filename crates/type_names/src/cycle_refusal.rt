@@ -49,7 +49,7 @@ fn all_links(alloc: Global, types: &[TypeDef]) -> Result<Vec<Numbers>, Memory>
 }
 
 // Adds the name of the type of this number, if there is one.
-#[tactic(auto, using(crate::proofs::Lists::got, crate::proofs::Lists::past_end))]
+#[tactic(auto, using(spec_core::proofs::Lists::slice_get_next, std::proofs::lemmas::Option::slice_get_past))]
 fn add_name_at<'a>(
     all: &mut Vec<&'a Token>,
     types: &'a [TypeDef],

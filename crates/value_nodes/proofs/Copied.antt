@@ -3,6 +3,8 @@ use Rattle.std.proofs.Common.{ℕ, zero, suc, ◌≡◌, ◌<◌, List, [], ◌�
 use Rattle.std.proofs.Common.{arith, inl, inr, ◌⊎◌, Option, Some, None}
 use Rattle.std.proofs.lemmas.List.{length-set, length-replicate}
 use Rattle.std.specs.Prelude.{option_to_list, unwrap_or}
+use Rattle.std.proofs.lemmas.Bool.{cases_eq}
+use Rattle.std.proofs.lemmas.Option.{same_Some}
 use Rattle.spec_core.specs.Lists.{Each}
 use Rattle.value_nodes.proofs.Parts.{each_less}
 use Rattle.spec_core.specs.Terms.{apply, no_terms, and_term}
@@ -45,19 +47,6 @@ copied_elsewhere (c ∷ copies) zero o (suc j) h = refl
 copied_elsewhere (c ∷ copies) (suc i) o zero h = refl
 copied_elsewhere (c ∷ copies) (suc i) o (suc j) h = copied_elsewhere copies i o j (λ e. h (ap suc e))
 
-one_or_other : (i j : ℕ) → (i ≡ j) ⊎ (i ≡ j → ⊥)
-one_or_other zero zero = inl refl
-one_or_other zero (suc j) = inr (λ e. absurd (omega (arith, e)))
-one_or_other (suc i) zero = inr (λ e. absurd (omega (arith, e)))
-one_or_other (suc i) (suc j) = one_up (one_or_other i j)
-  where
-    one_up : (i ≡ j) ⊎ (i ≡ j → ⊥) → (suc i ≡ suc j) ⊎ (suc i ≡ suc j → ⊥)
-    one_up (inl e) = inl (ap suc e)
-    one_up (inr h) = inr (λ e. h (omega (arith, e)))
-
-some_same : {n m : ℕ} → Some n ≡ Some m → n ≡ m
-some_same e = cc
-
 -- one more copy
 pub kept : (old new now : List Node) (copies : List (Option ℕ)) (node n : ℕ) → AreCopies old new copies → IsNode old node →
     IsLonger new now →
@@ -65,7 +54,7 @@ pub kept : (old new now : List Node) (copies : List (Option ℕ)) (node n : ℕ)
     AreCopies old now (set copies node (Some n))
 kept old new now copies node n h there longer at tree others = record {
   one_each = length-set copies node (Some n) ∙ h.one_each;
-  same = λ i m q. by_place i m q (one_or_other i node);
+  same = λ i m q. by_place i m q (cases_eq i node);
   no_other = λ m l. by_number m (others m l);
 }
   where
@@ -75,7 +64,7 @@ kept old new now copies node n h there longer at tree others = record {
     by_place : (i m : ℕ) → copy_at (set copies node (Some n)) i ≡ Some m → (i ≡ node) ⊎ (i ≡ node → ⊥) →
         IsNode now m × (tree_at now m ≡ tree_at old i)
     by_place i m q (inl e) =
-        let s : n ≡ m = some_same (sym (copied_here copies node (Some n) in_list) ∙ ap (copy_at (set copies node (Some n))) (sym e) ∙ q) in
+        let s : n ≡ m = same_Some _ _ (sym (copied_here copies node (Some n) in_list) ∙ ap (copy_at (set copies node (Some n))) (sym e) ∙ q) in
         (subst (IsNode now) s at, ap (tree_at now) (sym s) ∙ tree ∙ ap (tree_at old) (sym e))
     by_place i m q (inr d) =
         let k = h.same i m (sym (copied_elsewhere copies node (Some n) i d) ∙ q) in

@@ -1,4 +1,3 @@
 pub mod Copied
 pub mod Nodes
-pub mod Outcomes
 pub mod Parts

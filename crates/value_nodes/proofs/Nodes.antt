@@ -1,12 +1,14 @@
 -- Tables of nodes.
 use Rattle.std.proofs.Common.{ℕ, zero, suc, ◌≡◌, ◌<◌, ◌≤◌, ◌+◌, List, [], ◌∷◌, ◌++◌, length, get_or, refl, sym, ap, subst, ◌∙◌, arith}
 use Rattle.std.proofs.Common.{length-append, map, slice_index_or, inl, inr, ◌⊎◌}
+use Rattle.std.proofs.lemmas.Bool.{cases_lt}
 use Rattle.value_nodes.specs.declared.node.Node.{Node}
 use Rattle.value_nodes.specs.declared.node.Node.TheVariants.{Constant, One, More}
 use Rattle.spec_core.specs.Theories.{Theory}
 use Rattle.spec_core.specs.Constructors.{IsConstructor, IsConstructed, AreConstructed}
 use Rattle.spec_core.specs.Lists.{Each}
 use Rattle.spec_core.specs.Terms.{TermTree, TermTrees, variable, apply, no_terms, and_term, preorder, preorders}
+use Rattle.spec_core.proofs.Lists.{own_default}
 use Rattle.value_nodes.specs.Sizes.{symbols}
 use Rattle.value_nodes.specs.Nodes.{arguments, tree_in, node_tree, trees_after, trees_of, tree_at, IsMade, AreMade, IsSeen, IsNode}
 use Rattle.value_nodes.specs.Nodes.{IsLonger, AreSmall, AreValues}
@@ -153,16 +155,6 @@ pub still_nodes : (old new : List Node) → IsLonger old new → (is : List ℕ)
 still_nodes old new h [] e = tt
 still_nodes old new h (i ∷ is) e = (omega (arith, h.at_least, e.0), still_nodes old new h is e.1)
 
-less_or_not : (i m : ℕ) → (i < m) ⊎ (m ≤ i)
-less_or_not zero zero = inr (omega arith)
-less_or_not zero (suc m) = inl (omega arith)
-less_or_not (suc i) zero = inr (omega arith)
-less_or_not (suc i) (suc m) = one_up (less_or_not i m)
-  where
-    one_up : (i < m) ⊎ (m ≤ i) → (suc i < suc m) ⊎ (suc m ≤ suc i)
-    one_up (inl h) = inl (omega (arith, h))
-    one_up (inr h) = inr (omega (arith, h))
-
 arguments_constructed : (theory : Theory) (t : TermTree) → IsConstructed theory t → AreConstructed theory (arguments t)
 arguments_constructed theory (variable x) c = absurd c
 arguments_constructed theory (apply f ts) c = c.1
@@ -206,7 +198,7 @@ made_none theory f old new n constructed longer others tree c i h = by_place (ot
 
 pub one_more_node : (old new : List Node) (n : ℕ) → length new ≡ length old + 1 → length new ≡ n + 1 → (i : ℕ) → IsNode new i →
     IsNode old i ⊎ (i ≡ n)
-one_more_node old new n count last i h = by_place (less_or_not i (length old))
+one_more_node old new n count last i h = by_place (cases_lt i (length old))
   where
     by_place : (i < length old) ⊎ (length old ≤ i) → IsNode old i ⊎ (i ≡ n)
     by_place (inl l) = inl l
@@ -214,11 +206,6 @@ one_more_node old new n count last i h = by_place (less_or_not i (length old))
 
 pub within : (rows : List Node) (i : ℕ) → i < length (trees_of rows) → IsNode rows i
 within rows i h = let l = trees-length [] rows in omega (arith, l, h)
-
-own_default : {A : Type 0} (xs : List A) (i : ℕ) (d : A) → i < length xs → get_or xs i d ≡ get_or xs i (get_or xs i d)
-own_default [] i d h = absurd (omega arith)
-own_default (x ∷ xs) zero d h = refl
-own_default (x ∷ xs) (suc i) d h = own_default xs i d (omega arith)
 
 small_seen : (ts : List TermTree) (i : ℕ) (r : Node) → IsSeen ts i r → symbols (tree_in ts i) ≤ 65536
 small_seen ts i (Constant op) s = let e : symbols (tree_in ts i) ≡ 1 = ap symbols s in omega (arith, e)

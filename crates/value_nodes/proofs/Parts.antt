@@ -15,10 +15,6 @@ pub words_push : (rows : List Node) (ps : List Part) (p : Part) → words rows (
 words_push rows [] p = sym (append-nil (word rows p))
 words_push rows (q ∷ ps) p = ap (λ us. us ++ word rows q) (words_push rows ps p) ∙ append_assoc (word rows p) (words rows ps) (word rows q)
 
-pub each_more : {A : Type 0} (P : A → Type 0) (xs : List A) (x : A) → Each P xs → P x → Each P (xs ++ x ∷ [])
-each_more P [] x e h = (h, tt)
-each_more P (y ∷ xs) x e h = (e.0, each_more P xs x e.1 h)
-
 pub each_less : {A : Type 0} (P : A → Type 0) (xs : List A) (x : A) → Each P (xs ++ x ∷ []) → Each P xs × P x
 each_less P [] x e = (tt, e.0)
 each_less P (y ∷ xs) x e = let r = each_less P xs x e.1 in ((e.0, r.0), r.1)

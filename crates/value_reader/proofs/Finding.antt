@@ -4,13 +4,15 @@ use Rattle.std.proofs.Common.{Option, Some, None, option_map, refl, ap, sym, ◌
 use Rattle.std.specs.List.{slice_get}
 use Rattle.std.specs.Str.{bytes_eq}
 use Rattle.std.proofs.lemmas.Slice.Eq.{bytes_eq-Decides}
+use Rattle.std.proofs.lemmas.Bool.{and_parts}
 use Rattle.spec_core.specs.Lists.{Each, NoTwo}
 use Rattle.spec_core.specs.Names.{IsIdentifier, IsSameName}
 use Rattle.spec_core.specs.Ready.{IsSameOperation}
 use Rattle.spec_core.specs.Sorts.{FitsData, OperationFits}
 use Rattle.spec_core.specs.Theories.{Operation, Theory}
+use Rattle.spec_core.proofs.Lists.{each_slice_get}
 use Rattle.value_text.specs.Values.{is_shared, name_at}
-use Rattle.value_text.proofs.Names.{each_at, one_named}
+use Rattle.value_text.proofs.Names.{one_named}
 use Rattle.value_text.proofs.Operations.{itself, one_operation, one_unshared}
 use Rattle.value_reader.specs.Stands.{first_at, is_call}
 
@@ -35,13 +37,6 @@ first_found p [] d here zero at only = absurd (cc)
 first_found p [] d here (suc f) at only = absurd (cc)
 first_found p (x ∷ ds) d here f at only = found_behind p x d ds (p x) refl here (first_found p ds d here) f at only
 
-pub both_true : (a b : Bool) → (a && b) ≡ true → (a ≡ true) × (b ≡ true)
-both_true true b h = (refl, h)
-both_true false b h = absurd (cc)
-
-pub same_bytes : (x y : List ℕ) → bytes_eq x y ≡ true → x ≡ y
-same_bytes x y h = (bytes_eq-Decides x y).0 h
-
 all_true : (a b c : Bool) → a ≡ true → b ≡ true → c ≡ true → ((a && b) && c) ≡ true
 all_true true true c x y z = z
 all_true true false c x y z = absurd (cc)
@@ -64,18 +59,18 @@ module _ (theory : Theory) (fits : FitsData theory) (sorts : Each IsIdentifier t
           (all_true (bytes_eq d.name d.name) (bytes_eq d.args d.args) (bytes_eq (name_at theory.sorts d.result) (name_at theory.sorts d.result))
           (itself d.name) (itself d.args) (itself (name_at theory.sorts d.result))) f at
           (λ g e a b.
-          let k = both_true (bytes_eq e.name d.name && bytes_eq e.args d.args) (bytes_eq (name_at theory.sorts e.result) (name_at theory.sorts d.result)) b in
-          let l = both_true (bytes_eq e.name d.name) (bytes_eq e.args d.args) k.0 in
+          let k = and_parts (bytes_eq e.name d.name && bytes_eq e.args d.args) (bytes_eq (name_at theory.sorts e.result) (name_at theory.sorts d.result)) b in
+          let l = and_parts (bytes_eq e.name d.name) (bytes_eq e.args d.args) k.0 in
           let sort : name_at theory.sorts e.result ++ [] ≡ name_at theory.sorts d.result ++ [] =
-          ap (λ z. z ++ []) (same_bytes (name_at theory.sorts e.result) (name_at theory.sorts d.result) k.1) in
-          one_operation theory.operations g f e d operations_differ a at (same_bytes e.name d.name l.0) (same_bytes e.args d.args l.1)
+          ap (λ z. z ++ []) ((bytes_eq-Decides (name_at theory.sorts e.result) (name_at theory.sorts d.result)).0 k.1) in
+          one_operation theory.operations g f e d operations_differ a at ((bytes_eq-Decides e.name d.name).0 l.0) ((bytes_eq-Decides e.args d.args).0 l.1)
           (one_named theory.sorts e.result d.result [] [] sorts sorts_differ
-          (each_at (OperationFits theory) theory.operations g e fits.operations a).0
-          (each_at (OperationFits theory) theory.operations f d fits.operations at).0 tt tt sort).0)
+          (each_slice_get (OperationFits theory) theory.operations g e fits.operations a).0
+          (each_slice_get (OperationFits theory) theory.operations f d fits.operations at).0 tt tt sort).0)
       go false alone =
           first_found (is_call theory.sorts d.name d.args None) theory.operations d
           (all_true (bytes_eq d.name d.name) (bytes_eq d.args d.args) true (itself d.name) (itself d.args) refl) f at
           (λ g e a b.
-          let k = both_true (bytes_eq e.name d.name && bytes_eq e.args d.args) true b in
-          let l = both_true (bytes_eq e.name d.name) (bytes_eq e.args d.args) k.0 in
-          sym (one_unshared theory.operations f g d e at a (sym (same_bytes e.name d.name l.0)) (sym (same_bytes e.args d.args l.1)) alone))
+          let k = and_parts (bytes_eq e.name d.name && bytes_eq e.args d.args) true b in
+          let l = and_parts (bytes_eq e.name d.name) (bytes_eq e.args d.args) k.0 in
+          sym (one_unshared theory.operations f g d e at a (sym ((bytes_eq-Decides e.name d.name).0 l.0)) (sym ((bytes_eq-Decides e.args d.args).0 l.1)) alone))

@@ -13,8 +13,10 @@ use Rattle.spec_core.specs.Sorts.{FitsData, HasSort, HaveSorts, OperationFits, n
 use Rattle.spec_core.specs.TermText.{infix_at, gap_before, head_name}
 use Rattle.spec_core.specs.Terms.{TermTree, TermTrees, variable, apply, no_terms, and_term, width}
 use Rattle.spec_core.specs.Theories.{Operation, Theory}
+use Rattle.spec_core.proofs.Lists.{each_slice_get}
+use Rattle.spec_core.proofs.Members.{one_slice_get}
 use Rattle.value_text.specs.Values.{is_shared, name_at}
-use Rattle.value_text.proofs.Names.{one_of_at, EndsTerm, among, at_place, each_at, identifier_run, plain_begins, plain_run, stops}
+use Rattle.value_text.proofs.Names.{EndsTerm, among, at_place, identifier_run, plain_begins, plain_run, stops}
 use Rattle.value_text.proofs.OneTerm.{Form, plain, infixed, IsOver, over, text, suffix, gap, commas, constant_text, prefix_text, infix_text, ends_suffix, commas_end, first_sort, form_at}
 use Rattle.value_text.proofs.Runs as runs
 use Rattle.value_reader.specs.Extents.{Place, start, behind_word, behind_arguments, inside, extent}
@@ -44,7 +46,7 @@ alone p [] h = refl
 alone p (q ∷ ps) h = ap (λ (b : Bool). if b && is_word q then as_sort q ∷ items_in ps else p ∷ items_in (q ∷ ps)) h
 
 reserved_of : IsOneOf (map to_ascii_lowercase (codes "of")) reserved_words
-reserved_of = one_of_at reserved_words 24 (codes "of") refl
+reserved_of = one_slice_get reserved_words 24 (codes "of") refl
 
 -- no name of an operation is the word `of`
 free_name : (w : List ℕ) → IsPlainName w → w ≡ codes "of" → ⊥
@@ -99,7 +101,7 @@ module _ (theory : Theory) (fits : FitsData theory) (names : Each (λ d. IsOpera
           items ((if c then codes " of " ++ name_at theory.sorts d.result else []) ++ r)
           ≡ (if c then of_sort (name_at theory.sorts d.result) ∷ [] else []) ++ items r
       go true =
-          let k = at_place IsIdentifier theory.sorts d.result sorts (each_at (OperationFits theory) theory.operations f d fits.operations at).0 in
+          let k = at_place IsIdentifier theory.sorts d.result sorts (each_slice_get (OperationFits theory) theory.operations f d fits.operations at).0 in
           let n : name_at theory.sorts d.result ≡ k.item = ap (λ o. unwrap_or o []) k.at in
           ap (λ z. items ((codes " of " ++ z) ++ r)) n
           ∙ ap (λ ps. items_in (word (codes "of") ∷ ps)) (pieces_of_word k.item r k.holds (stops r ends))

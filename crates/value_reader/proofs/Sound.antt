@@ -4,6 +4,8 @@ use Rattle.std.proofs.Common.{Option, Some, None, option_map, refl, ap, sym, ◌
 use Rattle.std.specs.List.{slice_get}
 use Rattle.std.specs.Str.{bytes_eq}
 use Rattle.std.proofs.lemmas.List.{append-nil}
+use Rattle.std.proofs.lemmas.Bool.{and_parts}
+use Rattle.std.proofs.lemmas.Slice.Eq.{bytes_eq-Decides}
 use Rattle.spec_core.specs.Sorts.{HaveSorts, OnSome, no_variables}
 use Rattle.spec_core.specs.Terms.{TermTrees, apply, no_terms, and_term, preorder, preorders}
 use Rattle.spec_core.specs.Theories.{Operation, Theory}
@@ -11,7 +13,6 @@ use Rattle.value_text.specs.Values.{IsGroundList}
 use Rattle.value_reader.specs.Items.{Piece, word, opening, closing, comma, of_sort, other}
 use Rattle.value_reader.specs.Stands.{Bracket, Stand, expects, has_term, calls, State, first_at, is_call, is_written, result_of, underscored, with_operation}
 use Rattle.value_reader.specs.Stands.{applied, opened_by, step_at, step, step_on, run}
-use Rattle.value_reader.proofs.Finding.{both_true, same_bytes}
 
 -- the sorts and the operations that were read are those of some terms
 pub record AreTerms (theory : Theory) (sorts value : List ℕ) : Type 0 where
@@ -101,10 +102,10 @@ module _ (theory : Theory) where
       go (Some f) h =
           let p = first_passes (is_call theory.sorts name (take n sorts) sort) theory.operations f h in
           let k =
-          both_true (bytes_eq p.operation.name name && bytes_eq p.operation.args (take n sorts)) (is_written theory.sorts sort p.operation)
+          and_parts (bytes_eq p.operation.name name && bytes_eq p.operation.args (take n sorts)) (is_written theory.sorts sort p.operation)
           p.passes in
-          let l = both_true (bytes_eq p.operation.name name) (bytes_eq p.operation.args (take n sorts)) k.0 in
-          over_terms f n p.operation bs sorts value p.at (same_bytes p.operation.args (take n sorts) l.1) sound
+          let l = and_parts (bytes_eq p.operation.name name) (bytes_eq p.operation.args (take n sorts)) k.0 in
+          over_terms f n p.operation bs sorts value p.at ((bytes_eq-Decides p.operation.args (take n sorts)).0 l.1) sound
 
   pub step_sound : (p : Piece) (s : State) → IsSound theory s → OnState (step theory p s) (IsSound theory)
   step_sound p s sound = at s.stand p s.brackets

@@ -2,14 +2,15 @@
 use Rattle.std.proofs.Common.{ℕ, ◌≡◌, inl, inr, ◌||◌, Bool, true, false, List, [], ◌∷◌, ◌++◌, length, Option, Some, None, refl, ap, sym, ◌∙◌, subst, arith}
 use Rattle.std.proofs.Common.{nat_eq, IfSome, reverse, map, ◌≢◌}
 use Rattle.std.specs.List.{list_any}
-use Rattle.std.proofs.lemmas.Bool.{eqb-true}
-use Rattle.std.proofs.lemmas.List.{append_cancel_left, map-append, reverse-append}
+use Rattle.std.proofs.lemmas.Bool.{eqb-true, and_parts}
+use Rattle.std.proofs.lemmas.List.{append_cancel_left}
 use Rattle.spec_core.specs.Code.{Program}
 use Rattle.spec_core.specs.Lists.{IsOneOf}
 use Rattle.spec_core.specs.Ready.{AreNamed}
 use Rattle.spec_core.specs.Sorts.{FitsData}
 use Rattle.spec_core.specs.Terms.{no_terms}
 use Rattle.spec_core.specs.Theories.{Theory}
+use Rattle.spec_core.proofs.Lists.{map_reverse}
 use Rattle.value_text.specs.Values.{IsGroundList, value_text}
 use Rattle.value_text.proofs.Names.{EndsTerm}
 use Rattle.value_text.proofs.OneTerm.{text as term_of}
@@ -17,7 +18,6 @@ use Rattle.value_text.proofs.OneValue.{value_is_term}
 use Rattle.value_reader.specs.Ends.{ends_there, ends_value, goes_no_further}
 use Rattle.value_reader.specs.Items.{Piece, word, opening, closing, comma, of_sort, other, items}
 use Rattle.value_reader.specs.Stands.{Bracket, Stand, State, expects, has_term, calls, nothing_read, read_in, run, whole_at, whole_of, whole_value}
-use Rattle.value_reader.proofs.Finding.{both_true}
 use Rattle.value_reader.proofs.Pieces.{EndsThere, extent_of}
 use Rattle.value_reader.proofs.Sound.{AreTerms, IsSound, ground, run_sound}
 use Rattle.value_reader.proofs.WholeTerms.{whole_read}
@@ -53,16 +53,8 @@ whole_ground theory has_term (x ∷ bs) so va sound = tt
 whole_ground theory (expects w) bs so va sound = tt
 whole_ground theory (calls w n) bs so va sound = tt
 
-map_reversed : {A B : Type 0} (f : A → B) (xs : List A) → map f (reverse xs) ≡ reverse (map f xs)
-map_reversed f [] = refl
-map_reversed f (x ∷ xs) =
-    ap (map f) (reverse-append (x ∷ []) xs)
-    ∙ map-append f (reverse xs) (x ∷ [])
-    ∙ ap (λ l. l ++ f x ∷ []) (map_reversed f xs)
-    ∙ sym (reverse-append (f x ∷ []) (map f xs))
-
 pub value_so : {A B : Type 0} (f : A → B) (xs ys : List A) → ys ≡ reverse xs → map f ys ≡ reverse (map f xs)
-value_so f xs ys e = ap (map f) e ∙ map_reversed f xs
+value_so f xs ys e = ap (map f) e ∙ map_reverse f xs
 
 pub nothing_sound : (theory : Theory) → IsSound theory nothing_read
 nothing_sound theory = record { terms = no_terms; have = tt; spelled = refl }
@@ -88,7 +80,7 @@ module _ (program : Program) (fits : FitsData program.theory) (named : AreNamed 
   pub read_so : (text v rest : List ℕ) → IsGroundList program.theory v → ends_value rest ≡ true → text ≡ value_text program.theory v ++ rest →
       read_in program.theory text ≡ Some v
   read_so text v rest k ends same =
-      let both = both_true (ends_there rest) (goes_no_further (items rest)) ends in
+      let both = and_parts (ends_there rest) (goes_no_further (items rest)) ends in
       let t : text ≡ term_of program.theory k.term ++ rest =
       same ∙ ap (λ l. l ++ rest) (ap (value_text program.theory) k.spelled ∙ value_is_term program.theory k.term k.fits.0 k.fits.1) in
       ap (read_in program.theory) t

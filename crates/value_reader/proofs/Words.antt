@@ -3,15 +3,11 @@ use Rattle.std.proofs.Common.{ℕ, zero, suc, ◌≡◌, ◌≢◌, ◌<◌, ◌
 use Rattle.value_text.specs.Bytes.{is_name_byte}
 use Rattle.std.proofs.Common.{refl, ap, sym, ◌∙◌, arith}
 use Rattle.std.proofs.lemmas.Bool.{eqb-true}
-use Rattle.std.proofs.lemmas.List.{length-drop}
-use Rattle.spec_core.proofs.Lists.{all_taken}
+use Rattle.std.proofs.lemmas.List.{take_rest}
 use Rattle.value_reader.specs.Items.{word, begins_word, joined_to, mark, pieces}
 use Rattle.value_reader.specs.Views.{AreNameBytes}
 use Rattle.value_reader.proofs.Pieces.{pieces_of_run}
 use Rattle.value_text.proofs.Runs as runs
-
-pub rest_of_slice : {A : Type 0} (xs : List A) (n : ℕ) → take (length xs - n) (drop n xs) ≡ drop n xs
-rest_of_slice xs n = all_taken (drop n xs) (length xs - n) (omega (arith, length-drop n xs))
 
 parts : (xs : List ℕ) (n : ℕ) → xs ≡ take n xs ++ drop n xs
 parts xs zero = refl
@@ -29,7 +25,7 @@ word_first [] (suc n) some within run ends = absurd (omega arith)
 word_first (b ∷ text) (suc n) some within run ends =
     ap (λ l. pieces (b ∷ l)) (parts text n)
     ∙ pieces_of_run b (take n text) (drop n text) run (stops_there (drop n text) ends)
-    ∙ ap (λ l. word (b ∷ take n text) ∷ pieces l) (sym (rest_of_slice (b ∷ text) (suc n)))
+    ∙ ap (λ l. word (b ∷ take n text) ∷ pieces l) (sym (take_rest (b ∷ text) (suc n)))
 
 pub mark_first : (text : List ℕ) (n : ℕ) → n ≡ 0 → 0 < length text → get_or text 0 0 ≢ 32 → begins_word (drop n text) ≡ false →
     pieces text ≡ mark (get_or text 0 0) ∷ pieces (take (length text - 1) (drop 1 text))
@@ -38,7 +34,7 @@ mark_first (b ∷ text) n none some blank ends =
     let no_name : is_name_byte b ≡ false = ap (λ k. begins_word (drop k (b ∷ text))) (sym none) ∙ ends in
     ap (λ c. if c then joined_to (begins_word text) b (pieces text) else if b == 32 then pieces text else mark b ∷ pieces text) no_name
     ∙ go (b == 32) refl
-    ∙ ap (λ l. mark b ∷ pieces l) (sym (rest_of_slice (b ∷ text) 1))
+    ∙ ap (λ l. mark b ∷ pieces l) (sym (take_rest (b ∷ text) 1))
   where
     go : (c : Bool) → (b == 32) ≡ c → (if c then pieces text else mark b ∷ pieces text) ≡ mark b ∷ pieces text
     go true e = absurd (blank (eqb-true b 32 e))

@@ -1,5 +1,5 @@
 -- Facts about what a call answered.
-use Rattle.std.proofs.Common.{◌≡◌, Option, Some, None, IfSome, IfNone, IfOk, IfErr, Result, Ok, Err, false}
+use Rattle.std.proofs.Common.{◌≡◌, Option, Some, None, IfSome, IfNone, false}
 use Rattle.std.specs.Option.{is_some}
 
 pub if_some_implied : {A : Type 0} {P Q : A → Type 0} (o : Option A) → ((x : A) → P x → Q x) → IfSome o P → IfSome o Q
@@ -9,11 +9,3 @@ if_some_implied (Some x) f h = f x h
 pub if_none_holds : {A : Type 0} {P : Type 0} (o : Option A) → is_some o ≡ false → IfNone o P → P
 if_none_holds None e h = h
 if_none_holds (Some x) e h = cc
-
-pub if_ok_implied : {A E : Type 0} {P Q : A → Type 0} (r : Result A E) → ((x : A) → P x → Q x) → IfOk r P → IfOk r Q
-if_ok_implied (Ok x) f h = f x h
-if_ok_implied (Err e) f h = tt
-
-pub if_err_implied : {A E : Type 0} {P Q : E → Type 0} (r : Result A E) → ((e : E) → P e → Q e) → IfErr r P → IfErr r Q
-if_err_implied (Ok x) f h = tt
-if_err_implied (Err e) f h = f e h

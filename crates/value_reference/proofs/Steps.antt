@@ -1,27 +1,10 @@
 -- Steps of an evaluation, at terms and lists known by equations.
-use Rattle.std.proofs.Common.{ℕ, ◌≡◌, ◌<◌, ◌≤◌, ◌+◌, ◌-◌, List, [], ◌∷◌, ◌++◌, length, map, take, drop, get_or, refl, ap, sym, subst, ◌∙◌}
-use Rattle.std.proofs.Common.{arith, Bool, true, false, Result, Ok, Err, IfOk}
+use Rattle.std.proofs.Common.{ℕ, ◌≡◌, ◌+◌, List, [], ◌∷◌, ◌++◌, refl, ap, sym, subst, ◌∙◌}
+use Rattle.std.proofs.Common.{arith, Bool, true, false}
 use Rattle.spec_core.specs.Terms.{TermTree, TermTrees, apply, terms, instance}
 use Rattle.spec_core.specs.Theories.{Premise, premise, ConditionalEquation, Theory}
 use Rattle.spec_core.specs.Evaluation.{Evaluates, EvaluatesAll, Tries, Asks, HaveValues, called, none, more, holds, fails}
-use Rattle.spec_core.proofs.Lists.{untrue, all_taken}
-
-pub no_more : {A B : Type 0} (f : A → B) (xs : List A) → length xs < 1 → [] ≡ map f xs
-no_more f [] h = refl
-no_more f (x ∷ xs) h = absurd (omega arith)
-
--- the first element, and the rest as a slice's pattern gives it
-pub one_more : {A B : Type 0} (f : A → B) (xs : List A) (x : A) →
-    1 ≤ length xs → x ≡ get_or xs 0 x → f x ∷ map f (take (length xs - 1) (drop 1 xs)) ≡ map f xs
-one_more f [] x h e = absurd (omega arith)
-one_more f (y ∷ ys) x h e =
-    let n : length ys ≤ length (y ∷ ys) - 1 = omega arith in
-    ap (λ z. f z ∷ map f (take (length (y ∷ ys) - 1) ys)) e ∙ ap (λ zs. f y ∷ map f zs) (all_taken ys (length (y ∷ ys) - 1) n)
-
-pub if_ok_three : {A E : Type 0} {P Q R S : A → Type 0} (r : Result A E) →
-    ((x : A) → P x → Q x → R x → S x) → IfOk r P → IfOk r Q → IfOk r R → IfOk r S
-if_ok_three (Ok x) f p q t = f x p q t
-if_ok_three (Err e) f p q t = tt
+use Rattle.spec_core.proofs.Lists.{untrue}
 
 module _ (theory : Theory) where
   pub called_at : (t v : TermTree) (f : ℕ) (ts us vs ws : TermTrees) (es : List ConditionalEquation) (n m : ℕ) →

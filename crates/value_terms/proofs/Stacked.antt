@@ -15,6 +15,7 @@ use Rattle.data_laws.proofs.Fit.{on_use}
 use Rattle.rule_model.specs.Fields.{Spells}
 use Rattle.spec_core.specs.declared.items.Op.{Op}
 use Rattle.spec_core.specs.Numbers.{op_number}
+use Rattle.spec_core.proofs.Lists.{each_append, each_left, each_right}
 use Rattle.value_terms.specs.Stacks.{HasArguments, HaveArguments, stacked, IsRead}
 use Rattle.value_terms.proofs.Enough.{due, IsEnough, one_more_symbol, one_term, sorted_arguments}
 
@@ -47,18 +48,6 @@ preorders_of_reverse (t ∷ args) =
 width_of : (args : List Term) → width (terms (map term_of args)) ≡ length args
 width_of [] = refl
 width_of (t ∷ args) = ap suc (width_of args)
-
-each_left : {A : Type 0} (P : A → Type 0) (xs ys : List A) → Each P (xs ++ ys) → Each P xs
-each_left P [] ys h = tt
-each_left P (x ∷ xs) ys h = (h.0, each_left P xs ys h.1)
-
-each_right : {A : Type 0} (P : A → Type 0) (xs ys : List A) → Each P (xs ++ ys) → Each P ys
-each_right P [] ys h = h
-each_right P (x ∷ xs) ys h = each_right P xs ys h.1
-
-each_joined : {A : Type 0} (P : A → Type 0) (xs ys : List A) → Each P xs → Each P ys → Each P (xs ++ ys)
-each_joined P [] ys h k = k
-each_joined P (x ∷ xs) ys h k = (h.0, each_joined P xs ys h.1 k)
 
 with_count : (o : Option Operation) (n m : ℕ) → OnSome o (λ d. length d.args ≡ n) → n ≡ m → OnSome o (λ d. length d.args ≡ m)
 with_count None n m h e = absurd h
@@ -94,10 +83,6 @@ each_get P [] i d within h = absurd (omega arith)
 each_get P (x ∷ xs) zero d within h = h.0
 each_get P (x ∷ xs) (suc i) d within h = each_get P xs i d (omega arith) h.1
 
-pub of_none : {A : Type 0} {P : Type 0} (o : Option A) → o ≡ None → IfNone o P → P
-of_none None e h = h
-of_none (Some x) e h = cc
-
 module _ (theory : Theory) where
   reversed_arguments : (args : List Term) → Each (λ t. HasArguments theory (term_of t)) (reverse args) →
       HaveArguments theory (terms (map term_of args))
@@ -123,7 +108,7 @@ module _ (theory : Theory) where
             ∙ ap (λ (l : List ℕ). f ∷ l) (sym (stacked_joined left (reverse args)) ∙ ap stacked (sym taken) ∙ read.spelled);
         arguments =
             subst (Each (λ t. HasArguments theory (term_of t))) (sym pushed)
-            (each_joined (λ t. HasArguments theory (term_of t)) left (t ∷ [])
+            (each_append (λ t. HasArguments theory (term_of t)) left (t ∷ [])
             (each_left (λ t. HasArguments theory (term_of t)) left (reverse args) all) (
               subst (HasArguments theory) (sym is) (
                 with_count (slice_get theory.operations f) n (width (terms (map term_of args))) declared (sym counted ∙ sym (width_of
@@ -221,7 +206,7 @@ module _ (theory : Theory) where
     all_of_constructors : (ts : TermTrees) → AreConstructed theory ts → Each (IsConstructor theory) (preorders ts)
     all_of_constructors no_terms h = tt
     all_of_constructors (and_term t ts) h =
-        each_joined (IsConstructor theory) (preorder t) (preorders ts) (of_constructors t h.0) (all_of_constructors ts h.1)
+        each_append (IsConstructor theory) (preorder t) (preorders ts) (of_constructors t h.0) (all_of_constructors ts h.1)
 
   -- a list of constructors that spells a term of the sort spells a value
   pub spells_value : (v : List ℕ) (t : TermTree) (sort : ℕ) →

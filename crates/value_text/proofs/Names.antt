@@ -6,6 +6,7 @@ use Rattle.std.specs.Char.{is_ascii_alphanumeric, to_ascii_lowercase}
 use Rattle.std.specs.List.{list_any, slice_get}
 use Rattle.spec_core.specs.Lists.{Each, IsOneOf, NoTwo}
 use Rattle.spec_core.specs.Names.{IsWordByte, IsIdentifier, IsPlainName, IsSameName}
+use Rattle.spec_core.proofs.Lists.{each_slice_get}
 use Rattle.value_text.specs.Values.{name_at}
 use Rattle.value_text.proofs.Runs.{IsRun, Stops, one_run}
 
@@ -75,18 +76,6 @@ at_place P (x ∷ xs) (suc i) h within =
     let q = at_place P xs i h.1 (omega arith) in
     record { item = q.item; at = q.at; holds = q.holds }
 
-pub each_at : {A : Type 0} (P : A → Type 0) (xs : List A) (i : ℕ) (x : A) → Each P xs → slice_get xs i ≡ Some x → P x
-each_at P [] zero x h e = absurd (cc)
-each_at P [] (suc i) x h e = absurd (cc)
-each_at P (y ∷ xs) zero x h e = let same : y ≡ x = cc in subst P same h.0
-each_at P (y ∷ xs) (suc i) x h e = each_at P xs i x h.1 e
-
-pub one_of_at : {A : Type 0} (xs : List A) (i : ℕ) (x : A) → slice_get xs i ≡ Some x → IsOneOf x xs
-one_of_at [] zero x h = absurd (cc)
-one_of_at [] (suc i) x h = absurd (cc)
-one_of_at (y ∷ xs) zero x h = let same : y ≡ x = cc in inl (sym same)
-one_of_at (y ∷ xs) (suc i) x h = inr (one_of_at xs i x h)
-
 -- two places of a list of which no two are related
 pub one_place : {A : Type 0} (R : A → A → Type 0) (xs : List A) (i j : ℕ) (x y : A) →
     NoTwo R xs → slice_get xs i ≡ Some x → slice_get xs j ≡ Some y → R x y → R y x → i ≡ j
@@ -95,10 +84,10 @@ one_place R [] (suc i) j x y h a b k l = absurd (cc)
 one_place R (z ∷ xs) zero zero x y h a b k l = refl
 one_place R (z ∷ xs) zero (suc j) x y h a b k l =
     let same : z ≡ x = cc in
-    absurd (each_at (λ w. R z w → ⊥) xs j y h.0 b (subst (λ w. R w y) (sym same) k))
+    absurd (each_slice_get (λ w. R z w → ⊥) xs j y h.0 b (subst (λ w. R w y) (sym same) k))
 one_place R (z ∷ xs) (suc i) zero x y h a b k l =
     let same : z ≡ y = cc in
-    absurd (each_at (λ w. R z w → ⊥) xs i x h.0 a (subst (λ w. R w x) (sym same) l))
+    absurd (each_slice_get (λ w. R z w → ⊥) xs i x h.0 a (subst (λ w. R w x) (sym same) l))
 one_place R (z ∷ xs) (suc i) (suc j) x y h a b k l = ap suc (one_place R xs i j x y h.1 a b k l)
 
 -- an identifier of a list of different ones, whatever follows

@@ -16,8 +16,9 @@ use Rattle.spec_core.specs.TermText.{application_text, sort_text, term_text, ter
 use Rattle.spec_core.specs.Terms.{TermTree, TermTrees, variable, apply, no_terms, and_term, width}
 use Rattle.spec_core.specs.Theories.{Operation, Theory}
 use Rattle.spec_core.proofs.Spelling.{no_infix, one_infix}
+use Rattle.spec_core.proofs.Lists.{each_slice_get}
 use Rattle.value_text.specs.Values.{is_shared}
-use Rattle.value_text.proofs.Names.{EndsTerm, stops, plain_run, plain_begins, each_at, among}
+use Rattle.value_text.proofs.Names.{EndsTerm, stops, plain_run, plain_begins, among}
 use Rattle.value_text.proofs.Operations.{one_sorts, one_suffix, of_sort}
 use Rattle.value_text.proofs.Runs.{Stops, one_run}
 
@@ -196,7 +197,7 @@ module _ (theory : Theory) where
     form_at f ts k =
         subst (Form k.operation.name) (sym (as_wide theory ts k.operation.args k.args))
         (form_of k.operation.name (length k.operation.args)
-        (each_at (λ d. IsOperationName (length d.args) d.name) theory.operations f k.operation names k.at))
+        (each_slice_get (λ d. IsOperationName (length d.args) d.name) theory.operations f k.operation names k.at))
 
     -- nor with any byte but those of names and an opening bracket
     begins : (f : ℕ) (ts : TermTrees) (k : IsOver theory f ts) (b : ℕ) (r y : List ℕ) →
@@ -307,8 +308,8 @@ module _ (theory : Theory) where
           (subst (λ z. HaveSorts theory no_variables z k.operation.args) same k.args) l.args in
           let one =
           one_suffix theory f g k.operation l.operation r s sorts sorts_differ operations_differ
-          (each_at (OperationFits theory) theory.operations f k.operation fits.operations k.at).0
-          (each_at (OperationFits theory) theory.operations g l.operation fits.operations l.at).0 k.at l.at n args er es e in
+          (each_slice_get (OperationFits theory) theory.operations f k.operation fits.operations k.at).0
+          (each_slice_get (OperationFits theory) theory.operations g l.operation fits.operations l.at).0 k.at l.at n args er es e in
           (ap (λ z. apply z ts) one.0 ∙ ap (λ z. apply g z) same, one.1)
 
       -- both names stand before their arguments

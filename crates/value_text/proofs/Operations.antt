@@ -7,6 +7,7 @@ use Rattle.std.specs.Str.{bytes_eq}
 use Rattle.std.proofs.lemmas.Bool.Decides.{nat_tests}
 use Rattle.std.proofs.lemmas.List.Recursion.{is_count_by}
 use Rattle.std.proofs.lemmas.Slice.Eq.{bytes_eq-Decides}
+use Rattle.std.proofs.lemmas.Bool.{and_from}
 use Rattle.spec_core.specs.Lists.{Each, NoTwo}
 use Rattle.spec_core.specs.Names.{IsIdentifier, IsSameName}
 use Rattle.spec_core.specs.Ready.{IsSameOperation}
@@ -94,13 +95,9 @@ named_so name args x = bytes_eq (map to_ascii_lowercase name) (map to_ascii_lowe
 pub itself : (xs : List ℕ) → bytes_eq xs xs ≡ true
 itself xs = (bytes_eq-Decides xs xs).1 refl
 
-both_so : (a b : Bool) → a ≡ true → b ≡ true → (a && b) ≡ true
-both_so true b h k = k
-both_so false b h k = absurd (cc)
-
 pub shares_itself : (d : Operation) → shares d d ≡ true
 shares_itself d =
-    both_so (bytes_eq (map to_ascii_lowercase d.name) (map to_ascii_lowercase d.name)) (bytes_eq d.args d.args)
+    and_from (bytes_eq (map to_ascii_lowercase d.name) (map to_ascii_lowercase d.name)) (bytes_eq d.args d.args)
     (itself (map to_ascii_lowercase d.name)) (itself d.args)
 
 pub shares_alike : (d e : Operation) → d.name ≡ e.name → d.args ≡ e.args → shares d ≡ shares e

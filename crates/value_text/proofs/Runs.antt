@@ -4,6 +4,7 @@ use Rattle.std.proofs.Common.{refl, ap, ◌∙◌, subst, arith, decimal}
 use Rattle.std.specs.Char.{is_ascii_digit}
 use Rattle.std.proofs.lemmas.Bool.Decides.{nat_tests}
 use Rattle.std.proofs.lemmas.Fmt.{decimal_by_steps, decimal_injective}
+use Rattle.std.proofs.lemmas.Bool.{both_ways}
 use Rattle.spec_core.specs.Lists.{Each}
 
 -- no such byte comes first
@@ -14,16 +15,13 @@ Stops p (b ∷ bs) = p b ≡ false
 abbrev pub IsRun : (ℕ → Bool) → List ℕ → Type 0
 IsRun p bs = Each (λ b. p b ≡ true) bs
 
-no_bool : (b : Bool) → b ≡ true → b ≡ false → ⊥
-no_bool b h k = cc
-
 -- a run of such bytes ends where none comes
 pub one_run : (p : ℕ → Bool) (x y r s : List ℕ) → IsRun p x → IsRun p y → Stops p r → Stops p s → x ++ r ≡ y ++ s → (x ≡ y) × (r ≡ s)
 one_run p [] [] r s a b c d h = (refl, h)
 one_run p [] (b ∷ y) [] s k l c d h = absurd (cc)
-one_run p [] (b ∷ y) (e ∷ r) s k l c d h = absurd (no_bool (p b) l.0 (subst (λ z. p z ≡ false) (let first : e ≡ b = cc in first) c))
+one_run p [] (b ∷ y) (e ∷ r) s k l c d h = absurd (both_ways (p b) (subst (λ z. p z ≡ false) (let first : e ≡ b = cc in first) c) l.0)
 one_run p (b ∷ x) [] r [] k l c d h = absurd (cc)
-one_run p (b ∷ x) [] r (e ∷ s) k l c d h = absurd (no_bool (p b) k.0 (subst (λ z. p z ≡ false) (let first : e ≡ b = cc in first) d))
+one_run p (b ∷ x) [] r (e ∷ s) k l c d h = absurd (both_ways (p b) (subst (λ z. p z ≡ false) (let first : e ≡ b = cc in first) d) k.0)
 one_run p (b ∷ x) (e ∷ y) r s k l c d h =
     let first : b ≡ e = cc in
     let rest : x ++ r ≡ y ++ s = cc in

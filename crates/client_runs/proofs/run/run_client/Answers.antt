@@ -1,8 +1,8 @@
 use Rattle.std.proofs.Common.{[], map}
+use Rattle.std.proofs.lemmas.Result.{IfOk-weaker}
 use Rattle.rule_model.specs.Events.{ending_of}
 use Rattle.rule_model.specs.Logs.{events_of}
 use Rattle.rule_model.specs.WishViews.{wish_of}
-use Rattle.board_core.proofs.Trees.{if_ok_so}
 use Rattle.client_runs.proofs.Running.{ended_there, one_for, session_of}
 use Rattle.client_runs.proofs.run.run_client.Goals as goal
 
@@ -11,7 +11,7 @@ returns c =
     let b = c.in_ok-board.ensures in
     let o = c.in_ok-offer_all.ensures in
     let wishes = map wish_of c.args.wishes.now in
-    if_ok_so c.finish.result
+    IfOk-weaker c.finish.result _ _
     (λ r h. session_of c.in_ok-board.board c.args.checked c.args.settings b.checked b.settings 1 wishes (events_of r.0) (ending_of r.1)
     (one_for wish_of c.args.wishes.now c.requires.some) b.begun
     (ended_there c.in_ok-board.board c.offer_all.new.board o.setting _ wishes (events_of r.0) (ending_of r.1)

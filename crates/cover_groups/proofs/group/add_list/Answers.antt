@@ -1,5 +1,6 @@
 use Rattle.std.proofs.Common.{◌≡◌, ◌∷◌, [], List, map, ap, sym, subst, ◌∙◌, inl}
 use Rattle.std.proofs.lemmas.List.{map-append}
+use Rattle.std.proofs.lemmas.Option.{MatchOption-at_some}
 use Rattle.spec_core.specs.declared.term.Term.{Term}
 use Rattle.spec_core.specs.Cover.{IsOfGroup}
 use Rattle.spec_core.specs.Substitutions.{substitution_of}
@@ -7,7 +8,7 @@ use Rattle.spec_core.specs.Terms.{term_of}
 use Rattle.spec_core.specs.Theories.{premise_of, equation_of}
 use Rattle.cover_groups.specs.Groups.{premise_instance, premises_of}
 use Rattle.cover_groups.specs.Renamings.{IsRenaming}
-use Rattle.cover_groups.proofs.Grouping.{is_of_group, some_found}
+use Rattle.cover_groups.proofs.Grouping.{is_of_group}
 use Rattle.cover_groups.proofs.group.add_list.Goals as goal
 
 pub returns-in_ok-push-in-Some : goal.returns-in_ok-push-in-Some
@@ -16,7 +17,7 @@ returns-in_ok-push-in-Some c =
     let e = equation_of c.args.equation.now in
     let made = premises_of c.in_ok-instantiated-in-Some.field-0 in
     let r : IsRenaming e.left l (map term_of c.in-Some.bound.items) =
-    some_found (λ bound. IsRenaming e.left l (map term_of bound.items)) c.in_ok-renaming.field-0 c.in-Some.bound c.in-Some.is c.in_ok-renaming.ensures.some in
+    MatchOption-at_some _ (λ bound. IsRenaming e.left l (map term_of bound.items)) c.in-Some.bound c.in-Some.is c.in_ok-renaming.ensures.some in
     let same : made ≡ map (premise_instance (substitution_of (map term_of c.in-Some.bound.items))) e.premises =
     c.in_ok-instantiated-in-Some.ensures
     ∙ ap (λ (xs : List Term). map (premise_instance (substitution_of (map term_of xs))) (map premise_of c.deref-in-Some.result.now)) c.deref.ensures.value

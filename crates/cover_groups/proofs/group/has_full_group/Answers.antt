@@ -1,23 +1,24 @@
 use Rattle.std.proofs.Common.{◌≡◌, List, map, ap, sym, subst, ◌∙◌}
 use Rattle.std.specs.List.{slice_get}
+use Rattle.std.proofs.lemmas.Result.{IfOk-weaker}
 use Rattle.spec_core.specs.declared.items.Sort.{Sort}
 use Rattle.spec_core.specs.Cover.{IsFull}
 use Rattle.spec_core.specs.Numbers.{sort_number}
 use Rattle.spec_core.specs.Orthogonality.{HasPatterns}
 use Rattle.spec_core.specs.Sorts.{EquationFits}
 use Rattle.spec_core.specs.Theories.{equation_of, theory_of}
-use Rattle.value_reference.proofs.Outcomes.{if_ok_implied}
+use Rattle.spec_core.proofs.Members.{each_one}
 use Rattle.cover_groups.specs.Fullness.{AllFit}
 use Rattle.cover_groups.specs.Groups.{premises_of, premises_at}
 use Rattle.cover_groups.proofs.Fitting.{group_fits}
-use Rattle.cover_groups.proofs.Grouping.{full_group_if, in_each, no_variable}
+use Rattle.cover_groups.proofs.Grouping.{full_group_if, no_variable}
 use Rattle.cover_groups.proofs.group.has_full_group.Goals as goal
 
 pub group_lists-requires-clause-applied : goal.group_lists-requires-clause-applied
 group_lists-requires-clause-applied c =
     let theory = theory_of c.args.algebra.now in
     let e = equation_of c.args.equation.now in
-    no_variable theory e (in_each (HasPatterns theory) e theory.equations c.requires.listed c.requires.orthogonal.patterns)
+    no_variable theory e (each_one (HasPatterns theory) theory.equations e c.requires.orthogonal.patterns c.requires.listed)
 
 pub is_full-requires-clause-terms : goal.is_full-requires-clause-terms
 is_full-requires-clause-terms c =
@@ -25,8 +26,8 @@ is_full-requires-clause-terms c =
     let e = equation_of c.args.equation.now in
     let lists = map premises_of c.in_ok-lists.lists.items in
     let h = group_fits theory e lists c.requires.fits.equations c.requires.orthogonal.closed
-    (in_each (EquationFits theory) e theory.equations c.requires.listed c.requires.fits.equations)
-    (no_variable theory e (in_each (HasPatterns theory) e theory.equations c.requires.listed c.requires.orthogonal.patterns))
+    (each_one (EquationFits theory) theory.equations e c.requires.fits.equations c.requires.listed)
+    (no_variable theory e (each_one (HasPatterns theory) theory.equations e c.requires.orthogonal.patterns c.requires.listed))
     c.in_ok-lists.ensures in
     let same : map premises_at c.deref-3.result.now ≡ lists =
     ap (map premises_at) c.deref-3.ensures.value ∙ c.in_ok-all.ensures ∙ ap (map premises_of) c.deref.ensures.value in
@@ -41,7 +42,7 @@ returns c =
     let same : map premises_at c.deref-3.result.now ≡ lists =
     ap (map premises_at) c.deref-3.ensures.value ∙ c.in_ok-all.ensures ∙ ap (map premises_of) c.deref.ensures.value in
     record {
-      decides = if_ok_implied c.is_full.result
+      decides = IfOk-weaker c.is_full.result _ _
           (λ full h. (
             (λ i. record {
               lists = lists;

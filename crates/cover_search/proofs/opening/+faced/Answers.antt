@@ -1,5 +1,6 @@
 use Rattle.std.proofs.Common.{◌+◌, ◌∙◌, sym, arith}
-use Rattle.cover_search.proofs.Facing.{faced_skip, faced_short, not_some}
+use Rattle.spec_core.proofs.Options.{not_some}
+use Rattle.cover_search.proofs.Facing.{faced_skip, faced_short}
 use Rattle.cover_search.proofs.opening.+faced.Goals as goal
 use Rattle.cover_search.proofs.opening.+faced.Goals.{faced_any-then-i-patterns+else-is_some, faced_any-else-i-patterns}
 

@@ -1,7 +1,8 @@
 use Rattle.std.proofs.Common.{◌≡◌, ◌∙◌, ap, sym, subst, arith, None}
 use Rattle.spec_core.specs.Terms.{term_of, terms}
+use Rattle.spec_core.proofs.Options.{not_some}
 use Rattle.cover_search.specs.Search.{faced}
-use Rattle.cover_search.proofs.Facing.{not_some, is_there, same_item, not_faced_next, opened_nowhere, opened_there}
+use Rattle.cover_search.proofs.Facing.{is_there, same_item, not_faced_next, opened_nowhere, opened_there}
 use Rattle.cover_search.proofs.opening.+opened.Goals as goal
 use Rattle.cover_search.proofs.opening.+opened.Goals.{opened_any-then-i-rows+else-is_some, opened_any-else-i-rows}
 

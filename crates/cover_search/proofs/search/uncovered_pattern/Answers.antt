@@ -1,11 +1,12 @@
 use Rattle.std.proofs.Common.{rules, ◌≡◌, ◌<◌, ◌∷◌, [], Ok, length, map, ap, sym, subst}
+use Rattle.std.proofs.lemmas.List.{nil_from_length}
 use Rattle.spec_core.specs.Lists.{Each}
 use Rattle.spec_core.specs.Terms.{term_of, terms}
 use Rattle.spec_core.specs.Theories.{theory_of}
 use Rattle.equation_shapes.specs.Shapes.{MeetAll}
 use Rattle.cover_search.specs.Search.{arguments_of, rows_of, stack_of, LeadsBack, FindsFirst}
 use Rattle.cover_search.specs.Turns.{turns_left}
-use Rattle.cover_search.proofs.Stacking.{at_end, at_found, popped, no_length}
+use Rattle.cover_search.proofs.Stacking.{at_end, at_found, popped}
 use Rattle.cover_search.proofs.search.uncovered_pattern.Goals as goal
 
 pub returns : goal.returns
@@ -13,7 +14,7 @@ returns c =
     let theory = theory_of c.args.algebra.now in
     let rows = rows_of c.args.rows.now in
     let n : length c.loop-pattern.todo.items ≡ 0 = search rules in
-    record { finds = at_end theory rows (arguments_of c.args.start) (subst (λ xs. LeadsBack theory rows (arguments_of c.args.start ∷ []) (stack_of xs)) (no_length c.loop-pattern.todo.items n) c.loop-pattern.invariant) }
+    record { finds = at_end theory rows (arguments_of c.args.start) (subst (λ xs. LeadsBack theory rows (arguments_of c.args.start ∷ []) (stack_of xs)) (nil_from_length c.loop-pattern.todo.items n) c.loop-pattern.invariant) }
 
 pub returns-then-uncovered : goal.returns-then-uncovered
 returns-then-uncovered c =

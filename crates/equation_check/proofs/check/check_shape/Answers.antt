@@ -1,8 +1,8 @@
 use Rattle.std.proofs.Common.{◌≡◌, [], ◌∷◌, ◌++◌, Some, map, take, ◌+◌, subst, sym, ◌∙◌}
+use Rattle.std.proofs.lemmas.List.{take_all}
 use Rattle.lotos_ast.specs.FirstRefusals.{first_refusal}
-use Rattle.equation_sets.proofs.Members.{map_taken}
-use Rattle.spec_core.proofs.Lists.{all_taken}
 use Rattle.spec_core.specs.Theories.{theory_of, equation_of}
+use Rattle.spec_core.proofs.Lists.{map_next}
 use Rattle.equation_check.specs.Groups.{AreGroups}
 use Rattle.equation_check.specs.Shape.{AreRefusals, next}
 use Rattle.equation_check.proofs.Grouping.{no_group, listed_at}
@@ -33,7 +33,7 @@ loop-equation-preserved c =
     let before = map equation_of (take i items) in
     let e = equation_of c.equation-item.result in
     let more : map equation_of (take (i + 1) items) ≡ before ++ e ∷ [] =
-    map_taken equation_of items i c.equation-item.result c.loop-equation-test.true c.equation-item.is in
+    map_next equation_of items i c.equation-item.result c.loop-equation-test.true c.equation-item.is in
     record {
       sized = c.in_ok-answer.ensures.sized ∙ c.loop-equation.invariant.sized;
       grouped = subst (λ es. AreGroups theory es c.refusal_of.new.groups.items) (sym more)
@@ -50,7 +50,7 @@ returns-in-Some-clause-not_orthogonal c =
     let items = c.deref-equation-items.result.now in
     let rs = c.loop-equation.refusals.items in
     let are : AreRefusals theory theory.equations rs =
-    subst (λ xs. AreRefusals theory (map equation_of xs) rs) (all_taken items c.loop-equation.equation-index c.loop-equation-test.false
+    subst (λ xs. AreRefusals theory (map equation_of xs) rs) (take_all c.loop-equation.equation-index items c.loop-equation-test.false
     ∙ c.deref-equation-items.ensures.value) c.loop-equation.invariant.refusals in
     let first : first_refusal rs ≡ Some c.in-Some.refusal = sym c.first_refusal.ensures.first ∙ c.in-Some.is in
     not_orthogonal theory c.in-Some.refusal record { refusals = rs; are = are; first = first }
@@ -61,6 +61,6 @@ returns-clause-orthogonal c =
     let items = c.deref-equation-items.result.now in
     let rs = c.loop-equation.refusals.items in
     let are : AreRefusals theory theory.equations rs =
-    subst (λ xs. AreRefusals theory (map equation_of xs) rs) (all_taken items c.loop-equation.equation-index c.loop-equation-test.false
+    subst (λ xs. AreRefusals theory (map equation_of xs) rs) (take_all c.loop-equation.equation-index items c.loop-equation-test.false
     ∙ c.deref-equation-items.ensures.value) c.loop-equation.invariant.refusals in
     orthogonal theory (subst (AreRefusals theory theory.equations) c.in-None.ensures.none are)

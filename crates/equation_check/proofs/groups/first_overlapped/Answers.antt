@@ -1,12 +1,11 @@
 use Rattle.std.proofs.Common.{◌+◌, IsTrue, map, take, drop, refl, sym, subst}
-use Rattle.spec_core.proofs.Lists.{each-at, untrue}
+use Rattle.spec_core.proofs.Lists.{each-at, untrue, each_push, each_implied, map_next}
 use Rattle.spec_core.specs.Lists.{Each}
 use Rattle.spec_core.specs.Orthogonality.{AreApart}
 use Rattle.spec_core.specs.Theories.{theory_of, equation_of}
 use Rattle.equation_check.specs.Groups.{seen}
 use Rattle.equation_check.proofs.Grouping.{seen_parted}
 use Rattle.equation_faults.specs.Faults.{IsWellFormed}
-use Rattle.equation_sets.proofs.Members.{each_last, each_more, map_taken}
 use Rattle.equation_check.proofs.groups.first_overlapped.Goals as goal
 
 pub are_apart-requires-clause-earlier_linear : goal.are_apart-requires-clause-earlier_linear
@@ -30,7 +29,7 @@ returns-then-not-branch-clause-first c =
       behind = map seen (drop (i + 1) group);
       parts = seen_parted group i c.earlier-item.result c.loop-earlier-test.true c.earlier-item.is;
       holds = λ a. untrue (subst IsTrue c.if-not-branch.true (c.in_ok-are_apart.ensures.decides.1 a));
-      none_before = each_more (λ d. AreApart theory d e) (λ d. (AreApart theory d e → ⊥) → ⊥) (map seen (take i group)) (λ d a k. k a)
+      none_before = each_implied (λ d. AreApart theory d e) (λ d. (AreApart theory d e → ⊥) → ⊥) (map seen (take i group)) (λ d a k. k a)
           c.loop-earlier.invariant;
     }
 
@@ -41,5 +40,5 @@ loop-earlier-preserved c =
     let group = c.args.group.now in
     let i = c.loop-earlier.earlier-index in
     let apart : AreApart theory (seen c.earlier-item.result) e = c.in_ok-are_apart.ensures.decides.0 (subst IsTrue (sym c.if-not-branch.false) refl) in
-    subst (Each (λ d. AreApart theory d e)) (sym (map_taken seen group i c.earlier-item.result c.loop-earlier-test.true c.earlier-item.is))
-    (each_last (λ d. AreApart theory d e) (map seen (take i group)) (seen c.earlier-item.result) c.loop-earlier.invariant apart)
+    subst (Each (λ d. AreApart theory d e)) (sym (map_next seen group i c.earlier-item.result c.loop-earlier-test.true c.earlier-item.is))
+    (each_push (λ d. AreApart theory d e) (map seen (take i group)) (seen c.earlier-item.result) c.loop-earlier.invariant apart)

@@ -1,6 +1,6 @@
 use Rattle.std.proofs.Common.{◌≡◌, ◌+◌, map, rules, sym, subst, ap, ◌∙◌, take}
+use Rattle.std.proofs.lemmas.List.{take_all}
 use Rattle.spec_core.specs.declared.term.Term.TheFolds.{the_lemmas}
-use Rattle.spec_core.proofs.Lists.{all_taken}
 use Rattle.spec_core.specs.Terms.{apply, variable, terms, term_of}
 use Rattle.spec_core.specs.Theories.{theory_of, equation_of}
 use Rattle.equation_faults.proofs.Walks.{Listed, heads_more, heads_same, exact_heads}
@@ -30,7 +30,7 @@ returns c =
     let theory = theory_of c.args.algebra.now in
     let seen = c.deref-equation-items.result.now in
     let listed : Listed c.loop-equation.all.items (map equation_of seen) =
-    subst (λ xs. Listed c.loop-equation.all.items (map equation_of xs)) (all_taken seen c.loop-equation.equation-index c.loop-equation-test.false)
+    subst (λ xs. Listed c.loop-equation.all.items (map equation_of xs)) (take_all c.loop-equation.equation-index seen c.loop-equation-test.false)
     c.loop-equation.invariant in
     let all : Listed c.deref.result.now theory.equations =
     subst (λ xs. Listed xs theory.equations) (sym c.deref.ensures.value)

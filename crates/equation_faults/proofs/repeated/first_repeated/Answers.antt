@@ -1,8 +1,8 @@
 use Rattle.std.proofs.Common.{◌<◌, ◌+◌, [], ◌∷◌, length, take, drop, get_or, subst, sym, refl, inl, inr}
-use Rattle.std.proofs.lemmas.List.{take_more}
+use Rattle.std.proofs.lemmas.List.{take_more, take_all}
 use Rattle.equation_sets.proofs.Members.{Distinct, distinct_joined, parted}
 use Rattle.equation_sets.proofs.Walks.{exact_next, within_at}
-use Rattle.spec_core.proofs.Lists.{untrue, all_taken}
+use Rattle.spec_core.proofs.Lists.{untrue}
 use Rattle.spec_core.specs.Lists.{Each, IsOneOf}
 use Rattle.equation_faults.proofs.repeated.first_repeated.Goals as goal
 
@@ -34,4 +34,4 @@ loop-x-preserved c =
 
 pub returns-clause-none : goal.returns-clause-none
 returns-clause-none c =
-    subst Distinct (all_taken c.args.all.now c.loop-x.x-index c.loop-x-test.false) c.loop-x.invariant.distinct
+    subst Distinct (take_all c.loop-x.x-index c.args.all.now c.loop-x-test.false) c.loop-x.invariant.distinct

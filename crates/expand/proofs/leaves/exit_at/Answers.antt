@@ -1,10 +1,11 @@
 use Rattle.std.proofs.Common.{map, subst, [], ◌∷◌}
 use Rattle.spec_core.specs.Code.{exit_value_of, program_of}
+use Rattle.spec_core.proofs.Options.{if_none_at}
 use Rattle.rule_model.specs.Actions.{ends}
 use Rattle.symbolic_plans.specs.Plans.{field_of, termination}
 use Rattle.node_values.specs.Found.{ExitOpen}
 use Rattle.node_values.specs.Scopes.{marks_of}
-use Rattle.node_values.proofs.Finding.{of_none, of_some}
+use Rattle.node_values.proofs.Finding.{of_some}
 use Rattle.expand.specs.Joins.{Sized}
 use Rattle.expand.proofs.Rows.{exit_comes, no_exit_comes}
 use Rattle.expand.proofs.leaves.exit_at.Goals as goal
@@ -14,7 +15,7 @@ returns-in-Ok-None c = record {
   comes = λ w n.
       no_exit_comes (program_of c.args.checked.now) w n c.args.budget (marks_of (program_of c.args.checked.now).theory c.args.scope.now)
       (map exit_value_of c.args.fields.now) c.nothing.result
-      (of_none c.in-Ok-None.field-0 c.in-Ok-None.field-0-is c.in-Ok-None.ensures.none) c.nothing.ensures.nothing;
+      (if_none_at c.in-Ok-None.field-0 c.in-Ok-None.field-0-is c.in-Ok-None.ensures.none) c.nothing.ensures.nothing;
 }
 
 pub returns-in-Ok : goal.returns-in-Ok

@@ -1,10 +1,11 @@
 use Rattle.std.proofs.Common.{◌≡◌, ◌+◌, [], ◌∷◌, ◌++◌, map, take, sym, ap, subst, ◌∙◌, arith, true, Ok}
-use Rattle.std.proofs.lemmas.List.{append-nil}
-use Rattle.spec_core.proofs.Lists.{all_taken}
+use Rattle.std.proofs.lemmas.List.{append-nil, take_all}
 use Rattle.spec_core.specs.Code.{program_of, variable_of, binding_of, relabelling_of, exit_value_of, Variable}
 use Rattle.spec_core.specs.Numbers.{gate_number}
 use Rattle.spec_core.specs.Terms.{term_of}
 use Rattle.spec_core.specs.Theories.{premise}
+use Rattle.spec_core.proofs.Booleans.{test_fails}
+use Rattle.spec_core.proofs.Options.{if_none_at}
 use Rattle.rule_model.specs.declared.rules.Slot.TheVariants.{Of, Mark}
 use Rattle.rule_model.specs.Behaviours.{stop, exit, bound, gate_choice, call}
 use Rattle.rule_origins.specs.Parts.{behaviour_at}
@@ -13,7 +14,7 @@ use Rattle.symbolic_rules.specs.MarkedFields.{BindingsMayHave, ArgumentsMayHave}
 use Rattle.symbolic_plans.specs.OpenPlans.{open_plan_of, under_relabelling, plan_by_hiding}
 use Rattle.node_values.specs.declared.scope.Given.TheVariants.{Value}
 use Rattle.node_values.specs.Scopes.{marks_of, marked_of}
-use Rattle.node_values.proofs.Finding.{of_none, of_some}
+use Rattle.node_values.proofs.Finding.{of_some}
 use Rattle.expand.specs.Choosing.{IsChoice, AddsChoice, ExpandsEach}
 use Rattle.expand.specs.Joins.{Turns}
 use Rattle.expand.specs.Outcomes.{Outcome, BelowOutcome}
@@ -24,7 +25,7 @@ use Rattle.expand.proofs.Rows.{ended_comes, inner_comes, choice_comes, parallel_
 use Rattle.expand.proofs.Rows.{relabel_comes, guarded_comes, failing_comes, guard_stops, bound_comes, unbound_comes}
 use Rattle.expand.proofs.Rows.{binding_stops}
 use Rattle.expand.proofs.Showing.{listed_choice, marked_choice}
-use Rattle.expand.proofs.Walking.{of_construct, of_equal, of_action, none_come, some_gates_come, one_call_less, fails, no_slot, begun_stops}
+use Rattle.expand.proofs.Walking.{of_construct, of_equal, of_action, none_come, some_gates_come, one_call_less, no_slot, begun_stops}
 use Rattle.expand.proofs.Walking.{with_next, is_listed, value_begins, complete_slots, marked_slots}
 use Rattle.expand.proofs.walk.+walk.Goals as goal
 
@@ -88,7 +89,7 @@ bound_at-returns-in-Ok-None t c = record {
       let bindings = map binding_of c.args.bindings.now in
       unbound_comes p (windows_in c.args.windows.now) c.args.calls c.args.budget m bindings (behaviour_at p c.args.body) c.nothing.result
       (subst (λ z. (r : MarkedAssignment) → BindingsMayHave p.theory m z bindings r → ⊥) (ap (marks_of p.theory) c.in-Ok.ensures.equal)
-      (of_none c.in-Ok-None.field-0 c.in-Ok-None.field-0-is c.in-Ok-None.ensures.none))
+      (if_none_at c.in-Ok-None.field-0 c.in-Ok-None.field-0-is c.in-Ok-None.ensures.none))
       c.nothing.ensures.nothing;
 }
 
@@ -188,7 +189,7 @@ guard_at-returns-else-holds t c = record {
       let p = program_of c.args.checked.now in
       failing_comes p (windows_in c.args.windows.now) c.args.calls c.args.budget (marks_of p.theory c.args.scope.now)
       (premise (term_of c.args.left.now) (term_of c.args.right.now)) (behaviour_at p c.args.body) c.nothing.result
-      (fails c.in-Ok.holds c.if-holds.false c.in-Ok.ensures.decides) c.nothing.ensures.nothing;
+      (test_fails c.in-Ok.holds c.if-holds.false c.in-Ok.ensures.decides) c.nothing.ensures.nothing;
 }
 
 pub expand_construct-returns-in-Stop : goal.expand_construct-returns-in-Stop
@@ -330,7 +331,7 @@ call_at-returns-in-Ok-None t c = record {
       formal xs terms (behaviour_at p c.in-Some.body) c.nothing-in-Ok-None.result
       (is_definition p c.requires.ready c.args.number formal xs c.in-Some.body c.in-Some.ensures.some)
       (subst (λ z. (l : MarkedAssignment) → ArgumentsMayHave p.theory m z xs terms l → ⊥) (ap (marks_of p.theory) c.new.ensures.items)
-      (of_none c.in-Ok-None.field-0 c.in-Ok-None.field-0-is c.in-Ok-None.ensures.none))
+      (if_none_at c.in-Ok-None.field-0 c.in-Ok-None.field-0-is c.in-Ok-None.ensures.none))
       c.nothing-in-Ok-None.ensures.nothing;
 }
 
@@ -434,7 +435,7 @@ value_choice_at-returns-then-is_complete t c = record {
       all_chosen p w c.args.calls c.args.budget m x b (map Of values) (Ok all)
       (complete_slots w c.args.sort.0 values c.values_at-values.ensures.values (sym c.is_complete.ensures.complete ∙ c.if-is_complete.true))
       (subst (λ z. ExpandsEach p w c.args.calls m x b (map Of z) (map open_plan_of all.composites.items) all.spread)
-      (all_taken values c.loop-value.value-index c.loop-value-test.false) c.loop-value.invariant);
+      (take_all c.loop-value.value-index values c.loop-value-test.false) c.loop-value.invariant);
 }
 
 pub value_choice_at-returns : goal.value_choice_at-returns
@@ -451,7 +452,7 @@ value_choice_at-returns t c = record {
       all_chosen p w c.args.calls c.args.budget m x b (map Of values ++ Mark ∷ []) c.add_choice.result slots
       (c.add_choice.ensures.added (map Of values) ([], append-nil (map Of values ++ Mark ∷ []) ∙ slots)
       (subst (λ z. ExpandsEach p w c.args.calls m x b (map Of z) (map open_plan_of all.composites.items) all.spread)
-      (all_taken values c.loop-value.value-index c.loop-value-test.false) c.loop-value.invariant));
+      (take_all c.loop-value.value-index values c.loop-value-test.false) c.loop-value.invariant));
 }
 
 pub expand_construct-returns-in-Exit : goal.expand_construct-returns-in-Exit

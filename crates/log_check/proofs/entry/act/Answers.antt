@@ -1,4 +1,5 @@
 use Rattle.std.proofs.Common.{◌≡◌, ◌∙◌, sym, subst, true, false}
+use Rattle.std.proofs.lemmas.Bool.{true≢false}
 use Rattle.spec_core.specs.Code.{program_of}
 use Rattle.spec_core.specs.Terms.{variable}
 use Rattle.rule_model.specs.Behaviours.{behaviour_of}
@@ -6,7 +7,6 @@ use Rattle.rule_model.specs.Derivations.{derivation_of}
 use Rattle.rule_model.specs.Derives.{Derives}
 use Rattle.rule_walk.specs.Asking.{Asks}
 use Rattle.rule_walk.specs.Bounds.{FaultBounds}
-use Rattle.log_states.proofs.Tests.{true_false}
 use Rattle.log_states.specs.Views.{state_of}
 use Rattle.log_check.proofs.entry.act.Goals as goal
 
@@ -17,7 +17,7 @@ returns-in-Ok-clause-next c next (x, derives, agreed, e) =
     subst (λ b. Derives program b (derivation_of c.args.rules.now) c.in-Ok.done (behaviour_of c.in-Ok.rest)) c.behaviour.ensures c.in-Ok.ensures.derives in
     let one = c.trees_determine_steps.ensures program c.requires.ready.executable variable (state_of c.args.state.now).behaviour (derivation_of c.args.rules.now) c.in-Ok.done c.args.action.now
     (behaviour_of c.in-Ok.rest) x done derives in
-    true_false (sym (c.same.ensures.decides.1 one.0) ∙ c.if-same.false)
+    absurd (true≢false (sym (c.same.ensures.decides.1 one.0) ∙ c.if-same.false))
 
 pub returns-in-Err-Unfit-clause-within : goal.returns-in-Err-Unfit-clause-within
 returns-in-Err-Unfit-clause-within c x h fits =

@@ -2,11 +2,12 @@ use Rattle.std.proofs.Common.{map, refl, ap}
 use Rattle.spec_core.specs.Code.{program_of, variable_of}
 use Rattle.spec_core.specs.Numbers.{gate_number}
 use Rattle.spec_core.specs.Terms.{term_of}
+use Rattle.spec_core.proofs.Options.{if_none_at}
 use Rattle.rule_model.specs.Behaviours.{relabel}
 use Rattle.rule_model.specs.Fields.{ArgumentsHave}
 use Rattle.rule_origins.specs.Parts.{behaviour_at}
 use Rattle.rule_origins.specs.Values.{assignment}
-use Rattle.node_values.proofs.Finding.{of_none, of_some}
+use Rattle.node_values.proofs.Finding.{of_some}
 use Rattle.node_steps.proofs.Calls.{call_enters, no_arguments}
 use Rattle.node_steps.proofs.entering.called_body.Goals as goal
 
@@ -15,7 +16,7 @@ returns-in-None-2-clause-enters c =
     no_arguments (program_of c.args.checked.now) c.requires.ready c.args.called c.in-Some.body (map gate_number c.in-Some.formal.now)
     (map variable_of c.in-Some.vars.now) c.in-Some.ensures.some (map gate_number c.args.actual.now) (map term_of c.args.terms.now)
     c.args.values.now _ c.new-none.ensures.items
-    (of_none c.in_ok-bind_arguments-in-Some.field-0 c.in-None-2.is c.in_ok-bind_arguments-in-Some.ensures.none)
+    (if_none_at c.in_ok-bind_arguments-in-Some.field-0 c.in-None-2.is c.in_ok-bind_arguments-in-Some.ensures.none)
 
 pub returns-in_ok-pairs-in-Some-2-clause-enters : goal.returns-in_ok-pairs-in-Some-2-clause-enters
 returns-in_ok-pairs-in-Some-2-clause-enters c =

@@ -1,9 +1,10 @@
 use Rattle.std.proofs.Common.{map}
 use Rattle.spec_core.specs.Code.{exit_value_of, program_of}
 use Rattle.spec_core.specs.Terms.{term_of, instance}
+use Rattle.spec_core.proofs.Options.{if_none_at}
 use Rattle.rule_origins.specs.Values.{assignment}
 use Rattle.node_values.specs.Found.{Spelled}
-use Rattle.node_values.proofs.Finding.{of_none, of_some}
+use Rattle.node_values.proofs.Finding.{of_some}
 use Rattle.node_values.proofs.Splitting.{others, mapped}
 use Rattle.node_steps.specs.Knowing.{AreExitAt}
 use Rattle.node_steps.proofs.Knowing.{told_exit, untold_exit, untold_exit_later, chosen_exit, unchosen_exit}
@@ -16,7 +17,7 @@ returns-in-None-clause-none t c =
     untold_exit theory c.requires.executable s (map exit_value_of c.args.fields.now) (map exit_value_of (others c.args.fields.now))
     (term_of c.in-Give.term)
     (mapped exit_value_of c.args.fields.now c.first-item.result _ c.in-len1-up.len_at_least c.first-item.is c.in-Give.is)
-    (of_none c.in_ok-told-in-Give.field-0 c.in-None.is c.in_ok-told-in-Give.ensures.none)
+    (if_none_at c.in_ok-told-in-Give.field-0 c.in-None.is c.in_ok-told-in-Give.ensures.none)
 
 pub returns-in-None-2-clause-none : goal.returns-in-None-2-clause-none
 returns-in-None-2-clause-none t c =
@@ -25,7 +26,7 @@ returns-in-None-2-clause-none t c =
     untold_exit_later theory c.requires.executable s (map exit_value_of c.args.fields.now) (map exit_value_of (others c.args.fields.now))
     (term_of c.in-Give.term)
     (mapped exit_value_of c.args.fields.now c.first-item.result _ c.in-len1-up.len_at_least c.first-item.is c.in-Give.is)
-    (of_none c.in_ok-known_exit-in-Some.field-0 c.in-None-2.is c.in_ok-known_exit-in-Some.ensures.none)
+    (if_none_at c.in_ok-known_exit-in-Some.field-0 c.in-None-2.is c.in_ok-known_exit-in-Some.ensures.none)
 
 pub returns-in_ok-in_front-in-Some-2-clause-some : goal.returns-in_ok-in_front-in-Some-2-clause-some
 returns-in_ok-in_front-in-Some-2-clause-some t c =
@@ -46,7 +47,7 @@ returns-in-None-3-clause-none t c =
     let s = assignment theory c.args.values.now in
     unchosen_exit theory c.requires.executable s _ (map exit_value_of c.args.fields.now) (map exit_value_of (others c.args.fields.now))
     (mapped exit_value_of c.args.fields.now c.first-item.result _ c.in-len1-up.len_at_least c.first-item.is c.in-Any.is)
-    (of_none c.in_ok-known_exit-in-Any.field-0 c.in-None-3.is c.in_ok-known_exit-in-Any.ensures.none)
+    (if_none_at c.in_ok-known_exit-in-Any.field-0 c.in-None-3.is c.in_ok-known_exit-in-Any.ensures.none)
 
 pub returns-in_ok-in_front-in-Some-3-clause-some : goal.returns-in_ok-in_front-in-Some-3-clause-some
 returns-in_ok-in_front-in-Some-3-clause-some t c =

@@ -1,9 +1,10 @@
 use Rattle.std.proofs.Common.{map}
 use Rattle.spec_core.specs.Code.{action_field_of, program_of}
 use Rattle.spec_core.specs.Terms.{term_of, instance}
+use Rattle.spec_core.proofs.Options.{if_none_at}
 use Rattle.rule_origins.specs.Values.{assignment}
 use Rattle.node_values.specs.Found.{Spelled}
-use Rattle.node_values.proofs.Finding.{of_none, of_some}
+use Rattle.node_values.proofs.Finding.{of_some}
 use Rattle.node_values.proofs.Splitting.{others, mapped}
 use Rattle.node_steps.specs.Knowing.{AreFieldsAt}
 use Rattle.node_steps.proofs.Knowing.{told_first, untold_first, untold_later, chosen_first, unchosen_later}
@@ -16,7 +17,7 @@ returns-in-None-clause-none t c =
     untold_first theory c.requires.executable s (map action_field_of c.args.fields.now) (map action_field_of (others c.args.fields.now))
     (term_of c.in-Give.term)
     (mapped action_field_of c.args.fields.now c.first-item.result _ c.in-len1-up.len_at_least c.first-item.is c.in-Give.is)
-    (of_none c.in_ok-told-in-Give.field-0 c.in-None.is c.in_ok-told-in-Give.ensures.none)
+    (if_none_at c.in_ok-told-in-Give.field-0 c.in-None.is c.in_ok-told-in-Give.ensures.none)
 
 pub returns-in-None-2-clause-none : goal.returns-in-None-2-clause-none
 returns-in-None-2-clause-none t c =
@@ -25,7 +26,7 @@ returns-in-None-2-clause-none t c =
     untold_later theory c.requires.executable s (map action_field_of c.args.fields.now) (map action_field_of (others c.args.fields.now))
     (term_of c.in-Give.term)
     (mapped action_field_of c.args.fields.now c.first-item.result _ c.in-len1-up.len_at_least c.first-item.is c.in-Give.is)
-    (of_none c.in_ok-known_fields-in-Some.field-0 c.in-None-2.is c.in_ok-known_fields-in-Some.ensures.none)
+    (if_none_at c.in_ok-known_fields-in-Some.field-0 c.in-None-2.is c.in_ok-known_fields-in-Some.ensures.none)
 
 pub returns-in_ok-with_told-in-Some-2-clause-some : goal.returns-in_ok-with_told-in-Some-2-clause-some
 returns-in_ok-with_told-in-Some-2-clause-some t c =
@@ -47,7 +48,7 @@ returns-in-None-3-clause-none t c =
     let s = assignment theory c.args.values.now in
     unchosen_later theory c.requires.executable s (map action_field_of c.args.fields.now) (map action_field_of (others c.args.fields.now)) _
     (mapped action_field_of c.args.fields.now c.first-item.result _ c.in-len1-up.len_at_least c.first-item.is c.in-Take.is)
-    (of_none c.in_ok-known_fields-in-Take.field-0 c.in-None-3.is c.in_ok-known_fields-in-Take.ensures.none)
+    (if_none_at c.in_ok-known_fields-in-Take.field-0 c.in-None-3.is c.in_ok-known_fields-in-Take.ensures.none)
 
 pub returns-in_ok-with_chosen-in-Some-3-clause-some : goal.returns-in_ok-with_chosen-in-Some-3-clause-some
 returns-in_ok-with_chosen-in-Some-3-clause-some t c =

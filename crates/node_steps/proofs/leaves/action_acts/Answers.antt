@@ -1,7 +1,8 @@
 use Rattle.std.proofs.Common.{rules, ◌≡◌, map, refl, ap, subst}
 use Rattle.spec_core.specs.Code.{action_field_of, node_of, program_of}
+use Rattle.spec_core.proofs.Options.{if_none_at}
 use Rattle.rule_origins.specs.Values.{assignment}
-use Rattle.node_values.proofs.Finding.{of_none, of_some}
+use Rattle.node_values.proofs.Finding.{of_some}
 use Rattle.node_steps.specs.Knowing.{AreFieldsAt, HaveNoFields}
 use Rattle.node_steps.proofs.Making.{action_at, no_action_at}
 use Rattle.node_steps.proofs.leaves.action_acts.Goals as goal
@@ -13,7 +14,7 @@ returns-in-None-clause-turns c =
     let same : c.deref.result.now ≡ c.in-Act.fields.items = search rules in
     no_action_at (program_of c.args.checked.now) _ _ s _ _ (node_of c.args.construct.now) (ap node_of c.in-Act.is)
     (subst (λ l. HaveNoFields theory s (map action_field_of l)) same
-    (of_none c.in_ok-known_fields-in-Act.field-0 c.in-None.is c.in_ok-known_fields-in-Act.ensures.none))
+    (if_none_at c.in_ok-known_fields-in-Act.field-0 c.in-None.is c.in_ok-known_fields-in-Act.ensures.none))
 
 pub returns-in_ok-rest-in-Some-clause-turns : goal.returns-in_ok-rest-in-Some-clause-turns
 returns-in_ok-rest-in-Some-clause-turns c =

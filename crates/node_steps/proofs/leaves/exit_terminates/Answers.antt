@@ -1,7 +1,8 @@
 use Rattle.std.proofs.Common.{rules, ◌≡◌, map, refl, ap, subst}
 use Rattle.spec_core.specs.Code.{exit_value_of, node_of, program_of}
+use Rattle.spec_core.proofs.Options.{if_none_at}
 use Rattle.rule_origins.specs.Values.{assignment}
-use Rattle.node_values.proofs.Finding.{of_none, of_some}
+use Rattle.node_values.proofs.Finding.{of_some}
 use Rattle.node_steps.specs.Knowing.{AreExitAt, HaveNoExit}
 use Rattle.node_steps.proofs.Making.{exit_at, no_exit_at}
 use Rattle.node_steps.proofs.leaves.exit_terminates.Goals as goal
@@ -13,7 +14,7 @@ returns-in-None-clause-turns c =
     let same : c.deref.result.now ≡ c.in-Exit.fields.items = search rules in
     no_exit_at (program_of c.args.checked.now) s _ (node_of c.args.construct.now) (ap node_of c.in-Exit.is)
     (subst (λ l. HaveNoExit theory s (map exit_value_of l)) same
-    (of_none c.in_ok-known_exit-in-Exit.field-0 c.in-None.is c.in_ok-known_exit-in-Exit.ensures.none))
+    (if_none_at c.in_ok-known_exit-in-Exit.field-0 c.in-None.is c.in_ok-known_exit-in-Exit.ensures.none))
 
 pub returns-in-Some-clause-turns : goal.returns-in-Some-clause-turns
 returns-in-Some-clause-turns c =

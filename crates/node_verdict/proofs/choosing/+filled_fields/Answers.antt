@@ -1,11 +1,12 @@
 use Rattle.std.proofs.Common.{map, refl, sym, ap, subst, ◌∙◌, ◌∷◌}
 use Rattle.spec_core.specs.Code.{action_field_of, program_of}
 use Rattle.spec_core.specs.Terms.{term_of}
+use Rattle.spec_core.proofs.Options.{if_none_at}
 use Rattle.symbolic_rules.specs.MarkedTerms.{marked_instance}
 use Rattle.symbolic_rules.specs.MarkedFields.{FieldsMayHave}
 use Rattle.node_values.specs.Found.{IsValueOf}
 use Rattle.node_values.specs.Scopes.{marks_of}
-use Rattle.node_values.proofs.Finding.{of_none, of_some}
+use Rattle.node_values.proofs.Finding.{of_some}
 use Rattle.node_values.proofs.Splitting.{others, mapped, split_at}
 use Rattle.symbolic_rules.specs.Tables.{windows_in}
 use Rattle.symbolic_actions.specs.Models.{marked_field_of}
@@ -45,7 +46,7 @@ returns-in-None-4-clause-none t c =
     (split_at c.args.slots.now c.slot-item.result c.slot-item.result c.in-len1-up-slots-2.len_at_least c.slot-item.is refl)
     (of_some (IsChosen theory w c.slot-item.result c.in-Take.sort.0) c.in_ok-chosen-in-len1-up-slots-2.field-0 c.in-Some-3.given
     c.in-Some-3.is c.in_ok-chosen-in-len1-up-slots-2.ensures.some) c.in_ok-bound-in-Some-3.ensures.with
-    (of_none c.in_ok-filled_fields-in-Some-3.field-0 c.in-None-4.is c.in_ok-filled_fields-in-Some-3.ensures.none)
+    (if_none_at c.in_ok-filled_fields-in-Some-3.field-0 c.in-None-4.is c.in_ok-filled_fields-in-Some-3.ensures.none)
 
 pub returns-in_ok-put_front-in-Some-4-clause-some : goal.returns-in_ok-put_front-in-Some-4-clause-some
 returns-in_ok-put_front-in-Some-4-clause-some t c =

@@ -1,5 +1,6 @@
 use Rattle.std.proofs.Common.{rules, ◌≡◌, map, refl, subst}
 use Rattle.spec_core.specs.Code.{program_of, action_field_of, guard_of}
+use Rattle.spec_core.proofs.Booleans.{test_fails}
 use Rattle.rule_origins.specs.Parts.{behaviour_at}
 use Rattle.symbolic_rules.specs.MarkedTerms.{GuardMayHold}
 use Rattle.symbolic_rules.specs.MarkedFields.{FieldsMayHave}
@@ -7,7 +8,7 @@ use Rattle.node_values.specs.Scopes.{marks_of}
 use Rattle.node_values.proofs.Finding.{of_some}
 use Rattle.symbolic_rules.specs.Tables.{windows_in}
 use Rattle.symbolic_actions.specs.Models.{marked_field_of}
-use Rattle.node_verdict.proofs.Rows.{acts_failing, untrue_of}
+use Rattle.node_verdict.proofs.Rows.{acts_failing}
 use Rattle.node_verdict.proofs.leaves.acts.Goals as goal
 
 pub returns-else-holds : goal.returns-else-holds
@@ -27,7 +28,7 @@ returns-else-holds c = record {
       c.in-Some-2.is c.in_ok-filled_fields-in-Some.ensures.some) in
       let guard = guard_of c.in-Some.guard.now in
       let fails = subst (λ z. GuardMayHold p.theory (marks_of p.theory z) guard → ⊥) bound
-      (untrue_of c.in_ok-holds-in-Some-2.holds c.if-holds.false c.in_ok-holds-in-Some-2.ensures.decides) in
+      (test_fails c.in_ok-holds-in-Some-2.holds c.if-holds.false c.in_ok-holds-in-Some-2.ensures.decides) in
       acts_failing p w c.args.budget c.requires.ready m l (behaviour_at p c.args.node) _ c.in-Some.gate.0 fields guard c.args.slots.now gs _
       c.in-Some.ensures.some has fails refl;
 }

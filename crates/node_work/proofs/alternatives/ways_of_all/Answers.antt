@@ -1,6 +1,7 @@
 use Rattle.std.proofs.Common.{map, refl}
 use Rattle.spec_core.proofs.Lists.{each-next, each-all, each-map}
 use Rattle.spec_core.specs.Code.{program_of, relabelling_of}
+use Rattle.spec_core.proofs.Members.{some_image}
 use Rattle.rule_origins.specs.Parts.{behaviour_at}
 use Rattle.rule_origins.specs.Values.{assignment}
 use Rattle.node_values.proofs.Stopping.{stops_on}
@@ -10,7 +11,7 @@ use Rattle.symbolic_reach.specs.Asking.{PlanAsks}
 use Rattle.node_trees.specs.Origins.{meaning, relabelled_by, source_of}
 use Rattle.node_trees.specs.Rests.{way_of}
 use Rattle.node_work.specs.Ways.{HasWays, PlansAsk}
-use Rattle.node_work.proofs.Adding.{one_at, more_ways, still_has}
+use Rattle.node_work.proofs.Adding.{more_ways, still_has}
 use Rattle.node_work.proofs.alternatives.ways_of_all.Goals as goal
 
 pub returns-in-Err-clause-stop : goal.returns-in-Err-clause-stop
@@ -21,7 +22,7 @@ returns-in-Err-clause-stop c =
     let items = c.args.composites.now in
     stops_on program.theory c.args.budget (PlanAsks program (open_plan_of c.composite-item.result).plan s code)
     (PlansAsk program s code (map open_plan_of items)) Never Never c.in-Err.stop
-    (λ t k. one_at (λ p. PlanAsks program p.plan s code t) open_plan_of items items c.loop-composite.composite-index
+    (λ t k. some_image (λ p. PlanAsks program p.plan s code t) open_plan_of items items c.loop-composite.composite-index
     c.composite-item.result refl c.loop-composite-test.true c.composite-item.is k)
     (λ n i. i) c.in-Err.ensures.stop
 

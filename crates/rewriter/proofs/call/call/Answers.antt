@@ -1,9 +1,8 @@
 use Rattle.std.proofs.Common.{rules, ◌≤◌, length, refl, arith}
-use Rattle.std.proofs.lemmas.Result.{err_from_is_err_and}
+use Rattle.std.proofs.lemmas.Result.{err_from_is_err_and, IfErr-weaker, IfOk-weaker}
 use Rattle.spec_core.specs.Theories.{theory_of}
 use Rattle.rewriter.specs.Calls.{arguments_of}
 use Rattle.rewriter.proofs.Moves.{keep_on, exceeds_before}
-use Rattle.rewriter.proofs.Loop.{if_ok_one, if_err_one}
 use Rattle.rewriter.proofs.Calls.{pending_skips, pending_made, pending_large, match_heads, is_constructor, still_steps, counted}
 use Rattle.rewriter.proofs.call.call.Goals as goal
 
@@ -13,7 +12,7 @@ returns-then-place-len-clause-kept c =
     let p = pending_skips t c.args.nodes.now 0 c.first-place.result c.args.op.0 c.args.count c.args.todo.now c.args.values.now c.args.uses
     (omega arith) (λ j a b m s q. c.first-place.ensures.skipped j b m
     (match_heads t c.requires.executable j c.args.op.0 (arguments_of c.args.nodes.now c.args.count c.args.values.now) s m q)) in
-    if_ok_one c.try_from.result (λ u k. keep_on c.args.uses c.args.uses u p k) c.try_from.ensures.kept
+    IfOk-weaker c.try_from.result _ _ (λ u k. keep_on c.args.uses c.args.uses u p k) c.try_from.ensures.kept
 
 pub returns-then-place-len-clause-spent : goal.returns-then-place-len-clause-spent
 returns-then-place-len-clause-spent c =
@@ -21,7 +20,7 @@ returns-then-place-len-clause-spent c =
     let p = pending_skips t c.args.nodes.now 0 c.first-place.result c.args.op.0 c.args.count c.args.todo.now c.args.values.now c.args.uses
     (omega arith) (λ j a b m s q. c.first-place.ensures.skipped j b m
     (match_heads t c.requires.executable j c.args.op.0 (arguments_of c.args.nodes.now c.args.count c.args.values.now) s m q)) in
-    if_err_one c.try_from.result (λ e k s. exceeds_before c.args.uses c.args.uses c.args.budget p (k s)) c.try_from.ensures.spent
+    IfErr-weaker c.try_from.result _ _ (λ e k s. exceeds_before c.args.uses c.args.uses c.args.budget p (k s)) c.try_from.ensures.spent
 
 pub build-requires-clause-constructor : goal.build-requires-clause-constructor
 build-requires-clause-constructor c =

@@ -1,11 +1,12 @@
 use Rattle.std.proofs.Common.{◌≡◌, sym, subst}
+use Rattle.std.proofs.lemmas.Result.{IfErr-weaker, IfOk-weaker}
 use Rattle.spec_core.specs.Theories.{theory_of}
 use Rattle.value_nodes.specs.Nodes.{tree_at}
 use Rattle.rewriter.specs.Machine.{Keeps, Exceeds}
 use Rattle.rewriter.specs.Runs.{Coming}
 use Rattle.rewriter.specs.Calls.{Decided}
 use Rattle.rewriter.proofs.Moves.{keep_on, exceeds_before}
-use Rattle.rewriter.proofs.Loop.{if_ok_one, if_err_one, not_both}
+use Rattle.rewriter.proofs.Loop.{not_both}
 use Rattle.rewriter.proofs.Calls.{chosen}
 use Rattle.rewriter.proofs.call.decide.Goals as goal
 
@@ -16,7 +17,7 @@ returns-then-branch-clause-kept c =
     c.in-Some-pop.left c.in-Some.right c.args.uses c.in-Some.ensures.popped c.in-Some-pop.ensures.popped in
     let alike : tree_at c.args.nodes.now c.in-Some-pop.left ≡ tree_at c.args.nodes.now c.in-Some.right =
     c.in_ok-same_value-in-Some-pop.ensures.decides.0 c.if-branch.true in
-    if_ok_one c.hold.result (λ u k. keep_on c.args.uses c.args.uses u p
+    IfOk-weaker c.hold.result _ _ (λ u k. keep_on c.args.uses c.args.uses u p
     (subst (λ v. Keeps (Decided t c.args.nodes.now c.args.place c.args.next v
     (tree_at c.args.nodes.now c.in-Some.right) c.args.todo.now c.pop-in-Some.new.self) c.args.uses
     (Coming t c.args.nodes.now c.hold.new.todo c.hold.new.values) u) (sym alike) (k (tree_at c.args.nodes.now c.in-Some.right))))
@@ -29,7 +30,7 @@ returns-then-branch-clause-spent c =
     c.in-Some-pop.left c.in-Some.right c.args.uses c.in-Some.ensures.popped c.in-Some-pop.ensures.popped in
     let alike : tree_at c.args.nodes.now c.in-Some-pop.left ≡ tree_at c.args.nodes.now c.in-Some.right =
     c.in_ok-same_value-in-Some-pop.ensures.decides.0 c.if-branch.true in
-    if_err_one c.hold.result (λ e k s. exceeds_before c.args.uses c.args.uses c.args.budget p
+    IfErr-weaker c.hold.result _ _ (λ e k s. exceeds_before c.args.uses c.args.uses c.args.budget p
     (subst (λ v. Exceeds (Decided t c.args.nodes.now c.args.place c.args.next v
     (tree_at c.args.nodes.now c.in-Some.right) c.args.todo.now c.pop-in-Some.new.self) c.args.uses c.args.budget) (sym alike)
     (k s (tree_at c.args.nodes.now c.in-Some.right)))) c.hold.ensures.spent
@@ -41,7 +42,7 @@ returns-else-branch-clause-kept c =
     c.in-Some-pop.left c.in-Some.right c.args.uses c.in-Some.ensures.popped c.in-Some-pop.ensures.popped in
     let differ : tree_at c.args.nodes.now c.in-Some-pop.left ≡ tree_at c.args.nodes.now c.in-Some.right →
     ⊥ = λ e. not_both c.in_ok-same_value-in-Some-pop.field-0 (c.in_ok-same_value-in-Some-pop.ensures.decides.1 e) c.if-branch.false in
-    if_ok_one c.fail.result (λ u k. keep_on c.args.uses c.args.uses u p
+    IfOk-weaker c.fail.result _ _ (λ u k. keep_on c.args.uses c.args.uses u p
     (k c.args.next (tree_at c.args.nodes.now c.in-Some-pop.left) (tree_at c.args.nodes.now c.in-Some.right) differ))
     c.fail.ensures.kept
 
@@ -52,6 +53,6 @@ returns-else-branch-clause-spent c =
     c.in-Some-pop.left c.in-Some.right c.args.uses c.in-Some.ensures.popped c.in-Some-pop.ensures.popped in
     let differ : tree_at c.args.nodes.now c.in-Some-pop.left ≡ tree_at c.args.nodes.now c.in-Some.right →
     ⊥ = λ e. not_both c.in_ok-same_value-in-Some-pop.field-0 (c.in_ok-same_value-in-Some-pop.ensures.decides.1 e) c.if-branch.false in
-    if_err_one c.fail.result (λ e k s. exceeds_before c.args.uses c.args.uses c.args.budget p
+    IfErr-weaker c.fail.result _ _ (λ e k s. exceeds_before c.args.uses c.args.uses c.args.budget p
     (k s c.args.next (tree_at c.args.nodes.now c.in-Some-pop.left) (tree_at c.args.nodes.now c.in-Some.right) differ))
     c.fail.ensures.spent

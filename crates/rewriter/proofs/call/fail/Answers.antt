@@ -1,9 +1,9 @@
 use Rattle.std.proofs.Common.{suc, arith}
+use Rattle.std.proofs.lemmas.Result.{IfErr-weaker, IfOk-weaker}
 use Rattle.spec_core.specs.Theories.{theory_of, Heads}
 use Rattle.rewriter.specs.Steps.{equation_at}
 use Rattle.rewriter.specs.Calls.{arguments_of}
 use Rattle.rewriter.proofs.Moves.{keep_on, exceeds_before}
-use Rattle.rewriter.proofs.Loop.{if_ok_one, if_err_one}
 use Rattle.rewriter.proofs.Calls.{decided_fails, pending_skips, match_heads}
 use Rattle.rewriter.proofs.call.fail.Goals as goal
 
@@ -17,7 +17,7 @@ returns-clause-kept c =
     (omega (arith, c.after-from.ensures.onward))
     (λ j x y m s q. c.after-from.ensures.skipped f j (omega (arith, x)) y m hd
     (match_heads t c.requires.executable j f (arguments_of c.args.nodes.now c.head_of-count.result.1 c.args.values.now) s m q)) in
-    if_ok_one c.try_from.result (λ u k next a b differ. keep_on c.args.uses c.args.uses u
+    IfOk-weaker c.try_from.result _ _ (λ u k next a b differ. keep_on c.args.uses c.args.uses u
     (decided_fails t c.requires.executable c.args.nodes.now c.args.place next c.head_of-count.result.0.0 c.head_of-count.result.1
     c.args.todo.now c.args.values.now a b c.requires.there c.head_of-count.ensures.call c.args.uses differ)
     (keep_on c.args.uses c.args.uses u p k)) c.try_from.ensures.kept
@@ -32,7 +32,7 @@ returns-clause-spent c =
     (omega (arith, c.after-from.ensures.onward))
     (λ j x y m s q. c.after-from.ensures.skipped f j (omega (arith, x)) y m hd
     (match_heads t c.requires.executable j f (arguments_of c.args.nodes.now c.head_of-count.result.1 c.args.values.now) s m q)) in
-    if_err_one c.try_from.result (λ e k s next a b differ. exceeds_before c.args.uses c.args.uses c.args.budget
+    IfErr-weaker c.try_from.result _ _ (λ e k s next a b differ. exceeds_before c.args.uses c.args.uses c.args.budget
     (keep_on c.args.uses c.args.uses c.args.uses
     (decided_fails t c.requires.executable c.args.nodes.now c.args.place next c.head_of-count.result.0.0 c.head_of-count.result.1
     c.args.todo.now c.args.values.now a b c.requires.there c.head_of-count.ensures.call c.args.uses differ) p) (k s))

@@ -1,10 +1,10 @@
 use Rattle.std.proofs.Common.{rules, inl, inr, map, sym, ap, subst, ◌∙◌}
+use Rattle.std.proofs.lemmas.Result.{on_ok_weaker}
 use Rattle.spec_core.specs.Lists.{Each}
 use Rattle.spec_core.specs.Terms.{term_of}
 use Rattle.spec_core.specs.Theories.{theory_of}
 use Rattle.rewriter.specs.Machine.{plan}
 use Rattle.rewriter.specs.Steps.{put_by, task_of, IsStep}
-use Rattle.rewriter.proofs.Outcomes.{on_ok_implied}
 use Rattle.rewriter.proofs.call.push_premise.Goals as goal
 
 pub overflow_add-next : goal.overflow_add-next
@@ -24,7 +24,7 @@ pub returns-clause-planned : goal.returns-clause-planned
 returns-clause-planned c =
     let t = theory_of c.args.algebra.now in
     let sides = c.numbered_premise-sides.result.now in
-    on_ok_implied c.push_instance-2.result
+    on_ok_weaker c.push_instance-2.result
     (λ h rows. record {
       left = term_of sides.0;
       right = term_of sides.1;
@@ -40,7 +40,7 @@ pub returns-clause-steps : goal.returns-clause-steps
 returns-clause-steps c =
     let t = theory_of c.args.algebra.now in
     let closed = c.numbered_premise-sides.ensures.closed in
-    on_ok_implied c.push_instance-2.result
+    on_ok_weaker c.push_instance-2.result
     (λ h rows there before. h t rows (λ x o. there x (closed x (inl o)))
     (c.in_ok-push_instance.ensures.steps t rows (λ x o. there x (closed x (inr o)))
     (subst (Each (IsStep t rows)) (sym c.in_ok-push.ensures.pushed) (c.requires.there, before))))

@@ -1,7 +1,8 @@
 use Rattle.std.proofs.Common.{◌-◌, map, take, drop, length, sym, ap, subst, ◌∙◌, arith, inl, inr}
 use Rattle.spec_core.specs.Terms.{and_term, terms, term_of, instances, OccursInAny}
 use Rattle.spec_core.specs.Orthogonality.{AreLinear}
-use Rattle.rewriter.proofs.Slices.{one_more, no_more, each_rest}
+use Rattle.spec_core.proofs.Lists.{map_none, map_first}
+use Rattle.rewriter.proofs.Slices.{each_rest}
 use Rattle.value_nodes.specs.Nodes.{tree_at, IsNode}
 use Rattle.rewriter.specs.Steps.{AreMatch}
 use Rattle.rewriter.proofs.Weights.{weights}
@@ -10,12 +11,12 @@ use Rattle.rewriter.proofs.matching.+match_all.Goals as goal
 
 pub match_term-requires-clause-room : goal.match_term-requires-clause-room
 match_term-requires-clause-room t c = λ x o.
-    let z = ap terms (one_more term_of c.args.patterns.now c.pattern-item.result c.in-len1-up.len_at_least c.pattern-item.is) in
+    let z = ap terms (map_first term_of c.args.patterns.now c.pattern-item.result c.in-len1-up.len_at_least c.pattern-item.is) in
     c.requires.room x (subst (OccursInAny x) z (inl o))
 
 pub match_all-requires : goal.match_all-requires
 match_all-requires t c =
-    let z = ap terms (one_more term_of c.args.patterns.now c.pattern-item.result c.in-len1-up.len_at_least c.pattern-item.is) in
+    let z = ap terms (map_first term_of c.args.patterns.now c.pattern-item.result c.in-len1-up.len_at_least c.pattern-item.is) in
     let m = ap weights z in
     let room = c.match_term.ensures.room in (
       omega (arith, c.decreases, m),
@@ -30,12 +31,12 @@ match_all-requires t c =
 
 pub returns-in-empty-clause-no : goal.returns-in-empty-clause-no
 returns-in-empty-clause-no t c = λ h s e.
-    let z = ap terms (no_more term_of c.args.patterns.now c.in-empty.len_below) in
+    let z = ap terms (map_none term_of c.args.patterns.now c.in-empty.len_below) in
     some_left c.args.nodes.now c.args.values.now c.is_empty.result c.is_empty.ensures h (ap (instances s) z ∙ e)
 
 pub returns-then-match_term-clause-yes : goal.returns-then-match_term-clause-yes
 returns-then-match_term-clause-yes t c = λ h.
-    let z = ap terms (one_more term_of c.args.patterns.now c.pattern-item.result c.in-len1-up.len_at_least c.pattern-item.is) in
+    let z = ap terms (map_first term_of c.args.patterns.now c.pattern-item.result c.in-len1-up.len_at_least c.pattern-item.is) in
     let q = first_and_rest c.args.nodes.now c.args.values.now _ c.in-len1-up-values.len_at_least in
     let j = joined_match c.args.nodes.now c.match_term.new.bound c.match_all.new.bound (term_of c.pattern-item.result) _
     (terms (map term_of (take (length c.args.patterns.now - 1) (drop 1 c.args.patterns.now))))

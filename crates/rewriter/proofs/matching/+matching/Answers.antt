@@ -2,7 +2,7 @@ use Rattle.std.proofs.Common.{rules, suc, ◌≡◌, map, take, drop, length, �
 use Rattle.spec_core.specs.declared.term.Term.TheFolds.{the_lemmas}
 use Rattle.spec_core.specs.Terms.{variable, apply, and_term, terms, term_of, Occurs, OccursInAny}
 use Rattle.spec_core.specs.Orthogonality.{IsLinear, AreLinear}
-use Rattle.rewriter.proofs.Slices.{one_more}
+use Rattle.spec_core.proofs.Lists.{map_first}
 use Rattle.value_nodes.specs.Nodes.{arguments, tree_at}
 use Rattle.rewriter.specs.Steps.{AreMatch}
 use Rattle.rewriter.proofs.Weights.{weight, weights}
@@ -12,7 +12,7 @@ use Rattle.rewriter.proofs.matching.+matching.Goals as goal
 
 pub match_parts-match_term-requires : goal.match_parts-match_term-requires
 match_parts-match_term-requires t c =
-    let z = ap terms (one_more term_of c.args.patterns.now c.pattern-item.result c.in-len1-up.len_at_least c.pattern-item.is) in
+    let z = ap terms (map_first term_of c.args.patterns.now c.pattern-item.result c.in-len1-up.len_at_least c.pattern-item.is) in
     let m = ap weights z in (
       omega (arith, c.decreases, m),
       (
@@ -26,7 +26,7 @@ match_parts-match_term-requires t c =
 
 pub match_parts-match_term-requires-in-More-at : goal.match_parts-match_term-requires-in-More-at
 match_parts-match_term-requires-in-More-at t c =
-    let z = ap terms (one_more term_of c.args.patterns.now c.pattern-item.result c.in-len1-up.len_at_least c.pattern-item.is) in
+    let z = ap terms (map_first term_of c.args.patterns.now c.pattern-item.result c.in-len1-up.len_at_least c.pattern-item.is) in
     let m = ap weights z in (
       omega (arith, c.decreases, m),
       (
@@ -40,7 +40,7 @@ match_parts-match_term-requires-in-More-at t c =
 
 pub match_parts-match_parts-requires : goal.match_parts-match_parts-requires
 match_parts-match_parts-requires t c =
-    let z = ap terms (one_more term_of c.args.patterns.now c.pattern-item.result c.in-len1-up.len_at_least c.pattern-item.is) in
+    let z = ap terms (map_first term_of c.args.patterns.now c.pattern-item.result c.in-len1-up.len_at_least c.pattern-item.is) in
     let m = ap weights z in
     let room = c.match_term-in-More-at.ensures.room in (
       omega (arith, c.decreases, m),
@@ -55,7 +55,7 @@ match_parts-match_parts-requires t c =
 
 pub match_parts-returns-then-match_term-clause-yes : goal.match_parts-returns-then-match_term-clause-yes
 match_parts-returns-then-match_term-clause-yes t c = λ h.
-    let z = ap terms (one_more term_of c.args.patterns.now c.pattern-item.result c.in-len1-up.len_at_least c.pattern-item.is) in
+    let z = ap terms (map_first term_of c.args.patterns.now c.pattern-item.result c.in-len1-up.len_at_least c.pattern-item.is) in
     let j = joined_match c.args.nodes.now c.match_term-in-More-at.new.bound c.match_parts.new.bound (term_of c.pattern-item.result)
     (tree_at c.args.nodes.now c.in-More-at.arg)
     (terms (map term_of (take (length c.args.patterns.now - 1) (drop 1 c.args.patterns.now))))

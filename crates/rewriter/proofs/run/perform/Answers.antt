@@ -1,20 +1,22 @@
 use Rattle.std.proofs.Common.{◌∷◌, sym, subst}
+use Rattle.std.proofs.lemmas.Result.{IfErr-weaker, IfOk-weaker}
 use Rattle.spec_core.specs.Theories.{theory_of}
+use Rattle.spec_core.proofs.Options.{if_ok_two}
 use Rattle.rewriter.specs.Machine.{Keeps, Exceeds}
 use Rattle.rewriter.specs.Runs.{Coming, MeetsLarge}
-use Rattle.rewriter.proofs.Loop.{put_kept, if_ok_both, if_ok_one, if_err_one}
+use Rattle.rewriter.proofs.Loop.{put_kept}
 use Rattle.rewriter.proofs.run.perform.Goals as goal
 
 pub returns-in-Put-clause-kept : goal.returns-in-Put-clause-kept
 returns-in-Put-clause-kept c =
-    if_ok_both c.put.result
+    if_ok_two c.put.result
     (λ u p f. put_kept (theory_of c.args.algebra.now) c.args.nodes.now c.args.step c.in-Put.node c.args.todo.now c.args.values.now
     c.put.new.values c.args.uses u c.in-Put.is p f)
     c.put.ensures.pushed c.put.ensures.free
 
 pub returns-in-Call-clause-kept : goal.returns-in-Call-clause-kept
 returns-in-Call-clause-kept c =
-    if_ok_one c.call.result
+    IfOk-weaker c.call.result _ _
     (λ u k. subst (λ s. Keeps (Coming (theory_of c.args.algebra.now) c.args.nodes.now (s ∷ c.args.todo.now) c.args.values.now) c.args.uses
     (Coming (theory_of c.args.algebra.now) c.call.new.nodes c.call.new.todo c.call.new.values) u) (sym c.in-Call.is)
     (record { back = k.back; on = k.on; met = k.met; large = k.large }))
@@ -22,21 +24,21 @@ returns-in-Call-clause-kept c =
 
 pub returns-in-Call-clause-spent : goal.returns-in-Call-clause-spent
 returns-in-Call-clause-spent c =
-    if_err_one c.call.result
+    IfErr-weaker c.call.result _ _
     (λ e k s. subst (λ s. Exceeds (Coming (theory_of c.args.algebra.now) c.args.nodes.now (s ∷ c.args.todo.now) c.args.values.now)
     c.args.uses c.args.budget) (sym c.in-Call.is) (k s))
     c.call.ensures.spent
 
 pub returns-in-Call-clause-large : goal.returns-in-Call-clause-large
 returns-in-Call-clause-large c =
-    if_err_one c.call.result
+    IfErr-weaker c.call.result _ _
     (λ e k s. subst (λ s. MeetsLarge (Coming (theory_of c.args.algebra.now) c.args.nodes.now (s ∷ c.args.todo.now) c.args.values.now))
     (sym c.in-Call.is) (k s))
     c.call.ensures.large
 
 pub returns-in-Decide-clause-kept : goal.returns-in-Decide-clause-kept
 returns-in-Decide-clause-kept c =
-    if_ok_one c.decide.result
+    IfOk-weaker c.decide.result _ _
     (λ u k. subst (λ s. Keeps (Coming (theory_of c.args.algebra.now) c.args.nodes.now (s ∷ c.args.todo.now) c.args.values.now) c.args.uses
     (Coming (theory_of c.args.algebra.now) c.args.nodes.now c.decide.new.todo c.decide.new.values) u) (sym c.in-Decide.is)
     (record { back = k.back; on = k.on; met = k.met; large = k.large }))
@@ -44,7 +46,7 @@ returns-in-Decide-clause-kept c =
 
 pub returns-in-Decide-clause-spent : goal.returns-in-Decide-clause-spent
 returns-in-Decide-clause-spent c =
-    if_err_one c.decide.result
+    IfErr-weaker c.decide.result _ _
     (λ e k s. subst (λ s. Exceeds (Coming (theory_of c.args.algebra.now) c.args.nodes.now (s ∷ c.args.todo.now) c.args.values.now)
     c.args.uses c.args.budget) (sym c.in-Decide.is) (k s))
     c.decide.ensures.spent

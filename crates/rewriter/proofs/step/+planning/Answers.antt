@@ -1,12 +1,13 @@
 use Rattle.std.proofs.Common.{rules, suc, ◌≡◌, ◌∷◌, map, length, refl, sym, ap, subst, ◌∙◌, arith, inl, inr}
+use Rattle.std.proofs.lemmas.Result.{on_ok_weaker}
 use Rattle.spec_core.specs.declared.term.Term.TheFolds.{the_lemmas}
 use Rattle.spec_core.specs.Lists.{Each}
 use Rattle.spec_core.specs.Terms.{variable, apply, terms, term_of, width, Occurs, OccursInAny}
-use Rattle.rewriter.proofs.Slices.{one_more}
+use Rattle.spec_core.proofs.Lists.{map_first}
 use Rattle.rewriter.specs.Machine.{call, plan, plan_all}
 use Rattle.rewriter.specs.Steps.{task_of, put_by, IsStep}
 use Rattle.rewriter.proofs.Weights.{weight, weights}
-use Rattle.rewriter.proofs.Outcomes.{on_ok_implied, width_terms}
+use Rattle.rewriter.proofs.Outcomes.{width_terms}
 use Rattle.rewriter.proofs.step.+planning.Goals as goal
 
 pub push_instance-bounds-bound-x : goal.push_instance-bounds-bound-x
@@ -29,7 +30,7 @@ push_instance-returns-in_ok-push-in-App-clause-planned t c =
     k ∙ ap (λ ts. apply c.in-App.op.0 (terms (map term_of ts))) (sym c.deref.ensures.value) in
     let n : c.len.result ≡ width (terms (map term_of c.deref.result.now)) =
     cc (c.len.ensures, ap length c.deref.ensures.value, width_terms c.deref.result.now) in
-    on_ok_implied c.push_instances.result
+    on_ok_weaker c.push_instances.result
     (λ h theory rows. h theory rows
     ∙ ap (plan_all (put_by rows c.args.bound.now) (terms (map term_of c.deref.result.now)))
     (ap (map (task_of theory rows)) c.in_ok-push-in-App.ensures.pushed ∙ ap
@@ -42,28 +43,28 @@ push_instance-returns-in_ok-push-in-App-clause-steps t c =
     let k : term_of c.args.term.now ≡ apply c.in-App.op.0 (terms (map term_of c.in-App.args.items)) = search (rules, the_lemmas) in
     let z : term_of c.args.term.now ≡ apply c.in-App.op.0 (terms (map term_of c.deref.result.now)) =
     k ∙ ap (λ ts. apply c.in-App.op.0 (terms (map term_of ts))) (sym c.deref.ensures.value) in
-    on_ok_implied c.push_instances.result
+    on_ok_weaker c.push_instances.result
     (λ h theory rows there before. h theory rows (λ x o. there x (subst (Occurs x) (sym z) o))
     (subst (Each (IsStep theory rows)) (sym c.in_ok-push-in-App.ensures.pushed) (tt, before)))
     c.push_instances.ensures.steps
 
 pub push_instances-push_instances-requires : goal.push_instances-push_instances-requires
 push_instances-push_instances-requires t c =
-    let z = ap terms (one_more term_of c.args.all.now c.term-item.result c.in-len1-up.len_at_least c.term-item.is) in
+    let z = ap terms (map_first term_of c.args.all.now c.term-item.result c.in-len1-up.len_at_least c.term-item.is) in
     let m = ap weights z in
     (omega (arith, c.decreases, m), λ x o. c.requires.room x (subst (OccursInAny x) z (inr o)))
 
 pub push_instances-push_instance-requires : goal.push_instances-push_instance-requires
 push_instances-push_instance-requires t c =
-    let z = ap terms (one_more term_of c.args.all.now c.term-item.result c.in-len1-up.len_at_least c.term-item.is) in
+    let z = ap terms (map_first term_of c.args.all.now c.term-item.result c.in-len1-up.len_at_least c.term-item.is) in
     let m = ap weights z in
     (omega (arith, c.decreases, m), λ x o. c.requires.room x (subst (OccursInAny x) z (inl o)))
 
 pub push_instances-returns-in_ok-push_instances-in-len1-up-clause-planned :
     goal.push_instances-returns-in_ok-push_instances-in-len1-up-clause-planned
 push_instances-returns-in_ok-push_instances-in-len1-up-clause-planned t c =
-    let z = ap terms (one_more term_of c.args.all.now c.term-item.result c.in-len1-up.len_at_least c.term-item.is) in
-    on_ok_implied c.push_instance.result
+    let z = ap terms (map_first term_of c.args.all.now c.term-item.result c.in-len1-up.len_at_least c.term-item.is) in
+    on_ok_weaker c.push_instance.result
     (λ h theory rows. h theory rows
     ∙ ap (plan (put_by rows c.args.bound.now) (term_of c.term-item.result)) (c.in_ok-push_instances-in-len1-up.ensures.planned theory rows)
     ∙ ap (λ us. plan_all (put_by rows c.args.bound.now) us (map (task_of theory rows) c.args.todo.now)) z)
@@ -72,8 +73,8 @@ push_instances-returns-in_ok-push_instances-in-len1-up-clause-planned t c =
 pub push_instances-returns-in_ok-push_instances-in-len1-up-clause-steps :
     goal.push_instances-returns-in_ok-push_instances-in-len1-up-clause-steps
 push_instances-returns-in_ok-push_instances-in-len1-up-clause-steps t c =
-    let z = ap terms (one_more term_of c.args.all.now c.term-item.result c.in-len1-up.len_at_least c.term-item.is) in
-    on_ok_implied c.push_instance.result
+    let z = ap terms (map_first term_of c.args.all.now c.term-item.result c.in-len1-up.len_at_least c.term-item.is) in
+    on_ok_weaker c.push_instance.result
     (λ h theory rows there before. h theory rows (λ x o. there x (subst (OccursInAny x) z (inl o)))
     (c.in_ok-push_instances-in-len1-up.ensures.steps theory rows (λ x o. there x (subst (OccursInAny x) z (inr o))) before))
     c.push_instance.ensures.steps

@@ -1,7 +1,8 @@
 use Rattle.spec_core.specs.Code.{program_of}
 use Rattle.spec_core.specs.Terms.{instance, term_of}
+use Rattle.spec_core.proofs.Options.{if_none_at}
 use Rattle.rule_substitution.specs.Scopes.{terms_of}
-use Rattle.rule_walk.proofs.Faults.{here_explains, of_none}
+use Rattle.rule_walk.proofs.Faults.{here_explains}
 use Rattle.value_terms.proofs.Values.{unground_value}
 use Rattle.rule_walk.proofs.judge.value_of.Goals as goal
 
@@ -9,5 +10,5 @@ pub returns-in-None-clause-fault : goal.returns-in-None-clause-fault
 returns-in-None-clause-fault c =
     here_explains (program_of c.args.checked.now).theory c.args.budget _ _ c.unfit.result c.unfit.ensures.here
     (unground_value (program_of c.args.checked.now).theory c.requires.executable.fits
-    (instance (terms_of c.args.scope.now) (term_of c.args.term.now)) (of_none c.in_ok-closed.field-0 c.in-None.is
+    (instance (terms_of c.args.scope.now) (term_of c.args.term.now)) (if_none_at c.in_ok-closed.field-0 c.in-None.is
     c.in_ok-closed.ensures.none))

@@ -2,6 +2,7 @@ use Rattle.std.proofs.Common.{rules, ℕ, ◌≡◌, [], ◌∷◌, map, refl, s
 use Rattle.spec_core.specs.Code.{program_of, synchronised_of, variable_of}
 use Rattle.spec_core.specs.Numbers.{gate_number}
 use Rattle.spec_core.specs.Terms.{term_of}
+use Rattle.spec_core.proofs.Options.{if_none_at}
 use Rattle.rewriter.specs.Answers.{IsWithin}
 use Rattle.rule_model.specs.declared.rules.Slot.{Slot}
 use Rattle.rule_model.specs.declared.rules.Slot.TheVariants.{Of}
@@ -15,7 +16,7 @@ use Rattle.rule_walk.specs.Bounds.{FaultBounds, Bounds}
 use Rattle.rule_walk.specs.Ends.{CanHandOn, IsAtHidden}
 use Rattle.rule_walk.specs.Faults.{IsFault, IsMisfit}
 use Rattle.rule_walk.proofs.Bounds.{fault_within, bounds_within, below_bounds, of_fault}
-use Rattle.rule_walk.proofs.Faults.{handed_on, of_none}
+use Rattle.rule_walk.proofs.Faults.{handed_on}
 use Rattle.rule_walk.proofs.Misfits.{call_undefined, call_arguments, left_not_alone, right_not_alone, not_hidden, not_passed, enabling_ends}
 use Rattle.rule_walk.proofs.Misfits.{not_enabled, disabling_ends, not_ended, not_joint, second_fault}
 use Rattle.rule_walk.proofs.PartFaults.{on_rule, part_fault, part_faults}
@@ -313,7 +314,7 @@ by_call-returns-in-None-2-clause-fault t c =
     call_undefined (program_of c.args.checked.now) c.requires.ready.executable c.args.budget (terms_of c.args.scope.now) (behaviour_of
     c.args.from.now) c.unfit-in-None-2.result c.in-Some.process
     (map gate_number c.in-Some.actual.now) (map term_of c.in-Some.terms.now) (derivation_of c.args.part.now) c.in-Some.ensures.some
-    (of_none c.in_ok-process_at-in-Some.field-0 c.in-None-2.is c.in_ok-process_at-in-Some.ensures.none) c.unfit-in-None-2.ensures.here
+    (if_none_at c.in_ok-process_at-in-Some.field-0 c.in-None-2.is c.in_ok-process_at-in-Some.ensures.none) c.unfit-in-None-2.ensures.here
 
 pub by_call-returns-in_err-more-in-Some-2-clause-fault : goal.by_call-returns-in_err-more-in-Some-2-clause-fault
 by_call-returns-in_err-more-in-Some-2-clause-fault t c =
@@ -626,7 +627,7 @@ by_call-returns-in-None-2-clause-within t c =
     undefined_asked (program_of c.args.checked.now) c.requires.ready.executable (λ x. FaultBounds (program_of
     c.args.checked.now).theory c.args.budget c.unfit-in-None-2.result x) (terms_of c.args.scope.now) (behaviour_of c.args.from.now)
     c.in-Some.process (map gate_number c.in-Some.actual.now) (map term_of c.in-Some.terms.now) (derivation_of c.args.part.now)
-    c.in-Some.ensures.some (of_none c.in_ok-process_at-in-Some.field-0 c.in-None-2.is c.in_ok-process_at-in-Some.ensures.none)
+    c.in-Some.ensures.some (if_none_at c.in_ok-process_at-in-Some.field-0 c.in-None-2.is c.in_ok-process_at-in-Some.ensures.none)
 
 pub by_call-returns-in_err-more-in-Some-2-clause-within : goal.by_call-returns-in_err-more-in-Some-2-clause-within
 by_call-returns-in_err-more-in-Some-2-clause-within t c =

@@ -1,5 +1,6 @@
 use Rattle.std.proofs.Common.{◌≡◌, ◌<◌, ◌∙◌, IfOk, IfErr, length, map, sym, subst}
 use Rattle.std.proofs.lemmas.List.{length-map}
+use Rattle.std.proofs.lemmas.Result.{IfOk-weaker}
 use Rattle.spec_core.specs.Code.{program_of}
 use Rattle.spec_core.specs.Lists.{Each}
 use Rattle.spec_core.specs.Theories.{theory_of}
@@ -7,13 +8,13 @@ use Rattle.script_text.specs.Wishes.{all_wished_of, script_of}
 use Rattle.script_offers.specs.Faults.{IsFaultOf}
 use Rattle.script_offers.specs.Given.{script_given}
 use Rattle.script_offers.specs.Valued.{all_wishes_of, AreValued, AreScriptValued, GivesValues}
-use Rattle.script_offers.proofs.Comings.{ok_implied, clients_gates_known, clients_values_given, as_many, complete}
+use Rattle.script_offers.proofs.Comings.{clients_gates_known, clients_values_given, as_many, complete}
 use Rattle.script_offers.proofs.clients.offers_of_script.Goals as goal
 
 pub returns-clause-as_many : goal.returns-clause-as_many
 returns-clause-as_many c =
-    ok_implied (λ all. AreScriptValued (theory_of c.args.checked.now.algebra) (script_of c.args.script.now) (map all_wishes_of all.items))
-    (λ all. length all.items ≡ length (script_of c.args.script.now)) c.valued_clients.result
+    IfOk-weaker c.valued_clients.result
+    (λ all. AreScriptValued (theory_of c.args.checked.now.algebra) (script_of c.args.script.now) (map all_wishes_of all.items)) (λ all. length all.items ≡ length (script_of c.args.script.now))
     (λ all v. sym (length-map all.items all_wishes_of)
     ∙ as_many (AreValued (theory_of c.args.checked.now.algebra)) (script_of c.args.script.now) (map all_wishes_of all.items) v)
     (subst
@@ -23,9 +24,9 @@ returns-clause-as_many c =
 
 pub returns-clause-gates : goal.returns-clause-gates
 returns-clause-gates c =
-    ok_implied (λ all. AreScriptValued (theory_of c.args.checked.now.algebra) (script_of c.args.script.now) (map all_wishes_of all.items))
+    IfOk-weaker c.valued_clients.result
+    (λ all. AreScriptValued (theory_of c.args.checked.now.algebra) (script_of c.args.script.now) (map all_wishes_of all.items))
     (λ all. Each (Each (λ w. w.offer.gate.0 < length (program_of c.args.checked.now).gates)) (map all_wishes_of all.items))
-    c.valued_clients.result
     (λ all v. clients_gates_known (program_of c.args.checked.now) (script_of c.args.script.now) (map all_wishes_of all.items)
     c.requires.fit v)
     (subst
@@ -35,8 +36,8 @@ returns-clause-gates c =
 
 pub returns-clause-values : goal.returns-clause-values
 returns-clause-values c =
-    ok_implied (λ all. AreScriptValued (theory_of c.args.checked.now.algebra) (script_of c.args.script.now) (map all_wishes_of all.items))
-    (λ all. Each (Each (GivesValues (theory_of c.args.checked.now.algebra))) (map all_wishes_of all.items)) c.valued_clients.result
+    IfOk-weaker c.valued_clients.result
+    (λ all. AreScriptValued (theory_of c.args.checked.now.algebra) (script_of c.args.script.now) (map all_wishes_of all.items)) (λ all. Each (Each (GivesValues (theory_of c.args.checked.now.algebra))) (map all_wishes_of all.items))
     (λ all v. clients_values_given (theory_of c.args.checked.now.algebra) (script_of c.args.script.now) (map all_wishes_of all.items) v)
     (subst
     (λ ws. IfOk c.valued_clients.result

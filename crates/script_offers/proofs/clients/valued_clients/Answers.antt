@@ -3,14 +3,14 @@ use Rattle.std.proofs.lemmas.List.{map-append}
 use Rattle.spec_core.specs.Code.{program_of}
 use Rattle.spec_core.specs.Lists.{Each}
 use Rattle.spec_core.specs.Theories.{theory_of}
-use Rattle.spec_core.proofs.Lists.{each-at}
+use Rattle.spec_core.proofs.Lists.{each-at, map_drop}
 use Rattle.script_text.specs.Scripts.{WishFits}
 use Rattle.script_text.specs.Wishes.{wished_of, all_wished_of}
 use Rattle.script_offers.specs.Faults.{IsFaultOf}
 use Rattle.script_offers.specs.Given.{all_given, IsValuedWithin}
 use Rattle.script_offers.specs.Valued.{all_wishes_of, AreValued}
 use Rattle.script_offers.proofs.Comings.{handed_on}
-use Rattle.script_offers.proofs.Gathered.{gathered_more, gathered_fault, here_is}
+use Rattle.script_offers.proofs.Gathered.{gathered_more, gathered_fault}
 use Rattle.script_offers.proofs.clients.valued_clients.Goals as goal
 
 pub offers_of-requires-clause-fit : goal.offers_of-requires-clause-fit
@@ -26,7 +26,7 @@ returns-in_err-offers_of-clause-fault c =
     (map all_wished_of c.args.clients.now) (map all_wishes_of c.loop-wishes.all.items) (all_wished_of c.wishes-item.result)
     (map all_wished_of (drop c.loop-wishes.wishes-index c.args.clients.now))
     (map all_wished_of (drop (c.loop-wishes.wishes-index + 1) c.args.clients.now)) c.in_err-offers_of.field-0.0 c.loop-wishes.invariant
-    (here_is all_wished_of c.args.clients.now c.loop-wishes.wishes-index c.wishes-item.result c.loop-wishes-test.true c.wishes-item.is)
+    (map_drop all_wished_of c.args.clients.now c.loop-wishes.wishes-index c.wishes-item.result c.loop-wishes-test.true c.wishes-item.is)
     (subst
     (λ ws. IsFaultOf (theory_of c.args.checked.now.algebra) c.args.budget (all_given (map wished_of ws)) c.in_err-offers_of.field-0.0)
     c.deref.ensures.value c.in_err-offers_of.ensures.fault))
@@ -38,7 +38,7 @@ loop-wishes-preserved c =
     (map all_wishes_of c.loop-wishes.all.items) (map all_wishes_of c.push.new.self.items) (all_wished_of c.wishes-item.result)
     (all_wishes_of c.in_ok-offers_of.field-0) (map all_wished_of (drop c.loop-wishes.wishes-index c.args.clients.now))
     (map all_wished_of (drop (c.loop-wishes.wishes-index + 1) c.args.clients.now)) c.loop-wishes.invariant
-    (here_is all_wished_of c.args.clients.now c.loop-wishes.wishes-index c.wishes-item.result c.loop-wishes-test.true c.wishes-item.is)
+    (map_drop all_wished_of c.args.clients.now c.loop-wishes.wishes-index c.wishes-item.result c.loop-wishes-test.true c.wishes-item.is)
     (subst (λ ws. AreValued (theory_of c.args.checked.now.algebra) (map wished_of ws) (all_wishes_of c.in_ok-offers_of.field-0))
     c.deref.ensures.value c.in_ok-offers_of.ensures.valued)
     (subst (λ ws. Each (IsValuedWithin (theory_of c.args.checked.now.algebra) c.args.budget) (all_given (map wished_of ws)))

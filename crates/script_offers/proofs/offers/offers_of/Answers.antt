@@ -1,4 +1,5 @@
 use Rattle.std.proofs.Common.{◌<◌, length, map}
+use Rattle.std.proofs.lemmas.Result.{IfOk-weaker}
 use Rattle.spec_core.specs.Code.{program_of}
 use Rattle.spec_core.specs.Lists.{Each}
 use Rattle.spec_core.specs.Theories.{theory_of}
@@ -6,20 +7,20 @@ use Rattle.script_text.specs.Wishes.{wished_of}
 use Rattle.script_offers.specs.Given.{all_given}
 use Rattle.rule_model.specs.WishViews.{wish_of}
 use Rattle.script_offers.specs.Valued.{AreValued, GivesValues}
-use Rattle.script_offers.proofs.Comings.{ok_implied, gates_known, values_given, complete}
+use Rattle.script_offers.proofs.Comings.{gates_known, values_given, complete}
 use Rattle.script_offers.proofs.offers.offers_of.Goals as goal
 
 pub returns-clause-gates : goal.returns-clause-gates
 returns-clause-gates c =
-    ok_implied (λ all. AreValued (theory_of c.args.checked.now.algebra) (map wished_of c.args.wishes.now) (map wish_of all.items))
-    (λ all. Each (λ w. w.offer.gate.0 < length (program_of c.args.checked.now).gates) (map wish_of all.items)) c.valued.result
+    IfOk-weaker c.valued.result
+    (λ all. AreValued (theory_of c.args.checked.now.algebra) (map wished_of c.args.wishes.now) (map wish_of all.items)) (λ all. Each (λ w. w.offer.gate.0 < length (program_of c.args.checked.now).gates) (map wish_of all.items))
     (λ all v. gates_known (program_of c.args.checked.now) (map wished_of c.args.wishes.now) (map wish_of all.items) c.requires.fit v)
     c.valued.ensures.valued
 
 pub returns-clause-values : goal.returns-clause-values
 returns-clause-values c =
-    ok_implied (λ all. AreValued (theory_of c.args.checked.now.algebra) (map wished_of c.args.wishes.now) (map wish_of all.items))
-    (λ all. Each (GivesValues (theory_of c.args.checked.now.algebra)) (map wish_of all.items)) c.valued.result
+    IfOk-weaker c.valued.result
+    (λ all. AreValued (theory_of c.args.checked.now.algebra) (map wished_of c.args.wishes.now) (map wish_of all.items)) (λ all. Each (GivesValues (theory_of c.args.checked.now.algebra)) (map wish_of all.items))
     (λ all v. values_given (theory_of c.args.checked.now.algebra) (map wished_of c.args.wishes.now) (map wish_of all.items) v)
     c.valued.ensures.valued
 

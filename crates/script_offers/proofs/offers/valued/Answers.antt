@@ -2,14 +2,14 @@ use Rattle.std.proofs.Common.{rules, map, drop, refl, ap, [], ◌∷◌, ◌+◌
 use Rattle.std.proofs.lemmas.List.{map-append}
 use Rattle.spec_core.specs.Code.{program_of}
 use Rattle.spec_core.specs.Theories.{theory_of}
-use Rattle.spec_core.proofs.Lists.{each-at}
+use Rattle.spec_core.proofs.Lists.{each-at, map_drop}
 use Rattle.script_text.specs.Scripts.{WishFits}
 use Rattle.script_text.specs.Wishes.{wished_of}
 use Rattle.script_offers.specs.Given.{given_by, IsValuedWithin}
 use Rattle.rule_model.specs.WishViews.{wish_of}
 use Rattle.script_offers.specs.Valued.{IsValuedWish}
 use Rattle.script_offers.proofs.Comings.{handed_on}
-use Rattle.script_offers.proofs.Gathered.{gathered_more, gathered_fault, here_is}
+use Rattle.script_offers.proofs.Gathered.{gathered_more, gathered_fault}
 use Rattle.script_offers.proofs.offers.valued.Goals as goal
 
 pub valued_wish-requires-clause-fits : goal.valued_wish-requires-clause-fits
@@ -24,7 +24,7 @@ returns-in_err-valued_wish-clause-fault c =
     (λ w. given_by w.fields) (map wished_of c.args.wishes.now) (map wish_of c.loop-wish.all.items) (wished_of c.wish-item.result)
     (map wished_of (drop c.loop-wish.wish-index c.args.wishes.now)) (map wished_of (drop (c.loop-wish.wish-index + 1) c.args.wishes.now))
     c.in_err-valued_wish.field-0.0 c.loop-wish.invariant
-    (here_is wished_of c.args.wishes.now c.loop-wish.wish-index c.wish-item.result c.loop-wish-test.true c.wish-item.is)
+    (map_drop wished_of c.args.wishes.now c.loop-wish.wish-index c.wish-item.result c.loop-wish-test.true c.wish-item.is)
     c.in_err-valued_wish.ensures.fault)
 
 pub loop-wish-preserved : goal.loop-wish-preserved
@@ -34,6 +34,6 @@ loop-wish-preserved c =
     (map wish_of c.loop-wish.all.items) (map wish_of c.push.new.self.items) (wished_of c.wish-item.result)
     (wish_of c.in_ok-valued_wish.field-0) (map wished_of (drop c.loop-wish.wish-index c.args.wishes.now))
     (map wished_of (drop (c.loop-wish.wish-index + 1) c.args.wishes.now)) c.loop-wish.invariant
-    (here_is wished_of c.args.wishes.now c.loop-wish.wish-index c.wish-item.result c.loop-wish-test.true c.wish-item.is)
+    (map_drop wished_of c.args.wishes.now c.loop-wish.wish-index c.wish-item.result c.loop-wish-test.true c.wish-item.is)
     c.in_ok-valued_wish.ensures.valued c.in_ok-valued_wish.ensures.within
     (ap (map wish_of) c.in_ok-push.ensures.items ∙ map-append wish_of c.loop-wish.all.items (c.in_ok-valued_wish.field-0 ∷ []))

@@ -1,10 +1,11 @@
 use Rattle.std.proofs.Common.{rules, ◌≡◌, ◌∙◌, ap, subst, length, false, is_some}
 use Rattle.std.specs.Prelude.{IfSome, IfNone}
+use Rattle.std.proofs.lemmas.List.{nil_from_length}
 use Rattle.board_core.specs.Views.{events, state}
 use Rattle.board_core.specs.Working.{IsHandedOut, WhyNone}
 use Rattle.board_work.proofs.Going as going
 use Rattle.session_board.proofs.Resting.{quiet_still, still_on}
-use Rattle.session_board.proofs.Stepping.{none_in, was_quiet}
+use Rattle.session_board.proofs.Stepping.{was_quiet}
 use Rattle.session_board.proofs.turning.one_step.Goals as goal
 
 pub returns-then-is_some-clause-goes_on : goal.returns-then-is_some-clause-goes_on
@@ -53,7 +54,7 @@ returns-then-open_clients-eq0-clause-turn c =
         (c.in_ok-settle.ensures.session.0, was_quiet c.args.board.now b c.in_ok-settle.field-0 none c.in_ok-settle.ensures.none),
         subst (λ o. IfNone o (WhyNone b d)) c.in-None.is c.in_ok-job.ensures.none,
       ),
-      none_in (state d).open_clients zero,
+      nil_from_length (state d).open_clients zero,
     )
 
 pub returns-then-open_clients-eq0-clause-goes_on : goal.returns-then-open_clients-eq0-clause-goes_on

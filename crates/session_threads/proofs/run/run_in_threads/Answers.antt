@@ -7,6 +7,7 @@ use Rattle.spec_core.specs.Code.{program_of}
 use Rattle.spec_core.specs.Lists.{Each}
 use Rattle.spec_core.specs.declared.code.Checked.{Checked}
 use Rattle.spec_core.specs.declared.settings.Settings.{Settings}
+use Rattle.spec_core.proofs.Options.{if_ok_two}
 use Rattle.rule_model.specs.Events.{ending_of}
 use Rattle.rule_model.specs.Logs.{events_of}
 use Rattle.rule_model.specs.Wishes.{Wish}
@@ -17,7 +18,7 @@ use Rattle.session.specs.Starting.{new_pass}
 use Rattle.session_threads.specs.Rows.{IsReadyRow}
 use Rattle.session_threads.specs.Runs.{all_wishes_of}
 use Rattle.session_threads.proofs.Windowing.{tells_windows, HasWindows}
-use Rattle.session_threads.proofs.Ending.{all_ready, answers_clients, at_place, begun, both_ok, clients_ours, clients_there, ends, follow}
+use Rattle.session_threads.proofs.Ending.{all_ready, answers_clients, at_place, begun, clients_ours, clients_there, ends, follow}
 use Rattle.session_threads.proofs.Ending.{workers_ours, workers_there}
 use Rattle.session_threads.proofs.run.run_in_threads.Goals as goal
 
@@ -118,14 +119,12 @@ returns-clause-clients g c =
     (follow rows news c.serve_all.ensures.count c.serve_all.ensures.served) c.in_ok-passes.ensures.clients c.in_ok-passes.ensures.workers
     c.in_ok-passes.ensures.done in
     let long : length wishes ≡ s.lock.fixed.clients = length-map c.args.clients.now all_wishes_of ∙ sym f.fixed.2 in
-    both_ok c.close.result _ _ _
-    (λ r whole own.
+    if_ok_two c.close.result (λ r whole own.
     answers_clients (events_of r.0)
     (c.whole_sessions_answer_clients.ensures (program_of s.lock.fixed.checked) s.lock.fixed.settings s.lock.fixed.clients (events_of r.0)
     (ending_of r.1) whole)
     s.lock.id 1 wishes c.in_ok-passes.passes.items e.clients_are
-    (recursion_from_All (HasItsEntries (events_of r.0)) c.in_ok-passes.passes.items own))
-    c.close.ensures.session c.close.ensures.own
+    (recursion_from_All (HasItsEntries (events_of r.0)) c.in_ok-passes.passes.items own)) c.close.ensures.session c.close.ensures.own
 
 pub returns-clause-windows : goal.returns-clause-windows
 returns-clause-windows g c =

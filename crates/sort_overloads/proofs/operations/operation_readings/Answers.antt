@@ -1,9 +1,9 @@
 use Rattle.std.proofs.Common.{arith, map, ◌∙◌, ap, sym, subst}
 use Rattle.std.specs.List.{flat_map}
+use Rattle.std.proofs.lemmas.List.{take_all}
 use Rattle.spec_core.specs.Theories.{operation_of, operations_of}
 use Rattle.sort_overloads.specs.Listed.{StandsFor}
 use Rattle.sort_overloads.specs.Tables.{table_of, reading_of}
-use Rattle.sort_overloads.proofs.Loops.{taken-all}
 use Rattle.sort_overloads.proofs.Numbered.{of_number, number-within, by-numbers-next, all-by-numbers}
 use Rattle.sort_overloads.proofs.operations.operation_readings.Goals as goal
 
@@ -30,7 +30,7 @@ returns c =
     let name = c.args.spelled.now in
     record {
       stands = subst (λ z. StandsFor z (map (reading_of tables) c.loop-number.all.items))
-          (ap (flat_map (of_number name tables operations)) (taken-all c.in_ok-number-items.number-items.now c.loop-number.number-index c.loop-number-test.false ∙ c.in_ok-number-items.ensures.numbers ∙ c.requires.index name)
+          (ap (flat_map (of_number name tables operations)) (take_all c.loop-number.number-index c.in_ok-number-items.number-items.now c.loop-number-test.false ∙ c.in_ok-number-items.ensures.numbers ∙ c.requires.index name)
           ∙ all-by-numbers name tables operations)
           c.loop-number.invariant;
     }

@@ -1,5 +1,7 @@
 use Rattle.std.proofs.Common.{rules, refl, ◌≡◌, ◌≤◌, map, length, ap, ◌∙◌, subst}
 use Rattle.std.specs.List.{slice_get}
+use Rattle.std.proofs.lemmas.Result.{IfOk-weaker}
+use Rattle.std.proofs.lemmas.List.{take_all}
 use Rattle.lotos_ast.specs.declared.expression.Head.TheFolds.{the_lemmas}
 use Rattle.lotos_ast.specs.Reads.{leaf, both, right, present, node}
 use Rattle.lotos_ast.specs.ListTrees.{list_tree, between}
@@ -10,8 +12,7 @@ use Rattle.sort_overloads.specs.Listed.{readings, those, is_name_of}
 use Rattle.sort_overloads.specs.Tables.{table_of}
 use Rattle.sort_overloads.specs.Views.{context_of}
 use Rattle.sort_overloads.proofs.Two.{AllStandFor}
-use Rattle.sort_overloads.proofs.Loops.{taken-all}
-use Rattle.sort_overloads.proofs.ByOperations.{if_ok_implied, operations-moved}
+use Rattle.sort_overloads.proofs.ByOperations.{operations-moved}
 use Rattle.sort_overloads.proofs.ByExpressions.{read-next, said-next, arguments-next, applied-stands, infix-stands}
 use Rattle.sort_overloads.proofs.readings.+readings.Goals as goal
 
@@ -34,9 +35,9 @@ head_readings-returns-after-loop-argument t c =
     let items = c.deref-argument-items.result.now in
     let n : length items ≤ c.loop-argument.argument-index = c.loop-argument-test.false in
     let h : AllStandFor (map (λ a. readings (context_of c.args.scope.now) (expression (expr_tree a))) c.in-Some.arguments.items) (map table_of c.loop-argument.tables.items) =
-    subst (λ xs. AllStandFor (map (λ a. readings (context_of c.args.scope.now) (expression (expr_tree a))) xs) (map table_of c.loop-argument.tables.items)) (taken-all items c.loop-argument.argument-index n ∙ c.deref-argument-items.ensures.value) c.loop-argument.invariant in
+    subst (λ xs. AllStandFor (map (λ a. readings (context_of c.args.scope.now) (expression (expr_tree a))) xs) (map table_of c.loop-argument.tables.items)) (take_all c.loop-argument.argument-index items n ∙ c.deref-argument-items.ensures.value) c.loop-argument.invariant in
     record {
-      stands = if_ok_implied c.applied.result
+      stands = IfOk-weaker c.applied.result _ _
           (λ all s. applied-stands (context_of c.args.scope.now) (head_tree c.args.head.now) c.in-Applied.place c.in-Applied.name expr_tree c.in-Some.arguments.items (map table_of c.loop-argument.tables.items) (table_of all) e h
           (operations-moved _ _ _ _ (context_of c.args.scope.now).operations (table_of all) c.as_str-in-Some.ensures (ap (map table_of) refl) s))
           c.applied.ensures.stands;
@@ -44,7 +45,7 @@ head_readings-returns-after-loop-argument t c =
 
 pub infix_readings-returns : goal.infix_readings-returns
 infix_readings-returns t c = record {
-  stands = if_ok_implied c.applied.result
+  stands = IfOk-weaker c.applied.result _ _
       (λ all s e h. infix-stands (context_of c.args.scope.now) c.args.operation.now.name e (simple_expression (simple_tree c.args.operation.now.right)) c.as_str-2.result.now (map table_of c.in_ok-arguments.arguments.items) (table_of c.args.left) (table_of c.in_ok-right.right) (table_of all)
       (c.as_str-2.ensures.value ∙ c.in_ok-spelled.ensures ∙ ap (spelling between_two) c.as_str.ensures) (ap (map table_of) c.in_ok-arguments.ensures.items) h c.in_ok-right.ensures.stands s)
       c.applied.ensures.stands;

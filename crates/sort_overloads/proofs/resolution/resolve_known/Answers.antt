@@ -1,4 +1,5 @@
 use Rattle.std.proofs.Common.{rules, ◌≡◌, ap, ◌∙◌, subst}
+use Rattle.std.proofs.lemmas.Result.{IfOk-weaker}
 use Rattle.lotos_ast.specs.declared.expression.Head.TheFolds.{the_lemmas}
 use Rattle.lotos_ast.specs.ExpressionTrees.{expr_tree}
 use Rattle.lotos_ast.specs.ListTrees.{tree_place}
@@ -8,7 +9,6 @@ use Rattle.sort_overloads.specs.Listed.{two, those, readings}
 use Rattle.sort_overloads.specs.Picks.{IsPickRefusal}
 use Rattle.sort_overloads.specs.Tables.{table_of, fits}
 use Rattle.sort_overloads.specs.Views.{context_of}
-use Rattle.sort_overloads.proofs.ByOperations.{if_ok_implied}
 use Rattle.sort_overloads.proofs.Decided.{one-reading, refusal, if_refused_implied}
 use Rattle.sort_overloads.proofs.resolution.resolve_known.Goals as goal
 
@@ -18,7 +18,7 @@ returns-clause-read c =
     let e = expression (expr_tree c.args.expr.now) in
     let asked = c.wanted_of.result in
     let q : two (table_of c.in_ok-fitting.fitting) ≡ two (those (fits asked) (readings context e)) = ap two c.in_ok-fitting.ensures ∙ c.in_ok-all.ensures.stands (fits asked) in
-    if_ok_implied c.only_reading.result (λ t h. one-reading context e c.args.wanted asked c.wanted_of.ensures (table_of c.in_ok-fitting.fitting) (term_of t.term) t.sort.0 q h) c.only_reading.ensures.one
+    IfOk-weaker c.only_reading.result _ _ (λ t h. one-reading context e c.args.wanted asked c.wanted_of.ensures (table_of c.in_ok-fitting.fitting) (term_of t.term) t.sort.0 q h) c.only_reading.ensures.one
 
 pub returns-clause-refused : goal.returns-clause-refused
 returns-clause-refused c =

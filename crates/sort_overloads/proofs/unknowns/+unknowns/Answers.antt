@@ -1,5 +1,6 @@
 use Rattle.std.proofs.Common.{rules, ◌≡◌, ◌≤◌, ◌++◌, map, length, ap, ◌∙◌}
 use Rattle.std.specs.List.{flat_map}
+use Rattle.std.proofs.lemmas.List.{take_all}
 use Rattle.lotos_ast.specs.declared.expression.Head.TheFolds.{the_lemmas}
 use Rattle.lotos_ast.specs.Reads.{leaf, both, right, present, node}
 use Rattle.lotos_ast.specs.ListTrees.{list_tree, between}
@@ -7,7 +8,6 @@ use Rattle.lotos_ast.specs.ExpressionTrees.{expr_tree, infix_tree, simple_tree, 
 use Rattle.sort_overloads.specs.Expressions.{expression}
 use Rattle.sort_overloads.specs.Refused.{unknowns}
 use Rattle.sort_overloads.specs.Views.{context_of}
-use Rattle.sort_overloads.proofs.Loops.{taken-all}
 use Rattle.sort_overloads.proofs.Listings.{listed-next, applied-listed}
 use Rattle.sort_overloads.proofs.unknowns.+unknowns.Goals as goal
 
@@ -29,5 +29,5 @@ add_unknowns_of_head-returns-after-loop-argument t c =
     record {
       added = applied-listed context (head_tree c.args.head.now) c.in-Applied.place c.in-Applied.name expr_tree c.in-Some.arguments.items c.args.refusals.now.items named c.loop-argument.refusals.items
           e (c.in_ok-add_unknown_name-in-Applied).ensures.added
-          (c.loop-argument.invariant ∙ ap (λ z. named ++ flat_map (λ a. unknowns context (expression (expr_tree a))) z) (taken-all items c.loop-argument.argument-index n ∙ c.deref-argument-items.ensures.value));
+          (c.loop-argument.invariant ∙ ap (λ z. named ++ flat_map (λ a. unknowns context (expression (expr_tree a))) z) (take_all c.loop-argument.argument-index items n ∙ c.deref-argument-items.ensures.value));
     }

@@ -1,12 +1,13 @@
 use Rattle.std.specs.List.{slice_get}
 use Rattle.std.proofs.Common.{ℕ, List, Some, rules, ◌≡◌, ◌<◌, ◌≤◌, ◌+◌, ◌++◌, length, map, take, drop, ◌-◌, get_or, arith, sym, subst, ◌∙◌}
+use Rattle.std.proofs.lemmas.Option.{MatchOption-at_none, MatchOption-at_some}
 use Rattle.spec_core.specs.Lists.{Each}
 use Rattle.spec_core.specs.Numbers.{sort_number}
 use Rattle.spec_core.specs.Theories.{theory_of}
 use Rattle.spec_core.specs.Windows.{IsMember}
+use Rattle.spec_core.proofs.Members.{each_one}
 use Rattle.sort_windows.specs.Found.{IsClosedFrom, windows_of}
-use Rattle.sort_windows.proofs.Gained.{filled, both_false, of_some, of_none}
-use Rattle.sort_windows.proofs.Order.{each_one}
+use Rattle.sort_windows.proofs.Gained.{filled, both_false}
 use Rattle.sort_windows.proofs.Reached.{shorter_closed}
 use Rattle.sort_windows.proofs.Rows.{begins_at, begins_none, closed_at, closed_next, one_of_at}
 use Rattle.sort_windows.proofs.filling.+fill_after.Goals as goal
@@ -20,9 +21,9 @@ returns-then-are_shorter-clause-closed t c = λ h.
 
 pub returns-in-None-clause-closed : goal.returns-in-None-clause-closed
 returns-in-None-clause-closed t c = λ h.
-    let n = of_none (length c.values_of-in-loop-place.result.now ≤ c.loop-place.place)
+    let n = MatchOption-at_none (length c.values_of-in-loop-place.result.now ≤ c.loop-place.place)
     (λ all. (w : List ℕ) × (slice_get c.values_of-in-loop-place.result.now c.loop-place.place ≡ Some w) × (all ≡ c.args.front.now ++ w))
-    c.in_ok-next-in-len1-up.next c.in_ok-next-in-len1-up.ensures c.in-None.is in
+    c.in-None.is c.in_ok-next-in-len1-up.ensures in
     let e : c.values_of-in-loop-place.result.now ≡ windows_of c.loop-place.windows.items (get_or c.args.args.now 0 (record { 0 = 0 })).0 =
     search rules in
     closed_at c.args.limit (windows_of c.loop-place.windows.items) c.args.sort.0 c.args.args.now (record { 0 = 0 }) c.args.front.now
@@ -32,9 +33,9 @@ returns-in-None-clause-closed t c = λ h.
 pub fill_after-requires : goal.fill_after-requires
 fill_after-requires t c =
     let theory = theory_of c.args.algebra.now in
-    let n = of_some (length c.values_of-in-loop-place.result.now ≤ c.loop-place.place)
+    let n = MatchOption-at_some (length c.values_of-in-loop-place.result.now ≤ c.loop-place.place)
     (λ all. (w : List ℕ) × (slice_get c.values_of-in-loop-place.result.now c.loop-place.place ≡ Some w) × (all ≡ c.args.front.now ++ w))
-    c.in_ok-next-in-len1-up.next c.in-Some.longer c.in_ok-next-in-len1-up.ensures c.in-Some.is in
+    c.in-Some.longer c.in-Some.is c.in_ok-next-in-len1-up.ensures in
     let first = (get_or c.args.args.now 0 (record { 0 = 0 })).0 in
     let e : c.values_of-in-loop-place.result.now ≡ windows_of c.loop-place.windows.items first = search rules in
     let member : IsMember theory first n.0 =
@@ -51,9 +52,9 @@ fill_after-requires t c =
 
 pub loop-place-preserved : goal.loop-place-preserved
 loop-place-preserved t c =
-    let n = of_some (length c.values_of-in-loop-place.result.now ≤ c.loop-place.place)
+    let n = MatchOption-at_some (length c.values_of-in-loop-place.result.now ≤ c.loop-place.place)
     (λ all. (w : List ℕ) × (slice_get c.values_of-in-loop-place.result.now c.loop-place.place ≡ Some w) × (all ≡ c.args.front.now ++ w))
-    c.in_ok-next-in-len1-up.next c.in-Some.longer c.in_ok-next-in-len1-up.ensures c.in-Some.is in
+    c.in-Some.longer c.in-Some.is c.in_ok-next-in-len1-up.ensures in
     let first = (get_or c.args.args.now 0 (record { 0 = 0 })).0 in
     let rest = map sort_number (take (length c.args.args.now - 1) (drop 1 c.args.args.now)) in
     let e : c.values_of-in-loop-place.result.now ≡ windows_of c.loop-place.windows.items first = search rules in

@@ -1,10 +1,11 @@
 use Rattle.std.proofs.Common.{rules, refl, ◌≡◌, ◌<◌, ◌≤◌, ◌++◌, map, length, ap, sym, ◌∙◌, arith, string_bytes}
+use Rattle.std.proofs.lemmas.List.{take_all}
+use Rattle.std.proofs.lemmas.Result.{on_ok_weaker}
 use Rattle.spec_core.specs.declared.term.Term.TheFolds.{the_lemmas}
 use Rattle.spec_core.specs.Terms.{apply, terms, term_of}
 use Rattle.spec_core.specs.TermText.{separator, closing, opening, first_gap, joined, term_texts, between_at}
 use Rattle.spec_core.specs.Theories.{operation_of, operations_of}
-use Rattle.spec_core.proofs.Lists.{all_taken}
-use Rattle.spec_core.proofs.Spelling.{operation-at, no-operation-at, on_ok_implied, argument_added, spelled, unspelled}
+use Rattle.spec_core.proofs.Spelling.{operation-at, no-operation-at, argument_added, spelled, unspelled}
 use Rattle.spec_core.proofs.term_text.+put_term.Goals as goal
 
 pub loop-i-preserved : goal.loop-i-preserved
@@ -43,9 +44,9 @@ returns-in_ok-put_closing-in-App t c =
     joined (separator c.index-declaration.result.now.name (length c.in-App.args.items))
     (term_texts c.args.signature.now.sorts.items (operations_of c.args.signature.now) c.args.names.now
     (terms (map term_of ts))))
-    (all_taken c.in-App.args.items c.loop-i.i ended) in
+    (take_all c.loop-i.i c.in-App.args.items ended) in
     let closed = c.in_ok-put_closing-in-App.ensures ∙ ap (λ m. string_bytes c.loop-i.out ++ closing m) n in
-    on_ok_implied c.put_sort.result
+    on_ok_weaker c.put_sort.result
     (λ h.
     spelled c.args.signature.now.sorts.items (operations_of c.args.signature.now) c.args.names.now _ c.in-App.op.0
     c.in-App.args.items (operation_of c.index-declaration.result.now) (length c.in-App.args.items) _ _ _ _ _ k d refl opened all

@@ -1,5 +1,5 @@
-use Rattle.sort_overloads.proofs.ByOperations.{if_ok_implied}
 use Rattle.std.specs.Prelude.{option_map}
+use Rattle.std.proofs.lemmas.Result.{IfOk-weaker}
 use Rattle.static_readings.specs.Views.{functionality_of, heading_of, output_of}
 use Rattle.static_compiler.proofs.Whole.{unknown_read, call_read}
 use Rattle.static_compiler.proofs.leaves.read_call.Goals as goal
@@ -9,7 +9,7 @@ returns-in_ok-refuse-in-None c = unknown_read c.args.site.now c.args.name.now c.
     c.in-None.ensures c.in_ok-refuse-in-None.ensures.code c.in_ok-refuse-in-None.ensures.refusals
 
 pub returns-in-Some : goal.returns-in-Some
-returns-in-Some c = if_ok_implied c.read_call_of.result
+returns-in-Some c = IfOk-weaker c.read_call_of.result _ _
     (λ found h. call_read c.args.site.now c.args.name.now c.args.gates.now c.args.from.now (heading_of c.in-Some.heading.now) (output_of c.args.out.now)
     (output_of c.read_call_of.new.out) (option_map functionality_of found) c.in-Some.ensures h)
     c.read_call_of.ensures

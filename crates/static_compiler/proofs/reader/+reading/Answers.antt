@@ -1,9 +1,9 @@
 use Rattle.std.proofs.Common.{rules, ◌≡◌, subst}
 use Rattle.std.specs.Prelude.{option_map}
+use Rattle.std.proofs.lemmas.Result.{IfOk-weaker}
 use Rattle.static_constructs.specs.Constructs.{stops}
 use Rattle.static_constructs.specs.Views.{construct_of}
 use Rattle.static_constructs.specs.declared.construct.Construct.TheFolds.{the_lemmas}
-use Rattle.sort_overloads.proofs.ByOperations.{if_ok_implied}
 use Rattle.static_readings.specs.Views.{functionality_of, output_of}
 use Rattle.static_compiler.specs.Overs.{whole_of}
 use Rattle.static_compiler.specs.Parts.{OpensRight, IsPartRead}
@@ -14,7 +14,7 @@ use Rattle.static_compiler.proofs.reader.+reading.Goals as goal
 pub read-returns-in-Stop-clause-read : goal.read-returns-in-Stop-clause-read
 read-returns-in-Stop-clause-read t c =
     let e : construct_of c.args.construct.now ≡ stops = search (rules, the_lemmas) in
-    if_ok_implied c.read_stop.result
+    IfOk-weaker c.read_stop.result _ _
     (λ ends h. read_as c.args.site.now (construct_of c.args.construct.now) stops (output_of c.args.out.now) (output_of c.read_stop.new.out) (option_map functionality_of ends) e
     (h c.args.site.now))
     c.read_stop.ensures
@@ -30,7 +30,7 @@ pub read_choice-returns-clause-read : goal.read_choice-returns-clause-read
 read_choice-returns-clause-read t c =
     let a = construct_of c.args.left.now in
     let b = construct_of c.args.right.now in
-    if_ok_implied c.join.result
+    IfOk-weaker c.join.result _ _
     (λ ends j. choice_read c.args.site.now c.args.place a b (output_of c.args.out.now) (output_of c.read_part.new.out) (output_of c.read_part-2.new.out) _
     c.in_ok-first.first c.in_ok-second.second (option_map functionality_of ends) c.in_ok-first.ensures.read
     (subst (λ z. IsPartRead z b (output_of c.read_part.new.out) (output_of c.read_part-2.new.out) c.in_ok-second.second) c.in_ok-first.ensures.site
@@ -41,7 +41,7 @@ pub read_disable-returns-clause-read : goal.read_disable-returns-clause-read
 read_disable-returns-clause-read t c =
     let a = construct_of c.args.left.now in
     let b = construct_of c.args.right.now in
-    if_ok_implied c.join.result
+    IfOk-weaker c.join.result _ _
     (λ ends j. disable_read c.args.site.now c.args.place a b (output_of c.args.out.now) (output_of c.read_part.new.out) (output_of c.read_part-2.new.out) _
     c.in_ok-first.first c.in_ok-second.second (option_map functionality_of ends) c.in_ok-first.ensures.read
     (subst (λ z. IsPartRead z b (output_of c.read_part.new.out) (output_of c.read_part-2.new.out) c.in_ok-second.second) c.in_ok-first.ensures.site
@@ -52,7 +52,7 @@ pub read_parallel-returns-clause-read : goal.read_parallel-returns-clause-read
 read_parallel-returns-clause-read t c =
     let a = construct_of c.args.left.now in
     let b = construct_of c.args.right.now in
-    if_ok_implied c.join.result
+    IfOk-weaker c.join.result _ _
     (λ ends j. parallel_read c.args.site.now c.args.place c.args.operator.now a b (output_of c.args.out.now) (output_of c.open_parallel.new.out)
     (output_of c.read_part.new.out) (output_of c.read_part-2.new.out) _ (option_map joining_of c.in_ok-joining.joining)
     c.in_ok-first.first c.in_ok-second.second (option_map functionality_of ends) c.in_ok-joining.ensures.joining
@@ -66,7 +66,7 @@ read_enable-returns-clause-read t c =
     let a = construct_of c.args.left.now in
     let b = construct_of c.args.right.now in
     let ds = c.args.accepts.now in
-    if_ok_implied c.join.result
+    IfOk-weaker c.join.result _ _
     (λ ends j. enable_read c.args.site.now c.args.place a ds b (output_of c.args.out.now) (output_of c.read_part.new.out) (output_of c.open_right.new.out)
     (output_of c.read_part-2.new.out) _ c.open_right.new.site c.in_ok-opened.opened c.in_ok-first.first c.in_ok-second.second
     (option_map functionality_of ends) c.in_ok-first.ensures.read

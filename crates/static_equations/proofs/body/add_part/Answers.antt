@@ -1,10 +1,11 @@
 use Rattle.std.proofs.Common.{◌<◌, ◌≤◌, ◌++◌, length, map, ap, ◌∙◌, arith, append_assoc}
+use Rattle.std.proofs.lemmas.Result.{on_ok_weaker}
 use Rattle.spec_core.specs.Theories.{equation_of}
 use Rattle.sort_overloads.specs.Refused.{unknown_sort}
 use Rattle.sort_overloads.specs.Views.{context_of}
 use Rattle.static_equations.specs.Bodies.{AreJudgedOfSort}
 use Rattle.static_equations.specs.Variables.{unknown_sorts, declarations}
-use Rattle.static_equations.proofs.Gatherings.{refused-alone, judged-under, on-ok}
+use Rattle.static_equations.proofs.Gatherings.{refused-alone, judged-under}
 use Rattle.static_equations.proofs.body.add_part.Goals as goal
 
 pub returns-then-before-len-clause-judged : goal.returns-then-before-len-clause-judged
@@ -29,7 +30,7 @@ returns-clause-judged c =
     let of_sort = unknown_sort context part.sort in
     let mid = c.add_unknown_sorts.new.refusals.items in
     let short : length mid ≤ length before = grind arith in
-    on-ok c.add_part_of_sort.result
+    on_ok_weaker c.add_part_of_sort.result
     (judged-under (of_sort ++ unknown_sorts context (declarations part.variables.items)) (AreJudgedOfSort context part) (map equation_of c.args.all.now.items) (map equation_of c.add_part_of_sort.new.all.items)
     before mid c.add_part_of_sort.new.refusals.items
     (c.in_ok-add_unknown_sorts.ensures.added ∙ ap (λ z. z ++ unknown_sorts context (declarations c.deref.result.now)) c.in_ok-add_unknown_sort.ensures.added

@@ -1,11 +1,12 @@
 use Rattle.std.proofs.Common.{map}
 use Rattle.std.specs.Prelude.{option_map}
+use Rattle.std.proofs.lemmas.Result.{IfOk-weaker}
 use Rattle.spec_core.specs.Theories.{theory_of}
 use Rattle.rule_model.specs.Derivations.{derivation_of, both}
 use Rattle.symbolic_plans.specs.Plans.{field_of, plan_of, trees_of}
 use Rattle.symbolic_rules.specs.Tables.{windows_in}
 use Rattle.symbolic_trees.proofs.Fronts.{no_fronts, no_first, no_rest, both_parts}
-use Rattle.symbolic_trees.proofs.Trees.{at_none, no_trees, no_way, by_way, if_ok_so}
+use Rattle.symbolic_trees.proofs.Trees.{at_none, no_trees, no_way, by_way}
 use Rattle.symbolic_trees.proofs.places.+nth_tree.Goals as goal
 
 pub nth_at_once-returns-in-None : goal.nth_at_once-returns-in-None
@@ -31,7 +32,7 @@ nth_at_once-returns-in-None-2 t c = record {
 
 pub nth_at_once-returns : goal.nth_at_once-returns
 nth_at_once-returns t c = record {
-  tree = if_ok_so c.nth_tree.result
+  tree = IfOk-weaker c.nth_tree.result _ _
       (λ o e. by_way (theory_of c.args.algebra.now) (windows_in c.args.windows.now) (map field_of c.args.columns.now)
       (plan_of c.args.part.now)
       c.args.choices.now c.in-Some.first.items c.in_ok-each-in-Some.each c.args.n (rw c.in-Some.is at c.in_ok-nth_way.ensures.way)

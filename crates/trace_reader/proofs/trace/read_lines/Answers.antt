@@ -2,6 +2,7 @@ use Rattle.std.proofs.Common.{rules, ◌≡◌, ◌∙◌, ◌∷◌, ◌++◌, 
 use Rattle.rule_model.specs.Events.{ending_of}
 use Rattle.rule_model.specs.Logs.{events_of}
 use Rattle.spec_core.specs.Code.{program_of}
+use Rattle.spec_core.proofs.Options.{if_none_at}
 use Rattle.trace_text.specs.Fits.{EndingFits}
 use Rattle.trace_text.specs.Names.{names_with}
 use Rattle.trace_text.specs.Trace.{end_word}
@@ -10,7 +11,6 @@ use Rattle.trace_reader.specs.Reading.{heading}
 use Rattle.trace_reader.specs.Traces.{IsFault, bad_form}
 use Rattle.trace_reader.proofs.Endings.{ended_badly, ended_well}
 use Rattle.trace_reader.proofs.Traces.{bad_behind, bad_early, bad_next, number_short, trace_read}
-use Rattle.trace_reader.proofs.Valued.{none_of}
 use Rattle.trace_reader.proofs.trace.read_lines.Goals as goal
 
 pub returns-in-None-clause-fault : goal.returns-in-None-clause-fault
@@ -20,7 +20,7 @@ returns-in-None-clause-fault c =
     subst (IsFault (program_of c.args.vocabulary.now.checked.now) (heading ++ c.args.lines.now)) (sym c.bad.ensures) (bad_form c.requires.short refl
     (bad_next (program_of c.args.vocabulary.now.checked.now) c.requires.readable.fits c.requires.readable.named (heading ++ c.args.lines.now) (events_of c.lines.log)
     c.lines.actions c.lines.number c.lines.rest.now c.lines.invariant
-    c.in-Some.line.now c.in-Some.behind.now parts one (none_of c.in_ok-read_line.field-0 c.in-None.is c.in_ok-read_line.ensures.none)))
+    c.in-Some.line.now c.in-Some.behind.now parts one (if_none_at c.in_ok-read_line.field-0 c.in-None.is c.in_ok-read_line.ensures.none)))
 
 pub ended-requires : goal.ended-requires
 ended-requires c =

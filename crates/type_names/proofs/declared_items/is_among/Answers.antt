@@ -1,7 +1,7 @@
 use Rattle.std.proofs.Common.{◌∙◌, sym}
+use Rattle.spec_core.proofs.Lists.{any_at}
 use Rattle.type_contents.specs.Items.{is_same_item}
 use Rattle.type_contents.specs.Views.{described_of}
-use Rattle.type_names.proofs.Lists.{any_at}
 use Rattle.type_names.proofs.declared_items.is_among.Goals as goal
 
 pub returns-then-is_same : goal.returns-then-is_same

@@ -1,8 +1,8 @@
 use Rattle.std.proofs.Common.{◌∙◌, sym, Bor}
 use Rattle.std.specs.Str.{bytes_eq}
+use Rattle.spec_core.proofs.Lists.{any_at}
 use Rattle.lotos_ast.specs.declared.token.Token.{Token}
 use Rattle.type_contents.specs.Items.{small}
-use Rattle.type_names.proofs.Lists.{any_at}
 use Rattle.type_names.proofs.duplicates.is_among.Goals as goal
 
 pub returns-then-is_same_name : goal.returns-then-is_same_name

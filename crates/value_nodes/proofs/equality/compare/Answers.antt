@@ -1,18 +1,19 @@
 use Rattle.std.proofs.Common.{rules, ◌≡◌, ◌++◌, ◌∷◌, [], refl, sym, subst}
 use Rattle.spec_core.specs.Lists.{Each}
 use Rattle.spec_core.specs.Terms.{no_terms}
+use Rattle.spec_core.proofs.Lists.{each_push}
 use Rattle.value_nodes.specs.declared.equality.Pair.TheVariants.{Whole, Arguments}
 use Rattle.value_nodes.specs.Nodes.{arguments, tree_at}
 use Rattle.value_nodes.specs.Parts.{IsAlike, IsPair}
 use Rattle.value_nodes.proofs.Nodes.{within}
-use Rattle.value_nodes.proofs.Parts.{each_more, each_less, same_parts}
+use Rattle.value_nodes.proofs.Parts.{each_less, same_parts}
 use Rattle.value_nodes.proofs.equality.compare.Goals as goal
 
 pub returns-in_ok-push-in-One-at-2-clause-there : goal.returns-in_ok-push-in-One-at-2-clause-there
 returns-in_ok-push-in-One-at-2-clause-there c = λ h.
     let q : c.push-in-One-at-2.new.self.items ≡ c.args.pairs.now.items ++ Whole c.in-One.arg c.in-One-at-2.other ∷ [] = search rules in
     subst (Each (IsPair c.args.nodes.now)) (sym q)
-    (each_more (IsPair c.args.nodes.now) c.args.pairs.now.items (Whole c.in-One.arg c.in-One-at-2.other) c.requires.others (
+    (each_push (IsPair c.args.nodes.now) c.args.pairs.now.items (Whole c.in-One.arg c.in-One-at-2.other) c.requires.others (
       within c.args.nodes.now c.in-One.arg c.in-One.ensures.seen.0,
       within c.args.nodes.now c.in-One-at-2.other c.in-One-at-2.ensures.seen.0,
     ))
@@ -37,12 +38,12 @@ returns-in_ok-push-in-More-at-3-2-clause-there c = λ h.
     let r : c.push-in-More-at-3-2.new.self.items ≡ c.push-in-More-at-3.new.self.items ++ Whole c.in-More.arg c.in-More-at-3.other ∷ [] =
     search rules in
     let a = subst (Each (IsPair c.args.nodes.now)) (sym q)
-    (each_more (IsPair c.args.nodes.now) c.args.pairs.now.items (Arguments c.in-More.rest c.in-More-at-3.others) c.requires.others (
+    (each_push (IsPair c.args.nodes.now) c.args.pairs.now.items (Arguments c.in-More.rest c.in-More-at-3.others) c.requires.others (
       within c.args.nodes.now c.in-More.rest c.in-More.ensures.seen.1,
       within c.args.nodes.now c.in-More-at-3.others c.in-More-at-3.ensures.seen.1,
     )) in
     subst (Each (IsPair c.args.nodes.now)) (sym r)
-    (each_more (IsPair c.args.nodes.now) c.push-in-More-at-3.new.self.items (Whole c.in-More.arg c.in-More-at-3.other) a (
+    (each_push (IsPair c.args.nodes.now) c.push-in-More-at-3.new.self.items (Whole c.in-More.arg c.in-More-at-3.other) a (
       within c.args.nodes.now c.in-More.arg c.in-More.ensures.seen.0,
       within c.args.nodes.now c.in-More-at-3.other c.in-More-at-3.ensures.seen.0,
     ))

@@ -1,7 +1,8 @@
 use Rattle.std.proofs.Common.{rules, IsTrue, ◌≡◌, ◌++◌, ◌∷◌, [], sym, subst}
 use Rattle.spec_core.specs.Lists.{Each}
+use Rattle.spec_core.proofs.Lists.{each_push}
 use Rattle.value_nodes.specs.Parts.{IsAlike}
-use Rattle.value_nodes.proofs.Parts.{each_more, each_less}
+use Rattle.value_nodes.proofs.Parts.{each_less}
 use Rattle.value_nodes.proofs.equality.same_value.Goals as goal
 
 pub loop-turn-preserved : goal.loop-turn-preserved
@@ -13,7 +14,7 @@ loop-turn-preserved c =
       to = λ all.
           let o = c.in_ok-compare-in-Some.ensures.to yes all in
           c.loop-turn.invariant.to (subst (Each (IsAlike c.args.nodes.now)) (sym e)
-          (each_more (IsAlike c.args.nodes.now) c.pop.new.self.items c.in-Some.pair o.1 o.0));
+          (each_push (IsAlike c.args.nodes.now) c.pop.new.self.items c.in-Some.pair o.1 o.0));
       from = λ q.
           let o = each_less (IsAlike c.args.nodes.now) c.pop.new.self.items c.in-Some.pair
           (subst (Each (IsAlike c.args.nodes.now)) e (c.loop-turn.invariant.from q)) in

@@ -1,10 +1,11 @@
 use Rattle.std.proofs.Common.{rules, ◌≡◌, ◌++◌, ◌∷◌, [], map, sym, ap, subst, ◌∙◌}
 use Rattle.spec_core.specs.Lists.{Each}
 use Rattle.spec_core.specs.Numbers.{op_number}
+use Rattle.spec_core.proofs.Lists.{each_push}
 use Rattle.value_nodes.specs.declared.spelling.Part.TheVariants.{Whole, Arguments}
 use Rattle.value_nodes.specs.Parts.{word, words, IsPart}
 use Rattle.value_nodes.proofs.Nodes.{within}
-use Rattle.value_nodes.proofs.Parts.{whole_spelled, one_spelled, more_spelled, each_more}
+use Rattle.value_nodes.proofs.Parts.{whole_spelled, one_spelled, more_spelled}
 use Rattle.value_nodes.proofs.spelling.spell_part.Goals as goal
 
 pub returns-in_ok-push-in-Whole-2-clause-spelled :
@@ -22,7 +23,7 @@ pub returns-in_ok-push-in-One-clause-there : goal.returns-in_ok-push-in-One-clau
 returns-in_ok-push-in-One-clause-there c =
     let q : c.push-in-One.new.self.items ≡ c.args.parts.now.items ++ Whole c.in-One.arg ∷ [] = search rules in
     subst (Each (IsPart c.args.nodes.now)) (sym q)
-    (each_more (IsPart c.args.nodes.now) c.args.parts.now.items (Whole c.in-One.arg) c.requires.others
+    (each_push (IsPart c.args.nodes.now) c.args.parts.now.items (Whole c.in-One.arg) c.requires.others
     (within c.args.nodes.now c.in-One.arg c.in-One.ensures.seen.0))
 
 pub returns-in_ok-push-in-One-clause-spelled : goal.returns-in_ok-push-in-One-clause-spelled
@@ -38,10 +39,10 @@ returns-in_ok-push-in-More-2-clause-there c =
     let q : c.push-in-More.new.self.items ≡ c.args.parts.now.items ++ Arguments c.in-More.rest ∷ [] = search rules in
     let r : c.push-in-More-2.new.self.items ≡ c.push-in-More.new.self.items ++ Whole c.in-More.arg ∷ [] = search rules in
     let a = subst (Each (IsPart c.args.nodes.now)) (sym q)
-    (each_more (IsPart c.args.nodes.now) c.args.parts.now.items (Arguments c.in-More.rest) c.requires.others
+    (each_push (IsPart c.args.nodes.now) c.args.parts.now.items (Arguments c.in-More.rest) c.requires.others
     (within c.args.nodes.now c.in-More.rest c.in-More.ensures.seen.1)) in
     subst (Each (IsPart c.args.nodes.now)) (sym r)
-    (each_more (IsPart c.args.nodes.now) c.push-in-More.new.self.items (Whole c.in-More.arg) a
+    (each_push (IsPart c.args.nodes.now) c.push-in-More.new.self.items (Whole c.in-More.arg) a
     (within c.args.nodes.now c.in-More.arg c.in-More.ensures.seen.0))
 
 pub returns-in_ok-push-in-More-2-clause-spelled : goal.returns-in_ok-push-in-More-2-clause-spelled

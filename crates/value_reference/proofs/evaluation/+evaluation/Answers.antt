@@ -1,7 +1,7 @@
 use Rattle.std.proofs.Common.{rules, suc, ◌≡◌, ◌+◌, ◌-◌, ◌++◌, ◌∷◌, [], map, take, drop, length, ap, sym, subst, ◌∙◌, refl, arith}
 use Rattle.std.proofs.Math.Seq.{split_at}
 use Rattle.std.proofs.lemmas.List.{take_more, map-append}
-use Rattle.std.proofs.lemmas.Result.{err_from_is_err_and}
+use Rattle.std.proofs.lemmas.Result.{err_from_is_err_and, IfErr-weaker, IfOk-weaker}
 use Rattle.spec_core.specs.declared.term.Term.TheFolds.{the_lemmas}
 use Rattle.spec_core.specs.Budgets.{AreBeyond, TriesAreBeyond, AsksAreBeyond}
 use Rattle.spec_core.specs.Evaluation.{EvaluatesAll, Tries, Asks, none, used, final, unlike, like}
@@ -10,22 +10,23 @@ use Rattle.spec_core.specs.Orthogonality.{HasNoLooseVariables}
 use Rattle.spec_core.specs.Substitutions.{substitution_of}
 use Rattle.spec_core.specs.Terms.{apply, no_terms, terms, term_of}
 use Rattle.spec_core.specs.Theories.{equation_of, premise_of, theory_of}
+use Rattle.spec_core.proofs.Options.{if_ok_three}
+use Rattle.spec_core.proofs.Lists.{map_none, map_first}
 use Rattle.value_reference.proofs.Budgets.{arguments_beyond, call_beyond, list_beyond, right_beyond, unlike_beyond, like_beyond}
 use Rattle.value_reference.proofs.Budgets.{rest_beyond, others_beyond}
-use Rattle.value_reference.proofs.Outcomes.{if_ok_implied, if_err_implied}
-use Rattle.value_reference.proofs.Steps.{no_more, one_more, if_ok_three, called_at, evaluates_push, premise_holds, premise_fails}
+use Rattle.value_reference.proofs.Steps.{called_at, evaluates_push, premise_holds, premise_fails}
 use Rattle.value_reference.proofs.evaluation.+evaluation.Goals as goal
 use Rattle.value_reference.proofs.evaluation.+evaluation.Goals.{ask_premises-then-sides+in_ok-rest-in-len1-up}
 use Rattle.value_reference.proofs.evaluation.+evaluation.Goals.{ask_premises-else-sides+in_ok-rest-in-len1-up-2}
 
 pub ask_premises-returns-in-empty-clause-value : goal.ask_premises-returns-in-empty-clause-value
 ask_premises-returns-in-empty-clause-value t c =
-    if_ok_implied c.use_equation.result
+    IfOk-weaker c.use_equation.result _ _
     (λ r h.
     subst (λ ps.
     Asks (theory_of c.args.algebra.now) ps (term_of c.args.right.now) (substitution_of (map term_of c.args.bound.now))
     (map equation_of c.args.others.now) c.args.op.0 (terms (map term_of c.args.values.now)) (term_of r.value) r.uses)
-    (no_more premise_of c.args.premises.now c.in-empty.len_below) (used h.0 h.1 h.2))
+    (map_none premise_of c.args.premises.now c.in-empty.len_below) (used h.0 h.1 h.2))
     c.use_equation.ensures.value
 
 pub ask_premises-returns-after-sides-clause-value : goal.ask_premises-returns-after-sides-clause-value
@@ -34,7 +35,7 @@ ask_premises-returns-after-sides-clause-value t c =
     Asks (theory_of c.args.algebra.now) ps (term_of c.args.right.now) (substitution_of (map term_of c.args.bound.now))
     (map equation_of c.args.others.now) c.args.op.0 (terms (map term_of c.args.values.now)) (term_of c.if-sides.rest.value)
     (c.in_ok-sides-in-len1-up.sides.uses + c.if-sides.rest.uses))
-    (one_more premise_of c.args.premises.now c.premise-item.result c.in-len1-up.len_at_least c.premise-item.is)
+    (map_first premise_of c.args.premises.now c.premise-item.result c.in-len1-up.len_at_least c.premise-item.is)
     (elim c.if-sides.branch [
       | ask_premises-then-sides+in_ok-rest-in-len1-up w ↦
           subst (λ r.
@@ -105,27 +106,27 @@ try_equations-returns-in-empty-clause-value t c =
     (λ r constructor value free.
     subst
     (λ es. Tries (theory_of c.args.algebra.now) es c.args.op.0 (terms (map term_of c.args.values.now)) (term_of r.value) r.uses)
-    (no_more equation_of c.args.left.now c.in-empty.len_below) (final constructor value free))
+    (map_none equation_of c.args.left.now c.in-empty.len_below) (final constructor value free))
     c.constructed.ensures.constructor c.constructed.ensures.value c.constructed.ensures.free
 
 pub try_equations-returns-in-None-clause-value : goal.try_equations-returns-in-None-clause-value
 try_equations-returns-in-None-clause-value t c =
     let unmatched = rw c.in-None.is at c.in_ok-matched-in-len1-up.ensures.none in
-    if_ok_implied c.try_equations.result
+    IfOk-weaker c.try_equations.result _ _
     (λ r h.
     subst
     (λ es. Tries (theory_of c.args.algebra.now) es c.args.op.0 (terms (map term_of c.args.values.now)) (term_of r.value) r.uses)
-    (one_more equation_of c.args.left.now c.equation-item.result c.in-len1-up.len_at_least c.equation-item.is) (unlike unmatched h))
+    (map_first equation_of c.args.left.now c.equation-item.result c.in-len1-up.len_at_least c.equation-item.is) (unlike unmatched h))
     c.try_equations.ensures.value
 
 pub try_equations-returns-in-Some-clause-value : goal.try_equations-returns-in-Some-clause-value
 try_equations-returns-in-Some-clause-value t c =
     let matched = rw c.in-Some.is at c.in_ok-matched-in-len1-up.ensures.some in
-    if_ok_implied c.ask_premises.result
+    IfOk-weaker c.ask_premises.result _ _
     (λ r h.
     subst
     (λ es. Tries (theory_of c.args.algebra.now) es c.args.op.0 (terms (map term_of c.args.values.now)) (term_of r.value) r.uses)
-    (one_more equation_of c.args.left.now c.equation-item.result c.in-len1-up.len_at_least c.equation-item.is)
+    (map_first equation_of c.args.left.now c.equation-item.result c.in-len1-up.len_at_least c.equation-item.is)
     (like (substitution_of (map term_of c.in-Some.bound.items)) matched
     (subst (λ ps.
     Asks (theory_of c.args.algebra.now) (map premise_of ps) (term_of c.equation-item.result.right)
@@ -143,7 +144,7 @@ try_equations-returns-in-Some-clause-value t c =
 pub ask_premises-returns-in_err-rest-in-len1-up-clause-spent : goal.ask_premises-returns-in_err-rest-in-len1-up-clause-spent
 ask_premises-returns-in_err-rest-in-len1-up-clause-spent t c =
     let p = err_from_is_err_and c.from_residual-in_err-rest-in-len1-up.result c.from_residual-in_err-rest-in-len1-up.ensures.1 in
-    let first = one_more premise_of c.args.premises.now c.premise-item.result c.in-len1-up.len_at_least c.premise-item.is in
+    let first = map_first premise_of c.args.premises.now c.premise-item.result c.in-len1-up.len_at_least c.premise-item.is in
     rw (p.1, p.2)
     (λ e closed tight.
     subst (λ ps.
@@ -157,7 +158,7 @@ ask_premises-returns-in_err-rest-in-len1-up-clause-spent t c =
 pub ask_premises-returns-in_err-rest-in-len1-up-2-clause-spent : goal.ask_premises-returns-in_err-rest-in-len1-up-2-clause-spent
 ask_premises-returns-in_err-rest-in-len1-up-2-clause-spent t c =
     let p = err_from_is_err_and c.from_residual-in_err-rest-in-len1-up-2.result c.from_residual-in_err-rest-in-len1-up-2.ensures.1 in
-    let first = one_more premise_of c.args.premises.now c.premise-item.result c.in-len1-up.len_at_least c.premise-item.is in
+    let first = map_first premise_of c.args.premises.now c.premise-item.result c.in-len1-up.len_at_least c.premise-item.is in
     rw (p.1, p.2)
     (λ e closed tight.
     subst (λ ps.
@@ -212,8 +213,8 @@ evaluate_all-returns-in_err-next-clause-spent t c =
 pub try_equations-returns-in-None-clause-spent : goal.try_equations-returns-in-None-clause-spent
 try_equations-returns-in-None-clause-spent t c =
     let unmatched = rw c.in-None.is at c.in_ok-matched-in-len1-up.ensures.none in
-    let first = one_more equation_of c.args.left.now c.equation-item.result c.in-len1-up.len_at_least c.equation-item.is in
-    if_err_implied c.try_equations.result
+    let first = map_first equation_of c.args.left.now c.equation-item.result c.in-len1-up.len_at_least c.equation-item.is in
+    IfErr-weaker c.try_equations.result _ _
     (λ x h e closed tight.
     let each = subst (Each HasNoLooseVariables) (sym first) tight in
     subst (λ es. TriesAreBeyond (theory_of c.args.algebra.now) es c.args.op.0 (terms (map term_of c.args.values.now)) c.args.budget) first
@@ -223,9 +224,9 @@ try_equations-returns-in-None-clause-spent t c =
 pub try_equations-returns-in-Some-clause-spent : goal.try_equations-returns-in-Some-clause-spent
 try_equations-returns-in-Some-clause-spent t c =
     let matched = rw c.in-Some.is at c.in_ok-matched-in-len1-up.ensures.some in
-    let first = one_more equation_of c.args.left.now c.equation-item.result c.in-len1-up.len_at_least c.equation-item.is in
+    let first = map_first equation_of c.args.left.now c.equation-item.result c.in-len1-up.len_at_least c.equation-item.is in
     let others = map equation_of (take (length c.args.left.now - 1) (drop 1 c.args.left.now)) in
-    if_err_implied c.ask_premises.result
+    IfErr-weaker c.ask_premises.result _ _
     (λ x h e closed tight.
     let each = subst (Each HasNoLooseVariables) (sym first) tight in
     subst (λ es. TriesAreBeyond (theory_of c.args.algebra.now) es c.args.op.0 (terms (map term_of c.args.values.now)) c.args.budget) first

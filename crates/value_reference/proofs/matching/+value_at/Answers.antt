@@ -1,8 +1,8 @@
 use Rattle.std.proofs.Common.{rules, ◌≡◌, map, ap, sym, subst, ◌∙◌, arith, ⊎_elim}
+use Rattle.std.proofs.lemmas.List.{take_all}
 use Rattle.spec_core.specs.declared.term.Term.TheFolds.{the_lemmas}
 use Rattle.spec_core.specs.Terms.{apply, terms, term_of, Occurs, OccursInAny}
 use Rattle.value_reference.proofs.Outcomes.{if_some_implied, if_none_holds}
-use Rattle.spec_core.proofs.Lists.{all_taken}
 use Rattle.value_reference.proofs.TermLists.{occurs-next, parts_match, instances-length, instance-at}
 use Rattle.value_reference.proofs.matching.+value_at.Goals as goal
 use Rattle.value_reference.proofs.matching.+value_at.Goals.{then-i-len+else-is_some, else-i-len}
@@ -42,5 +42,5 @@ returns-after-loop-i-clause-none t c = λ s e o.
     search (rules, the_lemmas) in
     let a' = a ∙ ap (λ ts. apply c.in-App.field-0.0 (terms (map term_of ts))) (sym c.deref-part-items.ensures.value) in
     c.loop-i.invariant s (parts_match s _ _ _ _ _ _ a' b e)
-    (subst (λ ts. OccursInAny c.args.variable (terms (map term_of ts))) (sym (all_taken _ c.loop-i.i c.loop-i-test.false))
+    (subst (λ ts. OccursInAny c.args.variable (terms (map term_of ts))) (sym (take_all c.loop-i.i _ c.loop-i-test.false))
     (subst (Occurs c.args.variable) a' o))

@@ -1,7 +1,7 @@
 use Rattle.std.proofs.Common.{rules, ◌≡◌, ◌≤◌, map, subst, sym, ◌∙◌, arith, ⊎_elim}
+use Rattle.std.proofs.lemmas.List.{take_all}
 use Rattle.spec_core.specs.declared.term.Term.TheFolds.{the_lemmas}
 use Rattle.spec_core.specs.Terms.{apply, terms, term_of, Occurs, OccursInAny}
-use Rattle.spec_core.proofs.Lists.{all_taken}
 use Rattle.value_reference.proofs.TermLists.{occurs-next}
 use Rattle.value_reference.proofs.matching.+variable_count.Goals as goal
 use Rattle.value_reference.proofs.matching.+variable_count.Goals.{then-count-other, else-count-other}
@@ -23,5 +23,5 @@ loop-arg-preserved t c =
 pub returns-after-loop-arg-clause-above : goal.returns-after-loop-arg-clause-above
 returns-after-loop-arg-clause-above t c = λ x o.
     let k : term_of c.args.term.now ≡ apply c.in-App.field-0.0 (terms (map term_of c.in-App.args.items)) = search (rules, the_lemmas) in
-    let e = all_taken c.deref-arg-items.result.now c.loop-arg.arg-index c.loop-arg-test.false ∙ c.deref-arg-items.ensures.value in
+    let e = take_all c.loop-arg.arg-index c.deref-arg-items.result.now c.loop-arg-test.false ∙ c.deref-arg-items.ensures.value in
     c.loop-arg.invariant.above x (subst (λ ts. OccursInAny x (terms (map term_of ts))) (sym e) (subst (Occurs x) k o))

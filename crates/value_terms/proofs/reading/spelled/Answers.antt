@@ -4,8 +4,9 @@ use Rattle.spec_core.specs.Lists.{Each}
 use Rattle.spec_core.specs.Terms.{term_of}
 use Rattle.spec_core.specs.Theories.{theory_of}
 use Rattle.spec_core.proofs.Lists.{untrue}
+use Rattle.spec_core.proofs.Options.{if_none_at}
 use Rattle.value_terms.proofs.Enough.{sorted_arguments}
-use Rattle.value_terms.proofs.Stacked.{spells_value, value_constructors, value_sort, of_none}
+use Rattle.value_terms.proofs.Stacked.{spells_value, value_constructors, value_sort}
 use Rattle.value_terms.proofs.reading.spelled.Goals as goal
 
 pub returns-then-not-are_constructors-clause-none :
@@ -21,7 +22,7 @@ returns-then-not-is_ground_of-clause-none c t h =
 
 pub returns-in-None-clause-none : goal.returns-in-None-clause-none
 returns-in-None-clause-none c t h =
-    of_none c.in_ok-term_with.field-0 c.in-None.is c.in_ok-term_with.ensures.none t
+    if_none_at c.in_ok-term_with.field-0 c.in-None.is c.in_ok-term_with.ensures.none t
     (sorted_arguments (theory_of c.args.algebra.now) t c.args.sort.0 h.of_sort) (c.as_slice-ops.ensures.spelled ∙ h.spelled)
 
 pub returns-else-not-is_ground_of-clause-some : goal.returns-else-not-is_ground_of-clause-some

@@ -1,7 +1,7 @@
 use Rattle.std.proofs.Common.{◌∙◌, ap}
+use Rattle.std.proofs.lemmas.Result.{IfOk-weaker}
 use Rattle.board_laws.specs.Rules.{any, any_beyond}
 use Rattle.candidates.specs.KnownTrees.{first_in}
-use Rattle.board_laws.proofs.Trees.{if_ok_so}
 use Rattle.board_core.specs.Ends.{end_found}
 use Rattle.board_core.specs.Views.{first_at}
 use Rattle.board_core.proofs.Knowing.{IsOf, first_known}
@@ -13,7 +13,7 @@ returns c =
     let k = c.in_ok-known.known in
     let h = c.in_ok-known.ensures in
     let is : IsOf v k = record { algebra = h.algebra; windows = h.windows; tree = h.tree; pieces = h.pieces; offers = h.offers } in
-    if_ok_so c.end_by_trees.result
+    IfOk-weaker c.end_by_trees.result _ _
     (λ o e. e ∙ ap (λ found. end_found found (first_in k any_beyond)) (first_known v k is any)
     ∙ ap (end_found (first_at v any)) (first_known v k is any_beyond))
     c.end_by_trees.ensures

@@ -1,8 +1,9 @@
 use Rattle.std.proofs.Common.{◌≡◌, ◌∙◌, IsTrue, ap, false, not, rules, sym}
-use Rattle.board_laws.proofs.Trees.{if_ok_so}
+use Rattle.std.proofs.lemmas.Result.{IfOk-weaker}
+use Rattle.spec_core.proofs.Options.{not_some}
 use Rattle.candidates.specs.Models.{job_of}
 use Rattle.board_core.specs.Views.{state}
-use Rattle.board_core.proofs.Needing.{awaiting_needs_none, ended_needs_none, needed_where_asked, not_stopped, stopped_needs_none, unneeded}
+use Rattle.board_core.proofs.Needing.{awaiting_needs_none, ended_needs_none, needed_where_asked, stopped_needs_none, unneeded}
 use Rattle.board_core.proofs.Quiet.{looks_by}
 use Rattle.board_core.proofs.board.Board.is_needed.Goals as goal
 
@@ -32,7 +33,7 @@ returns c =
     let running : c.stopped.result ≡ false = search rules in
     let goes : IsTrue c.goes_by_rules.result = search rules in
     let busy : c.awaits_clients.result ≡ false = search rules in
-    if_ok_so c.is_among_needed.result
-    (needed_where_asked v (job_of c.args.task.now) (not_stopped v.stop (sym c.stopped.ensures ∙ running))
+    IfOk-weaker c.is_among_needed.result _ _
+    (needed_where_asked v (job_of c.args.task.now) (not_some v.stop (sym c.stopped.ensures ∙ running))
     (looks_by (state v) c.awaits_clients.result (c.goes_by_rules.ensures.goes goes) c.awaits_clients.ensures (ap not busy)))
     c.is_among_needed.ensures

@@ -1,7 +1,7 @@
 use Rattle.std.proofs.Common.{◌≡◌, subst}
+use Rattle.std.proofs.lemmas.Result.{IfOk-weaker}
 use Rattle.decision_order.specs.Numbered.{waiting_with}
 use Rattle.decision_order.specs.Searches.{waiting_of}
-use Rattle.board_laws.proofs.Trees.{if_ok_so}
 use Rattle.board_offers.specs.Offers.{offer_at}
 use Rattle.board_offers.specs.Waiting.{waiting_in}
 use Rattle.board_core.proofs.Knowing.{IsOf, found_next}
@@ -15,4 +15,4 @@ returns c =
     let h = c.in_ok-known.ensures in
     let is : IsOf v k = record { algebra = h.algebra; windows = h.windows; tree = h.tree; pieces = h.pieces; offers = h.offers } in
     let asked = subst (λ s. waiting_with (offer_at s.pending) (waiting_of o) ≡ waiting_in s) c.state.ensures c.in_ok-offers.ensures.waiting in
-    record { next = if_ok_so c.next_entry.result (λ s e. found_next v k is o asked s e) c.next_entry.ensures.next }
+    record { next = IfOk-weaker c.next_entry.result _ _ (λ s e. found_next v k is o asked s e) c.next_entry.ensures.next }

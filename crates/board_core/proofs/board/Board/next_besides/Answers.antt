@@ -1,8 +1,8 @@
 use Rattle.std.proofs.Common.{◌≡◌, option_map, subst}
+use Rattle.std.proofs.lemmas.Result.{IfOk-weaker}
 use Rattle.candidates.specs.Models.{job_of}
 use Rattle.decision_order.specs.Numbered.{waiting_with}
 use Rattle.decision_order.specs.Searches.{waiting_of}
-use Rattle.board_laws.proofs.Trees.{if_ok_so}
 use Rattle.board_offers.specs.Offers.{offer_at}
 use Rattle.board_offers.specs.Waiting.{waiting_in}
 use Rattle.board_core.proofs.Knowing.{IsOf, found_job}
@@ -16,4 +16,4 @@ returns c =
     let h = c.in_ok-known.ensures in
     let is : IsOf v k = record { algebra = h.algebra; windows = h.windows; tree = h.tree; pieces = h.pieces; offers = h.offers } in
     let asked = subst (λ s. waiting_with (offer_at s.pending) (waiting_of o) ≡ waiting_in s) c.state.ensures c.in_ok-offers.ensures.waiting in
-    record { job = if_ok_so c.next_job.result (λ job e. found_job v k is o asked c.args.out.now h.out (option_map job_of job) e) c.next_job.ensures.job }
+    record { job = IfOk-weaker c.next_job.result _ _ (λ job e. found_job v k is o asked c.args.out.now h.out (option_map job_of job) e) c.next_job.ensures.job }

@@ -1,6 +1,6 @@
 use Rattle.std.proofs.Common.{◌≡◌, ◌∙◌, sym}
+use Rattle.std.proofs.lemmas.Bool.{true≢false}
 use Rattle.log_states.proofs.Entries.{are_named, named_ascend, named_just}
-use Rattle.log_states.proofs.Tests.{true_false}
 use Rattle.log_states.proofs.state.SessionState.are_named.Goals as goal
 
 pub returns-then-is_ascending : goal.returns-then-is_ascending
@@ -11,4 +11,4 @@ returns-then-is_ascending c = (
 
 pub returns-else-is_ascending : goal.returns-else-is_ascending
 returns-else-is_ascending c =
-    (λ h. true_false (sym h ∙ c.if-is_ascending.false), λ m. c.is_ascending.ensures ∙ named_ascend c.args.self.now c.args.names.now m)
+    (λ h. absurd (true≢false (sym h ∙ c.if-is_ascending.false)), λ m. c.is_ascending.ensures ∙ named_ascend c.args.self.now c.args.names.now m)

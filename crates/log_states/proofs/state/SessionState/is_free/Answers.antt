@@ -1,6 +1,6 @@
 use Rattle.std.proofs.Common.{rules, ◌≡◌, ◌∙◌, sym, true, false}
+use Rattle.std.proofs.lemmas.Bool.{true≢false}
 use Rattle.log_states.proofs.Entries.{may_leave, leave_opens, leave_idles}
-use Rattle.log_states.proofs.Tests.{true_false}
 use Rattle.log_states.proofs.state.SessionState.is_free.Goals as goal
 
 pub returns-then-finds_open : goal.returns-then-finds_open
@@ -11,4 +11,4 @@ returns-then-finds_open c = (
 
 pub returns-else-finds_open : goal.returns-else-finds_open
 returns-else-finds_open c =
-    (λ h. true_false (sym h ∙ c.if-finds_open.false), λ m. c.finds_open.ensures ∙ leave_opens c.args.self.now c.args.client m)
+    (λ h. absurd (true≢false (sym h ∙ c.if-finds_open.false)), λ m. c.finds_open.ensures ∙ leave_opens c.args.self.now c.args.client m)

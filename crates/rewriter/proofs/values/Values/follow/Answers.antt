@@ -1,17 +1,17 @@
 use Rattle.std.proofs.Common.{rules, ◌≡◌, ◌++◌, ◌∷◌, [], get_or, reverse, map, subst, sym, ap, ◌∙◌}
 use Rattle.spec_core.specs.Lists.{Each}
+use Rattle.spec_core.proofs.Lists.{each_push, each_get_or, own_default}
 use Rattle.value_nodes.specs.Nodes.{tree_at, IsNode}
 use Rattle.value_nodes.proofs.Nodes.{longer_on, same_trees, still_nodes}
-use Rattle.value_nodes.proofs.Parts.{each_more}
 use Rattle.rewriter.proofs.Tops.{each_reversed}
-use Rattle.rewriter.proofs.Following.{each_back, each_place, followed, followed_next, own_default}
+use Rattle.rewriter.proofs.Following.{each_back, followed, followed_next}
 use Rattle.rewriter.proofs.values.Values.follow.Goals as goal
 
 pub copy-requires-clause-there : goal.copy-requires-clause-there
 copy-requires-clause-there c =
     let items = c.deref-node-items.result.now in
     let r : c.args.self.now ≡ reverse items = search rules in
-    each_place (IsNode c.args.from.now) items c.loop-node.node-index 0 c.loop-node-test.true
+    each_get_or (IsNode c.args.from.now) items c.loop-node.node-index 0 c.loop-node-test.true
     (each_back (IsNode c.args.from.now) items (subst (Each (IsNode c.args.from.now)) r c.requires.there))
 
 pub loop-node-preserved : goal.loop-node-preserved
@@ -28,7 +28,7 @@ loop-node-preserved c =
       copies = made.copies;
       longer = longer_on c.args.into.now before after inv.longer made.longer;
       there = subst (Each (IsNode after)) (sym e)
-          (each_more (IsNode after) done c.in_ok-copy.copy (still_nodes before after made.longer done inv.there) made.there);
+          (each_push (IsNode after) done c.in_ok-copy.copy (still_nodes before after made.longer done inv.there) made.there);
       same = followed_next (tree_at c.args.from.now) (tree_at before) (tree_at after) items done c.push.new.self.items
           c.loop-node.node-index x c.in_ok-copy.copy c.loop-node-test.true
           (own_default items c.loop-node.node-index 0 c.loop-node-test.true) inv.same

@@ -1,6 +1,7 @@
+use Rattle.std.proofs.lemmas.Result.{IfOk-weaker}
 use Rattle.rule_model.specs.Events.{ending_of}
 use Rattle.rule_model.specs.Logs.{events_of}
-use Rattle.session.proofs.Ending.{clients_begin, clients_running, each_number, each_rests, if_ok, none_is_pending, own_entries, whole_session}
+use Rattle.session.proofs.Ending.{clients_begin, clients_running, each_number, each_rests, none_is_pending, own_entries, whole_session}
 use Rattle.session.proofs.Ending.{workers_begin, workers_running}
 use Rattle.session.proofs.session.Session.close.Goals as goal
 
@@ -27,7 +28,7 @@ close-requires-2-clause-idle c =
 pub returns-clause-session : goal.returns-clause-session
 returns-clause-session c =
     let inside = c.self.inside in
-    if_ok _ _ c.close-2.result
+    IfOk-weaker c.close-2.result _ _
     (λ r h.
     whole_session c.args.self inside.turns inside.workers c.self.view_is c.args.passes.items c.args.workers.items inside.keeper
     c.in_ok-seats.seats.items c.in_ok-seats.ensures.seats c.close.result c.close.ensures.fixed c.close.ensures.lists c.in_ok-board.board
@@ -37,7 +38,7 @@ returns-clause-session c =
 pub returns-clause-clients_begin : goal.returns-clause-clients_begin
 returns-clause-clients_begin c =
     let inside = c.self.inside in
-    if_ok _ _ c.close-2.result
+    IfOk-weaker c.close-2.result _ _
     (λ r h.
     clients_begin c.args.self inside.turns inside.workers c.self.view_is c.args.passes.items c.args.workers.items inside.keeper
     c.in_ok-seats.seats.items c.in_ok-seats.ensures.seats c.close.result c.close.ensures.fixed c.close.ensures.lists c.in_ok-board.board
@@ -47,7 +48,7 @@ returns-clause-clients_begin c =
 pub returns-clause-workers_begin : goal.returns-clause-workers_begin
 returns-clause-workers_begin c =
     let inside = c.self.inside in
-    if_ok _ _ c.close-2.result
+    IfOk-weaker c.close-2.result _ _
     (λ r h.
     workers_begin c.args.self inside.turns inside.workers c.self.view_is c.args.passes.items c.args.workers.items inside.keeper
     c.in_ok-seats.seats.items c.in_ok-seats.ensures.seats c.close.result c.close.ensures.fixed c.close.ensures.lists c.in_ok-board.board
@@ -57,7 +58,7 @@ returns-clause-workers_begin c =
 pub returns-clause-own : goal.returns-clause-own
 returns-clause-own c =
     let inside = c.self.inside in
-    if_ok _ _ c.close-2.result
+    IfOk-weaker c.close-2.result _ _
     (λ r h.
     own_entries c.args.self inside.turns inside.workers c.self.view_is c.args.passes.items c.args.workers.items inside.keeper
     c.in_ok-seats.seats.items c.in_ok-seats.ensures.seats c.close.result c.close.ensures.fixed c.close.ensures.lists c.in_ok-board.board
@@ -67,7 +68,7 @@ returns-clause-own c =
 pub returns-clause-clients_running : goal.returns-clause-clients_running
 returns-clause-clients_running c =
     let inside = c.self.inside in
-    if_ok _ _ c.close-2.result
+    IfOk-weaker c.close-2.result _ _
     (λ r h.
     clients_running c.args.self inside.turns inside.workers c.self.view_is c.args.passes.items c.args.workers.items inside.keeper
     c.in_ok-seats.seats.items c.in_ok-seats.ensures.seats c.close.result c.close.ensures.fixed c.close.ensures.lists c.in_ok-board.board
@@ -77,7 +78,7 @@ returns-clause-clients_running c =
 pub returns-clause-workers_running : goal.returns-clause-workers_running
 returns-clause-workers_running c =
     let inside = c.self.inside in
-    if_ok _ _ c.close-2.result
+    IfOk-weaker c.close-2.result _ _
     (λ r h.
     workers_running c.args.self inside.turns inside.workers c.self.view_is c.args.passes.items c.args.workers.items inside.keeper
     c.in_ok-seats.seats.items c.in_ok-seats.ensures.seats c.close.result c.close.ensures.fixed c.close.ensures.lists c.in_ok-board.board

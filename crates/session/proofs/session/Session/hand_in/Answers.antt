@@ -1,9 +1,10 @@
-use Rattle.std.proofs.Common.{rules, ◌≡◌, false}
+use Rattle.std.proofs.Common.{rules, ◌≡◌}
+use Rattle.std.proofs.lemmas.Result.{on_ok_weaker}
 use Rattle.turn_lock.specs.Entries.{made_by}
 use Rattle.session_board.specs.Lines.{maker_of}
 use Rattle.session_board.specs.Shared.{IsMarked, lines}
 use Rattle.session.specs.Passes.{HasHalted}
-use Rattle.session.proofs.Seats.{err_more, halts, has_seen_more, isnt_halted, ok_more, stays_halted}
+use Rattle.session.proofs.Seats.{err_more, halts, has_seen_more, isnt_halted, stays_halted}
 use Rattle.session.proofs.session.Session.hand_in.Goals as goal
 
 pub returns-clause-none : goal.returns-clause-none
@@ -30,5 +31,4 @@ pub returns-clause-running : goal.returns-clause-running
 returns-clause-running g c =
     let old = c.args.seat.now in
     let v = c.take-held.result.value in
-    ok_more c.hand_in-handed.result (v.halted ≡ false) (HasHalted old.seen → ⊥)
-    (λ running halted. isnt_halted v running (stays_halted old.seen (lines v) c.take-held.ensures.list.0 halted)) c.hand_in-handed.ensures.running
+    on_ok_weaker c.hand_in-handed.result (λ running halted. isnt_halted v running (stays_halted old.seen (lines v) c.take-held.ensures.list.0 halted)) c.hand_in-handed.ensures.running

@@ -1,8 +1,9 @@
 use Rattle.std.proofs.Common.{◌+◌, ◌∙◌, ap, drop, length, map}
+use Rattle.std.proofs.lemmas.List.{take_rest}
 use Rattle.rule_model.specs.Events.{event_of}
 use Rattle.session_board.specs.Lines.{actions_after}
 use Rattle.session_board.specs.Shared.{SharedView}
-use Rattle.session_board.proofs.Looking.{few_actions, none_found, rest_is}
+use Rattle.session_board.proofs.Looking.{few_actions, none_found}
 use Rattle.session_board.proofs.shared.SharedBoard.end.Goals as goal
 
 pub end_from-requires-clause-few : goal.end_from-requires-clause-few
@@ -13,7 +14,7 @@ returns-clause-spot c =
     let v = c.args.self.now in
     let from = c.args.from in
     let rest =
-    rest_is from.lines c.log.result.now
+    take_rest c.log.result.now from.lines
     ∙ ap (drop from.lines) (c.log.ensures.entries ∙ ap (λ (z : SharedView). z.board.session.entries) c.self.view_is) in
     (none_found v c.requires.running from c.requires.spot c.end_from.result
     (c.end_from.ensures.lines ∙ ap (λ l. from.lines + length l) rest)

@@ -1,8 +1,8 @@
 use Rattle.std.proofs.Common.{◌++◌, ◌∷◌, [], map, take, string_bytes, bytes_eq, if◌then◌else◌, ap, sym, ◌∙◌}
 use Rattle.std.specs.Char.{to_ascii_lowercase}
+use Rattle.std.proofs.lemmas.List.{take_all}
 use Rattle.spec_core.specs.Theories.{operation_of}
 use Rattle.sort_overloads.specs.Indexes.{numbers_of}
-use Rattle.sort_overloads.proofs.Loops.{taken-all}
 use Rattle.sort_overloads.proofs.Numbered.{numbers-next, same-either-way}
 use Rattle.sort_overloads.proofs.name_index.NameIndex.new.Goals as goal
 
@@ -16,4 +16,4 @@ loop-i-preserved c = λ name.
     ∙ sym (numbers-next operation_of name c.args.operations.now c.loop-i.i c.index-operations-i.result c.loop-i-test.true c.index-operations-i.is)
 
 pub returns : goal.returns
-returns c = record { index = λ name. c.loop-i.invariant name ∙ ap (λ z. numbers_of name (map operation_of z)) (taken-all c.args.operations.now c.loop-i.i c.loop-i-test.false) }
+returns c = record { index = λ name. c.loop-i.invariant name ∙ ap (λ z. numbers_of name (map operation_of z)) (take_all c.loop-i.i c.args.operations.now c.loop-i-test.false) }

@@ -1,5 +1,5 @@
 use Rattle.std.proofs.Common.{◌∙◌, ◌∷◌, ap, map}
-use Rattle.sort_overloads.proofs.ByOperations.{ok_implied}
+use Rattle.std.proofs.lemmas.Result.{on_ok_weaker}
 use Rattle.static_equations.specs.Variables.{all_variables}
 use Rattle.static_readings.specs.Sites.{with_gates, with_variables}
 use Rattle.static_processes.specs.Processes.{visible_in}
@@ -10,7 +10,7 @@ use Rattle.static_check.proofs.setting.Setting.enter.Goals as goal
 pub returns : goal.returns
 returns c =
     let table = map entry_of c.args.self.now.table.now in
-    ok_implied c.put_declarations.result
+    on_ok_weaker c.put_declarations.result
     (λ h. body_entered c.args.site.now c.go.new.self c.put_gates.new.self c.put_declarations.new.site c.args.self.now.gates table c.args.number (entry_of c.args.entry.now)
     c.args.self.now.headings.now c.in_ok-all.all.items c.requires.headings
     (c.in_ok-all.ensures ∙ ap (λ xs. visible_in table (c.args.number ∷ xs)) c.deref.ensures.value) c.go.ensures

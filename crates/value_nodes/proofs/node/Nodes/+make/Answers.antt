@@ -1,7 +1,7 @@
 use Rattle.std.proofs.Common.{arith}
+use Rattle.spec_core.proofs.Options.{if_ok_three}
 use Rattle.value_nodes.specs.Nodes.{IsNode}
 use Rattle.value_nodes.proofs.Nodes.{made_more, made_one, made_none, each_first}
-use Rattle.value_nodes.proofs.Outcomes.{if_ok_three}
 use Rattle.value_nodes.proofs.node.Nodes.+make.Goals as goal
 
 pub returns-in_ok-rest-in-len1-up-clause-values :
