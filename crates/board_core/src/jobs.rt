@@ -250,6 +250,7 @@ impl Board {
             (self.new.pieces ≡ self.old.pieces)) }
         ensures out { IfOk result (λ post. post ≡ Post.Posted → map job_of self.new.out ≡
             left_out (to_judge (node_part piece.generation.0 (derivation_of piece.rules))) (map job_of self.old.out)) }
+        ensures unmoved { IfOk result (λ post. post ≡ Post.Stale → self.new.out ≡ self.old.out) }
         ensures kept { OnErr result (self.new.out ≡ self.old.out) }
         ensures known { OnErr result ((g : ℕ) (d : Derivation) → pieces self.new g d ≡ pieces self.old g d) }
         ensures tree { tree self.new ≡ tree self.old }

@@ -64,3 +64,7 @@ IsGiven s taken = Unit {0}
 -- each client has left, as far as the pass has seen
 abbrev pub IsOver : WorkPassView → Type 0
 IsOver p = AllHaveLeft p.clients p.seen
+
+-- some client hasn't left, as far as the pass has seen
+abbrev pub IsOpen : WorkPassView → Type 0
+IsOpen p = AllHaveLeft p.clients p.seen → ⊥

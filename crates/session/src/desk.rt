@@ -6,7 +6,7 @@ ghost use Rattle.turn_lock.specs.Seats.{IsAtRest};
 ghost use Rattle.worker_drive.specs.Counts.{raised_by};
 ghost use Rattle.session.specs.Calls.{HasSeenMore, StaysSeat};
 ghost use Rattle.session.specs.Passes.{HasHalted};
-ghost use Rattle.session.specs.Sessions.{FitsJob, IsGiven, IsOver, IsWorkerOf, Who, who_of};
+ghost use Rattle.session.specs.Sessions.{FitsJob, IsGiven, IsOpen, IsOver, IsWorkerOf, Who, who_of};
 ghost use Rattle.session.specs.Working.{ComesOfDoing, ComesOfSeat, OneJobMore, SameJobs};
 
 use crate::session::Session;
@@ -94,6 +94,8 @@ impl Desk for Session {
     ghost ours = { IsWorkerOf };
 
     ghost given = { IsGiven };
+
+    ghost idle = { IsOpen };
 
     ghost over = { IsOver };
 

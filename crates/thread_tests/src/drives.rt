@@ -43,7 +43,7 @@ struct Worker {
 }
 
 impl Desk for ListedDesk {
-    ghost use Rattle.std.specs.Prelude.{◌≡◌, ◌*◌, true, ⊤};
+    ghost use Rattle.std.specs.Prelude.{◌≡◌, ◌*◌, true, false, ⊤};
 
     type Seat = Worker;
 
@@ -59,6 +59,8 @@ impl Desk for ListedDesk {
 
     ghost given = { λ desk job. ⊤ };
 
+    ghost idle = { λ seat. seat.is_over ≡ false };
+
     ghost over = { λ seat. seat.is_over ≡ true };
 
     ghost taken = { λ seat. seat.taken };
@@ -72,6 +74,7 @@ impl Desk for ListedDesk {
             seat.is_over = true;
             return Ok(Offered::Over);
         }
+        seat.is_over = false;
         let look = self.looks[seat.looks];
         seat.looks += 1;
         match look {

@@ -11,6 +11,13 @@ module _ {J E : Type 0} where
   IfJob (Ok Over) P = ⊤
   IfJob (Err e) P = ⊤
 
+  -- where the answer is that there is no job now, P holds
+  abbrev pub OnIdle : Result (Offered J) E → Type 0 → Type 0
+  OnIdle (Ok (Job job)) P = ⊤
+  OnIdle (Ok Idle) P = P
+  OnIdle (Ok Over) P = ⊤
+  OnIdle (Err e) P = ⊤
+
   -- where the answer is that the desk is over, P holds
   abbrev pub OnOver : Result (Offered J) E → Type 0 → Type 0
   OnOver (Ok (Job job)) P = ⊤

@@ -2,7 +2,7 @@
 
 ghost use Rattle.std.specs.Prelude.{◌≡◌, ℕ, IfOk};
 ghost use Rattle.worker_drive.specs.Counts.{raised_by};
-ghost use Rattle.worker_drive.specs.Offers.{IfJob, OnOver, jobs_in};
+ghost use Rattle.worker_drive.specs.Offers.{IfJob, OnIdle, OnOver, jobs_in};
 
 use spec_core::memory::Memory;
 use std::sync::Wait;
@@ -46,6 +46,9 @@ pub trait Desk {
     /// What is known of each job that this desk gives.
     ghost given: { Self → Self.Job → Type 0 };
 
+    /// The seat has been told that the desk is idle, so not over.
+    ghost idle: { Self.Seat → Type 0 };
+
     /// The seat has been told that the desk is over.
     ghost over: { Self.Seat → Type 0 };
 
@@ -63,6 +66,7 @@ pub trait Desk {
         requires ours { ours self.now (who seat.old) }
         ensures who { who seat.new ≡ who seat.old }
         ensures given { IfJob result (λ job. given self.now job) }
+        ensures idle { OnIdle result (idle seat.new) }
         ensures over { OnOver result (over seat.new) }
         ensures taken { taken seat.new ≡ raised_by (jobs_in result) (taken seat.old) }
         ensures handed { handed seat.new ≡ handed seat.old };
