@@ -5,7 +5,7 @@ from collections import namedtuple
 Command = namedtuple("Command", "name words options does")
 Option = namedtuple("Option", "name least greatest usual says")
 
-# The words that a command names, of which the first `files` are names of files.
+# The words that a command names, of which those in FILES are names of files; they come first.
 COMMANDS = [
     Command("check", ["SPEC"], [], "Says what an accepted specification has: `accepted`, and the numbers of its sorts, operations, equations and processes."),
     Command("equal", ["SPEC", "TERM", "TERM"], ["budget"],
@@ -14,6 +14,9 @@ COMMANDS = [
             "Runs a session in which the clients of the script make their offers, and prints its trace. Each client has a thread."),
     Command("replay", ["SPEC", "TRACE"], ["budget"],
             "Checks each line of a trace against the inference rules: `derivation` and the number of actions, or the first line that isn't possible."),
+    Command("selfrun", ["SEED", "SIZE"], ["workers"],
+            "Runs a session of a chain of SIZE cells, 1 to 64, with a script that SEED gives, 0 to 4,294,967,295, and prints its counts: "
+            "`actions`, `taken`, `internal`, `other`, each with a number, and how it ended. It reads no file."),
 ]
 
 OPTIONS = [
@@ -31,8 +34,8 @@ STATUSES = [
     (3, "A file that the words name couldn't be read: `read fault`."),
     (4, "The output couldn't be written. A beginning of the text may be."),
     (5, "Memory was wanting. There is no text, or a beginning of it."),
-    (6, "A term takes more uses of equations than the budget allows: `spent` and the term; or the trace of a session that such a term stopped."),
-    (7, "The evaluation of a term meets a value of more than 65,536 symbols: `large` and the term; or the trace of a session that a limit stopped."),
+    (6, "A term takes more uses of equations than the budget allows: `spent` and the term; or the trace or the counts of a session that such a term stopped."),
+    (7, "The evaluation of a term meets a value of more than 65,536 symbols: `large` and the term; or the trace or the counts of a session that a limit stopped."),
     (8, "The script or the trace isn't one of the specification, or a word isn't a term of it, or two terms are of two sorts: "
         "`script refused`, a line and what is wrong with it."),
     (9, "The trace isn't a derivation: `not a derivation` and a line."),
@@ -50,12 +53,13 @@ EXAMPLES = [
     ("Run a session with two workers; both lines say the same:", "lotos run spec.lotos script.txt --workers 2\nlotos run --workers=2 spec.lotos script.txt"),
     ("Keep the trace of a session, and check it:", "lotos run spec.lotos script.txt > trace.txt\nlotos replay spec.lotos trace.txt"),
     ("Compare two terms, each with at most 500 uses of equations:", "lotos equal spec.lotos 'Succ(0) + Succ(0)' 'Succ(Succ(0))' --budget 500"),
+    ("Count what a chain of 64 cells does:", "lotos selfrun 7 64"),
 ]
 
 
 def files_of(command):
     """How many of the words that a command names are files; they come first."""
-    return sum(word != "TERM" for word in command.words)
+    return sum(word in {name for name, _, _ in FILES} for word in command.words)
 
 
 def synopsis(command):
@@ -94,7 +98,7 @@ def page():
         lines += [f"\\fBlotos\\fR {called(command)}", ".br"]
     lines[-1:] = [".SH DESCRIPTION",
                   plain("`lotos` carries out one command over a specification in LOTOS (ISO 8807:1989)."),
-                  plain("The first word names the command. Behind it stand files and terms in the order that is shown, and options anywhere among them."),
+                  plain("The first word names the command. Behind it stand files, terms and numbers in the order that is shown, and options anywhere among them."),
                   ".PP",
                   plain("All texts go to standard output, at the end; nothing goes to standard error. Standard input isn't read."),
                   ".SH COMMANDS"]

@@ -6,6 +6,8 @@ mod copies;
 #[cfg(test)]
 mod evaluation;
 #[cfg(test)]
+mod generated;
+#[cfg(test)]
 mod naturals;
 #[cfg(test)]
 mod samples;

@@ -1,3 +1,6 @@
 mod Choices
+mod Given
 mod Rows
+mod Usage
 mod Values
+mod Wanted

@@ -1,6 +1,6 @@
 -- The value of digits grows with each digit.
 use Rattle.std.proofs.Common.{ℕ, ◌+◌, ◌-◌, ◌*◌, ◌≡◌, ◌<◌, List, [], ◌∷◌, nat_le, false, arith}
-use Rattle.command_words.specs.Options.{value_behind}
+use Rattle.command_words.specs.Numbers.{value_behind}
 
 -- digits behind too great a number make none that isn't
 pub too_great : (digits : List ℕ) (before greatest : ℕ) → greatest < before → nat_le (value_behind before digits) greatest ≡ false

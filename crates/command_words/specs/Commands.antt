@@ -1,15 +1,16 @@
 -- The commands, and the words that name them (this profile): the command, and behind it what `clap` has matches of, each option with a number
 -- in its range.
-use Rattle.std.specs.Prelude.{ℕ, ◌≤◌, List, [], ◌∷◌, if◌then◌else◌, Option, Some, None, option_map, option_and_then, unwrap_or, codes}
+use Rattle.std.specs.Prelude.{ℕ, ◌<◌, ◌≤◌, List, [], ◌∷◌, if◌then◌else◌, Option, None, option_map, option_and_then, codes}
 use Rattle.std.specs.Str.{bytes_eq}
 use Rattle.clap.specs.Walk.{Row, first_of}
 use Rattle.spec_core.specs.declared.settings.Settings.{Settings}
 use Rattle.command_words.specs.declared.command.Command as words
-use Rattle.command_words.specs.declared.command.Command.TheVariants.{Run, Check, Equal, Replay}
+use Rattle.command_words.specs.declared.command.Command.TheVariants.{Run, Check, Equal, Replay, Selfrun}
 use Rattle.command_words.specs.declared.option.Choices.{Choices}
 use Rattle.command_words.specs.declared.option.OptionName.TheVariants.{Budget, Values, Steps, Seed, Workers}
+use Rattle.command_words.specs.Numbers.{number_at}
 use Rattle.command_words.specs.Options.{choices_of}
-use Rattle.command_words.specs.Readers.{run_reader, check_reader, equal_reader, replay_reader, found_in}
+use Rattle.command_words.specs.Readers.{run_reader, check_reader, equal_reader, replay_reader, selfrun_reader, found_in}
 
 pub data Command : Type 0 where
   -- a session of the specification in the first file, whose clients make the offers of the script in the second, by these settings and with
@@ -21,28 +22,35 @@ pub data Command : Type 0 where
   equal : List ℕ → List ℕ → List ℕ → ℕ → Command
   -- whether the trace in the second file is a derivation of the specification in the first, with so many uses of equations for each term
   replay : List ℕ → List ℕ → ℕ → Command
+  -- a session over the specification that is generated for so many cells, whose client makes the offers of the script that a seed gives for
+  -- them, with so many workers: the seed, the cells, the workers
+  selfrun : ℕ → ℕ → ℕ → Command
 
--- the word that `clap` finds under a name; it finds each word that a command names, so the empty text stands for none
-abbrev pub word_at : List ℕ → List Row → List ℕ
-word_at id rows = unwrap_or (first_of id rows) []
-
--- what each command is told by what `clap` finds
+-- what each command is told by what `clap` finds, which is each word that the command names (`WantedWordsAreFound`, in Laws)
 
 abbrev pub run_by : List Row → Option Command
-run_by rows = option_map (λ (c : Choices). run (word_at (codes "SPEC") rows) (word_at (codes "SCRIPT") rows) c.settings c.workers)
-    (choices_of (Workers ∷ Budget ∷ Values ∷ Steps ∷ Seed ∷ []) rows)
+run_by rows =
+    option_and_then (λ specification. option_and_then (λ script. option_map (λ (c : Choices). run specification script c.settings c.workers)
+    (choices_of (Workers ∷ Budget ∷ Values ∷ Steps ∷ Seed ∷ []) rows)) (first_of (codes "SCRIPT") rows)) (first_of (codes "SPEC") rows)
 
 abbrev pub check_by : List Row → Option Command
-check_by rows = Some (check (word_at (codes "SPEC") rows))
+check_by rows = option_map check (first_of (codes "SPEC") rows)
 
 abbrev pub equal_by : List Row → Option Command
-equal_by rows = option_map (λ (c : Choices).
-    equal (word_at (codes "SPEC") rows) (word_at (codes "FIRST") rows) (word_at (codes "SECOND") rows) c.settings.budget)
-    (choices_of (Budget ∷ []) rows)
+equal_by rows =
+    option_and_then (λ specification. option_and_then (λ first. option_and_then (λ second. option_map (λ (c : Choices).
+    equal specification first second c.settings.budget)
+    (choices_of (Budget ∷ []) rows)) (first_of (codes "SECOND") rows)) (first_of (codes "FIRST") rows)) (first_of (codes "SPEC") rows)
 
 abbrev pub replay_by : List Row → Option Command
-replay_by rows = option_map (λ (c : Choices). replay (word_at (codes "SPEC") rows) (word_at (codes "TRACE") rows) c.settings.budget)
-    (choices_of (Budget ∷ []) rows)
+replay_by rows =
+    option_and_then (λ specification. option_and_then (λ trace. option_map (λ (c : Choices). replay specification trace c.settings.budget)
+    (choices_of (Budget ∷ []) rows)) (first_of (codes "TRACE") rows)) (first_of (codes "SPEC") rows)
+
+abbrev pub selfrun_by : List Row → Option Command
+selfrun_by rows =
+    option_and_then (λ seed. option_and_then (λ size. option_map (λ (c : Choices). selfrun seed size c.workers)
+    (choices_of (Workers ∷ []) rows)) (number_at (codes "SIZE") 1 64 rows)) (number_at (codes "SEED") 0 4294967295 rows)
 
 -- what each command is told by the words behind it
 
@@ -58,12 +66,16 @@ equal_of words = option_and_then equal_by (found_in equal_reader words)
 abbrev pub replay_of : List (List ℕ) → Option Command
 replay_of words = option_and_then replay_by (found_in replay_reader words)
 
+abbrev pub selfrun_of : List (List ℕ) → Option Command
+selfrun_of words = option_and_then selfrun_by (found_in selfrun_reader words)
+
 -- the command that words name, if they name one
 abbrev pub command_of : List (List ℕ) → Option Command
 command_of (name ∷ words) = if bytes_eq name (codes "run") then run_of words
     else if bytes_eq name (codes "check") then check_of words
     else if bytes_eq name (codes "equal") then equal_of words
     else if bytes_eq name (codes "replay") then replay_of words
+    else if bytes_eq name (codes "selfrun") then selfrun_of words
     else None
 command_of [] = None
 
@@ -73,10 +85,12 @@ command_named (Run specification script settings workers) = run specification.no
 command_named (Check specification) = check specification.now
 command_named (Equal specification first second budget) = equal specification.now first.now second.now budget
 command_named (Replay specification trace budget) = replay specification.now trace.now budget
+command_named (Selfrun seed size workers) = selfrun seed size workers
 
--- a session has at most 64 workers
-abbrev pub HasFewWorkers : words.Command → Type 0
-HasFewWorkers (Run specification script settings workers) = workers ≤ 64
-HasFewWorkers (Check specification) = Unit {0}
-HasFewWorkers (Equal specification first second budget) = Unit {0}
-HasFewWorkers (Replay specification trace budget) = Unit {0}
+-- a session has at most 64 workers, and a generated one from 1 to 64 cells
+abbrev pub IsWithinRanges : words.Command → Type 0
+IsWithinRanges (Run specification script settings workers) = workers ≤ 64
+IsWithinRanges (Check specification) = Unit {0}
+IsWithinRanges (Equal specification first second budget) = Unit {0}
+IsWithinRanges (Replay specification trace budget) = Unit {0}
+IsWithinRanges (Selfrun seed size workers) = (0 < size) × (size ≤ 64) × (workers ≤ 64)

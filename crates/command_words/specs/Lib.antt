@@ -1,3 +1,5 @@
 pub mod Commands
+pub mod Laws
+pub mod Numbers
 pub mod Options
 pub mod Readers

@@ -1,9 +1,7 @@
 -- Options of a command and their numbers (this profile).
-use Rattle.std.specs.Prelude.{ℕ, ◌+◌, ◌*◌, ◌-◌, ◌≤◌, List, [], ◌∷◌, Bool, false, ◌&&◌, nat_le, if◌then◌else◌}
-use Rattle.std.specs.Prelude.{Option, Some, None, option_map, option_and_then, codes}
-use Rattle.std.specs.Char.{is_ascii_digit}
-use Rattle.std.specs.List.{list_all}
+use Rattle.std.specs.Prelude.{ℕ, ◌≤◌, List, [], ◌∷◌, Option, Some, None, option_map, option_and_then, codes}
 use Rattle.clap.specs.Walk.{Row, first_of}
+use Rattle.command_words.specs.Numbers.{number_within}
 use Rattle.command_words.specs.declared.option.Choices.{Choices}
 use Rattle.command_words.specs.declared.option.OptionName.{OptionName}
 use Rattle.command_words.specs.declared.option.OptionName.TheVariants.{Budget, Values, Steps, Seed, Workers}
@@ -43,21 +41,9 @@ choosing Steps c number = record c { settings = record c.settings { steps = numb
 choosing Seed c number = record c { settings = record c.settings { seed = number } }
 choosing Workers c number = record c { workers = number }
 
--- the value of decimal digits behind others
-abbrev pub value_behind : ℕ → List ℕ → ℕ
-value_behind before [] = before
-value_behind before (digit ∷ digits) = value_behind (10 * before + (digit - 48)) digits
-
--- one or more decimal digits
-abbrev pub is_number : List ℕ → Bool
-is_number [] = false
-is_number (digit ∷ digits) = list_all is_ascii_digit (digit ∷ digits)
-
--- the number that a word gives an option: decimal digits whose value lies in the option's range
+-- the number that a word gives an option: one in the option's range
 abbrev pub number_of : OptionName → List ℕ → Option ℕ
-number_of option word =
-    if is_number word && (nat_le (least option) (value_behind 0 word) && nat_le (value_behind 0 word) (greatest option))
-    then Some (value_behind 0 word) else None
+number_of option = number_within (least option) (greatest option)
 
 -- the choices with what a word gives the option; they stay where no word does
 abbrev pub chosen_by : OptionName → Option (List ℕ) → Choices → Option Choices

@@ -39,6 +39,10 @@ abbrev pub replay_reader : App
 replay_reader = with_rule (with_rule (with_rule (bare (codes "replay"))
     (named (codes "SPEC"))) (named (codes "TRACE"))) (numbered (name_of Budget))
 
+abbrev pub selfrun_reader : App
+selfrun_reader = with_rule (with_rule (with_rule (bare (codes "selfrun"))
+    (named (codes "SEED"))) (named (codes "SIZE"))) (numbered (name_of Workers))
+
 -- what `clap` finds in the words, where it has matches of them
 abbrev pub found_in : App → List Text → Option (List Row)
 found_in reader words = if is_empty (fault_of reader words) then Some (matches_of reader words) else None

@@ -3,10 +3,14 @@
 ghost use Rattle.std.specs.Prelude.{◌≡◌, IfOk, IfSome, map, option_map, string_bytes};
 ghost use Rattle.clap.specs.Words.{found_of, rows_of};
 ghost use Rattle.command_words.specs.Commands as commands;
-ghost use Rattle.command_words.specs.Commands.{check_of, command_named, command_of, equal_of, replay_of, run_of, HasFewWorkers};
+ghost use Rattle.command_words.specs.Commands.{check_of, command_named, command_of, equal_of, replay_of, run_of, selfrun_of};
+ghost use Rattle.command_words.specs.Commands.{IsWithinRanges};
 
+use crate::number::number_at;
 use crate::option::{Choices, OptionName, choices_of};
-use crate::reader::{check_reader, equal_reader, find, replay_reader, run_reader, word_at};
+use crate::reader::{
+    check_reader, equal_reader, find, replay_reader, run_reader, selfrun_reader, text_at,
+};
 use clap::ArgMatches;
 use spec_core::memory::Memory;
 use spec_core::settings::Settings;
@@ -43,13 +47,24 @@ pub enum Command<'w> {
         /// The greatest number of uses of equations in the evaluation of each term, from 1 to 2^32.
         budget: u64,
     },
+    /// A session of a generated specification with a generated script.
+    Selfrun {
+        /// What the script is drawn from.
+        seed: u32,
+        /// How many cells the specification has, from 1 to 64.
+        size: u32,
+        /// How many workers do the jobs of the session, from 0 to 64.
+        workers: u32,
+    },
 }
 
 // What `run` is told by what `clap` finds.
 fn run_by<'w>(matches: &ArgMatches<'w>) -> Option<Command<'w>>
     ensures command { option_map command_named result ≡ commands.run_by (rows_of (found_of matches.now)) }
-    ensures workers { IfSome result HasFewWorkers }
+    ensures ranges { IfSome result IsWithinRanges }
 {
+    let specification = text_at(matches, "SPEC")?;
+    let script = text_at(matches, "SCRIPT")?;
     let known = [
         OptionName::Workers,
         OptionName::Budget,
@@ -59,8 +74,8 @@ fn run_by<'w>(matches: &ArgMatches<'w>) -> Option<Command<'w>>
     ];
     let Choices { settings, workers } = choices_of(&known, matches)?;
     Some(Command::Run {
-        specification: word_at(matches, "SPEC"),
-        script: word_at(matches, "SCRIPT"),
+        specification,
+        script,
         settings,
         workers,
     })
@@ -69,7 +84,7 @@ fn run_by<'w>(matches: &ArgMatches<'w>) -> Option<Command<'w>>
 // What `run` is told by the words behind it.
 fn run(alloc: Global, words: &[String]) -> Result<Option<Command<'_>>, Memory>
     ensures command { IfOk result (λ r. option_map command_named r ≡ run_of (map string_bytes words.now)) }
-    ensures workers { IfOk result (λ r. IfSome r HasFewWorkers) }
+    ensures ranges { IfOk result (λ r. IfSome r IsWithinRanges) }
 {
     match find(run_reader(alloc)?, words)? {
         Some(matches) => Ok(run_by(&matches)),
@@ -77,29 +92,39 @@ fn run(alloc: Global, words: &[String]) -> Result<Option<Command<'_>>, Memory>
     }
 }
 
+// What `check` is told by what `clap` finds.
+fn check_by<'w>(matches: &ArgMatches<'w>) -> Option<Command<'w>>
+    ensures command { option_map command_named result ≡ commands.check_by (rows_of (found_of matches.now)) }
+    ensures ranges { IfSome result IsWithinRanges }
+{
+    let specification = text_at(matches, "SPEC")?;
+    Some(Command::Check { specification })
+}
+
 // What `check` is told by the words behind it.
 fn check(alloc: Global, words: &[String]) -> Result<Option<Command<'_>>, Memory>
     ensures command { IfOk result (λ r. option_map command_named r ≡ check_of (map string_bytes words.now)) }
-    ensures workers { IfOk result (λ r. IfSome r HasFewWorkers) }
+    ensures ranges { IfOk result (λ r. IfSome r IsWithinRanges) }
 {
-    let Some(matches) = find(check_reader(alloc)?, words)? else {
-        return Ok(None);
-    };
-    Ok(Some(Command::Check {
-        specification: word_at(&matches, "SPEC"),
-    }))
+    match find(check_reader(alloc)?, words)? {
+        Some(matches) => Ok(check_by(&matches)),
+        None => Ok(None),
+    }
 }
 
 // What `equal` is told by what `clap` finds.
 fn equal_by<'w>(matches: &ArgMatches<'w>) -> Option<Command<'w>>
     ensures command { option_map command_named result ≡ commands.equal_by (rows_of (found_of matches.now)) }
-    ensures workers { IfSome result HasFewWorkers }
+    ensures ranges { IfSome result IsWithinRanges }
 {
+    let specification = text_at(matches, "SPEC")?;
+    let first = text_at(matches, "FIRST")?;
+    let second = text_at(matches, "SECOND")?;
     let budget = choices_of(&[OptionName::Budget], matches)?.settings.budget;
     Some(Command::Equal {
-        specification: word_at(matches, "SPEC"),
-        first: word_at(matches, "FIRST"),
-        second: word_at(matches, "SECOND"),
+        specification,
+        first,
+        second,
         budget,
     })
 }
@@ -107,7 +132,7 @@ fn equal_by<'w>(matches: &ArgMatches<'w>) -> Option<Command<'w>>
 // What `equal` is told by the words behind it.
 fn equal(alloc: Global, words: &[String]) -> Result<Option<Command<'_>>, Memory>
     ensures command { IfOk result (λ r. option_map command_named r ≡ equal_of (map string_bytes words.now)) }
-    ensures workers { IfOk result (λ r. IfSome r HasFewWorkers) }
+    ensures ranges { IfOk result (λ r. IfSome r IsWithinRanges) }
 {
     match find(equal_reader(alloc)?, words)? {
         Some(matches) => Ok(equal_by(&matches)),
@@ -118,12 +143,14 @@ fn equal(alloc: Global, words: &[String]) -> Result<Option<Command<'_>>, Memory>
 // What `replay` is told by what `clap` finds.
 fn replay_by<'w>(matches: &ArgMatches<'w>) -> Option<Command<'w>>
     ensures command { option_map command_named result ≡ commands.replay_by (rows_of (found_of matches.now)) }
-    ensures workers { IfSome result HasFewWorkers }
+    ensures ranges { IfSome result IsWithinRanges }
 {
+    let specification = text_at(matches, "SPEC")?;
+    let trace = text_at(matches, "TRACE")?;
     let budget = choices_of(&[OptionName::Budget], matches)?.settings.budget;
     Some(Command::Replay {
-        specification: word_at(matches, "SPEC"),
-        trace: word_at(matches, "TRACE"),
+        specification,
+        trace,
         budget,
     })
 }
@@ -131,7 +158,7 @@ fn replay_by<'w>(matches: &ArgMatches<'w>) -> Option<Command<'w>>
 // What `replay` is told by the words behind it.
 fn replay(alloc: Global, words: &[String]) -> Result<Option<Command<'_>>, Memory>
     ensures command { IfOk result (λ r. option_map command_named r ≡ replay_of (map string_bytes words.now)) }
-    ensures workers { IfOk result (λ r. IfSome r HasFewWorkers) }
+    ensures ranges { IfOk result (λ r. IfSome r IsWithinRanges) }
 {
     match find(replay_reader(alloc)?, words)? {
         Some(matches) => Ok(replay_by(&matches)),
@@ -139,10 +166,36 @@ fn replay(alloc: Global, words: &[String]) -> Result<Option<Command<'_>>, Memory
     }
 }
 
+// What `selfrun` is told by what `clap` finds.
+fn selfrun_by<'w>(matches: &ArgMatches<'w>) -> Option<Command<'w>>
+    ensures command { option_map command_named result ≡ commands.selfrun_by (rows_of (found_of matches.now)) }
+    ensures ranges { IfSome result IsWithinRanges }
+{
+    let seed = number_at(matches, "SEED", 0, 4_294_967_295)?;
+    let size = number_at(matches, "SIZE", 1, 64)?;
+    let workers = choices_of(&[OptionName::Workers], matches)?.workers;
+    Some(Command::Selfrun {
+        seed: seed as u32,
+        size: size as u32,
+        workers,
+    })
+}
+
+// What `selfrun` is told by the words behind it.
+fn selfrun(alloc: Global, words: &[String]) -> Result<Option<Command<'_>>, Memory>
+    ensures command { IfOk result (λ r. option_map command_named r ≡ selfrun_of (map string_bytes words.now)) }
+    ensures ranges { IfOk result (λ r. IfSome r IsWithinRanges) }
+{
+    match find(selfrun_reader(alloc)?, words)? {
+        Some(matches) => Ok(selfrun_by(&matches)),
+        None => Ok(None),
+    }
+}
+
 /// The command that words name, if they name one.
 pub fn read_command(alloc: Global, words: &[String]) -> Result<Option<Command<'_>>, Memory>
     ensures command { IfOk result (λ r. option_map command_named r ≡ command_of (map string_bytes words.now)) }
-    ensures workers { IfOk result (λ r. IfSome r HasFewWorkers) }
+    ensures ranges { IfOk result (λ r. IfSome r IsWithinRanges) }
 {
     match words {
         [name, words @ ..] => match name.as_str() {
@@ -150,6 +203,7 @@ pub fn read_command(alloc: Global, words: &[String]) -> Result<Option<Command<'_
             "check" => check(alloc, words),
             "equal" => equal(alloc, words),
             "replay" => replay(alloc, words),
+            "selfrun" => selfrun(alloc, words),
             _ => Ok(None),
         },
         [] => Ok(None),

@@ -2,6 +2,8 @@
 #![tactic(auto)]
 
 mod command;
+pub mod laws;
+mod number;
 mod option;
 mod reader;
 

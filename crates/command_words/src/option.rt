@@ -1,12 +1,11 @@
 // Options of a command and their numbers.
 
-ghost use Rattle.std.specs.Prelude.{◌≡◌, ◌≤◌, ◌<◌, ◌^◌, ◌&&◌, nat_le, if◌then◌else◌, Some, None, IfSome, option_map, option_and_then};
-ghost use Rattle.std.specs.Char.{is_ascii_digit};
-ghost use Rattle.std.specs.List.{list_all};
+ghost use Rattle.std.specs.Prelude.{◌≡◌, ◌≤◌, ◌<◌, ◌^◌, IfSome, option_map, option_and_then};
 ghost use Rattle.clap.specs.Words.{first_of, found_of, rows_of};
 ghost use Rattle.command_words.specs.Options as options;
-ghost use Rattle.command_words.specs.Options.{value_behind, HasFewWorkers};
+ghost use Rattle.command_words.specs.Options.{HasFewWorkers};
 
+use crate::number::number_within;
 use crate::reader::text_at;
 use clap::ArgMatches;
 use spec_core::settings::Settings;
@@ -131,46 +130,12 @@ pub const USUAL: Choices = Choices {
     workers: 0,
 };
 
-// The value of digits behind others, if they are decimal digits and it is at most the greatest.
-#[tactic(auto, using(crate::proofs::Values::too_great))]
-fn value_behind(before: u64, digits: &[u8], greatest: u64) -> Option<u64>
-    requires small { greatest < 2 ^ 60 }
-    requires within { before ≤ greatest }
-    ensures { result ≡ (if list_all is_ascii_digit digits.now && nat_le (value_behind before digits.now) greatest
-        then Some (value_behind before digits.now) else None) }
-{
-    match digits {
-        [] => Some(before),
-        [digit, rest @ ..] => {
-            if !digit.is_ascii_digit() {
-                return None;
-            }
-            let value = 10 * before + (*digit - b'0') as u64;
-            if value > greatest {
-                return None;
-            }
-            value_behind(value, rest, greatest)
-        }
-    }
-}
-
 // The number that a word gives an option.
 fn number_of(option: OptionName, word: &str) -> Option<u64>
     ensures number { result ≡ options.number_of option word.now }
     ensures within { IfSome result (λ number. number ≤ options.greatest option) }
 {
-    let digits = word.as_bytes();
-    if digits.is_empty() {
-        return None;
-    }
-    match value_behind(0, digits, option.greatest()) {
-        Some(number) => if number >= option.least() {
-            Some(number)
-        } else {
-            None
-        },
-        None => None,
-    }
+    number_within(word, option.least(), option.greatest())
 }
 
 // The choices with what a word gives the option, where the word is a number for it.

@@ -2,7 +2,6 @@
 
 ghost use Rattle.std.specs.Prelude.{◌≡◌, IfOk, map, option_map, string_bytes, true, false};
 ghost use Rattle.clap.specs.Words.{app_of, first_of, found_of, is_simple, is_simple_and_free, rows_of, rule_of};
-ghost use Rattle.command_words.specs.Commands as commands;
 ghost use Rattle.command_words.specs.Readers as readers;
 
 use clap::error::ErrorKind;
@@ -78,6 +77,16 @@ pub fn replay_reader<'a>(alloc: Global) -> Result<Command<'a>, AllocError>
         .arg(numbered(alloc, "budget"))
 }
 
+/// Reads the words of `selfrun`.
+pub fn selfrun_reader<'a>(alloc: Global) -> Result<Command<'a>, AllocError>
+    ensures { IfOk result (λ c. app_of c ≡ readers.selfrun_reader) }
+{
+    bare(alloc, "selfrun")
+        .arg(named(alloc, "SEED"))?
+        .arg(named(alloc, "SIZE"))?
+        .arg(numbered(alloc, "workers"))
+}
+
 /// What the reader finds in the words, where it has matches of them.
 pub fn find<'a>(reader: Command<'a>, words: &'a [String]) -> Result<Option<ArgMatches<'a>>, Memory>
     requires simple { is_simple (app_of reader) ≡ true }
@@ -93,19 +102,9 @@ pub fn find<'a>(reader: Command<'a>, words: &'a [String]) -> Result<Option<ArgMa
     }
 }
 
-/// The word that was found under a name.
+/// The word that was found under a name, if one was.
 pub fn text_at<'a>(matches: &ArgMatches<'a>, id: &str) -> Option<&'a str>
     ensures { option_map (λ w. w.now) result ≡ first_of id.now (rows_of (found_of matches.now)) }
 {
     matches.get_str(id)
-}
-
-/// The word that was found under a name, or the empty text.
-pub fn word_at<'a>(matches: &ArgMatches<'a>, id: &str) -> &'a str
-    ensures { result.now ≡ commands.word_at id.now (rows_of (found_of matches.now)) }
-{
-    match text_at(matches, id) {
-        Some(word) => word,
-        None => "",
-    }
 }

@@ -1,6 +1,6 @@
 -- Which status a call ends with, and which text it brings.
 use Rattle.std.specs.Prelude.{ℕ, ◌≡◌, ◌⊎◌, List, Option, Some, None, codes}
-use Rattle.command_words.specs.Commands.{Command, run, check, equal, replay}
+use Rattle.command_words.specs.Commands.{Command, run, check, equal, replay, selfrun}
 use Rattle.lotos_outside.specs.Sink.{with_more, AppendsPrefix}
 use Rattle.lotos_run.specs.declared.second_file.Second.TheVariants.{Script, Trace}
 use Rattle.lotos_run.specs.declared.status.Status.{Status}
@@ -9,6 +9,7 @@ use Rattle.lotos_run.specs.Checks.{IsCheckDue}
 use Rattle.lotos_run.specs.Equals.{IsEqualDue}
 use Rattle.lotos_run.specs.Outside.{Shelved, Outside}
 use Rattle.lotos_run.specs.SecondFiles.{IsSecondDue}
+use Rattle.lotos_run.specs.Selfruns.{IsSelfrunDue}
 
 -- what is due where the words name no command
 abbrev pub IsUsageDue : Status → List ℕ → Type 0
@@ -23,6 +24,7 @@ IsDue shelf (Some (run specification script settings workers)) status text =
 IsDue shelf (Some (check specification)) status text = IsCheckDue shelf specification status text
 IsDue shelf (Some (equal specification first second budget)) status text = IsEqualDue shelf specification first second budget status text
 IsDue shelf (Some (replay specification trace budget)) status text = IsSecondDue shelf (Trace budget) specification trace status text
+IsDue shelf (Some (selfrun seed size workers)) status text = IsSelfrunDue seed size status text
 
 -- the status is due, and the text that is due with it was written
 abbrev pub IsAnswered : Outside → Option Command → Status → Type 0

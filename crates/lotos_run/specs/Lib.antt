@@ -11,4 +11,5 @@ pub mod Replays
 pub mod Runs
 pub mod RunTexts
 pub mod SecondFiles
+pub mod Selfruns
 pub mod Statuses

@@ -4,6 +4,7 @@ use Rattle.spec_core.specs.declared.settings.Settings.{Settings}
 use Rattle.spec_core.specs.Code.{Program}
 use Rattle.command_run.specs.declared.answer.Answer.{Answer}
 use Rattle.command_run.specs.Runs.{Comes}
+use Rattle.lotos_run.specs.declared.run_text.SessionText.TheVariants.{Trace}
 use Rattle.lotos_run.specs.declared.status.Status.{Status}
 use Rattle.lotos_run.specs.RunTexts.{status_of, text_of}
 
@@ -12,4 +13,4 @@ pub record IsScripted (program : Program) (text : List ℕ) (settings : Settings
   pub came : Answer
   pub comes : Comes program settings text came
   pub due : status ≡ status_of came
-  pub reported : answer ≡ text_of program came
+  pub reported : answer ≡ text_of Trace program came

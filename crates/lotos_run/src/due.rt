@@ -10,6 +10,7 @@ use crate::answer::{Answer, with_text};
 use crate::check::check;
 use crate::equal::equal;
 use crate::second_file::{Second, over_specification};
+use crate::selfrun::selfrun;
 use crate::status::Status;
 use command_words::{Command, read_command};
 use lotos_outside::shelf::Shelf;
@@ -74,5 +75,12 @@ pub fn due_answer<R: Threads + Wait + Sync, F: Shelf, P: Probe + Sync>(
             Second::Trace(budget),
             probe,
         ),
+        Some(
+            Command::Selfrun {
+                seed,
+                size,
+                workers,
+            },
+        ) => selfrun(rt, alloc, seed, size, workers, probe),
     }
 }

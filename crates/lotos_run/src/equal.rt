@@ -12,7 +12,7 @@ use crate::check_text::refusal_text;
 use crate::equal_text::{answer_status, answer_text};
 use crate::status::Status;
 use command_equal::compare_texts;
-use front_laws::accepted::accepted_is_ready;
+use command_selfrun::accepted_is_ready;
 use lotos_ast::refusal::FrontFault;
 use lotos_front::accept;
 use lotos_outside::shelf::{Shelf, ShelfFault};

@@ -11,6 +11,7 @@ mod lines;
 mod replay_text;
 mod run_text;
 mod second_file;
+mod selfrun;
 pub mod status;
 
 ghost use Rattle.std.specs.Prelude.{◌≡◌, map, string_bytes};
@@ -49,7 +50,7 @@ fn write<O: Sink>(out: &mut O, status: Status, text: &[u8]) -> Status
 /// Carries out the command that the words name.
 ///
 /// `words` are the words behind the program's name, `shelf` is where files are fetched, and all texts go to `out`. No command reads `input`
-/// yet. In `run` each client and each worker has a thread, as far as threads can be started, and `probe` is told of each job before a worker
+/// yet. In `run` and `selfrun` each client and each worker has a thread, as far as threads can be started, and `probe` is told of each job before a worker
 /// does it. Want of memory may come at any time; nothing is said of its cause.
 #[tactic(auto, using(crate::proofs::Final::due_final))]
 pub fn lotos_main<

@@ -1,27 +1,64 @@
-// What `run` prints.
+// What `run` and `selfrun` print.
 
 ghost use Rattle.std.specs.Prelude.{◌≡◌, IfOk};
+ghost use Rattle.rule_model.specs.Events.{ending_of};
+ghost use Rattle.rule_model.specs.Logs.{events_of};
 ghost use Rattle.spec_core.specs.Code.{program_of};
 ghost use Rattle.lotos_run.specs.RunTexts as texts;
 
 use crate::lines::{bytes_of, script_refusal, term_line};
 use crate::status::Status;
 use command_run::Answer;
-use rule_model::log::End;
+use command_selfrun::counts_line;
+use rule_model::log::{End, Log};
 use spec_core::code::Checked;
 use spec_core::memory::Memory;
 use std::alloc::Global;
 use trace_text::print_log;
 
-/// What comes of a script as it is printed.
-pub fn answer_text(alloc: Global, checked: &Checked, answer: &Answer) -> Result<Vec<u8>, Memory>
-    ensures { IfOk result (λ text. text.items ≡ texts.text_of (program_of checked.now) answer.now) }
+/// What is printed of a session.
+#[derive(Clone, Copy)]
+pub enum SessionText {
+    /// Its trace.
+    Trace,
+    /// The line with its counts.
+    Counts,
+}
+
+// What is printed of a session.
+fn session_text(
+    alloc: Global,
+    checked: &Checked,
+    log: &Log,
+    end: &End,
+    printed: SessionText,
+) -> Result<Vec<u8>, Memory>
+    ensures { IfOk result (λ text.
+        text.items ≡ texts.session_text printed (program_of checked.now) (events_of log.now) (ending_of end.now)) }
 {
-    match answer {
-        Answer::Ran(log, end) => {
+    match printed {
+        SessionText::Trace => {
             let trace = print_log(alloc, log, end, checked)?;
             bytes_of(alloc, &trace)
         }
+        SessionText::Counts => {
+            let line = counts_line(alloc, log, end, checked)?;
+            bytes_of(alloc, &line)
+        }
+    }
+}
+
+/// What comes of a script as it is printed.
+pub fn answer_text(
+    alloc: Global,
+    checked: &Checked,
+    answer: &Answer,
+    printed: SessionText,
+) -> Result<Vec<u8>, Memory>
+    ensures { IfOk result (λ text. text.items ≡ texts.text_of printed (program_of checked.now) answer.now) }
+{
+    match answer {
+        Answer::Ran(log, end) => session_text(alloc, checked, log, end, printed),
         Answer::Spent(term) => term_line(alloc, "spent ", &checked.algebra, term),
         Answer::TooLarge(term) => term_line(alloc, "large ", &checked.algebra, term),
         Answer::Refused { line, kind } => script_refusal(alloc, *line, *kind),

@@ -11,11 +11,12 @@ ghost use Rattle.lotos_run.specs.SecondFiles.{most, SecondComes, HasFewWorkers, 
 
 use crate::answer::{Answer, fetch, with_text};
 use crate::check_text::refusal_text;
+use crate::run_text::SessionText;
 use crate::status::Status;
 use crate::{replay_text, run_text};
 use command_replay::replay_text as replay_trace;
 use command_run::run_text as run_script;
-use front_laws::accepted::accepted_is_ready;
+use command_selfrun::accepted_is_ready;
 use lotos_ast::refusal::FrontFault;
 use lotos_front::accept;
 use lotos_outside::shelf::{Shelf, ShelfFault};
@@ -65,7 +66,7 @@ fn scripted<R: Threads + Wait + Sync, P: Probe + Sync>(
     let came = run_script(rt, alloc, checked, text, settings, workers, probe)?;
     Ok(Answer {
         status: run_text::answer_status(&came),
-        text: run_text::answer_text(alloc, checked, &came)?,
+        text: run_text::answer_text(alloc, checked, &came, SessionText::Trace)?,
     })
 }
 

@@ -1,5 +1,5 @@
 use Rattle.std.specs.Prelude.{length}
-use Rattle.command_words.proofs.option.+value_behind.Given as goal
+use Rattle.command_words.proofs.number.+value_behind.Given as goal
 
 abbrev pub decreases-value_behind : goal.decreases-value_behind
 decreases-value_behind l = length l.digits.now

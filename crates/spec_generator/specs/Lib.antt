@@ -1,0 +1,5 @@
+pub mod Examples
+pub mod Links
+pub mod Numbers
+pub mod Scripts
+pub mod Specifications
