@@ -1,7 +1,7 @@
 // Copies of checked specifications.
 
-use crate::naturals::{NAT, ZERO, naturals};
-use crate::samples::{constant, names};
+use crate::polish::{NUMBER, data, term};
+use crate::samples::names;
 use spec_core::code::{ActField, Checked, CodeNode, ExitField, Part};
 use spec_core::items::Gate;
 use spec_core::memory::Memory;
@@ -14,10 +14,10 @@ fn action(alloc: Global) -> Result<CodeNode, Memory> {
     Ok(CodeNode::Act {
         gate: Gate(0),
         fields: vec![in alloc;
-            ActField::Give(constant(alloc, ZERO)),
-            ActField::Take(0, NAT),
+            ActField::Give(term(alloc, "0")?),
+            ActField::Take(0, NUMBER),
         ]?,
-        guard: Some((Term::Var(0), constant(alloc, ZERO))),
+        guard: Some((Term::Var(0), term(alloc, "0")?)),
         rest: Part(0),
     })
 }
@@ -31,10 +31,10 @@ fn code(alloc: Global) -> Result<Vec<CodeNode>, Memory> {
     Ok(nodes)
 }
 
-// g !0 ?x:Nat [x = 0]; exit(x) over the natural numbers, with its gate g.
+// g !0 ?x:Nat [x = 0]; exit(x) over the numbers, with its gate g.
 fn specification(alloc: Global) -> Result<Checked, Memory> {
     Ok(Checked {
-        algebra: naturals(alloc)?,
+        algebra: data(alloc)?,
         code: code(alloc)?,
         start: 1,
         gates: names(alloc, &["g"])?,
@@ -43,23 +43,30 @@ fn specification(alloc: Global) -> Result<Checked, Memory> {
 }
 
 // Whether the node is an action that asks whether x is 0.
-fn asks_for_zero(alloc: Global, node: &CodeNode) -> bool {
+fn asks_for_zero(node: &CodeNode, zero: &Term) -> bool {
     match node {
         CodeNode::Act {
             guard: Some((left, right)),
             ..
-        } => left.same(&Term::Var(0)) && right.same(&constant(alloc, ZERO)),
+        } => left.same(&Term::Var(0)) && right.same(zero),
+        _ => false,
+    }
+}
+
+// Whether nothing of the specification is missing.
+fn is_whole(checked: &Checked, zero: &Term) -> bool {
+    match checked.code.as_slice() {
+        [_, node] => {
+            asks_for_zero(node, zero) && checked.algebra.equations.len() == 24 && checked.start == 1
+        }
         _ => false,
     }
 }
 
 #[test]
 fn a_specification_is_copied_whole(rt: HostRuntime) -> Result<(), Fail> {
-    let alloc = rt.alloc();
-    let copied = specification(alloc)?.copy(alloc)?;
-    assert_eq!(rt; copied.code.len(), 2);
-    assert!(rt; asks_for_zero(alloc, &copied.code[1]));
-    assert_eq!(rt; copied.algebra.equations.len(), 5);
-    assert_eq!(rt; copied.start, 1);
+    let copied = specification(rt.alloc())?.copy(rt.alloc())?;
+    let zero = term(rt.alloc(), "0")?;
+    assert!(rt; is_whole(&copied, &zero));
     Ok(())
 }

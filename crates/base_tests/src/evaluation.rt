@@ -1,47 +1,82 @@
-// What evaluation gives, and what it costs.
+// What evaluation gives, and what it costs, by the machine that goes by the definition step by step.
 
-use crate::naturals::{ACK, DUP, SUCC, naturals, number};
-use crate::samples::{binary, unary};
+use crate::polish::{data, term};
 use spec_core::equation::DataSpec;
-use spec_core::term::Term;
+use spec_core::memory::Memory;
 use std::alloc::Global;
 use std::test::Fail;
 use value_reference::{EvaluationFault, plain_value};
 
-// Whether the term comes to this number after so many uses, with just so many allowed.
+// Terms, the values that they come to, and after how many uses of equations; worked out by hand from docs/LANGUAGE.md. The values of these
+// terms and more, with as many uses and with one less, are asked of `equal` by the cases of conformance/evaluation.
+const ROWS: [(&str, &str, u64); 15] = [
+    ("0", "0", 0),
+    (":s0_", ":s0_", 0),
+    ("nf", "t", 1),
+    // less of 0 and 1, and the first equation of and
+    ("&t<0s0", "t", 2),
+    ("as0s0", "sss0", 4),
+    ("ass0s0", "sssss0", 14),
+    ("ass0sss0", "sssssssss0", 44),
+    ("dds0", "ssss0", 5),
+    ("oos0", "sssssss0", 6),
+    ("1m0s0o0", "s0", 4),
+    // doubling, a premise that fails, one that holds, and max itself
+    ("mds0s0", "ss0", 8),
+    // doubling, two premises of which the second fails, two that hold, and pick itself
+    ("ps0ds0", "s0", 9),
+    ("p0s0", "0", 3),
+    ("l:0_", "t", 4),
+    ("l:0:d0:s0_", "f", 11),
+];
+
+// Whether the term comes to this value after so many uses, with just so many allowed.
 fn comes_to(
     alloc: Global,
     algebra: &DataSpec,
-    term: &Term,
-    n: u32,
-    uses: u64,
+    row: &(&str, &str, u64),
 ) -> Result<bool, EvaluationFault> {
-    let found = plain_value(alloc, algebra, term, uses)?;
-    let expected = number(alloc, n)?;
-    Ok(found.uses == uses && found.value.same(&expected))
+    let (text, value, uses) = row;
+    let found = plain_value(alloc, algebra, &term(alloc, text)?, *uses)?;
+    let due = term(alloc, value)?;
+    Ok(found.uses == *uses && found.value.same(&due))
 }
 
-// ack(2, 3) is 9 after 44 uses, and no value within 43; dup(dup(1)) is 4 after 2 + 3 uses.
+// Whether the term has no value within so many uses.
+fn is_spent(alloc: Global, algebra: &DataSpec, text: &str, uses: u64) -> Result<bool, Memory> {
+    match plain_value(alloc, algebra, &term(alloc, text)?, uses) {
+        Ok(_) => Ok(false),
+        Err(EvaluationFault::Spent) => Ok(true),
+        Err(EvaluationFault::Memory) => Err(Memory),
+    }
+}
+
+// Whether the term comes to its value after just so many uses, and to none within one less.
+fn costs(
+    alloc: Global,
+    algebra: &DataSpec,
+    row: &(&str, &str, u64),
+) -> Result<bool, EvaluationFault> {
+    let (text, _, uses) = row;
+    if *uses > 0 && !is_spent(alloc, algebra, text, *uses - 1)? {
+        return Ok(false);
+    }
+    comes_to(alloc, algebra, row)
+}
+
 #[test]
 fn values_cost_what_the_definition_says(rt: HostRuntime) -> Result<(), Fail> {
-    let alloc = rt.alloc();
-    let algebra = naturals(alloc)?;
-    let call = binary(alloc, ACK, number(alloc, 2)?, number(alloc, 3)?)?;
-    assert!(rt; comes_to(alloc, &algebra, &call, 9, 44)?);
-    let short = plain_value(alloc, &algebra, &call, 43);
-    assert!(rt; matches!(short, Err(EvaluationFault::Spent)));
-    let doubled = unary(alloc, DUP, unary(alloc, DUP, number(alloc, 1)?)?)?;
-    assert!(rt; comes_to(alloc, &algebra, &doubled, 4, 5)?);
+    let algebra = data(rt.alloc())?;
+    for row in &ROWS {
+        assert!(rt; costs(rt.alloc(), &algebra, row)?, "at {}", row.0);
+    }
     Ok(())
 }
 
 // A variable has no value, and neither has a call over one.
 #[test]
 fn loose_terms_have_no_value(rt: HostRuntime) -> Result<(), Fail> {
-    let alloc = rt.alloc();
-    let algebra = naturals(alloc)?;
-    let call = unary(alloc, SUCC, Term::Var(0))?;
-    let value = plain_value(alloc, &algebra, &call, 100);
-    assert!(rt; matches!(value, Err(EvaluationFault::Spent)));
+    let algebra = data(rt.alloc())?;
+    assert!(rt; is_spent(rt.alloc(), &algebra, "sx", 100)?);
     Ok(())
 }

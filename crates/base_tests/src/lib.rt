@@ -8,9 +8,11 @@ mod evaluation;
 #[cfg(test)]
 mod generated;
 #[cfg(test)]
-mod naturals;
+mod polish;
 #[cfg(test)]
 mod samples;
+#[cfg(test)]
+mod sets;
 #[cfg(test)]
 mod shelves;
 #[cfg(test)]

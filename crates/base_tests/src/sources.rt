@@ -25,27 +25,27 @@ fn a_call_gives_at_most_the_rest_of_one_piece(rt: HostRuntime) -> Result<(), Fai
     Ok(())
 }
 
+// Whether of three calls of a source the one with this number fails, and loses no byte.
+fn fails_at(rt: &HostRuntime, failing: u64) -> Result<bool, Fail> {
+    let mut source = two_pieces(rt, &[failing])?;
+    let mut piece = [0; 1];
+    for call in [1, 2, 3] {
+        let due = if call == failing {
+            Err(SourceFault::Failed)
+        } else {
+            Ok(1)
+        };
+        if source.read(&mut piece) != due {
+            return Ok(false);
+        }
+    }
+    Ok(source.read(&mut piece) == Ok(1) && piece == [b'c'])
+}
+
 #[test]
 fn each_call_can_be_told_to_fail(rt: HostRuntime) -> Result<(), Fail> {
     for failing in [1, 2, 3] {
-        let mut source = two_pieces(&rt, &[failing])?;
-        for call in [1, 2, 3] {
-            let mut piece = [0; 1];
-            let result = source.read(&mut piece);
-            let due = if call == failing {
-                Err(SourceFault::Failed)
-            } else {
-                Ok(1)
-            };
-            assert_eq!(rt;
-                result,
-                due,
-                "call {call} of a source that fails at {failing}"
-            );
-        }
-        let mut piece = [0; 1];
-        assert_eq!(rt; source.read(&mut piece), Ok(1));
-        assert_eq!(rt; piece, [b'c'], "the call that failed lost no byte");
+        assert!(rt; fails_at(&rt, failing)?, "call {failing}");
     }
     Ok(())
 }

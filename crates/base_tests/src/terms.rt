@@ -1,20 +1,15 @@
 // Terms: their copies, and when they are equal.
 
-use crate::samples::{binary, constant, unary};
-use spec_core::items::Op;
-use spec_core::term::Term;
+use crate::polish::term;
 use std::test::Fail;
 
-// f(x0, c) with f = 0 and c = 1 is equal to its copy, and not to f(x1, c) or f(x0).
+// A term is equal to its copy, and not to one with another variable or with an argument less.
 #[test]
 fn terms_are_compared_as_trees(rt: HostRuntime) -> Result<(), Fail> {
-    let alloc = rt.alloc();
-    let argument = constant(alloc, Op(1));
-    let term = binary(alloc, Op(0), Term::Var(0), argument.copy(alloc)?)?;
-    let other = binary(alloc, Op(0), Term::Var(1), argument)?;
-    let shorter = unary(alloc, Op(0), Term::Var(0))?;
-    assert!(rt; term.copy(alloc)?.same(&term));
-    assert!(rt; !term.same(&other));
-    assert!(rt; !term.same(&shorter));
+    let one = term(rt.alloc(), "ax0")?;
+    assert!(rt; one.copy(rt.alloc())?.same(&one));
+    for other in ["ay0", "sx", "a0x", "ax"] {
+        assert!(rt; !one.same(&term(rt.alloc(), other)?), "{other}");
+    }
     Ok(())
 }

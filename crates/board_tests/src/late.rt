@@ -1,10 +1,9 @@
 // What is handed in for a node that is gone.
 
-use crate::telling::{A, B, board_of, offer_at, told};
-use crate::working::{work_and_settle, work_of};
+use crate::working::work_of;
 use board_core::Piece;
 use board_core::board::Board;
-use board_core::job::Post;
+use board_core::job::{Job, Post};
 use board_laws::stop_reason::StopReason;
 use candidates::job::NodeJob;
 use node_trees::expansion::Expansion;
@@ -13,7 +12,6 @@ use rule_model::reply::LimitKind;
 use rule_model::rules::{Rules, Slots};
 use spec_core::memory::Memory;
 use std::alloc::Global;
-use std::test::Fail;
 
 // An action without values.
 fn rules(alloc: Global) -> Rules {
@@ -50,26 +48,19 @@ fn fail_late(board: &mut Board, generation: Gen) -> Option<Post> {
     Some(board.fail(&NodeJob::Expand(generation), reason))
 }
 
-// Whatever is handed in for a node that is gone is stale, and changes nothing: neither a reason to stop, nor an expansion, nor what a node
-// shows. The session goes on.
-#[test]
-fn late_work_is_stale(rt: HostRuntime) -> Result<(), Fail> {
-    let alloc = rt.alloc();
-    let mut board = board_of(alloc, "noexit", "a; b; stop", 10, 1)?.expect(&rt, "accepted");
-    assert_eq!(rt; board.pend(alloc, 1, &offer_at(alloc, A), false), Ok(1));
-    let job = board.take_job(alloc)?.expect(&rt, "a job");
-    let work = work_of(alloc, &board, &job.origin)?.expect(&rt, "work");
-    assert!(rt; board.lives(Gen(0)));
-    board.give_back_all();
-    assert_eq!(rt; work_and_settle(alloc, &mut board)?, Some(1));
-    assert_eq!(rt; fail_late(&mut board, Gen(0)), Some(Post::Stale));
-    assert_eq!(rt; post_late(&mut board, Gen(0), work), Some(Post::Stale));
-    assert_eq!(rt; judge_late(alloc, &mut board, Gen(0))?, Some(Post::Stale));
-    assert!(rt; !board.stopped());
-    assert_eq!(rt; board.log().len(), 2);
-    assert_eq!(rt; board.state().actions(), 1);
-    assert_eq!(rt; board.pend(alloc, 1, &offer_at(alloc, B), false), Ok(2));
-    assert_eq!(rt; work_and_settle(alloc, &mut board)?, Some(3));
-    assert_eq!(rt; told(alloc, &board, 1, 2)?, (1, "taken"));
-    Ok(())
+/// Hands in for a node that is gone a reason to stop, what a job there could do, and that it shows nothing; whether each of them is stale.
+pub fn all_is_stale(
+    alloc: Global,
+    board: &mut Board,
+    job: &Job,
+    generation: Gen,
+) -> Result<bool, Memory> {
+    let Some(work) = work_of(alloc, board, &job.origin)? else {
+        return Ok(false);
+    };
+    let failed = fail_late(board, generation);
+    let posted = post_late(board, generation, work);
+    let judged = judge_late(alloc, board, generation)?;
+    let stale = Some(Post::Stale);
+    Ok(failed == stale && posted == stale && judged == stale)
 }

@@ -3,11 +3,11 @@
 #![tactic(auto)]
 
 #[cfg(test)]
-mod jobs;
-#[cfg(test)]
 mod late;
 #[cfg(test)]
-mod offers;
+mod ready;
+#[cfg(test)]
+mod sessions;
 #[cfg(test)]
 mod steps;
 #[cfg(test)]

@@ -1,108 +1,137 @@
-// Actions that are made ready, and done.
+// Steps of a session by the calls of its board, each with what is due.
 
-ghost use Rattle.std.specs.Prelude.{IfOk, IfSome};
-ghost use Rattle.rule_model.specs.Derivations.{derivation_of};
-ghost use Rattle.board_tests.specs.Taking.{MayTake};
-
-use crate::telling::{A, B, board_of, ended, offer_at, told};
-use crate::working::{do_job, work_and_settle};
+use crate::late::all_is_stale;
+use crate::ready::{commit_next, reserve_next};
+use crate::telling::{offer_at, told};
+use crate::working::{do_job, expanded_by, work_and_settle};
 use board_core::board::Board;
-use decision_order::settle::Settled;
-use rule_model::rules::Rules;
+use board_core::job::Job;
+use board_record::{LeaveFault, PendFault};
+use node_trees::origin::Gen;
 use spec_core::memory::Memory;
 use std::alloc::Global;
-use std::test::Fail;
 
-// The pending offer that is taken next, by its number, and by which rules, where what is known decides so.
-fn next_taken(alloc: Global, board: &Board) -> Result<Option<(u32, Rules)>, Memory>
-    ensures may { IfOk result (λ o. IfSome o (λ r. MayTake board.now r.0 (derivation_of r.1))) }
-{
-    if board.stopped() || !board.goes_by_rules() {
-        return Ok(None);
-    }
-    if board.state().actions() >= board.settings().steps as u64 {
-        return Ok(None);
-    }
-    board.decided_is_due();
-    match board.next(alloc)? {
-        Settled::Takes(number, rules) => Ok(Some((number, rules))),
-        Settled::Unknown
-        | Settled::Deadlocks
-        | Settled::IsBeyond(_, _)
-        | Settled::IsNotNow(_)
-        | Settled::GoesOn(_)
-        | Settled::Stalls
-        | Settled::Nothing => Ok(None),
-    }
+/// What is done with a board, or asked of it, and what is due.
+#[derive(Clone, Copy)]
+pub enum Step {
+    /// A client offers at the gate with a number: how many offers it has made then, or why this one isn't made.
+    Offers(u32, u32, Result<u64, PendFault>),
+    /// The same, by an ask.
+    Asks(u32, u32, Result<u64, PendFault>),
+    /// A client leaves, or why it doesn't.
+    Leaves(u32, Result<(), LeaveFault>),
+    /// The next entry is settled: its number.
+    Settles(Option<u64>),
+    /// The same, once the jobs are done that this needs.
+    WorksAndSettles(Option<u64>),
+    /// A job is taken and kept, which expands the node of this generation.
+    TakesJob(u128),
+    /// No job is free.
+    NoJobIsFree,
+    /// The job that is kept is given back.
+    GivesBack,
+    /// All jobs that are out are given back.
+    GivesAllBack,
+    /// A job is taken and done.
+    DoesJob,
+    /// Whether an offer is taken next, for which all is made ready.
+    MakesReady(bool),
+    /// Whether an offer is taken next, which is done.
+    Commits(bool),
+    /// How a client's offer with a number was answered: the number of actions before, and the word.
+    Answered(u32, u64, u64, &'static str),
+    /// How many entries there are, how many offers wait, how many actions were done, and how many clients are open. Nothing has stopped the
+    /// session.
+    Counts(usize, usize, u64, usize),
+    /// Whether the first node is there.
+    FirstNodeLives(bool),
+    /// The first node is gone, and what is handed in for it is stale, as the work of the job that is kept.
+    AllIsStale,
 }
 
-// Makes ready that the next offer is taken; whether one is.
-fn reserve_next(alloc: Global, board: &mut Board) -> Result<bool, Memory> {
-    match next_taken(alloc, board)? {
-        None => Ok(false),
-        Some((number, rules)) => {
-            let name = board.offer_name(number);
-            board.reserve_step(alloc, &rules, Some(name))?;
+// Whether an offer is made, or refused, as is due.
+fn offers(
+    alloc: Global,
+    board: &mut Board,
+    client: u32,
+    gate: u32,
+    asks: bool,
+    due: Result<u64, PendFault>,
+) -> bool {
+    board.pend(alloc, client, &offer_at(alloc, gate), asks) == due
+}
+
+// Takes a job and keeps it; whether it expands this node.
+fn takes_job(
+    alloc: Global,
+    board: &mut Board,
+    kept: &mut Option<Job>,
+    node: u128,
+) -> Result<bool, Memory> {
+    let Some(job) = board.take_job(alloc)? else {
+        return Ok(false);
+    };
+    let expanded = expanded_by(&job.task);
+    *kept = Some(job);
+    Ok(expanded == Some(node))
+}
+
+fn counts(board: &Board, entries: usize, pending: usize, actions: u64, open: usize) -> bool {
+    !board.stopped()
+        && board.log().len() == entries
+        && board.state().pending().len() == pending
+        && board.state().actions() == actions
+        && board.open_clients() == open
+}
+
+// Does a step with the job that is kept.
+fn holds_with_job(
+    alloc: Global,
+    board: &mut Board,
+    kept: &Option<Job>,
+    step: Step,
+) -> Result<bool, Memory> {
+    let Some(job) = kept else {
+        return Ok(false);
+    };
+    match step {
+        Step::GivesBack => {
+            board.give_back(&job.task);
             Ok(true)
         }
+        _ => all_is_stale(alloc, board, job, Gen(0)),
     }
 }
 
-// The next offer is taken; whether one is.
-fn commit_next(alloc: Global, board: &mut Board) -> Result<bool, Memory> {
-    match next_taken(alloc, board)? {
-        None => Ok(false),
-        Some((number, rules)) => {
-            let name = board.offer_name(number);
-            board.reserve_step(alloc, &rules, Some(name))?;
-            board.commit(&rules, Some(name));
+/// Does a step; whether it comes out as is due.
+pub fn holds(
+    alloc: Global,
+    board: &mut Board,
+    kept: &mut Option<Job>,
+    step: Step,
+) -> Result<bool, Memory> {
+    match step {
+        Step::Offers(client, gate, due) => Ok(offers(alloc, board, client, gate, false, due)),
+        Step::Asks(client, gate, due) => Ok(offers(alloc, board, client, gate, true, due)),
+        Step::Leaves(client, due) => Ok(board.leave(alloc, client) == due),
+        Step::Settles(due) => Ok(board.settle(alloc)? == due),
+        Step::WorksAndSettles(due) => Ok(work_and_settle(alloc, board)? == due),
+        Step::TakesJob(node) => takes_job(alloc, board, kept, node),
+        Step::NoJobIsFree => Ok(board.take_job(alloc)?.is_none()),
+        Step::GivesBack | Step::AllIsStale => holds_with_job(alloc, board, kept, step),
+        Step::GivesAllBack => {
+            board.give_back_all();
             Ok(true)
         }
+        Step::DoesJob => do_job(alloc, board),
+        Step::MakesReady(due) => Ok(reserve_next(alloc, board)? == due),
+        Step::Commits(due) => Ok(commit_next(alloc, board)? == due),
+        Step::Answered(client, number, actions, word) => {
+            Ok(told(alloc, board, client, number)? == (actions, word))
+        }
+        Step::Counts(entries, pending, actions, open) => {
+            Ok(counts(board, entries, pending, actions, open))
+        }
+        Step::FirstNodeLives(due) => Ok(board.lives(Gen(0)) == due),
     }
-}
-
-// What is made ready alone changes nothing: the offer waits as before, and is taken afterwards as if nothing had been made ready.
-#[test]
-fn what_stands_ready_changes_nothing(rt: HostRuntime) -> Result<(), Fail> {
-    let alloc = rt.alloc();
-    let mut board = board_of(alloc, "noexit", "a; b; stop", 10, 1)?.expect(&rt, "accepted");
-    assert_eq!(rt; board.pend(alloc, 1, &offer_at(alloc, A), false), Ok(1));
-    assert!(rt; !reserve_next(alloc, &mut board)?);
-    assert!(rt; do_job(alloc, &mut board)?);
-    assert!(rt; do_job(alloc, &mut board)?);
-    assert!(rt; reserve_next(alloc, &mut board)?);
-    assert!(rt; reserve_next(alloc, &mut board)?);
-    assert_eq!(rt; board.log().len(), 1);
-    assert_eq!(rt; board.state().actions(), 0);
-    assert_eq!(rt; board.state().pending().len(), 1);
-    assert_eq!(rt; told(alloc, &board, 1, 1)?, (0, "nothing"));
-    assert!(rt; board.take_job(alloc)?.is_none());
-    assert_eq!(rt; board.settle(alloc)?, Some(1));
-    assert_eq!(rt; told(alloc, &board, 1, 1)?, (0, "taken"));
-    Ok(())
-}
-
-// An action that was made ready is done: it is the log's last entry, the offer is taken, and the behaviour goes on from there, where
-// another offer is taken.
-#[test]
-fn what_stands_ready_is_done(rt: HostRuntime) -> Result<(), Fail> {
-    let alloc = rt.alloc();
-    let mut board = board_of(alloc, "noexit", "a; b; stop", 10, 1)?.expect(&rt, "accepted");
-    assert_eq!(rt; board.pend(alloc, 1, &offer_at(alloc, A), false), Ok(1));
-    assert!(rt; do_job(alloc, &mut board)?);
-    assert!(rt; do_job(alloc, &mut board)?);
-    assert!(rt; commit_next(alloc, &mut board)?);
-    assert_eq!(rt; board.log().len(), 2);
-    assert_eq!(rt; board.state().actions(), 1);
-    assert_eq!(rt; board.state().pending().len(), 0);
-    assert_eq!(rt; told(alloc, &board, 1, 1)?, (0, "taken"));
-    assert!(rt; !board.stopped());
-    assert!(rt; !commit_next(alloc, &mut board)?);
-    assert_eq!(rt; board.pend(alloc, 1, &offer_at(alloc, B), false), Ok(2));
-    assert_eq!(rt; work_and_settle(alloc, &mut board)?, Some(3));
-    assert_eq!(rt; told(alloc, &board, 1, 2)?, (1, "taken"));
-    assert_eq!(rt; board.leave(alloc, 1), Ok(()));
-    assert_eq!(rt; work_and_settle(alloc, &mut board)?, None);
-    assert_eq!(rt; ended(alloc, board)?, (5, "deadlock"));
-    Ok(())
 }

@@ -2,8 +2,6 @@
 #![tactic(auto)]
 
 #[cfg(test)]
-mod code_text;
-#[cfg(test)]
 mod codes;
 #[cfg(test)]
 mod data_text;
@@ -13,10 +11,6 @@ mod equations;
 mod orders;
 #[cfg(test)]
 mod parsing;
-#[cfg(test)]
-mod sets;
-#[cfg(test)]
-mod terms;
 #[cfg(test)]
 mod texts;
 #[cfg(test)]
