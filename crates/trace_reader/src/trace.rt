@@ -97,8 +97,8 @@ fn read_lines(alloc: Global, vocabulary: &Vocabulary, lines: &[u8]) -> Result<Tr
 /// The log and the end whose trace the text is; or the first line with which no trace of the specification goes on.
 ///
 /// A log has one trace and a trace one log: the text is what `trace_text::print_log` prints of the answer, byte by byte. It is read line by
-/// line, without recursion in the number of lines. A tree of rules, or the term of a reply, that is nested deeper than 512 levels isn't
-/// read, nor is a line with round brackets more than 16,384 levels deep, and the answer is then want of memory.
+/// line, without recursion in the number of lines. A tree of rules, or the term of a reply, that is nested deeper than 98,304 levels isn't
+/// read, nor is a line with round brackets more than 163,840 levels deep, and the answer is then want of memory.
 pub fn read_trace(alloc: Global, text: &[u8], checked: &Checked) -> Result<Trace, TraceFault>
     requires fits { FitsData (program_of checked.now).theory }
     requires named { AreNamed (program_of checked.now) }

@@ -67,11 +67,12 @@ fn is_deep(cursor: &Cursor) -> bool {
     }
 }
 
-/// How deep a term or a tree may be nested. What is deeper isn't read for want of memory, since the functions that go over it recur.
-pub const DEEPEST: usize = 512;
+/// How deep a term or a tree may be nested: half as deep again as a part may spread. What is deeper isn't read for want of memory, since the
+/// functions that go over it recur.
+pub const DEEPEST: usize = 98_304;
 
-/// How deep brackets may be nested in a line, those of its values included, which are read without recursion.
-pub const DEEPEST_LINE: usize = 16_384;
+/// How deep brackets may be nested in a line, those of its values included: a value of 65,536 symbols may stand in the deepest tree.
+pub const DEEPEST_LINE: usize = 163_840;
 
 /// A ground term.
 pub fn read_term(
