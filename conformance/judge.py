@@ -5,6 +5,7 @@ clients' lines are those of the script, in order, each with exactly one answer, 
 the actions, the answers and the end are among those that the case allows.
 """
 import collections
+import os
 import re
 import subprocess
 
@@ -14,7 +15,6 @@ LINE = re.compile(r"(pend|ask) (\d+)\.(\d+) (.*)")
 BY = re.compile(r"act .* by (\d+)\.(\d+) rules ")
 REPLY = re.compile(r"reply (\d+)\.(\d+) (.*)")
 LEAVE = re.compile(r"leave (\d+)")
-KEYS = {"actions", "in_any_order", "answers", "ends"}
 
 
 def wishes_of(script):
@@ -50,7 +50,7 @@ def told(lines):
 def replayed(program, words, place, trace):
     """What the program's `replay` prints of a trace."""
     (place / "judged.trace").write_bytes(trace)
-    budget = words[words.index("--budget"):][:2] if "--budget" in words else []
+    budget = words[words.index(b"--budget"):][:2] if b"--budget" in words else []
     call = [program, "replay", words[1], "judged.trace", *budget]
     end = subprocess.run(call, cwd=place, stdin=subprocess.DEVNULL, capture_output=True, timeout=SECONDS)
     return end.stdout.decode("latin-1")
@@ -62,7 +62,7 @@ def faults(program, words, place, due, trace):
     if lines[0] != "lotos-trace 1" or lines[-1] or not lines[-2].startswith("end "):
         return [f"it is no trace: {trace[:80]!r}"]
     own, answers, actions = told(lines)
-    wishes = wishes_of((place / words[2]).read_text(encoding="latin-1"))
+    wishes = wishes_of((place / os.fsdecode(words[2])).read_text(encoding="latin-1"))
     names = [(client, number) for client, all_wishes in wishes.items() for number in range(1, len(all_wishes) + 1)]
     found = []
     said = replayed(program, words, place, trace)
@@ -74,10 +74,10 @@ def faults(program, words, place, due, trace):
         found.append("not each offer has exactly one answer")
     if "actions" in due and actions not in due["actions"]:
         found.append(f"the actions are {actions}")
-    if "in_any_order" in due and sorted(actions) != sorted(due["in_any_order"]):
+    if "in any order" in due and sorted(actions) != sorted(due["in any order"]):
         found.append(f"the actions are, in some order, {sorted(actions)}")
     words_of = {f"{client}.{number}": word for client, number, word in answers}
-    for name, allowed in due.get("answers", {}).items():
+    for name, allowed in due.get("answer", {}).items():
         if words_of.get(name) not in allowed:
             found.append(f"the answer to {name} is {words_of.get(name)!r}")
     if "ends" in due and lines[-2][4:] not in due["ends"]:
