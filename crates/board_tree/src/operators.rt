@@ -74,81 +74,8 @@ pub fn anew(
     })
 }
 
-// A relabelling that stays over what its part becomes.
-fn stays_relabelled(
-    alloc: Global,
-    checked: &Checked,
-    branch: &Branch,
-    pairs: &[(Gate, Gate)],
-    part: &Branch,
-    d: &Rules,
-    one: Advanced,
-    low: u128,
-    inner: &[u32],
-    place: &[u32],
-) -> Result<Advanced, Memory>
-    requires inner { inner.now ≡ place.now ++ 0 ∷ [] }
-    requires tidy { IsTidy (shape_of one.branch.value) }
-    requires shape { shape_of branch.now ≡ over (relabelled (map relabelling_of pairs.now)) (shape_of part.now) }
-    requires moves { Moves (program_of checked.now) inner.now (shape_of part.now) (derivation_of d.now) one.action
-        (shape_of one.branch.value) low one.next }
-    ensures { IfOk result (λ a.
-        Moves (program_of checked.now) place.now (shape_of branch.now) (rel (derivation_of d.now)) a.action (shape_of a.branch.value) low
-        a.next) }
-{
-    let Advanced {
-        action,
-        branch: one,
-        next,
-    } = one;
-    let operator = Single::Relabel(Vec::from_slice(alloc, pairs)?);
-    let after = Branch::over(alloc, operator, one)?;
-    Ok(Advanced {
-        action: renamed(pairs, action),
-        branch: after,
-        next,
-    })
-}
-
-// A relabelling that is tidied with what its part becomes, which has new nodes.
-fn becomes_tidied(
-    alloc: Global,
-    checked: &Checked,
-    branch: &Branch,
-    pairs: &[(Gate, Gate)],
-    part: &Branch,
-    d: &Rules,
-    one: Advanced,
-    low: u128,
-    inner: &[u32],
-    place: &[u32],
-) -> Result<Advanced, Memory>
-    requires ready { IsReady (program_of checked.now) }
-    requires untidy { IsTidy (shape_of one.branch.value) → ⊥ }
-    requires shape { shape_of branch.now ≡ over (relabelled (map relabelling_of pairs.now)) (shape_of part.now) }
-    requires moves { Moves (program_of checked.now) inner.now (shape_of part.now) (derivation_of d.now) one.action
-        (shape_of one.branch.value) low one.next }
-    ensures { IfOk result (λ a.
-        Moves (program_of checked.now) place.now (shape_of branch.now) (rel (derivation_of d.now)) a.action (shape_of a.branch.value) low
-        a.next) }
-{
-    let Advanced {
-        action,
-        branch: one,
-        next,
-    } = one;
-    let Fresh {
-        branch: after,
-        next: high,
-    } = tidied_branch(alloc, checked, pairs, &one, next, place)?;
-    Ok(Advanced {
-        action: renamed(pairs, action),
-        branch: after,
-        next: high,
-    })
-}
-
-/// A relabelling whose part acts. Two relabellings one over the other become one, and a call is relabelled in its gates.
+/// A relabelling whose part acts. It stays over what its part becomes, where that is tidy; else it is tidied with it, in new nodes: two
+/// relabellings one over the other become one, and a call is relabelled in its gates.
 pub fn relabelled_step(
     alloc: Global,
     checked: &Checked,
@@ -170,15 +97,30 @@ pub fn relabelled_step(
         Moves (program_of checked.now) place.now (shape_of branch.now) (rel (derivation_of d.now)) a.action (shape_of a.branch.value) low
         a.next) }
 {
-    if one.branch.is_tidy() {
-        stays_relabelled(
-            alloc, checked, branch, pairs, part, d, one, low, inner, place,
-        )
-    } else {
-        becomes_tidied(
-            alloc, checked, branch, pairs, part, d, one, low, inner, place,
-        )
+    let stays = one.branch.is_tidy();
+    let Advanced {
+        action,
+        branch: one,
+        next,
+    } = one;
+    if stays {
+        let operator = Single::Relabel(Vec::from_slice(alloc, pairs)?);
+        let after = Branch::over(alloc, operator, one)?;
+        return Ok(Advanced {
+            action: renamed(pairs, action),
+            branch: after,
+            next,
+        });
     }
+    let Fresh {
+        branch: after,
+        next: high,
+    } = tidied_branch(alloc, checked, pairs, &one, next, place)?;
+    Ok(Advanced {
+        action: renamed(pairs, action),
+        branch: after,
+        next: high,
+    })
 }
 
 // Appends the values that are handed on to variables.

@@ -21,7 +21,7 @@ use Rattle.symbolic_rules.specs.MayDerive.{MayDeriveWith}
 use Rattle.symbolic_composites.proofs.Origins.{Leads, with_one_bound, closing_leads}
 use Rattle.node_values.specs.Reached.{FieldAsks, ExitAsks, BindingAsks, ArgumentAsks}
 use Rattle.node_values.proofs.Reaching.{either_way, both_ways, one_of_images, asked, premise_asked, guard_asked, field_asked, exit_asked}
-use Rattle.node_values.proofs.Reaching.{premise_holds, value_there, bindings_to, bindings_from, arguments_same}
+use Rattle.node_values.proofs.Reaching.{premise_holds, value_there, bindings_to, bindings_from, arguments_same, call_asked}
 use Rattle.node_verdict.specs.Asking.{TreeAsks}
 
 module _ (theory : Theory) (w : Windows) (r : MarkedAssignment) (s : Assignment) (t : MarkedAssignment) (leads : Leads r s t) where
@@ -263,30 +263,10 @@ module _ (program : Program) (w : Windows) where
   asked_put (disstep d) (disable y z) r s t leads x = asked_put d y r s t leads x
   asked_put (disend d) (disable y z) r s t leads x = asked_put d y r s t leads x
   asked_put (distake d) (disable y z) r s t leads x = asked_put d z r s t leads x
-  asked_put (calling d) (call p actual terms) r s t leads x =
-      let some = one_of_images (ArgumentAsks program.theory r x) (ArgumentAsks program.theory t x) (instance s)
-      (λ u. asked program.theory r s t leads u x) terms in (
-        λ h. (
-          h.0,
-          h.1,
-          h.2,
-          h.3,
-          (either_way some (
-            λ k. (k.0, (arguments_same program.theory r s t leads unmarked h.1 terms k.0).0 k.1, k.2),
-            λ k. (k.0, (arguments_same program.theory r s t leads unmarked h.1 terms k.0).1 k.1, k.2),
-          )).0 h.4,
-        ),
-        λ h. (
-          h.0,
-          h.1,
-          h.2,
-          h.3,
-          (either_way some (
-            λ k. (k.0, (arguments_same program.theory r s t leads unmarked h.1 terms k.0).0 k.1, k.2),
-            λ k. (k.0, (arguments_same program.theory r s t leads unmarked h.1 terms k.0).1 k.1, k.2),
-          )).1 h.4,
-        ),
-      )
+  asked_put (calling d) (call p actual terms) r s t leads x = (
+    λ h. (h.0, h.1, h.2, h.3, (call_asked program.theory r s t leads h.1 terms x).0 h.4),
+    λ h. (h.0, h.1, h.2, h.3, (call_asked program.theory r s t leads h.1 terms x).1 h.4),
+  )
   asked_put (rel d) (relabel pairs b) r s t leads x = asked_put d b r s t leads x
   asked_put _ _ r s t leads x = (λ h. absurd h, λ h. absurd h)
 

@@ -136,6 +136,17 @@ module _ (theory : Theory) (r : MarkedAssignment) (s : Assignment) (t : MarkedAs
     λ h. (h.0, (value_there u h.0).1 h.1, (arguments_same (with_marked x h.0 i) xs terms a).1 h.2),
   )
 
+  -- what a call asks: a term of it asks, or what is called with the values of its terms
+  pub call_asked : {Q : MarkedAssignment → Type 0} (xs : List Variable) (terms : List TermTree) (x : TermTree) →
+      (OneOf (ArgumentAsks theory r x) (map (instance s) terms) ⊎
+      ((a : MarkedAssignment) × ArgumentsMayHave theory r unmarked xs (map (instance s) terms) a × Q a)) ↔
+      (OneOf (ArgumentAsks theory t x) terms ⊎ ((a : MarkedAssignment) × ArgumentsMayHave theory t unmarked xs terms a × Q a))
+  call_asked xs terms x =
+      either_way (one_of_images (ArgumentAsks theory r x) (ArgumentAsks theory t x) (instance s) (λ u. asked u x) terms) (
+        λ k. (k.0, (arguments_same unmarked xs terms k.0).0 k.1, k.2),
+        λ k. (k.0, (arguments_same unmarked xs terms k.0).1 k.1, k.2),
+      )
+
 module _ (program : Program) (w : Windows) (others : List (List ℕ))
     (called : MarkedAssignment → Behaviour → TermTree → Type 0) (x : TermTree) where
   abbrev Of : MarkedAssignment → Behaviour → Type 0
@@ -201,30 +212,10 @@ module _ (program : Program) (w : Windows) (others : List (List ℕ))
   reached_put (hide gates b) r s t leads = reached_put b r s t leads
   reached_put (enable y xs z) r s t leads = reached_put y r s t leads
   reached_put (disable y z) r s t leads = either_way (reached_put y r s t leads) (reached_put z r s t leads)
-  reached_put (call p actual terms) r s t leads =
-      let some = one_of_images (ArgumentAsks program.theory r x) (ArgumentAsks program.theory t x) (instance s)
-      (λ u. asked program.theory r s t leads u x) terms in (
-        λ h. (
-          h.0,
-          h.1,
-          h.2,
-          h.3,
-          (either_way some (
-            λ k. (k.0, (arguments_same program.theory r s t leads unmarked h.1 terms k.0).0 k.1, k.2),
-            λ k. (k.0, (arguments_same program.theory r s t leads unmarked h.1 terms k.0).1 k.1, k.2),
-          )).0 h.4,
-        ),
-        λ h. (
-          h.0,
-          h.1,
-          h.2,
-          h.3,
-          (either_way some (
-            λ k. (k.0, (arguments_same program.theory r s t leads unmarked h.1 terms k.0).0 k.1, k.2),
-            λ k. (k.0, (arguments_same program.theory r s t leads unmarked h.1 terms k.0).1 k.1, k.2),
-          )).1 h.4,
-        ),
-      )
+  reached_put (call p actual terms) r s t leads = (
+    λ h. (h.0, h.1, h.2, h.3, (call_asked program.theory r s t leads h.1 terms x).0 h.4),
+    λ h. (h.0, h.1, h.2, h.3, (call_asked program.theory r s t leads h.1 terms x).1 h.4),
+  )
   reached_put (relabel pairs b) r s t leads = reached_put b r s t leads
 
 pub reached_of_origins : ReachedOfOrigins
