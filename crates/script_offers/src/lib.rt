@@ -7,4 +7,4 @@ mod offers;
 
 pub use clients::offers_of_script;
 pub use fault::WishFault;
-pub use offers::offers_of;
+pub use offers::{offer_of, offers_of};

@@ -85,8 +85,8 @@ fn valued_fields(
     Ok(Fields::new(all))
 }
 
-// A wish with the values of its terms.
-fn valued_wish(
+/// The offer that comes of one wish, as `offers_of` says.
+pub fn offer_of(
     alloc: Global,
     checked: &Checked,
     wish: &Wish,
@@ -126,7 +126,7 @@ fn valued(
 {
     let mut all = Vec::new(alloc);
     for wish in wishes {
-        all.push(valued_wish(alloc, checked, wish, budget)?)?;
+        all.push(offer_of(alloc, checked, wish, budget)?)?;
     }
     Ok(all)
 }

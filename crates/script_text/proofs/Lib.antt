@@ -5,11 +5,13 @@ pub mod FieldMeanings
 pub mod FirstLines
 pub mod Grouping
 pub mod LineGrammar
+pub mod OneOffer
 pub mod OneReadings
 pub mod OneScript
 pub mod OneTerm
 pub mod Reading
 pub mod Rows
+pub mod TheOffer
 pub mod TheScript
 pub mod TheTerm
 pub mod WholeTexts

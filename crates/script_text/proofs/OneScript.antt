@@ -13,16 +13,15 @@ use Rattle.spec_core.proofs.Options.{some_none}
 use Rattle.spec_core.proofs.Lists.{each_implied}
 use Rattle.sort_overloads.specs.Listed.{is_same_name}
 use Rattle.sort_overloads.specs.Readings.{Context}
-use Rattle.script_text.specs.Faults.{IsFaultOf, no_client, no_gate, no_sort, no_term, IsLineFault, no_line, by_meaning}
+use Rattle.script_text.specs.Faults.{IsFaultOf, no_client, by_offer, IsLineFault, no_line, by_meaning}
 use Rattle.script_text.specs.Laws.{OneScript, OneScriptFault, ScriptOrFault}
 use Rattle.script_text.specs.Meanings.{context_in, first_named, has_unknown_sort, HasUnclearTerm, FieldMeans, FieldsMean, LineMeans}
 use Rattle.script_text.specs.Numbers.{client_within, client_of, number_behind}
 use Rattle.script_text.specs.Scripts.{LineSays, nothing_said, wish_said, LinesSay, no_lines, more_lines, by_client, SpellsScript, FieldFits, WishFits, too_long, at_line}
 use Rattle.script_text.specs.Wishes.{WishedField, gives, takes, Wished, ClientWish}
 use Rattle.script_text.specs.Written.{Field, given, taken, Line, IsLine, skipped, says, line_in}
-use Rattle.script_text.proofs.FirstLines.{some_at}
 use Rattle.script_text.proofs.Grouping.{few_clients, of_each}
-use Rattle.script_text.proofs.OneReadings.{reading_sorts_known, reading_sort}
+use Rattle.script_text.proofs.OneOffer.{one_offer_meaning, offer_or_fault, one_offer_fault, offer_fits}
 use Rattle.script_text.proofs.WholeTexts.{one_text}
 
 -- a line says one thing
@@ -33,34 +32,13 @@ never_both : (text : List ℕ) (l : Line) → IsLine text None → IsLine text (
 never_both text l (skipped h) (says x _ k i e) = cc
 
 -- and means one thing
-one_field : (c : Context) (f : Field) (w v : WishedField) → FieldMeans c f w → FieldMeans c f v → w ≡ v
-one_field c (given e) (gives t) (gives u) h k = ap gives ((k.1.only t h.0 tt h.1.reading).0)
-one_field c (given e) (gives t) (takes s) h k = absurd k
-one_field c (given e) (takes s) v h k = absurd h
-one_field c (taken name) (gives t) v h k = absurd h
-one_field c (taken name) (takes s) (gives t) h k = absurd k
-one_field c (taken name) (takes s) (takes r) h k = ap takes (same_Some _ _ (sym h ∙ k))
-
-one_list : (c : Context) (fs : List Field) (ws vs : List WishedField) → FieldsMean c fs ws → FieldsMean c fs vs → ws ≡ vs
-one_list c [] [] [] h k = refl
-one_list c [] [] (v ∷ vs) h k = absurd k
-one_list c [] (w ∷ ws) vs h k = absurd h
-one_list c (f ∷ fs) [] vs h k = absurd h
-one_list c (f ∷ fs) (w ∷ ws) [] h k = absurd k
-one_list c (f ∷ fs) (w ∷ ws) (v ∷ vs) h k =
-    ap (λ z. z ∷ ws) (one_field c f w v h.0 k.0) ∙ ap (λ z. v ∷ z) (one_list c fs ws vs h.1 k.1)
-
-same_wish : (x y : ClientWish) → x.client ≡ y.client → x.wish.ask ≡ y.wish.ask → x.wish.gate ≡ y.wish.gate → x.wish.fields ≡ y.wish.fields → x ≡ y
-same_wish x y a b c d =
-    ap (λ k. record { client = k; wish = x.wish }) a
-    ∙ ap (λ k. record { client = y.client; wish = record { ask = k; gate = x.wish.gate; fields = x.wish.fields } }) b
-    ∙ ap (λ k. record { client = y.client; wish = record { ask = y.wish.ask; gate = k; fields = x.wish.fields } }) c
-    ∙ ap (λ k. record { client = y.client; wish = record { ask = y.wish.ask; gate = y.wish.gate; fields = k } }) d
+same_client_wish : (x y : ClientWish) → x.client ≡ y.client → x.wish ≡ y.wish → x ≡ y
+same_client_wish x y a b = ap (λ k. record { client = k; wish = x.wish }) a ∙ ap (λ w. record { client = y.client; wish = w }) b
 
 one_meaning : (c : Context) (gates : List (List ℕ)) (l : Line) (x y : ClientWish) → LineMeans c gates l x → LineMeans c gates l y → x ≡ y
 one_meaning c gates l x y h k =
-    same_wish x y (same_Some _ _ (sym h.client ∙ k.client)) (h.ask ∙ sym k.ask) (same_Some _ _ (sym h.gate ∙ k.gate))
-    (one_list c l.fields x.wish.fields y.wish.fields h.fields k.fields)
+    same_client_wish x y (same_Some _ _ (sym h.client ∙ k.client))
+    (one_offer_meaning c gates l.gate l.fields x.wish y.wish (h.ask ∙ sym k.ask) h.offer k.offer)
 
 one_saying : (c : Context) (gates : List (List ℕ)) (text : List ℕ) (x y : Option ClientWish) → LineSays c gates text x → LineSays c gates text y →
     x ≡ y
@@ -84,35 +62,10 @@ one_script program text clients others h k =
     ∙ sym k.each_client
 
 -- what is wrong with what a line says is wrong with nothing that means something
-field_known : (c : Context) (f : Field) (w : WishedField) → FieldMeans c f w → has_unknown_sort c f ≡ false
-field_known c (given e) (gives t) h = reading_sorts_known c e t h.0 h.1.reading
-field_known c (given e) (takes s) h = absurd h
-field_known c (taken name) (gives t) h = absurd h
-field_known c (taken name) (takes s) h = ap is_none h
-
-fields_known : (c : Context) (fs : List Field) (ws : List WishedField) → FieldsMean c fs ws → list_any (has_unknown_sort c) fs ≡ false
-fields_known c [] ws h = refl
-fields_known c (f ∷ fs) [] h = absurd h
-fields_known c (f ∷ fs) (w ∷ ws) h =
-    ap (λ b. b || list_any (has_unknown_sort c) fs) (field_known c f w h.0) ∙ fields_known c fs ws h.1
-
-field_clear : (c : Context) (f : Field) (w : WishedField) → FieldMeans c f w → HasUnclearTerm c f → ⊥
-field_clear c (given e) (gives t) h k = k.none t h.0 h.1
-field_clear c (given e) (takes s) h k = h
-field_clear c (taken name) w h k = k
-
-fields_clear : (c : Context) (fs : List Field) (ws : List WishedField) → FieldsMean c fs ws → OneOf (HasUnclearTerm c) fs → ⊥
-fields_clear c [] ws h k = k
-fields_clear c (f ∷ fs) [] h k = h
-fields_clear c (f ∷ fs) (w ∷ ws) h (inl k) = field_clear c f w h.0 k
-fields_clear c (f ∷ fs) (w ∷ ws) h (inr k) = fields_clear c fs ws h.1 k
-
 meaning_or_fault : (c : Context) (gates : List (List ℕ)) (l : Line) (x : ClientWish) (kind : TextKind) → LineMeans c gates l x →
     IsFaultOf c gates l kind → ⊥
 meaning_or_fault c gates l x _ h (no_client k) = some_none _ h.client k
-meaning_or_fault c gates l x _ h (no_gate n i k) = some_none _ h.gate k
-meaning_or_fault c gates l x _ h (no_sort n g i j k) = let known = fields_known c l.fields x.wish.fields h.fields in cc
-meaning_or_fault c gates l x _ h (no_term n g i j k m) = fields_clear c l.fields x.wish.fields h.fields m
+meaning_or_fault c gates l x kind h (by_offer n i k) = offer_or_fault c gates l.gate l.fields x.wish kind h.offer k
 
 saying_or_fault : (c : Context) (gates : List (List ℕ)) (text : List ℕ) (x : Option ClientWish) (kind : TextKind) → LineSays c gates text x →
     IsLineFault c gates text kind → ⊥
@@ -125,21 +78,9 @@ saying_or_fault c gates text _ kind (wish_said l x h i) (by_meaning m k j) =
 one_fault_of : (c : Context) (gates : List (List ℕ)) (l : Line) (kind other : TextKind) → IsFaultOf c gates l kind → IsFaultOf c gates l other →
     kind ≡ other
 one_fault_of c gates l _ _ (no_client h) (no_client k) = refl
-one_fault_of c gates l _ _ (no_client h) (no_gate n i k) = absurd (some_none _ i h)
-one_fault_of c gates l _ _ (no_client h) (no_sort n g i j k) = absurd (some_none _ i h)
-one_fault_of c gates l _ _ (no_client h) (no_term n g i j k m) = absurd (some_none _ i h)
-one_fault_of c gates l _ _ (no_gate n i h) (no_client k) = absurd (some_none _ i k)
-one_fault_of c gates l _ _ (no_gate n i h) (no_gate m j k) = refl
-one_fault_of c gates l _ _ (no_gate n i h) (no_sort m g j o k) = absurd (some_none _ o h)
-one_fault_of c gates l _ _ (no_gate n i h) (no_term m g j o k q) = absurd (some_none _ o h)
-one_fault_of c gates l _ _ (no_sort n g i j h) (no_client k) = absurd (some_none _ i k)
-one_fault_of c gates l _ _ (no_sort n g i j h) (no_gate m o k) = absurd (some_none _ j k)
-one_fault_of c gates l _ _ (no_sort n g i j h) (no_sort m q o r k) = refl
-one_fault_of c gates l _ _ (no_sort n g i j h) (no_term m q o r k s) = absurd (cc)
-one_fault_of c gates l _ _ (no_term n g i j h t) (no_client k) = absurd (some_none _ i k)
-one_fault_of c gates l _ _ (no_term n g i j h t) (no_gate m o k) = absurd (some_none _ j k)
-one_fault_of c gates l _ _ (no_term n g i j h t) (no_sort m q o r k) = absurd (cc)
-one_fault_of c gates l _ _ (no_term n g i j h t) (no_term m q o r k s) = refl
+one_fault_of c gates l _ _ (no_client h) (by_offer n i k) = absurd (some_none _ i h)
+one_fault_of c gates l _ _ (by_offer n i h) (no_client k) = absurd (some_none _ i k)
+one_fault_of c gates l kind other (by_offer n i h) (by_offer m j k) = one_offer_fault c gates l.gate l.fields kind other h k
 
 one_line_fault : (c : Context) (gates : List (List ℕ)) (text : List ℕ) (kind other : TextKind) → IsLineFault c gates text kind →
     IsLineFault c gates text other → kind ≡ other
@@ -192,22 +133,6 @@ client_few : (digits : List ℕ) (k : ℕ) → client_of digits ≡ Some k → k
 client_few [] k h = absurd (cc)
 client_few (d ∷ ds) k h = within (number_behind (d - 48) ds) k h
 
-named_below : (name : List ℕ) (names : List (List ℕ)) (n : ℕ) → first_named name names ≡ Some n → n < length names
-named_below name names n h =
-    let r = some_at (position_or_len (λ other. is_same_name other name) names) (length names) n h in omega (arith, r.0, r.1)
-
-field_fits : (theory : Theory) (f : Field) (w : WishedField) → FieldMeans (context_in theory) f w → FieldFits theory w
-field_fits theory (given e) (gives t) h = (h.0, reading_sort theory e t h.0 h.1.reading)
-field_fits theory (given e) (takes s) h = absurd h
-field_fits theory (taken name) (gives t) h = absurd h
-field_fits theory (taken name) (takes s) h = named_below name.text theory.sorts s h
-
-fields_fit : (theory : Theory) (fs : List Field) (ws : List WishedField) → FieldsMean (context_in theory) fs ws → Each (FieldFits theory) ws
-fields_fit theory [] [] h = tt
-fields_fit theory [] (w ∷ ws) h = absurd h
-fields_fit theory (f ∷ fs) [] h = absurd h
-fields_fit theory (f ∷ fs) (w ∷ ws) h = (field_fits theory f w h.0, fields_fit theory fs ws h.1)
-
 pub record Right (program : Program) (x : ClientWish) : Type 0 where
   pub few : x.client ≤ 64
   pub fits : WishFits program x.wish
@@ -218,7 +143,7 @@ each_right program _ said text (nothing_said h) k = k
 each_right program _ said text (wish_said l x h i) k = (
   record {
     few = client_few l.client x.client i.client;
-    fits = record { gate = named_below l.gate program.gates x.wish.gate i.gate; fields = fields_fit program.theory l.fields x.wish.fields i.fields };
+    fits = offer_fits program l.gate l.fields x.wish i.offer;
   },
   k,
 )

@@ -14,13 +14,13 @@ use Rattle.sort_overloads.specs.Readings.{Context}
 use Rattle.script_text.specs.Answers.{OnKind}
 use Rattle.script_text.specs.declared.fault.LineFault.{LineFault}
 use Rattle.script_text.specs.declared.fault.LineFault.TheVariants.{Kind, Memory}
-use Rattle.script_text.specs.Faults.{IsFaultOf, no_client, no_gate, no_sort, no_term, IsLineFault, no_line, by_meaning}
-use Rattle.script_text.specs.Meanings.{context_in, first_named, has_unknown_sort, says_unknown_sort, IsUnclear, HasUnclearTerm, FieldsMean, LineMeans}
+use Rattle.script_text.specs.Faults.{IsOfferFault, no_gate, no_sort, no_term, IsFaultOf, no_client, by_offer, IsLineFault, no_line, by_meaning}
+use Rattle.script_text.specs.Meanings.{context_in, first_named, has_unknown_sort, says_unknown_sort, IsUnclear, HasUnclearTerm, FieldsMean, OfferMeans, LineMeans}
 use Rattle.script_text.specs.Numbers.{client_of}
 use Rattle.script_text.specs.Scripts.{LineSays, nothing_said, wish_said}
 use Rattle.script_text.specs.Terms.{SpellsTerm, IsTermFault, no_expression, unknown_sort, unclear}
 use Rattle.script_text.specs.Texts.{IsTextOf, IsNoTextOf}
-use Rattle.script_text.specs.Wishes.{ClientWish}
+use Rattle.script_text.specs.Wishes.{Wished, ClientWish}
 use Rattle.script_text.specs.Written.{Field, Line, IsLine, IsNoLine, is_skipped, skipped}
 
 pub handed_on : (e : LineFault) (P Q : TextKind → Type 0) → ((kind : TextKind) → P kind → Q kind) → OnKind e P → OnKind e Q
@@ -31,35 +31,41 @@ pub handed_on_both : (e : LineFault) (P R Q : TextKind → Type 0) → ((kind : 
 handed_on_both (Kind kind) P R Q f h k = f kind h k
 handed_on_both Memory P R Q f h k = tt
 
+-- an offer
+pub gate_at : (c : Context) (gates : List (List ℕ)) (name : List ℕ) (fields : List Field) → first_named name gates ≡ None →
+    IsOfferFault c gates name fields Gate
+gate_at c gates name fields h = no_gate h
+
+pub sort_at : (c : Context) (gates : List (List ℕ)) (name : List ℕ) (fields : List Field) (gate : ℕ) → first_named name gates ≡ Some gate →
+    list_any (has_unknown_sort c) fields ≡ true → IsOfferFault c gates name fields Sort
+sort_at c gates name fields gate h k = no_sort gate h k
+
+pub term_at : (c : Context) (gates : List (List ℕ)) (name : List ℕ) (fields : List Field) (gate : ℕ) (e : LineFault) →
+    first_named name gates ≡ Some gate → list_any (has_unknown_sort c) fields ≡ false → OnKind e (λ kind. kind ≡ Term) →
+    OnKind e (λ kind. OneOf (HasUnclearTerm c) fields) → OnKind e (IsOfferFault c gates name fields)
+term_at c gates name fields gate (Kind kind) h k i j = subst (IsOfferFault c gates name fields) (sym i) (no_term gate h k j)
+term_at c gates name fields gate Memory h k i j = tt
+
+pub offer_at : (c : Context) (gates : List (List ℕ)) (name : List ℕ) (fields : List Field) (w : Wished) → first_named name gates ≡ Some w.gate →
+    FieldsMean c fields w.fields → OfferMeans c gates name fields w
+offer_at c gates name fields w h k = record { gate = h; meant = k }
+
+pub ruleset offer_rows = (gate_at, sort_at, term_at, offer_at)
+
 -- what a line says
 pub client_at : (c : Context) (gates : List (List ℕ)) (l : Line) → client_of l.client ≡ None → IsFaultOf c gates l Client
 client_at c gates l h = no_client h
 
-pub gate_at : (c : Context) (gates : List (List ℕ)) (l : Line) (client : ℕ) → client_of l.client ≡ Some client → first_named l.gate gates ≡ None →
-    IsFaultOf c gates l Gate
-gate_at c gates l client h k = no_gate client h k
-
-pub sort_at : (c : Context) (gates : List (List ℕ)) (l : Line) (client gate : ℕ) → client_of l.client ≡ Some client →
-    first_named l.gate gates ≡ Some gate → list_any (has_unknown_sort c) l.fields ≡ true → IsFaultOf c gates l Sort
-sort_at c gates l client gate h k i = no_sort client gate h k i
-
-pub term_at : (c : Context) (gates : List (List ℕ)) (l : Line) (client gate : ℕ) (e : LineFault) → client_of l.client ≡ Some client →
-    first_named l.gate gates ≡ Some gate → list_any (has_unknown_sort c) l.fields ≡ false →
-    OnKind e (λ kind. kind ≡ Term) → OnKind e (λ kind. OneOf (HasUnclearTerm c) l.fields) → OnKind e (IsFaultOf c gates l)
-term_at c gates l client gate (Kind kind) h k i j m = subst (IsFaultOf c gates l) (sym j) (no_term client gate h k i m)
-term_at c gates l client gate Memory h k i j m = tt
-
-pub term_on : (c : Context) (gates : List (List ℕ)) (l : Line) (client gate : ℕ) (fs : List Field) (e : LineFault) →
-    client_of l.client ≡ Some client → first_named l.gate gates ≡ Some gate → list_any (has_unknown_sort c) l.fields ≡ false → fs ≡ l.fields →
-    OnKind e (λ kind. kind ≡ Term) → OnKind e (λ kind. OneOf (HasUnclearTerm c) fs) → OnKind e (IsFaultOf c gates l)
-term_on c gates l client gate fs e h k i same j m =
-    term_at c gates l client gate e h k i j (subst (λ z. OnKind e (λ kind. OneOf (HasUnclearTerm c) z)) same m)
+pub by_offer_at : (c : Context) (gates : List (List ℕ)) (l : Line) (client : ℕ) (e : LineFault) → client_of l.client ≡ Some client →
+    OnKind e (IsOfferFault c gates l.gate l.fields) → OnKind e (IsFaultOf c gates l)
+by_offer_at c gates l client (Kind kind) h k = by_offer client h k
+by_offer_at c gates l client Memory h k = tt
 
 pub meaning_at : (c : Context) (gates : List (List ℕ)) (l : Line) (x : ClientWish) → client_of l.client ≡ Some x.client → x.wish.ask ≡ l.asks →
-    first_named l.gate gates ≡ Some x.wish.gate → FieldsMean c l.fields x.wish.fields → LineMeans c gates l x
-meaning_at c gates l x h i j k = record { client = h; ask = i; gate = j; fields = k }
+    OfferMeans c gates l.gate l.fields x.wish → LineMeans c gates l x
+meaning_at c gates l x h i j = record { client = h; ask = i; offer = j }
 
-pub ruleset meaning_rows = (client_at, gate_at, sort_at, term_at, meaning_at)
+pub ruleset meaning_rows = (client_at, by_offer_at, meaning_at)
 
 -- a line
 pub nothing_at : (c : Context) (gates : List (List ℕ)) (text : List ℕ) → is_skipped text ≡ true → LineSays c gates text None

@@ -4,6 +4,7 @@ pub mod Laws
 pub mod LineEnds
 pub mod Meanings
 pub mod Numbers
+pub mod Offers
 pub mod Scripts
 pub mod Terms
 pub mod Texts

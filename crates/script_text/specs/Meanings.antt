@@ -11,7 +11,7 @@ use Rattle.sort_overloads.specs.Overloads.{IsOnlyReading}
 use Rattle.sort_overloads.specs.Readings.{Context}
 use Rattle.sort_overloads.specs.Refused.{unknowns}
 use Rattle.script_text.specs.Numbers.{client_of}
-use Rattle.script_text.specs.Wishes.{WishedField, gives, takes, ClientWish}
+use Rattle.script_text.specs.Wishes.{WishedField, gives, takes, Wished, ClientWish}
 use Rattle.script_text.specs.Written.{Field, given, taken, Line}
 
 -- what a term may speak of: the sorts and operations of the data, and no variables
@@ -56,9 +56,13 @@ FieldsMean c (f ∷ fs) (w ∷ ws) = FieldMeans c f w × FieldsMean c fs ws
 FieldsMean c [] (w ∷ ws) = ⊥
 FieldsMean c (f ∷ fs) [] = ⊥
 
+-- an offer with this name of a gate and these fields is what is wished
+pub record OfferMeans (c : Context) (gates : List (List ℕ)) (name : List ℕ) (fields : List Field) (w : Wished) : Type 0 where
+  pub gate : first_named name gates ≡ Some w.gate
+  pub meant : FieldsMean c fields w.fields
+
 -- the line says that this client has this wish
 pub record LineMeans (c : Context) (gates : List (List ℕ)) (l : Line) (x : ClientWish) : Type 0 where
   pub client : client_of l.client ≡ Some x.client
   pub ask : x.wish.ask ≡ l.asks
-  pub gate : first_named l.gate gates ≡ Some x.wish.gate
-  pub fields : FieldsMean c l.fields x.wish.fields
+  pub offer : OfferMeans c gates l.gate l.fields x.wish

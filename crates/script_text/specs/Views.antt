@@ -7,6 +7,7 @@ use Rattle.sort_overloads.specs.Expressions.{expression}
 use Rattle.script_text.specs.declared.written.WrittenField.{WrittenField}
 use Rattle.script_text.specs.declared.written.WrittenField.TheVariants.{Value, Sort}
 use Rattle.script_text.specs.declared.written.WrittenLine.{WrittenLine}
+use Rattle.script_text.specs.declared.written.WrittenOffer.{WrittenOffer}
 use Rattle.script_text.specs.declared.wish.Wish.{Wish}
 use Rattle.script_text.specs.Numbers.{is_number}
 use Rattle.script_text.specs.Wishes.{ClientWish, wished_of}
@@ -20,6 +21,10 @@ field_tree (Sort token) = right (behind (leaf token))
 abbrev pub field_of : WrittenField → Field
 field_of (Value e) = given (expression (expr_tree e))
 field_of (Sort token) = taken token
+
+-- the tree of an offer
+abbrev pub offer_tree : WrittenOffer → Tree
+offer_tree o = both (leaf o.gate) (repeated_tree (map field_tree o.fields.items))
 
 -- the tree of a line
 abbrev pub line_tree : WrittenLine → Tree

@@ -19,6 +19,10 @@ wish_field = quoted Mark.Exclamation ▸ part expression ∣ quoted Mark.Questio
 abbrev pub wish_line : Syntax
 wish_line = kept (marked Mark.Numeral) ▸ quoted Mark.Colon ▸ identifier ▸ optional identifier ▸ repeated wish_field
 
+-- a gate and fields: an offer, without its client
+abbrev pub wish_offer : Syntax
+wish_offer = identifier ▸ repeated wish_field
+
 -- a field as it is written
 pub data Field : Type 0 where
   given : Expression → Field
@@ -39,6 +43,15 @@ field_in t = given nothing
 abbrev pub fields_in : Tree → List Field
 fields_in (more x rest) = field_in x ∷ fields_in rest
 fields_in t = []
+
+-- the name of the gate and the fields of an offer
+abbrev pub gate_in : Tree → List ℕ
+gate_in (both (leaf gate) fields) = gate.text
+gate_in t = []
+
+abbrev pub offered_in : Tree → List Field
+offered_in (both gate fields) = fields_in fields
+offered_in t = []
 
 abbrev pub text_in : Tree → Option (List ℕ)
 text_in (present (leaf token)) = Some token.text

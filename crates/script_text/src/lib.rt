@@ -7,6 +7,7 @@ mod lines;
 mod meaning;
 mod names;
 mod numbers;
+mod offer;
 mod offered;
 mod script;
 mod term;
@@ -16,5 +17,6 @@ pub mod wish;
 #[tactic(auto, using(syntax_cursor::proofs::Steps::steps))]
 mod written;
 
+pub use offer::read_offer;
 pub use script::{SCRIPT_LIMIT, read_script};
 pub use term::{read_term, read_typed_term};

@@ -5,11 +5,11 @@ ghost use Rattle.std.specs.List.{list_any};
 ghost use Rattle.spec_core.specs.Lists.{OneOf};
 ghost use Rattle.sort_overloads.specs.Views.{context_of};
 ghost use Rattle.script_text.specs.Answers.{IfKind};
-ghost use Rattle.script_text.specs.Faults.{IsFaultOf};
-ghost use Rattle.script_text.specs.Meanings.{has_unknown_sort, HasUnclearTerm, FieldMeans, FieldsMean, LineMeans};
+ghost use Rattle.script_text.specs.Faults.{IsFaultOf, IsOfferFault};
+ghost use Rattle.script_text.specs.Meanings.{has_unknown_sort, HasUnclearTerm, FieldMeans, FieldsMean, LineMeans, OfferMeans};
 ghost use Rattle.script_text.specs.Numbers.{is_number};
 ghost use Rattle.script_text.specs.Views.{field_of, line_said, client_wish_of};
-ghost use Rattle.script_text.specs.Wishes.{wished_field_of};
+ghost use Rattle.script_text.specs.Wishes.{wished_field_of, wished_of};
 
 use crate::fault::LineFault;
 use crate::names::first_named;
@@ -18,6 +18,7 @@ use crate::vocabulary::Vocabulary;
 use crate::wish::{Wish, WishField};
 use crate::written::{WrittenField, WrittenLine};
 use lotos_ast::text_kind::TextKind;
+use lotos_ast::token::Token;
 use spec_core::items::{Gate, Sort};
 use spec_core::memory::Memory;
 use spec_core::name::Name;
@@ -95,6 +96,36 @@ fn fields_meaning(
     Ok(all)
 }
 
+// What an offer means, or a question whether it would be taken.
+#[tactic(auto, using(crate::proofs::Rows::offer_rows))]
+pub fn offer_meaning(
+    alloc: Global,
+    vocabulary: &Vocabulary,
+    gates: &[Name],
+    name: &Token,
+    fields: &[WrittenField],
+    ask: bool,
+) -> Result<Wish, LineFault>
+    ensures means { IfOk result (λ w.
+        OfferMeans (context_of vocabulary.now.scope) gates.now name.now.text (map field_of fields.now) (wished_of w)) }
+    ensures ask { IfOk result (λ w. w.ask ≡ ask) }
+    ensures fault { IfKind result
+        (IsOfferFault (context_of vocabulary.now.scope) gates.now name.now.text (map field_of fields.now)) }
+{
+    let Some(gate) = first_named(name.text.as_str(), gates)? else {
+        return Err(LineFault::Kind(TextKind::Gate));
+    };
+    if any_unknown_sort(alloc, vocabulary, fields)? {
+        return Err(LineFault::Kind(TextKind::Sort));
+    }
+    let fields = fields_meaning(alloc, vocabulary, fields)?;
+    Ok(Wish {
+        ask,
+        gate: Gate(gate),
+        fields,
+    })
+}
+
 // What a line means: which client has which wish.
 #[tactic(auto, using(crate::proofs::Rows::meaning_rows))]
 pub fn line_meaning(
@@ -112,19 +143,7 @@ pub fn line_meaning(
     let Some(client) = client_of(line.client.text.as_str().as_bytes()) else {
         return Err(LineFault::Kind(TextKind::Client));
     };
-    let Some(gate) = first_named(line.gate().text.as_str(), gates)? else {
-        return Err(LineFault::Kind(TextKind::Gate));
-    };
-    if any_unknown_sort(alloc, vocabulary, &line.fields)? {
-        return Err(LineFault::Kind(TextKind::Sort));
-    }
-    let fields = fields_meaning(alloc, vocabulary, &line.fields)?;
-    Ok((
-        client,
-        Wish {
-            ask: line.asks(),
-            gate: Gate(gate),
-            fields,
-        },
-    ))
+    let ask = line.asks();
+    let wish = offer_meaning(alloc, vocabulary, gates, line.gate(), &line.fields, ask)?;
+    Ok((client, wish))
 }

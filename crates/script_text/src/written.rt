@@ -113,6 +113,39 @@ impl Item for OneLine {
     }
 }
 
+// A gate and fields.
+#[derive(Drop)]
+pub struct WrittenOffer {
+    // The gate.
+    pub gate: Token,
+    // The fields.
+    pub fields: Vec<WrittenField>,
+}
+
+// An offer without its client.
+pub struct OneOffer;
+
+impl Item for OneOffer {
+    ghost use Rattle.script_text.specs.Views.{offer_tree};
+    ghost use Rattle.script_text.specs.Written.{wish_offer};
+
+    type Output = WrittenOffer;
+
+    ghost syntax = { wish_offer };
+
+    ghost tree = { offer_tree };
+
+    fn begins(cursor: &Cursor<'_>) -> bool {
+        cursor.at(Mark::Identifier)
+    }
+
+    fn read(cursor: &mut Cursor<'_>, nest: Nest) -> Result<WrittenOffer, ParseFault> {
+        let gate = cursor.token(nest, Mark::Identifier)?;
+        let fields = cursor.repeated::<OneField>(nest)?;
+        Ok(WrittenOffer { gate, fields })
+    }
+}
+
 // An expression.
 pub struct OneExpression;
 

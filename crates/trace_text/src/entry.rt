@@ -70,8 +70,8 @@ fn put_values(out: &mut String, vocabulary: &Vocabulary, values: &[Value]) -> Re
     Ok(())
 }
 
-// Appends an action.
-fn put_action(out: &mut String, vocabulary: &Vocabulary, action: &Action) -> Result<(), Memory>
+/// Appends an action: its gate, `exit` or `i`, and its values.
+pub fn put_action(out: &mut String, vocabulary: &Vocabulary, action: &Action) -> Result<(), Memory>
     requires whole { IsWhole vocabulary.now }
     ensures { OnOk result (string_bytes out.new ≡ string_bytes out.old ++ action_text (names_with vocabulary.now) action.now) }
 {
@@ -108,8 +108,8 @@ fn put_term(
     put(out, text.as_str())
 }
 
-// Appends the word of a reply.
-fn put_answer(out: &mut String, vocabulary: &Vocabulary, reply: &Reply) -> Result<(), Memory>
+/// Appends the word of a reply, which `taken` and `stalled` don't have, with its tree, its term or its kind.
+pub fn put_answer(out: &mut String, vocabulary: &Vocabulary, reply: &Reply) -> Result<(), Memory>
     requires whole { IsWhole vocabulary.now }
     ensures { OnOk result (string_bytes out.new ≡ string_bytes out.old ++ answer_word (names_with vocabulary.now) (answer_of reply.now)) }
 {

@@ -7,5 +7,5 @@ mod pieces;
 mod print;
 mod tree;
 
-pub use entry::{put_end_word, put_event};
-pub use print::print_log;
+pub use entry::{put_action, put_answer, put_end_word, put_event};
+pub use print::{print_entries, print_log};

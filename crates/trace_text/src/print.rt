@@ -4,7 +4,7 @@ ghost use Rattle.std.specs.Prelude.{◌≡◌, ◌++◌, IfOk, OnOk, codes, flat
 ghost use Rattle.spec_core.specs.Code.{program_of};
 ghost use Rattle.rule_model.specs.Events.{event_of, ending_of};
 ghost use Rattle.rule_model.specs.Logs.{events_of};
-ghost use Rattle.trace_text.specs.Trace.{end_word, line, trace_bytes};
+ghost use Rattle.trace_text.specs.Trace.{begun_bytes, end_word, line, trace_bytes};
 ghost use Rattle.trace_text.specs.Names.{names_in};
 ghost use Rattle.value_text.specs.Vocabularies.{IsWhole};
 ghost use Rattle.trace_text.specs.Names.{names_with};
@@ -51,5 +51,17 @@ pub fn print_log(alloc: Global, log: &Log, end: &End, checked: &Checked) -> Resu
     put(&mut out, "lotos-trace 1\n")?;
     put_lines(&mut out, &vocabulary, log.as_slice())?;
     put_end(&mut out, &vocabulary, end)?;
+    Ok(out)
+}
+
+/// The text of a log that may go on: a trace without the line that tells how it ended.
+pub fn print_entries(alloc: Global, entries: &[Entry], checked: &Checked) -> Result<String, Memory>
+    ensures text { IfOk result (λ text.
+        string_bytes text ≡ begun_bytes (names_in (program_of checked.now)) (map event_of entries.now)) }
+{
+    let vocabulary = Vocabulary::new(alloc, checked)?;
+    let mut out = String::new(alloc);
+    put(&mut out, "lotos-trace 1\n")?;
+    put_lines(&mut out, &vocabulary, entries)?;
     Ok(out)
 }
