@@ -31,7 +31,7 @@ use Rattle.board_laws.proofs.Steps.{first_trees_are_so}
 use Rattle.board_laws.specs.Next.{AreSessionWindows, IsNextOf}
 use Rattle.board_offers.specs.Waiting.{waiting_in}
 use Rattle.board_offers.proofs.Sound.{waiting_is_sound}
-use Rattle.board_laws.specs.StoppingLaws.{GiveReasons}
+use Rattle.board_laws.specs.StoppingLaws.{GiveReasons, IsKnownState}
 use Rattle.board_laws.proofs.StoppingGiven as given
 use Rattle.board_core.specs.Boards.{IsBoard}
 use Rattle.board_core.specs.Settled.{IsDue, MayBeDone, MayFollow}
@@ -62,15 +62,15 @@ module _ (v : BoardView) (is : IsBoard v) (ready : IsReady (program v)) (apart :
       let exact = exact_answers_exist (program v) ready in
       first_trees_are_so (program v) exact.0 v.settings.values (windows v) (tree v) (pieces v) (known_tree exact.0 exact.1)
 
+  pub known_state : (e : Evaluation) → IsExact (program v) e →
+      IsKnownState (program v) v.settings e (windows v) (tree v) (pieces v) (state v)
+  known_state e exact =
+      record { known = known_tree e exact; own = λ f exact up n s x h. is.0.expansions up n s x h f exact; reached = reached }
+
   pub jobs_give_reasons : GiveReasons (program v) v.settings (windows v) (tree v) (pieces v) (state v)
   jobs_give_reasons =
       let exact = exact_answers_exist (program v) ready in
-      given.jobs_give_reasons (program v) v.settings exact.0 (windows v) (tree v) (pieces v) (state v)
-      (record {
-        known = known_tree exact.0 exact.1;
-        own = λ f exact up n s x h. is.0.expansions up n s x h f exact;
-        reached = reached;
-      })
+      given.jobs_give_reasons (program v) v.settings exact.0 (windows v) (tree v) (pieces v) (state v) (known_state exact.0 exact.1)
 
   module _ (entry : Next PendingOffer Derivation) (decided : decided_at v ≡ Some entry) where
     next : IsNextOf (program v) v.settings (state v) entry

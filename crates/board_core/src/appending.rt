@@ -189,13 +189,12 @@ impl Board {
     }
 
     /// The behaviour acts by these rules, and the offer named is taken, for which all was made ready, and since then nothing has changed.
-    /// The session goes on by its rules, and there were fewer actions than are allowed. Nodes that live on keep what they stand for; what
-    /// was known of nodes that are gone is forgotten, and no job at them is out. It takes no memory.
+    /// There were fewer actions than are allowed. Nodes that live on keep what they stand for; what was known of nodes that are gone is
+    /// forgotten, and no job at them is out. It takes no memory.
     pub fn commit(&mut self, rules: &Rules, by: Option<(u32, u64)>)
         requires reserved { IsActReserved self.old.session (derivation_of rules.now) by }
         requires may { MayFollow (program self.old) (state self.old) (tree self.old) by (derivation_of rules.now) }
         requires running { self.old.stop ≡ None }
-        requires rules { GoesByRules (state self.old) }
         requires below { (state self.old).actions < self.old.settings.steps }
         ensures acted { HasActed self.old.session self.new.session (derivation_of rules.now) by }
         ensures step { IsStep (program self.old) (tree self.old) self.old.session.tree.next (derivation_of rules.now) (tree self.new)

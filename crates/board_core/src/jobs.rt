@@ -62,8 +62,8 @@ impl Board {
         !self.awaits_clients()
     }
 
-    // The job with what its node stands for.
-    fn with_origin(&self, alloc: Global, task: NodeJob) -> Result<Job, Memory>
+    /// The job with what its node stands for. The node lives.
+    pub fn with_origin(&self, alloc: Global, task: NodeJob) -> Result<Job, Memory>
         requires lives { Lives (tree self.now) (generation_of (job_of task)) }
         ensures task { IfOk result (λ j. j.task ≡ task) }
         ensures origin { IfOk result (λ j. (n : Held) → IsNodeOf (tree self.now) (generation_of (job_of task)) n → n.source ≡ source_of j.origin) }
@@ -102,8 +102,9 @@ impl Board {
         Ok(count_offers(self.record.checked(), &self.windows, tree, &parts))
     }
 
-    // Whether the job is to find what a node shows, and there are more possible agreements than are looked at.
-    fn is_too_much(&self, alloc: Global, task: &NodeJob) -> Result<bool, Memory>
+    /// Whether the job is to find what a node shows, and the behaviour has more than 1,048,576 possible agreements, of those of which every
+    /// participant is expanded.
+    pub fn is_too_much(&self, alloc: Global, task: &NodeJob) -> Result<bool, Memory>
         ensures many { IfOk result (λ many. IsTrue many → IsVerdict (job_of task.now) ×
             (offers_limit < offers_of_tree (program self.now) (windows self.now) (tree self.now))) }
         ensures few { IfOk result (λ many. many ≡ false → IsVerdict (job_of task.now) →

@@ -8,6 +8,8 @@ mod deciding;
 mod finishing;
 pub mod job;
 mod jobs;
+mod looking;
 mod sources;
 
+pub use appending::has_ended;
 pub use candidate_verdicts::pieces::Piece;

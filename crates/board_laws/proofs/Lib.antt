@@ -17,6 +17,7 @@ pub mod Steps
 pub mod StoppingGiven
 pub mod StoppingParts
 pub mod Those
+pub use Rattle.decision_trees.proofs.Parts
 pub use Rattle.node_values.proofs.Splitting
 pub use Rattle.node_work.proofs.Top
 pub use Rattle.symbolic_plans.proofs.Own

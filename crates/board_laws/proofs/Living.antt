@@ -146,6 +146,16 @@ sought_wait theory t v =
     (λ g i. gap_holds (Waits t) (known_plans theory t) g (gaps_wait theory t) (sought_plans_are_known theory t v (gap g) i))
     (sought_plans theory t v) (gaps_listed (sought_plans theory t v))
 
+-- and of each gap among the trees for which a query may ask
+trees_wait : (theory : Theory) (w : Windows) (t : Shape) (q : TreeQuery) → AreGaps (Waits t) (known_trees theory w t q)
+trees_wait theory w t q =
+    gaps_placed (Waits t) (λ p. map element (asked_from theory w (for_offer q) p 0))
+    (λ p. no_gaps (Waits t) (asked_from theory w (for_offer q) p 0)) (sought_plans theory t (kinds_sought (for_offer q)))
+    (sought_wait theory t (kinds_sought (for_offer q)))
+
+pub gap_waits : (theory : Theory) (w : Windows) (t : Shape) (q : TreeQuery) (g : ℕ) → IsOneOf (gap g) (known_trees theory w t q) → Waits t g
+gap_waits theory w t q g i = gap_holds (Waits t) (known_trees theory w t q) g (trees_wait theory w t q) i
+
 -- P holds of the number of a node that is to be expanded, and R of what is to be judged
 abbrev OfQuestion : {A : Type 0} → (ℕ → Type 0) → (A → Type 0) → Question A → Type 0
 OfQuestion P R (expand g) = P g
@@ -260,24 +270,21 @@ module _ (theory : Theory) (w : Windows) (t : Shape) (pieces : Pieces) (state : 
     all_are : (xs : List (Question Derivation)) → Each (OfQuestion Awaited Listed) xs → Each IsIts (all_jobs pieces t xs)
     all_are xs h = each_flat_map (OfQuestion Awaited Listed) IsIts (jobs_of pieces t) xs jobs_are h
 
-    trees_wait : AreGaps Awaited (known_trees theory w t q)
-    trees_wait =
-        gaps_both (Waits t) (λ g. IsOneOf (gap g) (known_trees theory w t q)) (known_trees theory w t q)
-        (gaps_placed (Waits t) (λ p. map element (asked_from theory w (for_offer q) p 0))
-        (λ p. no_gaps (Waits t) (asked_from theory w (for_offer q) p 0)) (sought_plans theory t (kinds_sought (for_offer q)))
-        (sought_wait theory t (kinds_sought (for_offer q))))
+    awaited : AreGaps Awaited (known_trees theory w t q)
+    awaited =
+        gaps_both (Waits t) (λ g. IsOneOf (gap g) (known_trees theory w t q)) (known_trees theory w t q) (trees_wait theory w t q)
         (gaps_listed (known_trees theory w t q))
 
     first_are : Each IsIts (all_jobs pieces t (asked_for_first theory w pieces t q))
     first_are =
         all_are (asked_for_first theory w pieces t q)
-        (asked_to_first Awaited Listed (tree_verdict theory w pieces t q) (known_trees theory w t q) trees_wait
+        (asked_to_first Awaited Listed (tree_verdict theory w pieces t q) (known_trees theory w t q) awaited
         (elements_listed (known_trees theory w t q)))
 
     every_are : Each IsIts (all_jobs pieces t (asked_for_all theory w pieces t q))
     every_are =
         all_are (asked_for_all theory w pieces t q)
-        (asked_to_all Awaited Listed (tree_verdict theory w pieces t q) (known_trees theory w t q) trees_wait
+        (asked_to_all Awaited Listed (tree_verdict theory w pieces t q) (known_trees theory w t q) awaited
         (elements_listed (known_trees theory w t q)))
 
   each_is_its : (job : NodeJob) → IsOneOf job (jobs_needed theory w t pieces state) → IsIts job

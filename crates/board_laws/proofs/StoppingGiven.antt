@@ -4,7 +4,7 @@ use Rattle.spec_core.specs.declared.settings.Settings.{Settings}
 use Rattle.spec_core.specs.Code.{Program}
 use Rattle.spec_core.specs.Lists.{IsOneOf}
 use Rattle.spec_core.specs.Terms.{TermTree, term_of}
-use Rattle.rule_model.specs.declared.reply.LimitKind.TheVariants.{Spread}
+use Rattle.rule_model.specs.declared.reply.LimitKind.TheVariants.{Spread, Steps}
 use Rattle.rule_model.specs.Behaviours.{Behaviour}
 use Rattle.rule_model.specs.States.{State}
 use Rattle.candidate_count.specs.Windows.{Windows}
@@ -103,9 +103,11 @@ module _ (program : Program) (settings : Settings) (e : Evaluation) (w : Windows
       let from = needed_parts_are_of_trees program.theory w t pieces (waiting_in s) part i in
       (w, k.known.windows, from.tree, candidate_of part from)
 
-  verdicts_give : VerdictsGiveReasons program settings w t pieces s
-  verdicts_give part n i node stop h reason q =
-      let from = needed_parts_are_of_trees program.theory w t pieces (waiting_in s) part i in
+  -- why it isn't found what a node shows is a reason, where a part is missing there of a tree for which a query of the rules may ask
+  pub part_gives : (part : NodePart) (n : Held) → IsPartOfTree program.theory w t pieces (waiting_in s) part → IsNodeOf t part.generation n →
+      (stop : Stop) → Stops program.theory settings.budget (TreeAsks program w unmarked (meaning program n.source) part.rules) Never stop →
+      (reason : StopReason) → reason_of stop ≡ Some reason → IsReasonToStop program settings s reason
+  part_gives part n from node stop h reason q =
       let of = missing_are_by_nodes program pieces t from.tree part from.missing in
       let same = k.known.apart of.up node.up of.node n of.stands node.stands (of.same ∙ sym node.same) in
       given (TreeAsks program w unmarked (meaning program n.source) part.rules) Never
@@ -126,6 +128,9 @@ module _ (program : Program) (settings : Settings) (e : Evaluation) (w : Windows
       })
       (λ m r. absurd r) stop h reason q
 
+  verdicts_give : VerdictsGiveReasons program settings w t pieces s
+  verdicts_give part n i = part_gives part n (needed_parts_are_of_trees program.theory w t pieces (waiting_in s) part i)
+
   offers_give : OffersGiveReasons program settings w t pieces s
   offers_give h = record {
     windows = w;
@@ -136,6 +141,13 @@ module _ (program : Program) (settings : Settings) (e : Evaluation) (w : Windows
         let below = trees_have_no_more_offers program f w t (k.own f exact) in
         omega (arith, above, below));
   }
+
+-- why a job has no answer is never the limit of steps
+pub no_limit_of_steps : (stop : Stop) (reason : StopReason) → reason_of stop ≡ Some reason → reason ≡ Limit Steps → ⊥
+no_limit_of_steps (causes.Spent term) reason q e = let never : ⊥ = cc in never
+no_limit_of_steps (causes.TooLarge term) reason q e = let never : ⊥ = cc in never
+no_limit_of_steps (causes.Wide m) reason q e = let never : ⊥ = cc in never
+no_limit_of_steps causes.Memory reason q e = let never : ⊥ = cc in never
 
 -- where the rules look for trees, they ask for what gives the reason for which a job has no answer
 pub asked_by_rules : (program : Program) (settings : Settings) (s : State) → LooksForTrees s → (stop : Stop) (reason : StopReason) →

@@ -12,6 +12,8 @@ pub mod StoppingLaws
 pub use Rattle.candidate_count.specs.Counts
 pub use Rattle.candidate_laws.specs.Asked
 pub use Rattle.candidate_laws.specs.TreeLaws
+pub use Rattle.decision_trees.specs.Decisions
+pub use Rattle.decision_trees.specs.Gaps
 pub use Rattle.decision_trees.specs.Known
 pub use Rattle.decision_trees.specs.Lazy
 pub use Rattle.decision_trees.specs.Rules

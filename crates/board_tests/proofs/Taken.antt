@@ -7,7 +7,7 @@ use Rattle.rule_model.specs.Derivations.{Derivation}
 use Rattle.rule_model.specs.Events.{OfferName}
 use Rattle.rule_model.specs.States.{State}
 use Rattle.board_laws.specs.Next.{GoesByRules}
-use Rattle.node_trees.specs.Shapes.{Shape}
+use Rattle.board_core.specs.Shapes.{Shape}
 use Rattle.board_core.specs.Offers.{offer_at}
 use Rattle.board_core.specs.Settled.{MayFollow}
 use Rattle.board_core.specs.Views.{BoardView, program, state, tree, SameLog, SameNodes, SameSession}

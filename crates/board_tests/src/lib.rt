@@ -5,6 +5,8 @@
 #[cfg(test)]
 mod late;
 #[cfg(test)]
+mod listing;
+#[cfg(test)]
 mod ready;
 #[cfg(test)]
 mod sessions;

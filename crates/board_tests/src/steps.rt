@@ -7,7 +7,7 @@ use crate::working::{do_job, expanded_by, work_and_settle};
 use board_core::board::Board;
 use board_core::job::Job;
 use board_record::{LeaveFault, PendFault};
-use node_trees::origin::Gen;
+use board_work::Gen;
 use spec_core::memory::Memory;
 use std::alloc::Global;
 

@@ -4,9 +4,8 @@ ghost use Rattle.std.specs.Prelude.{◌≡◌};
 
 use board_core::board::Board;
 use board_work::working::work;
+use board_work::{Expansion, Origin};
 use candidates::job::NodeJob;
-use node_trees::expansion::Expansion;
-use node_trees::origin::Origin;
 use node_values::stop::Stop;
 use node_work::node::expand_node;
 use spec_core::memory::Memory;

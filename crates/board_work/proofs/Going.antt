@@ -24,6 +24,12 @@ use Rattle.board_work.specs.Going.{GoesOn}
 use Rattle.board_work.specs.Handed.{HandsIn}
 use Rattle.board_work.proofs.Driving as driving
 
+pub one_session : (a b c : BoardView) → SameSession a b → SameSession b c → SameSession a c
+one_session a b c x y = (
+  ((y.0.0.0 ∙ x.0.0.0, y.0.0.1 ∙ x.0.0.1), y.0.1 ∙ x.0.1, y.0.2 ∙ x.0.2),
+  y.1 ∙ x.1,
+)
+
 abbrev Own : Entry → Type 0
 Own entry = IsOfClient (event_of entry) → ⊥
 

@@ -2,5 +2,6 @@ pub mod Driven
 pub mod Going
 pub mod Handed
 pub mod Outcomes
+pub use Rattle.node_trees.specs.Generations
 pub use Rattle.session_laws.specs.Ends
 pub use Rattle.session_laws.specs.Runs

@@ -5,3 +5,6 @@ pub mod handing_in;
 pub mod outcome;
 pub mod performing;
 pub mod working;
+
+pub use node_trees::expansion::Expansion;
+pub use node_trees::origin::{Gen, Origin};

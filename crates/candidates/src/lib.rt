@@ -7,4 +7,4 @@ pub mod known_tree;
 pub mod laws;
 mod lists;
 mod searching;
-mod walk;
+pub mod walk;

@@ -103,12 +103,6 @@ module _ (old new : BoardView) (same : SameSession old new) where
 pub onward : (a b c : BoardView) → Continues a b → Continues b c → Continues a c
 onward a b c f g start wishes run = g start wishes (f start wishes run)
 
-pub one_session : (a b c : BoardView) → SameSession a b → SameSession b c → SameSession a c
-one_session a b c x y = (
-  ((y.0.0.0 ∙ x.0.0.0, y.0.0.1 ∙ x.0.0.1), y.0.1 ∙ x.0.1, y.0.2 ∙ x.0.2),
-  y.1 ∙ x.1,
-)
-
 -- what came of a job is handed in
 pub handed : (old new : BoardView) → HandsIn old new → Continues old new
 handed old new h = by_stop h.stop

@@ -1,6 +1,6 @@
 use Rattle.std.proofs.Common.{◌≡◌, refl}
 use Rattle.board_work.proofs.Going as going
-use Rattle.client_runs.proofs.Running.{one_session, onward}
+use Rattle.client_runs.proofs.Running.{onward}
 use Rattle.client_runs.proofs.settling_all.settle_all.Goals as goal
 
 pub loop-init : goal.loop-init
@@ -24,5 +24,5 @@ loop-preserved c =
     record {
       continues = onward a b new i.continues h.continues;
       goes_on = going.onward a b new i.goes_on h.goes_on;
-      session = one_session a b new i.session h.session;
+      session = going.one_session a b new i.session h.session;
     }

@@ -1,0 +1,12 @@
+use Rattle.std.proofs.Common.{subst, sym}
+use Rattle.spec_core.specs.Code.{program_of}
+use Rattle.board_core.specs.Found.{AreBySorts}
+use Rattle.board_lists.proofs.doing.do_job.Goals as goal
+
+pub perform-requires-clause-rows : goal.perform-requires-clause-rows
+perform-requires-clause-rows c =
+    let v = c.args.board.now in (
+      v.settings.values,
+      subst (AreBySorts (program_of c.checked.result.now).theory v.settings.values) (sym c.windows.ensures.windows)
+          (subst (λ k. AreBySorts (program_of k).theory v.settings.values v.windows) (sym c.checked.ensures) c.windows.ensures.rows),
+    )
