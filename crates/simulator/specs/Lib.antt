@@ -1,0 +1,3 @@
+pub mod Menus
+pub mod Offering
+pub mod Sims
