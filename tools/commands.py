@@ -14,6 +14,8 @@ COMMANDS = [
             "Runs a session in which the clients of the script make their offers, and prints its trace. Each client has a thread."),
     Command("replay", ["SPEC", "TRACE"], ["budget"],
             "Checks each line of a trace against the inference rules: `derivation` and the number of actions, or the first line that isn't possible."),
+    Command("sim", ["SPEC"], ["budget", "values", "steps"],
+            "Simulates the specification by hand: each line of standard input is answered at once, `menu`, `do NUMBER`, `offer OFFER`, `trace` or `quit`."),
     Command("selfrun", ["SEED", "SIZE"], ["workers"],
             "Runs a session of a chain of SIZE cells, 1 to 64, with a script that SEED gives, 0 to 4,294,967,295, and prints its counts: "
             "`actions`, `taken`, `internal`, `other`, each with a number, and how it ended. It reads no file."),
@@ -31,11 +33,12 @@ STATUSES = [
     (0, "Done. The text is what the command says."),
     (1, "The specification is refused: `refused`, the number and the name of the refusal, its place, and its names."),
     (2, "The words are no command with its words and options: `usage`."),
-    (3, "A file that the words name couldn't be read: `read fault`."),
+    (3, "A file that the words name couldn't be read, or the input of `sim`: `read fault`."),
     (4, "The output couldn't be written. A beginning of the text may be."),
     (5, "Memory was wanting. There is no text, or a beginning of it."),
     (6, "A term takes more uses of equations than the budget allows: `spent` and the term; or the trace or the counts of a session that such a term stopped."),
-    (7, "The evaluation of a term meets a value of more than 65,536 symbols: `large` and the term; or the trace or the counts of a session that a limit stopped."),
+    (7, "The evaluation of a term meets a value of more than 65,536 symbols: `large` and the term; or the trace or the counts of a session that a limit stopped; "
+        "or a limit of `sim` was exceeded: `limit` and which."),
     (8, "The script or the trace isn't one of the specification, or a word isn't a term of it, or two terms are of two sorts: "
         "`script refused`, a line and what is wrong with it."),
     (9, "The trace isn't a derivation: `not a derivation` and a line."),
@@ -100,7 +103,7 @@ def page():
                   plain("`lotos` carries out one command over a specification in LOTOS (ISO 8807:1989)."),
                   plain("The first word names the command. Behind it stand files, terms and numbers in the order that is shown, and options anywhere among them."),
                   ".PP",
-                  plain("All texts go to standard output, at the end; nothing goes to standard error. Standard input isn't read."),
+                  plain("All texts go to standard output, at the end, those of `sim` at once; nothing goes to standard error. Standard input is read by `sim` alone."),
                   ".SH COMMANDS"]
     for command in COMMANDS:
         lines += [".TP", called(command), plain(command.does)]

@@ -6,11 +6,11 @@ use Rattle.spec_core.specs.Lists.{OneOf}
 use Rattle.command_words.specs.declared.option.Choices.{Choices}
 use Rattle.command_words.specs.declared.option.OptionName.{OptionName}
 use Rattle.command_words.specs.declared.option.OptionName.TheVariants.{Budget, Values, Steps, Seed, Workers}
-use Rattle.command_words.specs.Commands.{Command, check, run_by, check_by, equal_by, replay_by, selfrun_by}
+use Rattle.command_words.specs.Commands.{Command, check, run_by, check_by, equal_by, replay_by, sim_by, selfrun_by}
 use Rattle.command_words.specs.Laws.{Number, number_for, seed, size, IsAmiss, IsUsageExactly, UsageIsExact}
 use Rattle.command_words.specs.Numbers.{number_at, number_within}
 use Rattle.command_words.specs.Options.{chosen_by, choices_of, choosing, name_of, number_of}
-use Rattle.command_words.specs.Readers.{run_reader, check_reader, equal_reader, replay_reader, selfrun_reader, found_in}
+use Rattle.command_words.specs.Readers.{run_reader, check_reader, equal_reader, replay_reader, sim_reader, selfrun_reader, found_in}
 use Rattle.command_words.proofs.Wanted.{wanted_words_are_found}
 
 unmapped : {A B : Type 0} (f : A → B) (x : Option A) → option_map f x ≡ None → x ≡ None
@@ -135,6 +135,11 @@ usage_is_exact =
           let Q = OneOf (IsAmiss rows) (map number_for (Budget ∷ [])) in
           through (first_of (codes "SPEC") rows) _ Q found.0 (λ specification. through (first_of (codes "TRACE") rows) _ Q found.1.0 (λ trace.
           mapped _ (choices_of (Budget ∷ []) rows) Q (by_choices (Budget ∷ []) rows))));
+      sim = exact sim_by sim_reader (map number_for (Budget ∷ Values ∷ Steps ∷ [])) (λ words rows e.
+          let found = wanted.sim words rows e in
+          let Q = OneOf (IsAmiss rows) (map number_for (Budget ∷ Values ∷ Steps ∷ [])) in
+          through (first_of (codes "SPEC") rows) _ Q found.0 (λ specification.
+          mapped _ (choices_of (Budget ∷ Values ∷ Steps ∷ []) rows) Q (by_choices (Budget ∷ Values ∷ Steps ∷ []) rows)));
       selfrun = exact selfrun_by selfrun_reader (seed ∷ size ∷ map number_for (Workers ∷ [])) (λ words rows e.
           let found = wanted.selfrun words rows e in
           numbered seed rows _ (size ∷ map number_for (Workers ∷ [])) found.0 (λ s.

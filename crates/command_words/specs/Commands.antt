@@ -5,12 +5,12 @@ use Rattle.std.specs.Str.{bytes_eq}
 use Rattle.clap.specs.Walk.{Row, first_of}
 use Rattle.spec_core.specs.declared.settings.Settings.{Settings}
 use Rattle.command_words.specs.declared.command.Command as words
-use Rattle.command_words.specs.declared.command.Command.TheVariants.{Run, Check, Equal, Replay, Selfrun}
+use Rattle.command_words.specs.declared.command.Command.TheVariants.{Run, Check, Equal, Replay, Sim, Selfrun}
 use Rattle.command_words.specs.declared.option.Choices.{Choices}
 use Rattle.command_words.specs.declared.option.OptionName.TheVariants.{Budget, Values, Steps, Seed, Workers}
 use Rattle.command_words.specs.Numbers.{number_at}
 use Rattle.command_words.specs.Options.{choices_of}
-use Rattle.command_words.specs.Readers.{run_reader, check_reader, equal_reader, replay_reader, selfrun_reader, found_in}
+use Rattle.command_words.specs.Readers.{run_reader, check_reader, equal_reader, replay_reader, sim_reader, selfrun_reader, found_in}
 
 pub data Command : Type 0 where
   -- a session of the specification in the first file, whose clients make the offers of the script in the second, by these settings and with
@@ -22,6 +22,8 @@ pub data Command : Type 0 where
   equal : List ℕ → List ℕ → List ℕ → ℕ → Command
   -- whether the trace in the second file is a derivation of the specification in the first, with so many uses of equations for each term
   replay : List ℕ → List ℕ → ℕ → Command
+  -- a simulation of the specification in the file, by these settings
+  sim : List ℕ → Settings → Command
   -- a session over the specification that is generated for so many cells, whose client makes the offers of the script that a seed gives for
   -- them, with so many workers: the seed, the cells, the workers
   selfrun : ℕ → ℕ → ℕ → Command
@@ -47,6 +49,11 @@ replay_by rows =
     option_and_then (λ specification. option_and_then (λ trace. option_map (λ (c : Choices). replay specification trace c.settings.budget)
     (choices_of (Budget ∷ []) rows)) (first_of (codes "TRACE") rows)) (first_of (codes "SPEC") rows)
 
+abbrev pub sim_by : List Row → Option Command
+sim_by rows =
+    option_and_then (λ specification. option_map (λ (c : Choices). sim specification c.settings)
+    (choices_of (Budget ∷ Values ∷ Steps ∷ []) rows)) (first_of (codes "SPEC") rows)
+
 abbrev pub selfrun_by : List Row → Option Command
 selfrun_by rows =
     option_and_then (λ seed. option_and_then (λ size. option_map (λ (c : Choices). selfrun seed size c.workers)
@@ -66,6 +73,9 @@ equal_of words = option_and_then equal_by (found_in equal_reader words)
 abbrev pub replay_of : List (List ℕ) → Option Command
 replay_of words = option_and_then replay_by (found_in replay_reader words)
 
+abbrev pub sim_of : List (List ℕ) → Option Command
+sim_of words = option_and_then sim_by (found_in sim_reader words)
+
 abbrev pub selfrun_of : List (List ℕ) → Option Command
 selfrun_of words = option_and_then selfrun_by (found_in selfrun_reader words)
 
@@ -75,6 +85,7 @@ command_of (name ∷ words) = if bytes_eq name (codes "run") then run_of words
     else if bytes_eq name (codes "check") then check_of words
     else if bytes_eq name (codes "equal") then equal_of words
     else if bytes_eq name (codes "replay") then replay_of words
+    else if bytes_eq name (codes "sim") then sim_of words
     else if bytes_eq name (codes "selfrun") then selfrun_of words
     else None
 command_of [] = None
@@ -85,6 +96,7 @@ command_named (Run specification script settings workers) = run specification.no
 command_named (Check specification) = check specification.now
 command_named (Equal specification first second budget) = equal specification.now first.now second.now budget
 command_named (Replay specification trace budget) = replay specification.now trace.now budget
+command_named (Sim specification settings) = sim specification.now settings
 command_named (Selfrun seed size workers) = selfrun seed size workers
 
 -- a session has at most 64 workers, and a generated one from 1 to 64 cells
@@ -93,4 +105,5 @@ IsWithinRanges (Run specification script settings workers) = workers ≤ 64
 IsWithinRanges (Check specification) = Unit {0}
 IsWithinRanges (Equal specification first second budget) = Unit {0}
 IsWithinRanges (Replay specification trace budget) = Unit {0}
+IsWithinRanges (Sim specification settings) = Unit {0}
 IsWithinRanges (Selfrun seed size workers) = (0 < size) × (size ≤ 64) × (workers ≤ 64)

@@ -39,6 +39,10 @@ abbrev pub replay_reader : App
 replay_reader = with_rule (with_rule (with_rule (bare (codes "replay"))
     (named (codes "SPEC"))) (named (codes "TRACE"))) (numbered (name_of Budget))
 
+abbrev pub sim_reader : App
+sim_reader = with_rule (with_rule (with_rule (with_rule (bare (codes "sim"))
+    (named (codes "SPEC"))) (numbered (name_of Budget))) (numbered (name_of Values))) (numbered (name_of Steps))
+
 abbrev pub selfrun_reader : App
 selfrun_reader = with_rule (with_rule (with_rule (bare (codes "selfrun"))
     (named (codes "SEED"))) (named (codes "SIZE"))) (numbered (name_of Workers))

@@ -3,13 +3,14 @@
 ghost use Rattle.std.specs.Prelude.{◌≡◌, IfOk, IfSome, map, option_map, string_bytes};
 ghost use Rattle.clap.specs.Words.{found_of, rows_of};
 ghost use Rattle.command_words.specs.Commands as commands;
-ghost use Rattle.command_words.specs.Commands.{check_of, command_named, command_of, equal_of, replay_of, run_of, selfrun_of};
+ghost use Rattle.command_words.specs.Commands.{check_of, command_named, command_of, equal_of, replay_of, run_of, selfrun_of, sim_of};
 ghost use Rattle.command_words.specs.Commands.{IsWithinRanges};
 
 use crate::number::number_at;
 use crate::option::{Choices, OptionName, choices_of};
 use crate::reader::{
-    check_reader, equal_reader, find, replay_reader, run_reader, selfrun_reader, text_at,
+    check_reader, equal_reader, find, replay_reader, run_reader, selfrun_reader, sim_reader,
+    text_at,
 };
 use clap::ArgMatches;
 use spec_core::memory::Memory;
@@ -46,6 +47,12 @@ pub enum Command<'w> {
         trace: &'w str,
         /// The greatest number of uses of equations in the evaluation of each term, from 1 to 2^32.
         budget: u64,
+    },
+    /// A simulation of a specification by hand.
+    Sim {
+        specification: &'w str,
+        /// What bounds the simulation.
+        settings: Settings,
     },
     /// A session of a generated specification with a generated script.
     Selfrun {
@@ -166,6 +173,31 @@ fn replay(alloc: Global, words: &[String]) -> Result<Option<Command<'_>>, Memory
     }
 }
 
+// What `sim` is told by what `clap` finds.
+fn sim_by<'w>(matches: &ArgMatches<'w>) -> Option<Command<'w>>
+    ensures command { option_map command_named result ≡ commands.sim_by (rows_of (found_of matches.now)) }
+    ensures ranges { IfSome result IsWithinRanges }
+{
+    let specification = text_at(matches, "SPEC")?;
+    let known = [OptionName::Budget, OptionName::Values, OptionName::Steps];
+    let settings = choices_of(&known, matches)?.settings;
+    Some(Command::Sim {
+        specification,
+        settings,
+    })
+}
+
+// What `sim` is told by the words behind it.
+fn sim(alloc: Global, words: &[String]) -> Result<Option<Command<'_>>, Memory>
+    ensures command { IfOk result (λ r. option_map command_named r ≡ sim_of (map string_bytes words.now)) }
+    ensures ranges { IfOk result (λ r. IfSome r IsWithinRanges) }
+{
+    match find(sim_reader(alloc)?, words)? {
+        Some(matches) => Ok(sim_by(&matches)),
+        None => Ok(None),
+    }
+}
+
 // What `selfrun` is told by what `clap` finds.
 fn selfrun_by<'w>(matches: &ArgMatches<'w>) -> Option<Command<'w>>
     ensures command { option_map command_named result ≡ commands.selfrun_by (rows_of (found_of matches.now)) }
@@ -203,6 +235,7 @@ pub fn read_command(alloc: Global, words: &[String]) -> Result<Option<Command<'_
             "check" => check(alloc, words),
             "equal" => equal(alloc, words),
             "replay" => replay(alloc, words),
+            "sim" => sim(alloc, words),
             "selfrun" => selfrun(alloc, words),
             _ => Ok(None),
         },

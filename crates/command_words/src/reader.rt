@@ -77,6 +77,17 @@ pub fn replay_reader<'a>(alloc: Global) -> Result<Command<'a>, AllocError>
         .arg(numbered(alloc, "budget"))
 }
 
+/// Reads the words of `sim`.
+pub fn sim_reader<'a>(alloc: Global) -> Result<Command<'a>, AllocError>
+    ensures { IfOk result (λ c. app_of c ≡ readers.sim_reader) }
+{
+    bare(alloc, "sim")
+        .arg(named(alloc, "SPEC"))?
+        .arg(numbered(alloc, "budget"))?
+        .arg(numbered(alloc, "values"))?
+        .arg(numbered(alloc, "steps"))
+}
+
 /// Reads the words of `selfrun`.
 pub fn selfrun_reader<'a>(alloc: Global) -> Result<Command<'a>, AllocError>
     ensures { IfOk result (λ c. app_of c ≡ readers.selfrun_reader) }

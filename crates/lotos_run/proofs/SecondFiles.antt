@@ -14,11 +14,11 @@ use Rattle.lotos_run.specs.declared.second_file.Second.TheVariants.{Script, Trac
 use Rattle.lotos_run.specs.declared.status.Status.{Status}
 use Rattle.lotos_run.specs.declared.status.Status.TheVariants.{Done, Refused, Usage, ReadFault, WriteFault, Memory, Spent, Limit}
 use Rattle.lotos_run.specs.declared.status.Status.TheVariants.{ScriptRefused, NotADerivation}
-use Rattle.lotos_run.specs.Checks.{IsReported}
+use Rattle.lotos_run.specs.Checks.{IsReported, OnAccepted}
 use Rattle.lotos_run.specs.Outside.{Shelved}
 use Rattle.lotos_run.specs.ReplayTexts.{status_of}
 use Rattle.lotos_run.specs.RunTexts as runs
-use Rattle.lotos_run.specs.SecondFiles.{most, SecondComes, OnSecond, OnAccepted, IsDueForSecond, IsDueForText, IsSecondDue}
+use Rattle.lotos_run.specs.SecondFiles.{most, SecondComes, OnSecond, IsDueForSecond, IsDueForText, IsSecondDue}
 use Rattle.lotos_run.proofs.Fetched.{fetched_implied}
 
 -- the statuses with which scripts and traces are answered
@@ -78,7 +78,7 @@ module _ (shelf : Shelved) (second : Second) (program : Program) (name bytes : L
 
 module _ (shelf : Shelved) (second : Second) (specification name bytes : List ℕ) (answer : List ℕ)
     (fetched : OnFetched shelf.files specification (λ text. bytes ≡ take 4194305 text)) where
-  accepted : (P : Program → Type 0) (program : Program) → IsAccepted bytes program → P program → OnAccepted shelf second specification P
+  accepted : (P : Program → Type 0) (program : Program) → IsAccepted bytes program → P program → OnAccepted shelf specification P
   accepted P program h k =
       fetched_implied (λ text. bytes ≡ take 4194305 text) (λ text. (q : Program) × IsAccepted (take 4194305 text) q × P q)
       (λ text e. (program, subst (λ b. IsAccepted b program) e h, k)) shelf.files specification fetched

@@ -27,6 +27,11 @@ IsJudged text Done answer = IsCounted text answer
 IsJudged text Refused answer = IsReported text answer
 IsJudged text _ answer = ⊥
 
+-- the file was fetched, its first 4,194,305 bytes, one more than a text may have, are accepted with a program, and the fact holds of the program
+abbrev pub OnAccepted : Shelved → List ℕ → (Program → Type 0) → Type 0
+OnAccepted shelf specification P =
+    OnFetched shelf.files specification (λ bytes. (program : Program) × IsAccepted (take 4194305 bytes) program × P program)
+
 -- Which status is due, with which text, and when. Of the file the first 4,194,305 bytes are judged, one more than a text may have.
 --   done: the text is accepted;
 --   refused: it has a first refusal;

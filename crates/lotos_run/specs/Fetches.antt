@@ -1,6 +1,6 @@
 -- Which files a call fetches.
 use Rattle.std.specs.Prelude.{ℕ, ◌≡◌, ◌⊎◌, List, [], ◌∷◌, Option, Some, None}
-use Rattle.command_words.specs.Commands.{Command, run, check, equal, replay, selfrun}
+use Rattle.command_words.specs.Commands.{Command, run, check, equal, replay, sim, selfrun}
 
 -- the files that a command names, in the order in which they are fetched
 abbrev pub named_files : Option Command → List (List ℕ)
@@ -9,6 +9,7 @@ named_files (Some (run specification script settings workers)) = specification �
 named_files (Some (check specification)) = specification ∷ []
 named_files (Some (equal specification first second budget)) = specification ∷ []
 named_files (Some (replay specification trace budget)) = specification ∷ trace ∷ []
+named_files (Some (sim specification settings)) = specification ∷ []
 named_files (Some (selfrun seed size workers)) = []
 
 -- The shelf was asked for files of these names, from the first on, as far as it was asked, and nothing else was done to it; the relation says

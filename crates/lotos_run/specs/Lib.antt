@@ -12,4 +12,5 @@ pub mod Runs
 pub mod RunTexts
 pub mod SecondFiles
 pub mod Selfruns
+pub mod Sims
 pub mod Statuses

@@ -6,8 +6,8 @@ use Rattle.rule_model.specs.declared.log.End.{End}
 use Rattle.rule_model.specs.declared.log.End.TheVariants as ends
 use Rattle.rule_model.specs.Events.{Event, Ending, ending_of}
 use Rattle.rule_model.specs.Logs.{events_of}
-use Rattle.trace_text.specs.Names.{names_in}
-use Rattle.trace_text.specs.Trace.{trace_bytes}
+use Rattle.command_sim.specs.Names.{names_in}
+use Rattle.command_sim.specs.Trace.{trace_bytes}
 use Rattle.command_run.specs.declared.answer.Answer.{Answer}
 use Rattle.command_run.specs.declared.answer.Answer.TheVariants as came
 use Rattle.command_selfrun.specs.Lines.{line_of}

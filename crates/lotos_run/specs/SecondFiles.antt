@@ -7,7 +7,7 @@ use Rattle.lotos_run.specs.declared.second_file.Second.{Second}
 use Rattle.lotos_run.specs.declared.second_file.Second.TheVariants.{Script, Trace}
 use Rattle.lotos_run.specs.declared.status.Status.{Status}
 use Rattle.lotos_run.specs.declared.status.Status.TheVariants.{Done, Refused, ReadFault, Spent, Limit, ScriptRefused, NotADerivation}
-use Rattle.lotos_run.specs.Checks.{IsReported}
+use Rattle.lotos_run.specs.Checks.{IsReported, OnAccepted}
 use Rattle.lotos_run.specs.Outside.{Shelved, IsUnread}
 use Rattle.lotos_run.specs.Replays.{IsReplayed}
 use Rattle.lotos_run.specs.Runs.{IsScripted}
@@ -32,11 +32,6 @@ module _ (shelf : Shelved) (second : Second) where
   abbrev pub OnSecond : Program → List ℕ → Status → List ℕ → Type 0
   OnSecond program name status answer =
       OnFetched shelf.files name (λ bytes. SecondComes second program (take (most second) bytes) status answer)
-
-  -- the file of this name was fetched, its first 4,194,305 bytes are accepted with a program, and the fact holds of the program
-  abbrev pub OnAccepted : List ℕ → (Program → Type 0) → Type 0
-  OnAccepted specification P =
-      OnFetched shelf.files specification (λ bytes. (program : Program) × IsAccepted (take 4194305 bytes) program × P program)
 
   -- Once the specification is accepted: what comes of the second file, with one of these statuses; or, read fault, the fetch of that file
   -- failed.
@@ -63,10 +58,10 @@ module _ (shelf : Shelved) (second : Second) where
       OnFetched shelf.files specification (λ bytes. IsReported (take 4194305 bytes) answer)
   IsSecondDue specification name ReadFault answer =
       (answer ≡ codes "read fault\n") ×
-      (IsUnread shelf specification ⊎ IsUnread shelf name × OnAccepted specification (λ program. Unit {0}))
-  IsSecondDue specification name Done answer = OnAccepted specification (λ program. OnSecond program name Done answer)
-  IsSecondDue specification name NotADerivation answer = OnAccepted specification (λ program. OnSecond program name NotADerivation answer)
-  IsSecondDue specification name Spent answer = OnAccepted specification (λ program. OnSecond program name Spent answer)
-  IsSecondDue specification name Limit answer = OnAccepted specification (λ program. OnSecond program name Limit answer)
-  IsSecondDue specification name ScriptRefused answer = OnAccepted specification (λ program. OnSecond program name ScriptRefused answer)
+      (IsUnread shelf specification ⊎ IsUnread shelf name × OnAccepted shelf specification (λ program. Unit {0}))
+  IsSecondDue specification name Done answer = OnAccepted shelf specification (λ program. OnSecond program name Done answer)
+  IsSecondDue specification name NotADerivation answer = OnAccepted shelf specification (λ program. OnSecond program name NotADerivation answer)
+  IsSecondDue specification name Spent answer = OnAccepted shelf specification (λ program. OnSecond program name Spent answer)
+  IsSecondDue specification name Limit answer = OnAccepted shelf specification (λ program. OnSecond program name Limit answer)
+  IsSecondDue specification name ScriptRefused answer = OnAccepted shelf specification (λ program. OnSecond program name ScriptRefused answer)
   IsSecondDue specification name _ answer = ⊥

@@ -10,11 +10,11 @@ use crate::lines::{bytes_of, script_refusal, term_line};
 use crate::status::Status;
 use command_run::Answer;
 use command_selfrun::counts_line;
+use command_sim::print_log;
 use rule_model::log::{End, Log};
 use spec_core::code::Checked;
 use spec_core::memory::Memory;
 use std::alloc::Global;
-use trace_text::print_log;
 
 /// What is printed of a session.
 #[derive(Clone, Copy)]
