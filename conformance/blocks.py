@@ -6,7 +6,7 @@ A case is a dictionary with these keys:
   words     the words after the program's name, each as bytes
   status    the exit status that is due
   files     the files that the program finds: a dictionary from names to texts
-  stdin     standard input; empty where it is left out
+  stdin     standard input; empty where it is left out, and None where it is a folder, which can't be read
   stdout    the texts of which one must be written; or, in its place:
   judge     what is due of a trace that depends on the order of the clients' turns
 A text is a list of pieces, each bytes that stand a number of times, or the path of a file beside the cases.
@@ -15,6 +15,7 @@ import re
 
 HEAD, TEXT, CALL, STATUS = "== ", "-- ", "$ lotos", "status "
 PIECES, UNENDED, BESIDE = " (pieces)", " (no line end)", " (from "
+UNREADABLE = "stdin (a folder)"
 ESCAPES = {"\n": "\\n", "\r": "\\r", "\t": "\\t", "\\": "\\\\", '"': '\\"'}
 MEANINGS = {"n": "\n", "r": "\r", "t": "\t", "\\": "\\", '"': '"'}
 WORD = re.compile(r'\s*(?:"((?:[^"\\]|\\.)*)"|([^\s"]+))')
@@ -96,7 +97,7 @@ def written_case(case):
     for name, text in case.get("files", {}).items():
         lines += written_text(name, text)
     if "stdin" in case:
-        lines += written_text("stdin", case["stdin"])
+        lines += [TEXT + UNREADABLE] if case["stdin"] is None else written_text("stdin", case["stdin"])
     for text in case.get("stdout", []):
         lines += written_text("stdout", text)
     if "judge" in case:
@@ -178,6 +179,9 @@ def add_text(case, head, lines):
     """Adds what stands under a head."""
     if head == "judge":
         case["judge"] = judge_of(lines)
+        return
+    if head == UNREADABLE:
+        case["stdin"] = None
         return
     name, text = text_of(head, lines)
     if name == "stdout":
