@@ -1,0 +1,58 @@
+"""A specification as a reference: a program that talks to `lotos sim` through a pipe, line by line."""
+import os
+import subprocess
+
+# The program: the one that is named, or the starter of a checkout, or else the one that is installed.
+LOTOS = os.environ.get("LOTOS") or ("./lotos" if os.path.exists("./lotos") else "lotos")
+
+
+class Stopped(Exception):
+    """The reference has stopped, for the reason that it told."""
+
+
+class Reference:
+    """A session of `lotos sim`: each line is answered before the next one is sent."""
+
+    def __init__(self, spec, *options):
+        pipes = {"stdin": subprocess.PIPE, "stdout": subprocess.PIPE, "text": True, "bufsize": 1}
+        self.run = subprocess.Popen([LOTOS, "sim", spec, *options], **pipes)
+
+    def ask(self, line):
+        """Sends a line, and reads the first line of its answer."""
+        self.run.stdin.write(line + "\n")
+        return self.next()
+
+    def next(self):
+        """Reads one more line. The first word of a reason to stop is none that an answer begins with."""
+        answer = self.run.stdout.readline().rstrip("\n")
+        if not answer or answer.split(" ")[0] in ("spent", "large", "limit", "refused", "read", "usage"):
+            raise Stopped(answer or "it has ended")
+        return answer
+
+    def lines(self, line, last):
+        """Sends two lines, of which the second one has an answer of one line that is known: all lines of the first one's answer."""
+        answers = [self.ask(line)]
+        self.run.stdin.write(last[0] + "\n")
+        while (answer := self.next()) != last[1]:
+            answers.append(answer)
+        return answers
+
+    def menu(self):
+        """The actions of the steps that are possible, each without its number; `more` is left out."""
+        lines = self.lines("menu", ("do 0", "no step"))
+        return [line.split(" ", 1)[1] for line in lines if line[0].isdigit()]
+
+    def trace(self):
+        """The lines of the trace so far."""
+        return self.lines("trace", ("do 0", "no step"))
+
+    def settle(self):
+        """Does unseen steps until there are none."""
+        while "i" in (actions := self.menu()):
+            self.ask(f"do {actions.index('i') + 1}")
+
+    def close(self):
+        """Ends the session."""
+        self.run.stdin.close()
+        self.run.stdout.close()
+        self.run.wait()
