@@ -1,10 +1,27 @@
 """What a release and an installation consist of: the built program, its page of the manual and completions, the documents that a user reads,
-the examples, and what it was proved from."""
+the examples, the tools that draw and explain, the files for editors, and what it was proved from."""
 import commands
 import program
 
-DOCUMENTS = ["README.md", "docs/TUTORIAL.md", "docs/LANGUAGE.md", "docs/SEMANTICS.md", "docs/FORMATS.md", "docs/PROMISES.md"]
+DOCUMENTS = ["README.md"] + [f"docs/{name}.md" for name in ("TUTORIAL", "LANGUAGE", "SEMANTICS", "FORMATS", "TESTING", "COMPARISON", "PROMISES", "GLOSSARY")]
+# The tools that are called, and what they are made of.
+TOOLS = ["draw", "explain"]
+MODULES = ["boxes", "charts", "commands", "specification", "steps", "traces"]
 SHARE = "share/doc/habuxelo"
+
+
+def beside():
+    """The files beside the program that are as they stand here, each with its place below SHARE, and whether it can be run."""
+    for name in DOCUMENTS:
+        yield name, program.TOP / name, False
+    for name in TOOLS:
+        yield f"tools/{name}", program.TOP / "tools" / name, True
+    for name in MODULES:
+        yield f"tools/{name}.py", program.TOP / f"tools/{name}.py", False
+    for folder in ("examples", "editors"):
+        for path in program.files_below(program.TOP / folder):
+            if path.suffix != ".pyc":
+                yield str(path.relative_to(program.TOP)), path, False
 
 
 def parts():
@@ -18,10 +35,8 @@ def parts():
     yield "bin/lotos", program.PROGRAM.read_bytes(), True
     yield "share/man/man1/lotos.1", commands.page().encode(), False
     yield "share/bash-completion/completions/lotos", commands.completions().encode(), False
-    for name in DOCUMENTS:
-        yield f"{SHARE}/{name}", (program.TOP / name).read_bytes(), False
-    for path in program.files_below(program.TOP / "examples"):
-        yield f"{SHARE}/{path.relative_to(program.TOP)}", path.read_bytes(), False
+    for name, path, is_program in beside():
+        yield f"{SHARE}/{name}", path.read_bytes(), is_program
     yield f"{SHARE}/proved/kit", f"{line}\n".encode(), False
     yield f"{SHARE}/proved/crates.txt", crates.encode(), False
     yield f"{SHARE}/proved/SHA256SUMS", files.encode(), False
