@@ -5,8 +5,6 @@
 #[cfg(test)]
 mod late;
 #[cfg(test)]
-mod listing;
-#[cfg(test)]
 mod ready;
 #[cfg(test)]
 mod sessions;
