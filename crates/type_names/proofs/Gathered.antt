@@ -15,11 +15,15 @@ each_after_append f before (x ∷ xs) ys =
     ∙ ap (λ z. (f before x ++ each_after f (before ++ x ∷ []) xs) ++ each_after f z ys) (append_assoc before (x ∷ []) xs)
 
 -- what is refused of one more element, with those before it
+pub each_after_last : {A B : Type 0} (f : List B → B → List Refusal) (g : A → B) (h now then : List Refusal) (xs : List A) (x : A) → now ≡ h ++ each_after f [] (map g xs) → then ≡ now ++ f (map g xs) (g x) → then ≡ h ++ each_after f [] (map g (xs ++ x ∷ []))
+each_after_last f g h now then xs x before more =
+    more ∙ ap (λ z. z ++ f (map g xs) (g x)) before ∙ append_assoc h (each_after f [] (map g xs)) (f (map g xs) (g x))
+    ∙ ap (λ z. h ++ z) (sym (ap (each_after f []) (map-append g xs (x ∷ []))
+    ∙ each_after_append f [] (map g xs) (g x ∷ []) ∙ ap (λ z. each_after f [] (map g xs) ++ z) (append-nil (f (map g xs) (g x)))))
+
 pub each_after_next : {A B : Type 0} (f : List B → B → List Refusal) (g : A → B) (h now then : List Refusal) (xs : List A) (i : ℕ) (x : A) → i < length xs → x ≡ get_or xs i x → now ≡ h ++ each_after f [] (map g (take i xs)) → then ≡ now ++ f (map g (take i xs)) (g x) → then ≡ h ++ each_after f [] (map g (take (i + 1) xs))
 each_after_next f g h now then xs i x within at before more =
-    more ∙ ap (λ z. z ++ f (map g (take i xs)) (g x)) before ∙ append_assoc h (each_after f [] (map g (take i xs))) (f (map g (take i xs)) (g x))
-    ∙ ap (λ z. h ++ z) (sym (ap (λ zs. each_after f [] (map g zs)) (take_next xs i x within at) ∙ ap (each_after f []) (map-append g (take i xs) (x ∷ []))
-    ∙ each_after_append f [] (map g (take i xs)) (g x ∷ []) ∙ ap (λ z. each_after f [] (map g (take i xs)) ++ z) (append-nil (f (map g (take i xs)) (g x)))))
+    each_after_last f g h now then (take i xs) x before more ∙ ap (λ zs. h ++ each_after f [] (map g zs)) (sym (take_next xs i x within at))
 
 -- what is refused of one more element
 pub refused_next : {A B : Type 0} (f : B → List Refusal) (g : A → B) (h now then : List Refusal) (xs : List A) (i : ℕ) (x : A) → i < length xs → x ≡ get_or xs i x → now ≡ h ++ flat_map f (map g (take i xs)) → then ≡ now ++ f (g x) → then ≡ h ++ flat_map f (map g (take (i + 1) xs))

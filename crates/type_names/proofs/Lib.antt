@@ -1,3 +1,4 @@
 mod Acyclic
 pub mod Gathered
 mod Rounds
+mod Sets

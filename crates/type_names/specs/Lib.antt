@@ -1,5 +1,6 @@
 pub mod Acyclic
 pub mod DuplicateNames
+pub mod NameSets
 pub mod Refused
 pub mod TypeCycles
 pub mod UnknownTypes

@@ -2,10 +2,10 @@
 
 ghost use Rattle.std.specs.Prelude.{◌≡◌, ◌++◌, IfOk, OnOk, map};
 ghost use Rattle.std.specs.List.{flat_map};
-ghost use Rattle.type_contents.specs.Uses.{number_of, links};
+ghost use Rattle.type_contents.specs.Uses.{links};
 ghost use Rattle.type_names.specs.TypeCycles.{name_at, cycle_refused, names_on, cycle_refusals};
 
-use crate::names::{add_type_name, add_uses};
+use crate::names::add_type_name;
 use lotos_ast::names::Names;
 use lotos_ast::refusal::{Refusal, RefusalKind};
 use lotos_ast::token::Token;
@@ -13,37 +13,18 @@ use lotos_ast::types::TypeDef;
 use spec_core::memory::Memory;
 use spec_core::name::Name;
 use std::alloc::Global;
-use type_contents::numbers::number_of;
+use type_contents::schedule::links_of;
 use type_cycles::cycle::first_cycle;
 use type_cycles::numbers::Numbers;
-
-// The numbers of the types of these names.
-fn numbers_of(alloc: Global, types: &[TypeDef], names: &[&Token]) -> Result<Numbers, Memory>
-    ensures { IfOk result (λ all. all ≡ map (number_of types.now) (map (λ t. t.now) names.now)) }
-{
-    let mut all = Vec::new(alloc);
-    for name in names {
-        all.push(number_of(types, name))?;
-    }
-    Ok(Numbers::new(all))
-}
-
-// The numbers of the types of which a type is made.
-fn links(alloc: Global, types: &[TypeDef], definition: &TypeDef) -> Result<Numbers, Memory>
-    ensures { IfOk result (λ all. all ≡ links types.now definition.now) }
-{
-    let mut names = Vec::new(alloc);
-    add_uses(&mut names, definition)?;
-    numbers_of(alloc, types, &names)
-}
 
 // Of each type the numbers of those of which it is made.
 fn all_links(alloc: Global, types: &[TypeDef]) -> Result<Vec<Numbers>, Memory>
     ensures { IfOk result (λ all. all.items ≡ map (links types.now) types.now) }
 {
+    let found = links_of(alloc, types)?;
     let mut all = Vec::new(alloc);
-    for definition in types {
-        all.push(links(alloc, types, definition)?)?;
+    for one in found {
+        all.push(Numbers::new(one.numbers))?;
     }
     Ok(all)
 }

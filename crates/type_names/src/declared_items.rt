@@ -1,17 +1,21 @@
 // Refusals of sorts and operations that are declared twice.
 
-ghost use Rattle.std.specs.Prelude.{◌≡◌, ◌++◌, [], IfOk, OnOk, map};
-ghost use Rattle.std.specs.List.{flat_map, list_any};
-ghost use Rattle.type_contents.specs.Items.{is_same_item};
-ghost use Rattle.type_contents.specs.Views.{described_of};
+ghost use Rattle.std.specs.Prelude.{◌≡◌, ◌++◌, ◌∷◌, [], List, IfOk, OnOk, map};
+ghost use Rattle.std.specs.List.{flat_map};
+ghost use Rattle.type_contents.specs.Items.{Described};
+ghost use Rattle.type_contents.specs.Views.{item_of, described_of};
 ghost use Rattle.type_names.specs.DuplicateNames.{item_twice, declared_by, declared_in, items_twice};
+ghost use Rattle.type_names.specs.NameSets.{IsItemSetOf};
 ghost use Rattle.type_names.specs.Refused.{each_after};
 
+use crate::item_set::ItemSet;
 use crate::refused::refused;
+use lotos_ast::place::Place;
 use lotos_ast::refusal::{Refusal, RefusalKind};
 use lotos_ast::types::{TypeBody, TypeDef};
 use spec_core::memory::Memory;
 use std::alloc::Global;
+use type_contents::item::Item;
 use type_contents::own::{Declared, own_items};
 
 // What a type with this body declares.
@@ -76,30 +80,22 @@ fn all_declared<'a>(alloc: Global, types: &'a [TypeDef]) -> Result<Vec<Declared<
     Ok(all)
 }
 
-// Whether an item is declared among these.
-fn is_among(before: &[Declared<'_>], declared: &Declared<'_>) -> bool
-    ensures { result ≡ list_any (λ e. is_same_item e.item (described_of declared.now).item) (map described_of before.now) }
-{
-    for other in before {
-        if other.item.is_same(&declared.item) {
-            return true;
-        }
-    }
-    false
-}
-
-// Refuses an item that is declared among those before it.
+// Refuses an item that is among those before it, and adds it to these.
+#[tactic(auto, using(crate::proofs::Sets::one_more_item))]
 fn add_item_twice(
     alloc: Global,
-    before: &[Declared<'_>],
-    declared: &Declared<'_>,
+    before: &mut ItemSet,
+    item: Item,
+    place: Place,
     refusals: &mut Vec<Refusal>,
 ) -> Result<(), Memory>
-    ensures { OnOk result (refusals.new.items ≡ refusals.old.items ++ item_twice (map described_of before.now)
-        (described_of declared.now)) }
+    ensures refusals { OnOk result ((ds : List Described) (d : Described) → IsItemSetOf before.old ds → d.item ≡ item_of item
+        → d.place ≡ place → refusals.new.items ≡ refusals.old.items ++ item_twice ds d) }
+    ensures before { OnOk result ((ds : List Described) (d : Described) → IsItemSetOf before.old ds → d.item ≡ item_of item
+        → IsItemSetOf before.new (ds ++ d ∷ [])) }
 {
-    if is_among(before, declared) {
-        refusals.push(refused(alloc, RefusalKind::DuplicateName, declared.place))?;
+    if !before.add(item)? {
+        refusals.push(refused(alloc, RefusalKind::DuplicateName, place))?;
     }
     Ok(())
 }
@@ -107,13 +103,14 @@ fn add_item_twice(
 // Refuses those of the items that are declared among those before them.
 fn add_each_item_twice(
     alloc: Global,
-    all: &[Declared<'_>],
+    all: Vec<Declared<'_>>,
     refusals: &mut Vec<Refusal>,
 ) -> Result<(), Memory>
-    ensures { OnOk result (refusals.new.items ≡ refusals.old.items ++ each_after item_twice [] (map described_of all.now)) }
+    ensures { OnOk result (refusals.new.items ≡ refusals.old.items ++ each_after item_twice [] (map described_of all.entry.items)) }
 {
-    for (i, declared) in all.iter().enumerate() {
-        add_item_twice(alloc, &all[..i], declared, refusals)?;
+    let mut before = ItemSet::new(alloc);
+    for declared in all {
+        add_item_twice(alloc, &mut before, declared.item, declared.place, refusals)?;
     }
     Ok(())
 }
@@ -127,5 +124,5 @@ pub fn add_items_twice(
     ensures { OnOk result (refusals.new.items ≡ refusals.old.items ++ items_twice types.now) }
 {
     let all = all_declared(alloc, types)?;
-    add_each_item_twice(alloc, &all, refusals)
+    add_each_item_twice(alloc, all, refusals)
 }

@@ -1,12 +1,11 @@
 // Refusals of names that are declared twice.
 
-ghost use Rattle.std.specs.Prelude.{◌≡◌, ◌++◌, [], OnOk, map};
-ghost use Rattle.std.specs.List.{list_any};
-ghost use Rattle.std.specs.Str.{bytes_eq};
-ghost use Rattle.type_contents.specs.Items.{small};
-ghost use Rattle.type_names.specs.Refused.{each_after};
+ghost use Rattle.std.specs.Prelude.{◌≡◌, ◌++◌, ◌∷◌, [], List, OnOk, map};
+ghost use Rattle.lotos_ast.specs.declared.token.Token.{Token};
+ghost use Rattle.type_names.specs.NameSets.{IsSetOf};
 ghost use Rattle.type_names.specs.DuplicateNames.{name_twice, names_twice, types_twice};
 
+use crate::name_set::NameSet;
 use crate::names::type_names;
 use crate::refused::refused;
 use lotos_ast::refusal::{Refusal, RefusalKind};
@@ -14,30 +13,20 @@ use lotos_ast::token::Token;
 use lotos_ast::types::TypeDef;
 use spec_core::memory::Memory;
 use std::alloc::Global;
-use type_contents::numbers::is_same_name;
 
-// Whether one of these names is this one.
-fn is_among(before: &[&Token], name: &Token) -> bool
-    ensures { result ≡ list_any (λ y. bytes_eq (small y) (small name.now)) (map (λ t. t.now) before.now) }
-{
-    for other in before {
-        if is_same_name(other, name) {
-            return true;
-        }
-    }
-    false
-}
-
-// Refuses a name that is among those before it.
+// Refuses a name that is among those before it, and adds it to these.
+#[tactic(auto, using(crate::proofs::Sets::twice_where, crate::proofs::Sets::one_more))]
 fn add_name_twice(
     alloc: Global,
-    before: &[&Token],
+    before: &mut NameSet,
     name: &Token,
     refusals: &mut Vec<Refusal>,
 ) -> Result<(), Memory>
-    ensures { OnOk result (refusals.new.items ≡ refusals.old.items ++ name_twice (map (λ t. t.now) before.now) name.now) }
+    ensures refusals { OnOk result ((names : List Token) → IsSetOf before.old names → refusals.new.items
+        ≡ refusals.old.items ++ name_twice names name.now) }
+    ensures before { OnOk result ((names : List Token) → IsSetOf before.old names → IsSetOf before.new (names ++ name.now ∷ [])) }
 {
-    if is_among(before, name) {
+    if !before.add(alloc, name)? {
         refusals.push(refused(alloc, RefusalKind::DuplicateName, name.place))?;
     }
     Ok(())
@@ -51,8 +40,9 @@ pub fn add_names_twice(
 ) -> Result<(), Memory>
     ensures { OnOk result (refusals.new.items ≡ refusals.old.items ++ names_twice (map (λ t. t.now) names.now)) }
 {
-    for (i, name) in names.iter().enumerate() {
-        add_name_twice(alloc, &names[..i], name, refusals)?;
+    let mut before = NameSet::new(alloc);
+    for name in names {
+        add_name_twice(alloc, &mut before, name, refusals)?;
     }
     Ok(())
 }

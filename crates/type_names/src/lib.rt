@@ -4,7 +4,9 @@
 pub mod cycle_refusal;
 pub mod declared_items;
 pub mod duplicates;
+pub mod item_set;
 pub mod laws;
+pub mod name_set;
 pub mod names;
 pub mod refused;
 pub mod unknown;

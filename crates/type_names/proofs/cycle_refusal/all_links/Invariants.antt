@@ -1,6 +1,5 @@
-use Rattle.std.proofs.Common.{◌≡◌, take, map}
-use Rattle.type_contents.specs.Uses.{links}
+use Rattle.std.proofs.Common.{◌≡◌, map}
 use Rattle.type_names.proofs.cycle_refusal.all_links.Given as goal
 
-abbrev pub invariant-loop-definition : goal.invariant-loop-definition
-invariant-loop-definition l = l.all.items ≡ map (links l.types) (take l.definition-index l.types)
+abbrev pub invariant-loop-one : goal.invariant-loop-one
+invariant-loop-one l = l.all.items ≡ map (λ one. one.numbers.items) l.yielded
