@@ -1,3 +1,4 @@
+mod Had
 pub mod Lists
 pub mod OneEach
 pub mod OwnReadings

@@ -9,7 +9,7 @@ use Rattle.type_contents.specs.Lists.{numbers_of}
 use Rattle.static_presentation.specs.Moved.{moved_term, moved_terms}
 
 -- the numbers of those that pass a test, where the first has this number
-abbrev numbers_by : {A : Type 0} → (A → Bool) → ℕ → List A → List ℕ
+abbrev pub numbers_by : {A : Type 0} → (A → Bool) → ℕ → List A → List ℕ
 numbers_by {A} p n xs = map (λ (e : ℕ × A). e.0) (filter (λ e. p e.1) (enumerate_from n xs))
 
 abbrev if_so : {A : Type 0} → Bool → A → List A

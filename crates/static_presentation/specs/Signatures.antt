@@ -1,7 +1,7 @@
 -- The signature in which the equations of a type are read: the sorts and operations of its content, in the order of their numbers among
 -- those of all types. The names are as they are written, and an operation between its arguments has low lines round its name.
 use Rattle.std.specs.Prelude.{ℕ, ◌-◌, Bool, List, [], map, length, take, if◌then◌else◌}
-use Rattle.std.specs.List.{filter, position_or_len, slice_index_or}
+use Rattle.std.specs.List.{filter, filter_map, position_or_len, slice_get, slice_index_or}
 use Rattle.std.specs.Str.{bytes_eq}
 use Rattle.spec_core.specs.Theories.{Operation}
 use Rattle.sort_overloads.specs.Expressions.{between}
@@ -52,6 +52,14 @@ operation_with d sorts = record {
 abbrev pub operation_over : List Described → Described → Operation
 operation_over sorts d = operation_with d (map (sort_number sorts) d.item.sorts)
 
+-- sorts and operations as equations may speak of them
+abbrev pub context_over : List Described → List Described → Context
+context_over sorts operations = record {
+  sorts = map (λ d. d.spelled) sorts;
+  operations = map (operation_over sorts) operations;
+  variables = [];
+}
+
 -- what a type's equations may speak of, where it has these items, of these sorts and operations of all types
 abbrev pub type_context : List Described → List Described → List Item → Context
 type_context sorts operations items = record {
@@ -59,3 +67,11 @@ type_context sorts operations items = record {
   operations = map (operation_over (had_of items sorts)) (had_of items operations);
   variables = [];
 }
+
+-- what stands at these numbers
+abbrev pub stands_at : List Described → List ℕ → List Described
+stands_at all numbers = filter_map (λ n. slice_get all n) numbers
+
+-- the same, where the type has what stands at these numbers
+abbrev pub context_at : List Described → List Described → List ℕ → List ℕ → Context
+context_at sorts operations had_sorts had_operations = context_over (stands_at sorts had_sorts) (stands_at operations had_operations)

@@ -1,9 +1,14 @@
 // The signature in which the equations of a type are read.
 
-ghost use Rattle.std.specs.Prelude.{◌≡◌, ◌++◌, ◌∷◌, [], ◌<◌, ◌≤◌, ◌^◌, IfOk, OnOk, map, length, string_bytes, if◌then◌else◌};
+ghost use Rattle.std.specs.Prelude.{◌≡◌, ◌++◌, ◌∷◌, [], ◌<◌, ◌≤◌, ◌^◌, IfOk, OnOk, map, length, string_bytes, nat_lt, if◌then◌else◌};
+ghost use Rattle.std.specs.BTreeSet.{insert_key};
+ghost use Rattle.std.specs.List.{IsDistinct};
+ghost use Rattle.std.specs.Ordering.{nat_cmp};
 ghost use Rattle.spec_core.specs.Numbers as numbers;
 ghost use Rattle.spec_core.specs.Theories.{operation_of};
+ghost use Rattle.type_contents.specs.Items.{is_same_item};
 ghost use Rattle.type_contents.specs.Views.{described_of, items_at, AreWithin};
+ghost use Rattle.type_equation_copies.specs.Indexes.{IsIndexOf, items_in};
 ghost use Rattle.static_presentation.specs.Signatures as signatures;
 
 use spec_core::items::Sort;
@@ -11,21 +16,34 @@ use spec_core::memory::Memory;
 use spec_core::name::Name;
 use spec_core::signature::OpDecl;
 use std::alloc::Global;
+use std::collections::BTreeSet;
 use type_contents::described::copied;
 use type_contents::item::is_same_text;
 use type_contents::item_kind::ItemKind;
 use type_contents::item_table::ItemTable;
-use type_contents::order::has_item;
 use type_contents::own::Declared;
+use type_equation_copies::item_index::ItemIndex;
 
-// Adds a number, if what it stands for is had.
-fn add_number(numbers: &mut Vec<u32>, had: bool, number: u32) -> Result<(), Memory>
-    ensures { OnOk result (numbers.new.items ≡ numbers.old.items ++ (if had then number ∷ [] else [])) }
+// Puts the number of an item among so many to those that are found, if it has one.
+fn put_number(found: &mut BTreeSet<u32>, number: usize, count: usize) -> Result<(), Memory>
+    requires few { count < 2 ^ 32 }
+    ensures { OnOk result (found.new.keys ≡ (if nat_lt number count then insert_key nat_cmp found.old.keys number else found.old.keys)) }
 {
-    if had {
-        numbers.push(number)?;
+    if number < count {
+        found.insert(number as u32)?;
     }
     Ok(())
+}
+
+// Numbers, ascending.
+fn ascending(alloc: Global, found: BTreeSet<u32>) -> Result<Vec<u32>, Memory>
+    ensures { IfOk result (λ numbers. numbers.items ≡ found.keys) }
+{
+    let mut numbers = Vec::new(alloc);
+    for number in found {
+        numbers.push(number)?;
+    }
+    Ok(numbers)
 }
 
 /// The numbers among all of those that a type has, ascending.
@@ -33,50 +51,52 @@ pub fn numbers_had(
     alloc: Global,
     table: &ItemTable,
     items: &[usize],
+    index: &ItemIndex<'_>,
     all: &[Declared<'_>],
 ) -> Result<Vec<u32>, Memory>
     requires few { length all.now < 2 ^ 32 }
+    requires index { IsIndexOf index.now (items_in (map described_of all.now)) }
+    requires once { IsDistinct is_same_item (map (λ d. d.item) (map described_of all.now)) }
     requires within { AreWithin (length table.now) items.now }
     ensures { IfOk result (λ numbers. numbers.items
         ≡ signatures.numbers_had (items_at table.now items.now) (map described_of all.now)) }
 {
-    let mut numbers = Vec::new(alloc);
-    for (i, one) in all.iter().enumerate() {
-        add_number(&mut numbers, has_item(table, items, &one.item), i as u32)?;
+    let mut found = BTreeSet::new(alloc);
+    for number in items {
+        put_number(&mut found, index.number(table.item(*number)), all.len())?;
     }
+    let numbers = ascending(alloc, found)?;
     Ok(numbers)
 }
 
-// Adds a description, if a type has the item.
-fn add_if_had<'a>(
+// Adds what stands at a number, if there is such.
+fn add_at<'a>(
     alloc: Global,
     had: &mut Vec<Declared<'a>>,
-    is_had: bool,
-    one: &Declared<'a>,
+    all: &[Declared<'a>],
+    number: usize,
 ) -> Result<(), Memory>
     ensures { OnOk result (map described_of had.new.items
-        ≡ map described_of had.old.items ++ (if is_had then described_of one.now ∷ [] else [])) }
+        ≡ map described_of had.old.items ++ signatures.stands_at (map described_of all.now) (number ∷ [])) }
 {
-    if is_had {
-        had.push(copied(alloc, one)?)?;
+    if number < all.len() {
+        had.push(copied(alloc, &all[number])?)?;
     }
     Ok(())
 }
 
-/// Those of all that a type has.
-pub fn had_of<'a>(
+/// Those of all that stand at these numbers.
+pub fn had_at<'a>(
     alloc: Global,
-    table: &ItemTable,
-    items: &[usize],
     all: &[Declared<'a>],
+    numbers: &[u32],
 ) -> Result<Vec<Declared<'a>>, Memory>
-    requires within { AreWithin (length table.now) items.now }
     ensures { IfOk result (λ had. map described_of had.items
-        ≡ signatures.had_of (items_at table.now items.now) (map described_of all.now)) }
+        ≡ signatures.stands_at (map described_of all.now) numbers.now) }
 {
     let mut had = Vec::new(alloc);
-    for one in all {
-        add_if_had(alloc, &mut had, has_item(table, items, &one.item), one)?;
+    for number in numbers {
+        add_at(alloc, &mut had, all, *number as usize)?;
     }
     Ok(had)
 }

@@ -13,8 +13,8 @@ loop-number-init c =
 pub loop-number-preserved : goal.loop-number-preserved
 loop-number-preserved c =
     own-next (map described_of c.args.flat.now.sorts.items) (map described_of c.args.flat.now.operations.items) c.args.types.now c.args.flat.now.contents c.loop-number.number c.index-types-number.result
-    c.loop-number.all.items c.push.new.self.items c.in_ok-own_of.field-0 c.args.refusals.now.items c.loop-number.refusals.items c.own_of.new.refusals.items
-    c.loop-number-test.true c.requires.as_many c.index-types-number.is c.loop-number.invariant c.in_ok-push.ensures.items c.in_ok-own_of.ensures.read
+    c.loop-number.all.items c.push.new.self.items c.in_ok-own.own c.args.refusals.now.items c.loop-number.refusals.items c.own_of.new.refusals.items
+    c.loop-number-test.true c.requires.as_many c.index-types-number.is c.loop-number.invariant c.in_ok-push.ensures.items c.in_ok-own.ensures.read
 
 pub returns : goal.returns
 returns c = record {

@@ -5,7 +5,8 @@ use Rattle.static_equations.specs.Bodies.{IsBodyJudged}
 use Rattle.static_equations.specs.Gathered.{Gathers}
 use Rattle.type_contents.specs.Views.{described_of, items_at}
 use Rattle.static_presentation.specs.Moved.{moved_equation}
-use Rattle.static_presentation.specs.Signatures.{numbers_had}
+use Rattle.static_presentation.specs.Signatures.{numbers_had, context_at}
+use Rattle.static_presentation.proofs.Had.{context_had}
 use Rattle.static_presentation.proofs.OwnReadings.{read-moved}
 use Rattle.static_presentation.proofs.own.read_of.Goals as goal
 
@@ -18,12 +19,18 @@ returns c =
     let found = map equation_of c.in_ok-read.read.items in
     let old = c.args.refusals.now.items in
     let now = c.read_bodies.new.refusals.items in
+    let had_sorts : c.in_ok-sorts.sorts.items ≡ numbers_had items sorts = c.in_ok-sorts.ensures ∙ ap (λ z. numbers_had items (map described_of z)) c.deref.ensures.value in
+    let had_operations : c.in_ok-operations.operations.items ≡ numbers_had items operations =
+    c.in_ok-operations.ensures ∙ ap (λ z. numbers_had items (map described_of z)) c.deref-2.ensures.value in
     let e : map equation_of c.in_ok-moved.moved.items ≡ map (moved_equation (numbers_had items sorts) (numbers_had items operations)) found =
     c.in_ok-moved.ensures
-    ∙ ap (λ r. map (moved_equation c.deref-4.result.now c.deref-5.result.now) (map equation_of r)) c.deref-3.ensures.value
-    ∙ ap (λ s. map (moved_equation s c.deref-5.result.now) found) (c.deref-4.ensures.value ∙ c.in_ok-sorts.ensures ∙ ap (λ z. numbers_had items (map described_of z)) c.deref.ensures.value)
-    ∙ ap (λ o. map (moved_equation (numbers_had items sorts) o) found) (c.deref-5.ensures.value ∙ c.in_ok-operations.ensures ∙ ap (λ z. numbers_had items (map described_of z)) c.deref-2.ensures.value) in
+    ∙ ap (λ r. map (moved_equation c.deref-6.result.now c.deref-7.result.now) (map equation_of r)) c.deref-5.ensures.value
+    ∙ ap (λ s. map (moved_equation s c.deref-7.result.now) found) (c.deref-6.ensures.value ∙ had_sorts)
+    ∙ ap (λ o. map (moved_equation (numbers_had items sorts) o) found) (c.deref-7.ensures.value ∙ had_operations) in
+    let scope =
+    c.in_ok-scope.ensures ∙ ap (λ n. context_at sorts operations n c.deref-4.result.now) (c.deref-3.ensures.value ∙ had_sorts)
+    ∙ ap (λ n. context_at sorts operations (numbers_had items sorts) n) (c.deref-4.ensures.value ∙ had_operations) ∙ context_had sorts operations items in
     record {
       read = read-moved sorts operations items written found (map equation_of c.in_ok-moved.moved.items) old now
-          (subst (λ z. Adds (Gathers (IsBodyJudged z) written found) old now) c.in_ok-scope.ensures c.in_ok-read.ensures.read) e;
+          (subst (λ z. Adds (Gathers (IsBodyJudged z) written found) old now) scope c.in_ok-read.ensures.read) e;
     }
