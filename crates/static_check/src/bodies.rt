@@ -16,6 +16,7 @@ ghost use Rattle.static_check.specs.Steps.{HasHeadings, IsBodyRead, AreReadSoFar
 ghost use Rattle.static_check.specs.Views.{data_of, setting_of};
 
 use crate::ending::add_ending;
+use crate::entering::enter_body;
 use crate::setting::Setting;
 use spec_core::code::{CodeNode, Part};
 use spec_core::items::Sort;
@@ -175,7 +176,7 @@ fn read_body<'a>(
         (entry_of entry.now).process.body) }
     ensures site { OnOk result (data_of site.new.context ≡ data_of site.old.context) }
 {
-    setting.enter(alloc, number, entry, site)?;
+    enter_body(alloc, setting, number, entry, site)?;
     let construct = body_of(alloc, entry)?;
     let calls = calls_at_once(alloc, site, &construct)?;
     let found = read(alloc, site, &construct, out)?;

@@ -29,6 +29,7 @@ use static_processes::entry::Entry;
 use static_processes::heading::{declared, gates_in, headings};
 use static_processes::refusals::{add_opening_refusals, add_table_refusals};
 use static_processes::table::processes;
+use static_processes::where_parts::WhereParts;
 use static_readings::output::Output;
 use static_readings::site::Site;
 use std::alloc::Global;
@@ -129,6 +130,7 @@ pub fn judge(alloc: Global, spec: &Spec, algebra: &DataSpec) -> Result<Judged, M
     ensures { IfOk result (λ j. IsJudged (theory_of algebra.now) spec.now (option_map program_of j.program) j.refusals.items) }
 {
     let table = processes(alloc, spec)?;
+    let parts = WhereParts::of(alloc, &table)?;
     let scope = data_scope(alloc, algebra)?;
     let headings = headings(alloc, &scope, &table)?;
     let mut out = opened(alloc, &scope, spec, &table)?;
@@ -138,6 +140,7 @@ pub fn judge(alloc: Global, spec: &Spec, algebra: &DataSpec) -> Result<Judged, M
         gates: counted(gates_in(&spec.gates).len())?,
         table: &table,
         headings: &headings,
+        parts: &parts,
     };
     let bodies = read_bodies(alloc, &setting, &mut site, &mut out)?;
     let start = read_start(alloc, &setting, spec, &declared, &mut site, &mut out)?;

@@ -5,6 +5,7 @@ pub mod assembly;
 pub mod bodies;
 pub mod compile;
 pub mod ending;
+pub mod entering;
 pub mod judgement;
 pub mod laws;
 pub mod setting;

@@ -16,7 +16,6 @@ use spec_core::memory::Memory;
 use static_compiler::reader::read;
 use static_constructs::written::behaviour;
 use static_processes::heading::gates_in;
-use static_processes::table::visible;
 use static_readings::functionality::Functionality;
 use static_readings::output::Output;
 use static_readings::site::Site;
@@ -33,7 +32,7 @@ fn enter<'a>(
     requires headings { HasHeadings (setting_of site.old.context setting.now) setting.now }
     ensures { OnOk result (site.new ≡ start_site (setting_of site.old.context setting.now) spec.now) }
 {
-    let all = visible(alloc, setting.table, &[])?;
+    let all = setting.parts.visible(alloc, &[])?;
     site.go(0, setting.headings, all);
     site.put_gates(gates_in(&spec.gates))
 }

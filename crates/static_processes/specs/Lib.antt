@@ -1,3 +1,4 @@
 pub mod Headings
 pub mod Processes
 pub mod Views
+pub mod WhereParts

@@ -5,3 +5,4 @@ pub mod entry;
 pub mod heading;
 pub mod refusals;
 pub mod table;
+pub mod where_parts;

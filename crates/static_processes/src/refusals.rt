@@ -2,7 +2,7 @@
 
 ghost use Rattle.std.specs.Prelude.{◌≡◌, ◌++◌, ◌∷◌, [], Some, None, IfOk, OnOk, map, length};
 ghost use Rattle.std.specs.Prelude.{if◌then◌else◌};
-ghost use Rattle.std.specs.List.{flat_map, range_with_len};
+ghost use Rattle.std.specs.List.{flat_map, range_with_len, slice_get};
 ghost use Rattle.sort_overloads.specs.Refused.{unknown_sort};
 ghost use Rattle.sort_overloads.specs.Views.{context_of};
 ghost use Rattle.type_names.specs.DuplicateNames.{names_twice};
@@ -10,10 +10,11 @@ ghost use Rattle.static_readings.specs.Declarations as declarations;
 ghost use Rattle.static_processes.specs.Headings as headings;
 ghost use Rattle.static_processes.specs.Processes as processes;
 ghost use Rattle.static_processes.specs.Views.{defined, entry_of};
+ghost use Rattle.static_processes.specs.WhereParts.{name_of, names_at, ArePartsOf};
 
 use crate::entry::Entry;
 use crate::heading::{declarations_in, gates_in, sorts_in};
-use crate::table::is_innermost;
+use crate::where_parts::WhereParts;
 use lotos_ast::declaration::{Declaration, Functionality};
 use lotos_ast::refusal::Refusal;
 use lotos_ast::spec::{Process, Spec};
@@ -128,32 +129,41 @@ fn add_heading_refusals(
     add_functionality_refusals(alloc, scope, &process.functionality, refusals)
 }
 
-// Adds the name of a process that stands in one `where` part.
-fn add_name_if<'a>(
-    entry: &Entry<'a>,
-    within: Option<usize>,
+// Adds the name of a process.
+fn add_name<'a>(entry: &Entry<'a>, names: &mut Vec<&'a Token>) -> Result<(), Memory>
+    ensures { OnOk result (map (λ t. t.now) names.new.items
+        ≡ map (λ t. t.now) names.old.items ++ (defined entry.now.process.now).name ∷ []) }
+{
+    names.push(&entry.process.name)?;
+    Ok(())
+}
+
+// Adds the name of the process of a number, if there is one.
+fn add_name_at<'a>(
+    table: &[Entry<'a>],
+    number: usize,
     names: &mut Vec<&'a Token>,
 ) -> Result<(), Memory>
     ensures { OnOk result (map (λ t. t.now) names.new.items ≡ map (λ t. t.now) names.old.items
-        ++ (if processes.stands_in within (entry_of entry.now) then (defined entry.now.process.now).name ∷ [] else [])) }
+        ++ name_of (slice_get (map entry_of table.now) number)) }
 {
-    if is_innermost(within, &entry.around) {
-        names.push(&entry.process.name)?;
+    if number < table.len() {
+        add_name(&table[number], names)?;
     }
     Ok(())
 }
 
-// The names of those that stand there.
-fn names_in<'a>(
+// The names of the processes of these numbers.
+fn names_at<'a>(
     alloc: Global,
     table: &[Entry<'a>],
-    within: Option<usize>,
+    numbers: &[usize],
 ) -> Result<Vec<&'a Token>, Memory>
-    ensures { IfOk result (λ names. map (λ t. t.now) names.items ≡ processes.names_in (map entry_of table.now) within) }
+    ensures { IfOk result (λ names. map (λ t. t.now) names.items ≡ names_at (map entry_of table.now) numbers.now) }
 {
     let mut names = Vec::new(alloc);
-    for entry in table {
-        add_name_if(entry, within, &mut names)?;
+    for number in numbers {
+        add_name_at(table, *number, &mut names)?;
     }
     Ok(names)
 }
@@ -162,22 +172,26 @@ fn names_in<'a>(
 fn add_twice_in(
     alloc: Global,
     table: &[Entry<'_>],
+    parts: &WhereParts,
     within: Option<usize>,
     refusals: &mut Vec<Refusal>,
 ) -> Result<(), Memory>
+    requires { ArePartsOf parts.now (map entry_of table.now) }
     ensures { OnOk result (refusals.new.items ≡ refusals.old.items ++ names_twice (processes.names_in (map entry_of table.now) within)) }
 {
-    let names = names_in(alloc, table, within)?;
-    add_names_twice(alloc, &names, refusals)
+    let names = names_at(alloc, table, parts.standing(within))?;
+    add_names_twice(alloc, &names, refusals)?;
+    Ok(())
 }
 
 // Refuses the processes that have the name of an earlier one of the same `where` part.
 fn add_twice(alloc: Global, table: &[Entry<'_>], refusals: &mut Vec<Refusal>) -> Result<(), Memory>
     ensures { OnOk result (refusals.new.items ≡ refusals.old.items ++ headings.twice_refusals (map entry_of table.now)) }
 {
-    add_twice_in(alloc, table, None, refusals)?;
+    let parts = WhereParts::of(alloc, table)?;
+    add_twice_in(alloc, table, &parts, None, refusals)?;
     for number in 0..table.len() {
-        add_twice_in(alloc, table, Some(number), refusals)?;
+        add_twice_in(alloc, table, &parts, Some(number), refusals)?;
     }
     Ok(())
 }

@@ -1,10 +1,8 @@
 // All processes of a specification, in the order of the text.
 
 ghost use Rattle.std.specs.Prelude.{◌≡◌, ◌++◌, ◌+◌, ◌∷◌, [], Some, None, IfOk, OnOk, map, length};
-ghost use Rattle.std.specs.Prelude.{if◌then◌else◌};
 ghost use Rattle.static_constructs.specs.Written.{listed};
-ghost use Rattle.static_processes.specs.Processes.{one_after_another, item_entries, process_entries, entries, standing_in, visible_in};
-ghost use Rattle.static_processes.specs.Processes.{is_innermost, stands_in};
+ghost use Rattle.static_processes.specs.Processes.{one_after_another, item_entries, process_entries, entries};
 ghost use Rattle.static_processes.specs.Views.{entry_of, defined};
 
 use crate::entry::Entry;
@@ -96,69 +94,4 @@ fn put_entry<'a>(
     let around = Vec::from_slice(alloc, around)?;
     table.push(Entry { process, around })?;
     Ok(())
-}
-
-/// Whether these begin with this number; where there is none, whether there are none. It takes no memory.
-pub fn is_innermost(within: Option<usize>, around: &[usize]) -> bool
-    ensures { result ≡ is_innermost within around.now }
-{
-    match (within, around) {
-        (None, []) => true,
-        (None, [_, ..]) => false,
-        (Some(_), []) => false,
-        (Some(process), [first, ..]) => process == *first,
-    }
-}
-
-// Adds the number of a process that stands in one `where` part.
-fn add_if_standing(
-    entry: &Entry<'_>,
-    number: usize,
-    within: Option<usize>,
-    all: &mut Vec<usize>,
-) -> Result<(), Memory>
-    ensures { OnOk result (all.new.items ≡ all.old.items ++ (if stands_in within (entry_of entry.now) then number ∷ [] else [])) }
-{
-    if is_innermost(within, &entry.around) {
-        all.push(number)?;
-    }
-    Ok(())
-}
-
-// Adds the numbers of those that stand there.
-#[tactic(auto, using(crate::proofs::Numbered::standing_next, crate::proofs::Numbered::standing_all))]
-fn add_standing(
-    table: &[Entry<'_>],
-    within: Option<usize>,
-    all: &mut Vec<usize>,
-) -> Result<(), Memory>
-    ensures { OnOk result (all.new.items ≡ all.old.items ++ standing_in (map entry_of table.now) within) }
-{
-    for (number, entry) in table.iter().enumerate() {
-        add_if_standing(entry, number, within, all)?;
-    }
-    Ok(())
-}
-
-// Adds the numbers of those that can be called within these.
-fn add_visible(table: &[Entry<'_>], around: &[usize], all: &mut Vec<usize>) -> Result<(), Memory>
-    ensures { OnOk result (all.new.items ≡ all.old.items ++ visible_in (map entry_of table.now) around.now) }
-{
-    match around {
-        [] => add_standing(table, None, all),
-        [process, others @ ..] => {
-            add_standing(table, Some(*process), all)?;
-            add_visible(table, others, all)
-        }
-    }
-}
-
-/// The numbers of the processes that can be called within these: those of the innermost `where` part stand first, those of the
-/// specification's last.
-pub fn visible(alloc: Global, table: &[Entry<'_>], around: &[usize]) -> Result<Vec<usize>, Memory>
-    ensures { IfOk result (λ all. all.items ≡ visible_in (map entry_of table.now) around.now) }
-{
-    let mut all = Vec::new(alloc);
-    add_visible(table, around, &mut all)?;
-    Ok(all)
 }
