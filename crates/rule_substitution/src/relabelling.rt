@@ -101,29 +101,23 @@ fn through(
 }
 
 /// Each formal gate of a process with the actual gate of a call.
+#[tactic(auto, using(crate::proofs::Pairing::one_more))]
 pub fn pairs(alloc: Global, formal: &[Gate], actual: &[Gate]) -> Result<Vec<(Gate, Gate)>, Memory>
     ensures pairs { IfOk result
         (λ all. map relabelling_of all.items ≡ pairs_of (map gate_number formal.now) (map gate_number actual.now)) }
 {
-    match formal {
-        [] => Ok(Vec::new(alloc)),
-        [first, rest @ ..] => match actual {
-            [] => Ok(Vec::new(alloc)),
-            [other, others @ ..] => in_front(*first, *other, pairs(alloc, rest, others)?),
-        },
+    let mut all = Vec::new(alloc);
+    let mut others = actual;
+    for first in formal {
+        match others {
+            [] => return Ok(all),
+            [other, rest @ ..] => {
+                all.push((*first, *other))?;
+                others = rest;
+            }
+        }
     }
-}
-
-// One more pair in front.
-fn in_front(from: Gate, to: Gate, pairs: Vec<(Gate, Gate)>) -> Result<Vec<(Gate, Gate)>, Memory>
-    ensures { IfOk result
-        (λ all. map relabelling_of all.items ≡ record { from = from.0; to = to.0 } ∷ map relabelling_of pairs.items) }
-{
-    let mut all = pairs;
-    match all.insert(0, (from, to)) {
-        Ok(()) => Ok(all),
-        Err(_) => Err(Memory),
-    }
+    Ok(all)
 }
 
 /// The behaviour under the relabelling, tidied at its top: two relabellings one over the other are one, and a call is relabelled in its
