@@ -6,6 +6,7 @@ ghost use Rattle.spec_core.specs.Ready.{IsReady};
 ghost use Rattle.rule_model.specs.Behaviours.{behaviour_of};
 ghost use Rattle.node_trees.specs.Origins.{source_of, scoped, relabelled_by, meaning};
 
+use rule_laws::substitution::empty_substitutions_change_nothing;
 use rule_model::beh::Beh;
 use rule_origins::code::behaviour;
 use rule_origins::values::scope;
@@ -42,7 +43,8 @@ pub fn copy_values(alloc: Global, values: &[(u32, Value)]) -> Result<Vec<(u32, V
     Ok(all)
 }
 
-// The behaviour with this number of the code, with values for its variables.
+// The behaviour with this number of the code, with values for its variables; without values it is that of the code.
+#[tactic(auto, unfolding(rule_origins::specs::Values::assignment))]
 fn scoped(
     alloc: Global,
     checked: &Checked,
@@ -53,8 +55,16 @@ fn scoped(
     ensures { IfOk result (λ b. behaviour_of b ≡ scoped (program_of checked.now) node values.now) }
 {
     let open = behaviour(alloc, checked, node)?;
-    let terms = scope(alloc, &checked.algebra, values)?;
-    terms.put(alloc, &open)
+    match values {
+        [] => {
+            empty_substitutions_change_nothing();
+            Ok(open)
+        }
+        [_, ..] => {
+            let terms = scope(alloc, &checked.algebra, values)?;
+            terms.put(alloc, &open)
+        }
+    }
 }
 
 impl Origin {
