@@ -1,17 +1,19 @@
--- What lists of pieces say, with one more and with fewer.
-use Rattle.std.proofs.Common.{ℕ, ◌≡◌, ◌==◌, not, List, [], ◌∷◌, ◌++◌, refl, sym, ap, subst, ◌∙◌, Option, Some, None, Bool, true}
-use Rattle.std.proofs.Common.{false, if◌then◌else◌, filter, cond, option_map}
+-- What pieces say, with one more and with fewer.
+use Rattle.std.proofs.Common.{ℕ, ◌≡◌, ◌==◌, ◌&&◌, ◌||◌, nat_eq, List, [], ◌∷◌, ◌++◌, refl, sym, ap, subst, ◌∙◌}
+use Rattle.std.proofs.Common.{Option, Some, None, Bool, true, false, if◌then◌else◌, option_map}
 use Rattle.std.proofs.lemmas.Bool.Decides.{Decides-eqb}
-use Rattle.std.proofs.lemmas.Bool.{and_parts}
+use Rattle.std.proofs.lemmas.Bool.{and_from, and_parts, eq-eqb, false≢true}
+use Rattle.std.proofs.lemmas.List.{append-nil}
 use Rattle.rule_model.specs.Derivations.{Derivation, derivation_of}
-use Rattle.symbolic_composites.proofs.Tests.{if_true, if_false}
 use Rattle.symbolic_actions.specs.Shows.{Show}
 use Rattle.symbolic_actions.specs.Models.{show_of}
 use Rattle.node_trees.specs.declared.origin.Gen.{Gen}
 use Rattle.candidate_verdicts.specs.declared.pieces.Piece.{Piece}
 use Rattle.candidate_verdicts.specs.Known.{KnownShow}
+use Rattle.candidate_verdicts.specs.declared.pieces.Pieces as declared
+use Rattle.candidate_verdicts.specs.Keys.{key_of}
 use Rattle.candidate_verdicts.specs.Same.{same_rules}
-use Rattle.candidate_verdicts.specs.Stored.{is_about, pieces_of, unless_none, with_piece, is_gone, without}
+use Rattle.candidate_verdicts.specs.Stored.{is_about, pieces_of, group_at, stored, unless_none, with_piece, is_gone, without}
 use Rattle.candidate_verdicts.proofs.Sameness.{rules_are}
 
 -- a piece that is about a generation and a tree has them
@@ -21,9 +23,9 @@ about_is g d p e =
     ((Decides-eqb p.generation.0 g).0 r.0, rules_are (derivation_of p.rules) d r.1)
 
 -- one more piece at the end
-pub piece_put : (ps : List Piece) (p : Piece) (g : ℕ) (d : Derivation) → pieces_of (ps ++ p ∷ []) g d ≡ with_piece (pieces_of ps) p g d
-piece_put [] p g d = refl
-piece_put (q ∷ ps) p g d = by_test (is_about g d q) (piece_put ps p g d)
+pushed : (ps : List Piece) (p : Piece) (g : ℕ) (d : Derivation) → pieces_of (ps ++ p ∷ []) g d ≡ with_piece (pieces_of ps) p g d
+pushed [] p g d = refl
+pushed (q ∷ ps) p g d = by_test (is_about g d q) (pushed ps p g d)
   where
     by_test : (b : Bool) → pieces_of (ps ++ p ∷ []) g d ≡ with_piece (pieces_of ps) p g d →
         (if b then Some (option_map show_of q.shown) else pieces_of (ps ++ p ∷ []) g d) ≡
@@ -35,57 +37,65 @@ unless_nothing : (o : KnownShow) → o ≡ unless_none o None
 unless_nothing None = refl
 unless_nothing (Some s) = refl
 
--- a piece about what is known changes nothing
-pub piece_known : (ps : List Piece) (p : Piece) (s : Option Show) → pieces_of ps p.generation.0 (derivation_of p.rules) ≡ Some s →
-    (g : ℕ) (d : Derivation) → pieces_of ps g d ≡ with_piece (pieces_of ps) p g d
-piece_known ps p s known g d = by_test (is_about g d p) refl
+-- whether a piece belongs into the group of a generation and a tree
+abbrev is_in : ℕ → Derivation → Piece → Bool
+is_in g d p = nat_eq g p.generation.0 && nat_eq (key_of d) (key_of (derivation_of p.rules))
+
+-- a piece that is about a generation and a tree belongs into their group
+about_in : (g : ℕ) (d : Derivation) (p : Piece) → is_about g d p ≡ true → is_in g d p ≡ true
+about_in g d p e =
+    let r = about_is g d p e in
+    and_from (nat_eq g p.generation.0) (nat_eq (key_of d) (key_of (derivation_of p.rules)))
+    (eq-eqb g p.generation.0 (sym r.0)) (eq-eqb (key_of d) (key_of (derivation_of p.rules)) (ap key_of (sym r.1)))
+
+-- a piece at the end of its group, and of no other
+pub piece_put : (old new : declared.Pieces) (p : Piece) →
+    ((g k : ℕ) → group_at new g k ≡
+    group_at old g k ++ (if nat_eq g p.generation.0 && nat_eq k (key_of (derivation_of p.rules)) then p ∷ [] else [])) →
+    (g : ℕ) (d : Derivation) → stored new g d ≡ with_piece (stored old) p g d
+piece_put old new p h g d = ap (λ ps. pieces_of ps g d) (h g (key_of d)) ∙ by_test (is_in g d p) refl
   where
-    here : (p.generation.0 ≡ g) × (derivation_of p.rules ≡ d) → pieces_of ps g d ≡ Some s
-    here r = subst (λ z. pieces_of ps g z ≡ Some s) r.1 (subst (λ z. pieces_of ps z (derivation_of p.rules) ≡ Some s) r.0 known)
+    elsewhere : is_in g d p ≡ false → (b : Bool) → is_about g d p ≡ b →
+        stored old g d ≡ unless_none (stored old g d) (if b then Some (option_map show_of p.shown) else None)
+    elsewhere e true q = absurd (false≢true (sym e ∙ about_in g d p q))
+    elsewhere e false q = unless_nothing (stored old g d)
+
+    by_test : (b : Bool) → is_in g d p ≡ b →
+        pieces_of (group_at old g (key_of d) ++ (if b then p ∷ [] else [])) g d ≡ with_piece (stored old) p g d
+    by_test true e = pushed (group_at old g (key_of d)) p g d
+    by_test false e =
+        ap (λ ps. pieces_of ps g d) (append-nil (group_at old g (key_of d))) ∙ elsewhere e (is_about g d p) refl
+
+-- a piece about what is known changes nothing
+pub piece_known : (pieces : declared.Pieces) (p : Piece) (s : Option Show) →
+    stored pieces p.generation.0 (derivation_of p.rules) ≡ Some s →
+    (g : ℕ) (d : Derivation) → stored pieces g d ≡ with_piece (stored pieces) p g d
+piece_known pieces p s known g d = by_test (is_about g d p) refl
+  where
+    here : (p.generation.0 ≡ g) × (derivation_of p.rules ≡ d) → stored pieces g d ≡ Some s
+    here r = subst (λ z. stored pieces g z ≡ Some s) r.1 (subst (λ z. stored pieces z (derivation_of p.rules) ≡ Some s) r.0 known)
 
     by_test : (b : Bool) → is_about g d p ≡ b →
-        pieces_of ps g d ≡ unless_none (pieces_of ps g d) (if b then Some (option_map show_of p.shown) else None)
+        stored pieces g d ≡ unless_none (stored pieces g d) (if b then Some (option_map show_of p.shown) else None)
     by_test true e =
         let r = here (about_is g d p e) in
         r ∙ ap (λ z. unless_none z (Some (option_map show_of p.shown))) (sym r)
-    by_test false e = unless_nothing (pieces_of ps g d)
+    by_test false e = unless_nothing (stored pieces g d)
 
-nothing_known : (b : Bool) (o : KnownShow) → o ≡ None → o ≡ (if b then None else o)
-nothing_known true o e = e
-nothing_known false o e = refl
+-- the groups of one generation less, and then of others
+pub one_less : (b c : Bool) (old mid ps : List Piece) → mid ≡ (if b then [] else old) → (if c then [] else mid) ≡ ps →
+    (if b || c then [] else old) ≡ ps
+one_less true true old mid ps e h = h
+one_less true false old mid ps e h = sym e ∙ h
+one_less false true old mid ps e h = h
+one_less false false old mid ps e h = sym e ∙ h
 
--- pieces of other generations alone
-pub pieces_kept : (gone : List Gen) (ps qs : List Piece) → qs ≡ filter (λ p. not (is_gone gone p.generation.0)) ps →
-    (g : ℕ) (d : Derivation) → pieces_of qs g d ≡ without gone (pieces_of ps) g d
-pieces_kept gone ps qs e g d = ap (λ z. pieces_of z g d) e ∙ filtered ps
+-- the groups of other generations alone
+pub pieces_kept : (gone : List Gen) (old new : declared.Pieces) →
+    ((g k : ℕ) → group_at new g k ≡ (if is_gone gone g then [] else group_at old g k)) →
+    (g : ℕ) (d : Derivation) → stored new g d ≡ without gone (stored old) g d
+pieces_kept gone old new h g d = ap (λ ps. pieces_of ps g d) (h g (key_of d)) ∙ by_test (is_gone gone g)
   where
-    gone_here : (p : Piece) (xs ys : List Piece) → is_gone gone p.generation.0 ≡ true →
-        pieces_of ys g d ≡ without gone (pieces_of xs) g d → (b : Bool) → is_about g d p ≡ b →
-        pieces_of ys g d ≡ (if is_gone gone g then None else (if b then Some (option_map show_of p.shown) else pieces_of xs g d))
-    gone_here p xs ys h i true q =
-        let now : is_gone gone g ≡ true = subst (λ z. is_gone gone z ≡ true) (about_is g d p q).0 h in
-        i ∙ if_true (is_gone gone g) None (pieces_of xs g d) now
-        ∙ sym (if_true (is_gone gone g) None (Some (option_map show_of p.shown)) now)
-    gone_here p xs ys h i false q = i
-
-    stays_here : (p : Piece) (xs ys : List Piece) → is_gone gone p.generation.0 ≡ false →
-        pieces_of ys g d ≡ without gone (pieces_of xs) g d → (b : Bool) → is_about g d p ≡ b →
-        (if b then Some (option_map show_of p.shown) else pieces_of ys g d) ≡
-        (if is_gone gone g then None else (if b then Some (option_map show_of p.shown) else pieces_of xs g d))
-    stays_here p xs ys h i true q =
-        let now : is_gone gone g ≡ false = subst (λ z. is_gone gone z ≡ false) (about_is g d p q).0 h in
-        sym (if_false (is_gone gone g) None (Some (option_map show_of p.shown)) now)
-    stays_here p xs ys h i false q = i
-
-    step : (p : Piece) (xs : List Piece) →
-        pieces_of (filter (λ x. not (is_gone gone x.generation.0)) xs) g d ≡ without gone (pieces_of xs) g d → (b : Bool) →
-        is_gone gone p.generation.0 ≡ b →
-        pieces_of
-        (cond (not b) (p ∷ filter (λ x. not (is_gone gone x.generation.0)) xs) (filter (λ x. not (is_gone gone x.generation.0)) xs)) g d ≡
-        without gone (pieces_of (p ∷ xs)) g d
-    step p xs i true h = gone_here p xs (filter (λ x. not (is_gone gone x.generation.0)) xs) h i (is_about g d p) refl
-    step p xs i false h = stays_here p xs (filter (λ x. not (is_gone gone x.generation.0)) xs) h i (is_about g d p) refl
-
-    filtered : (xs : List Piece) → pieces_of (filter (λ p. not (is_gone gone p.generation.0)) xs) g d ≡ without gone (pieces_of xs) g d
-    filtered [] = nothing_known (is_gone gone g) None refl
-    filtered (p ∷ xs) = step p xs (filtered xs) (is_gone gone p.generation.0) refl
+    by_test : (b : Bool) → pieces_of (if b then [] else group_at old g (key_of d)) g d ≡ (if b then None else stored old g d)
+    by_test true = refl
+    by_test false = refl

@@ -1,6 +1,7 @@
 pub mod Models
 pub mod Parts
 pub mod Same
+pub mod Keys
 pub mod Known
 pub mod Stored
 pub mod Asked

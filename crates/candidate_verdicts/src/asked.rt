@@ -71,8 +71,22 @@ pub fn verdict(
         option_map (asked_by (theory_of algebra.now) (windows_in windows.now) (query_of search.now) (derivation_of rules.now))
         (known_show (theory_of algebra.now) (windows_in windows.now) (stored pieces.now) (shape_of branch.now) (derivation_of rules.now))) }
 {
-    match shown_over(alloc, algebra, windows, pieces, branch, rules)? {
-        None => Ok(None),
-        Some(shown) => Ok(Some(is_asked_by(algebra, windows, search, rules, shown.as_ref()))),
+    match branch {
+        Branch::Leaf(node) => match pieces.find(node.generation, rules) {
+            None => Ok(None),
+            Some(shown) => Ok(Some(is_asked_by(algebra, windows, search, rules, shown))),
+        },
+        Branch::Ended | Branch::Over(_, _) | Branch::Between(_, _, _) => {
+            match shown_over(alloc, algebra, windows, pieces, branch, rules)? {
+                None => Ok(None),
+                Some(shown) => Ok(Some(is_asked_by(
+                    algebra,
+                    windows,
+                    search,
+                    rules,
+                    shown.as_ref(),
+                ))),
+            }
+        }
     }
 }

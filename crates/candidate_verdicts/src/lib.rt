@@ -2,6 +2,7 @@
 #![tactic(auto)]
 
 pub mod asked;
+mod key;
 pub mod laws;
 pub mod pieces;
 pub mod rule;
