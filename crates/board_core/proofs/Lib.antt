@@ -1,5 +1,6 @@
 pub mod Crossing
 pub mod Due
+pub mod Ending
 pub mod Entries
 pub mod Found
 pub mod Keeping

@@ -20,6 +20,7 @@ use spec_core::memory::Memory;
 use std::alloc::Global;
 
 // The end where no windowed tree exists, as far as it is known.
+#[tactic(auto, using(crate::proofs::Ending::any_beyond_found))]
 fn end_beyond(alloc: Global, known: &KnownTree<'_>) -> Result<Option<End>, Memory>
     requires parts { HasItsParts known.now }
     ensures { IfOk result (λ o. option_map ending_of o ≡ ends.end_beyond (first_in known.now any_beyond)) }
@@ -32,6 +33,7 @@ fn end_beyond(alloc: Global, known: &KnownTree<'_>) -> Result<Option<End>, Memor
 }
 
 // The end by the trees of the behaviour that is reached, as far as it is known.
+#[tactic(auto, using(crate::proofs::Ending::any_found))]
 fn end_by_trees(alloc: Global, known: &KnownTree<'_>) -> Result<Option<End>, Memory>
     requires parts { HasItsParts known.now }
     ensures { IfOk result (λ o. option_map ending_of o ≡ end_found (first_in known.now any) (first_in known.now any_beyond)) }

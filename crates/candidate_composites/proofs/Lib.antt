@@ -1,3 +1,4 @@
+pub mod Kept
 pub mod Placed
 pub mod Those
 pub use Rattle.symbolic_composites.proofs.Answers

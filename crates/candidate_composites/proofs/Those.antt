@@ -44,18 +44,18 @@ at_last [] step v = refl
 at_last (s ∷ steps) step v = ap (sought_below s) (at_last steps step v)
 
 -- of plans with gaps those of whose actions some kind is sought
-abbrev sift : Sought → List PlacedPlan → List PlanOrGap
+abbrev pub sift : Sought → List PlacedPlan → List PlanOrGap
 sift v ps = flat_map (plans_sought v) ps
 
 -- others in the places of plans
-abbrev fill : (OpenPlan → List PlanOrGap) → List PlanOrGap → List PlanOrGap
+abbrev pub fill : (OpenPlan → List PlanOrGap) → List PlanOrGap → List PlanOrGap
 fill g ps = flat_map (in_its_place g) ps
 
 abbrev no_plans : List PlanOrGap
 no_plans = []
 
 -- what is sought above a step is what comes of what is sought below it
-sift_stepped : (step : Step) (v : Sought) (f : OpenPlan → List PlacedPlan) (g : OpenPlan → List PlanOrGap) →
+pub sift_stepped : (step : Step) (v : Sought) (f : OpenPlan → List PlacedPlan) (g : OpenPlan → List PlanOrGap) →
     ((p : OpenPlan) → sift v (f p) ≡ (if is_sought (sought_below step v) p.kind then g p else [])) →
     (ps : List PlacedPlan) → sift v (flat_map (stepped step f) ps) ≡ fill g (sift (sought_below step v) ps)
 sift_stepped step v f g h [] = refl
@@ -80,7 +80,7 @@ sift_stepped step v f g h (awaited n steps ∷ ps) =
     by_test false e = e
 
 -- without a step, where actions stay of their kinds
-sift_turned : (v : Sought) (f : OpenPlan → OpenPlan) → ((p : OpenPlan) → (f p).kind ≡ p.kind) → (ps : List PlacedPlan) →
+pub sift_turned : (v : Sought) (f : OpenPlan → OpenPlan) → ((p : OpenPlan) → (f p).kind ≡ p.kind) → (ps : List PlacedPlan) →
     sift v (map (turned_there f) ps) ≡ fill (λ p. element (f p) ∷ []) (sift v ps)
 sift_turned v f h [] = refl
 sift_turned v f h (made p ∷ ps) =
@@ -100,17 +100,17 @@ sift_turned v f h (awaited n steps ∷ ps) = by_test (seeks_some (sought_at step
     by_test true e = ap (λ z. gap n ∷ z) e
     by_test false e = e
 
-as_stepped : (o : Unary) (ps : List PlacedPlan) →
+pub as_stepped : (o : Unary) (ps : List PlacedPlan) →
     map (placed_over_one o) ps ≡ flat_map (stepped (under_one o) (λ p. made (over_one o p) ∷ [])) ps
 as_stepped o [] = refl
 as_stepped o (made p ∷ ps) = ap (λ z. made (over_one o p) ∷ z) (as_stepped o ps)
 as_stepped o (awaited n steps ∷ ps) = ap (λ z. awaited n (steps ++ under_one o ∷ []) ∷ z) (as_stepped o ps)
 
-kind_of_either : (b : Bool) (p q : OpenPlan) → (if b then p else q).kind ≡ (if b then p.kind else q.kind)
+pub kind_of_either : (b : Bool) (p q : OpenPlan) → (if b then p else q).kind ≡ (if b then p.kind else q.kind)
 kind_of_either true p q = refl
 kind_of_either false p q = refl
 
-same_either : (b : Bool) (k : Kind) → (if b then k else k) ≡ k
+pub same_either : (b : Bool) (k : Kind) → (if b then k else k) ≡ k
 same_either true k = refl
 same_either false k = refl
 
@@ -129,7 +129,7 @@ over_is_sought (enabled xs right values) v p =
     ap (is_sought v) (kind_of_either (is_end p.kind) (turned_by plans.handed_on p) (under_row Enstep p))
     ∙ sym (below_is_above (under_one (enabled xs right values)) v p.kind (if is_end p.kind then inside else p.kind) refl)
 
-one_over : (o : Unary) (v : Sought) (p : OpenPlan) →
+pub one_over : (o : Unary) (v : Sought) (p : OpenPlan) →
     sift v (made (over_one o p) ∷ []) ≡ (if is_sought (sought_below (under_one o) v) p.kind then element (over_one o p) ∷ [] else [])
 one_over o v p =
     by_test (is_sought v (over_one o p).kind)
@@ -139,7 +139,7 @@ one_over o v p =
     by_test true = refl
     by_test false = refl
 
-one_alone : (gates : Synchronised) (row : Row) (v : Sought) (p : OpenPlan) →
+pub one_alone : (gates : Synchronised) (row : Row) (v : Sought) (p : OpenPlan) →
     sift v (map made (plans_alone gates row p)) ≡
     (if is_sought (sought_below (by_itself gates) v) p.kind then map element (plans_alone gates row p) else [])
 one_alone gates row v p = by_alone (is_alone gates p.kind) refl
@@ -185,7 +185,7 @@ module _ (theory : Theory) (gates : Synchronised) (v : Sought) (p : OpenPlan) wh
       by_same false e = none_of_none (is_sought (sought_below (as_another p.kind) v) q.kind)
 
   -- the partners of a plan whose action is sought
-  abbrev partners_sought : List PlacedPlan → List PlanOrGap
+  abbrev pub partners_sought : List PlacedPlan → List PlanOrGap
   partners_sought qs =
       if is_joint gates p.kind
       then fill (λ q. map element (plans_joint theory gates p q)) (sift (sought_below (as_another p.kind) v) qs)
@@ -201,7 +201,7 @@ module _ (theory : Theory) (gates : Synchronised) (v : Sought) (p : OpenPlan) wh
       ap (λ z. (if z then gap n ∷ [] else []) ++ sift (sought_below (as_another p.kind) v) qs) (none_beside steps v p.kind e)
       ∙ none_sifted e qs
 
-  all_partners : (qs : List PlacedPlan) →
+  pub all_partners : (qs : List PlacedPlan) →
       sift v (placed_partners theory gates qs p) ≡
       (if is_sought (sought_below (with_another gates) v) p.kind then partners_sought qs else [])
   all_partners qs = by_joint (is_joint gates p.kind) refl

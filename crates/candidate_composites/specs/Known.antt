@@ -19,6 +19,10 @@ use Rattle.candidate_composites.specs.declared.sought.Sought.{Sought}
 use Rattle.candidate_composites.specs.declared.sought.Sought.TheVariants.{Every, These}
 use Rattle.candidate_composites.specs.declared.step.Step.{Step}
 use Rattle.candidate_composites.specs.declared.step.Step.TheVariants.{Under, Alone, Together, Beside}
+use Rattle.candidate_composites.specs.declared.found.Given.{Given}
+use Rattle.candidate_composites.specs.declared.found.Given.TheVariants.{Own, Beneath, Made}
+use Rattle.candidate_composites.specs.declared.found.Found.{Found}
+use Rattle.candidate_composites.specs.declared.found.Found.TheVariants as found
 use Rattle.candidate_composites.specs.declared.part.Part.{Part}
 use Rattle.candidate_composites.specs.declared.part.Part.TheVariants.{Gap, Composite}
 
@@ -56,6 +60,15 @@ step_of (Beside kind) = as_another (kind_in kind)
 abbrev pub placed_of : Part → PlacedPlan
 placed_of (Gap generation steps) = awaited generation.0 (map step_of steps.items)
 placed_of (Composite c) = made (open_plan_of c)
+
+abbrev pub own_or_made : Given → OpenPlan
+own_or_made (Own c) = open_plan_of c.now
+own_or_made (Beneath row c) = under_row row (open_plan_of c.now)
+own_or_made (Made c) = open_plan_of c
+
+abbrev pub found_of : Found → PlacedPlan
+found_of (found.Gap generation steps) = awaited generation.0 (map step_of steps.items)
+found_of (found.Composite c) = made (own_or_made c)
 
 abbrev pub part_of : Part → PlanOrGap
 part_of part = plan_or_gap (placed_of part)

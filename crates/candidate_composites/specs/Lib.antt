@@ -1,3 +1,4 @@
+pub mod Kept
 pub mod Known
 pub mod Laws
 pub use Rattle.symbolic_composites.specs.Composites

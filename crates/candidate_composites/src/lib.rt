@@ -1,6 +1,7 @@
 // The composites of a tree of nodes, as far as its nodes are expanded.
 #![tactic(auto)]
 
+mod found;
 pub mod known;
 pub mod laws;
 mod operators;

@@ -8,10 +8,10 @@ ghost use Rattle.symbolic_composites.specs.Composites.{from_option};
 ghost use Rattle.node_trees.specs.Shapes as nodes;
 ghost use Rattle.node_trees.specs.Shapes.{unary_of, binary_of};
 ghost use Rattle.candidate_laws.specs.Sought.{by_itself, with_another, as_another};
-ghost use Rattle.candidate_composites.specs.Known.{made, awaited, step_of, placed_of, over_one, stepped, turned_there, placed_over_one};
-ghost use Rattle.candidate_composites.specs.Known.{placed_alone, placed_partners, placed_over_two};
+ghost use Rattle.candidate_composites.specs.Known.{made, awaited, step_of, found_of, own_or_made, over_one, stepped, turned_there};
+ghost use Rattle.candidate_composites.specs.Known.{placed_over_one, placed_alone, placed_partners, placed_over_two};
 
-use crate::part::Part;
+use crate::found::{Found, Given, copied_below};
 use crate::step::Step;
 use node_trees::branch::{Double, Single};
 use node_trees::origin::Gen;
@@ -20,9 +20,9 @@ use spec_core::equation::DataSpec;
 use spec_core::memory::Memory;
 use std::alloc::Global;
 use symbolic_plans::composite::OpenComposite;
-use symbolic_plans::kind::is_joint;
+use symbolic_plans::kind::{is_alone, is_joint, same_kind};
 use symbolic_plans::operators::{
-    alone, below, by_disabling, by_enabling, by_hiding, by_relabelling, joint,
+    below, by_disabling, by_enabling, by_hiding, by_relabelling, joint,
 };
 use symbolic_plans::scheme::Row;
 
@@ -46,21 +46,24 @@ fn further_down<'a>(
     generation: Gen,
     steps: Vec<Step<'a>>,
     step: Step<'a>,
-) -> Result<Part<'a>, Memory>
-    ensures { IfOk result (λ x. placed_of x ≡ awaited generation.0 (map step_of steps.entry.items ++ step_of step.entry ∷ [])) }
+) -> Result<Found<'a>, Memory>
+    ensures { IfOk result (λ x. found_of x ≡ awaited generation.0 (map step_of steps.entry.items ++ step_of step.entry ∷ [])) }
 {
     let mut steps = steps;
     steps.push(step)?;
-    Ok(Part::Gap(generation, steps))
+    Ok(Found::Gap(generation, steps))
 }
 
 // What it makes of a part.
-fn over_part<'a>(alloc: Global, operator: &'a Single, part: Part<'a>) -> Result<Part<'a>, Memory>
-    ensures { IfOk result (λ x. placed_of x ≡ placed_over_one (unary_of operator.now) (placed_of part.entry)) }
+fn over_part<'a>(alloc: Global, operator: &'a Single, part: Found<'a>) -> Result<Found<'a>, Memory>
+    ensures { IfOk result (λ x. found_of x ≡ placed_over_one (unary_of operator.now) (found_of part.entry)) }
 {
     match part {
-        Part::Gap(generation, steps) => further_down(generation, steps, Step::Under(operator)),
-        Part::Composite(composite) => Ok(Part::Composite(by_single(alloc, operator, composite)?)),
+        Found::Gap(generation, steps) => further_down(generation, steps, Step::Under(operator)),
+        Found::Composite(composite) => {
+            let composite = by_single(alloc, operator, composite.take(alloc)?)?;
+            Ok(Found::Composite(Given::Made(composite)))
+        }
     }
 }
 
@@ -68,10 +71,10 @@ fn over_part<'a>(alloc: Global, operator: &'a Single, part: Part<'a>) -> Result<
 pub fn over_parts<'a>(
     alloc: Global,
     operator: &'a Single,
-    parts: Vec<Part<'a>>,
-) -> Result<Vec<Part<'a>>, Memory>
+    parts: Vec<Found<'a>>,
+) -> Result<Vec<Found<'a>>, Memory>
     ensures over { IfOk result (λ all.
-        map placed_of all.items ≡ map (placed_over_one (unary_of operator.now)) (map placed_of parts.entry.items)) }
+        map found_of all.items ≡ map (placed_over_one (unary_of operator.now)) (map found_of parts.entry.items)) }
 {
     let mut all = Vec::new(alloc);
     for part in parts {
@@ -81,14 +84,12 @@ pub fn over_parts<'a>(
 }
 
 // A part under a rule.
-fn part_below<'a>(alloc: Global, row: &Row, part: Part<'a>) -> Result<Part<'a>, Memory>
-    ensures { IfOk result (λ x. placed_of x ≡ turned_there (under_row row.now) (placed_of part.entry)) }
+fn part_below<'a>(alloc: Global, row: &Row, part: Found<'a>) -> Result<Found<'a>, Memory>
+    ensures { IfOk result (λ x. found_of x ≡ turned_there (under_row row.now) (found_of part.entry)) }
 {
     match part {
-        Part::Gap(generation, steps) => Ok(Part::Gap(generation, steps)),
-        Part::Composite(composite) => {
-            Ok(Part::Composite(below(alloc, row.copy(alloc)?, composite)?))
-        }
+        Found::Gap(generation, steps) => Ok(Found::Gap(generation, steps)),
+        Found::Composite(composite) => { Ok(Found::Composite(composite.under(alloc, row)?)) }
     }
 }
 
@@ -96,12 +97,12 @@ fn part_below<'a>(alloc: Global, row: &Row, part: Part<'a>) -> Result<Part<'a>, 
 fn put_below<'a>(
     alloc: Global,
     row: &Row,
-    parts: Vec<Part<'a>>,
-    all: &mut Vec<Part<'a>>,
+    parts: Vec<Found<'a>>,
+    all: &mut Vec<Found<'a>>,
 ) -> Result<(), Memory>
     ensures { IfOk result (λ _.
-        map placed_of all.new.items ≡
-        map placed_of all.old.items ++ map (turned_there (under_row row.now)) (map placed_of parts.entry.items)) }
+        map found_of all.new.items ≡
+        map found_of all.old.items ++ map (turned_there (under_row row.now)) (map found_of parts.entry.items)) }
 {
     for part in parts {
         all.push(part_below(alloc, row, part)?)?;
@@ -110,18 +111,21 @@ fn put_below<'a>(
 }
 
 // A part of the left side of a disabling.
-fn disabled_part<'a>(alloc: Global, part: Part<'a>) -> Result<Part<'a>, Memory>
-    ensures { IfOk result (λ x. placed_of x ≡ turned_there plan_by_disabling (placed_of part.entry)) }
+fn disabled_part<'a>(alloc: Global, part: Found<'a>) -> Result<Found<'a>, Memory>
+    ensures { IfOk result (λ x. found_of x ≡ turned_there plan_by_disabling (found_of part.entry)) }
 {
     match part {
-        Part::Gap(generation, steps) => Ok(Part::Gap(generation, steps)),
-        Part::Composite(composite) => Ok(Part::Composite(by_disabling(alloc, composite)?)),
+        Found::Gap(generation, steps) => Ok(Found::Gap(generation, steps)),
+        Found::Composite(composite) => {
+            let composite = by_disabling(alloc, composite.take(alloc)?)?;
+            Ok(Found::Composite(Given::Made(composite)))
+        }
     }
 }
 
 // The parts of the left side of a disabling.
-fn disabled_parts<'a>(alloc: Global, parts: Vec<Part<'a>>) -> Result<Vec<Part<'a>>, Memory>
-    ensures { IfOk result (λ all. map placed_of all.items ≡ map (turned_there plan_by_disabling) (map placed_of parts.entry.items)) }
+fn disabled_parts<'a>(alloc: Global, parts: Vec<Found<'a>>) -> Result<Vec<Found<'a>>, Memory>
+    ensures { IfOk result (λ all. map found_of all.items ≡ map (turned_there plan_by_disabling) (map found_of parts.entry.items)) }
 {
     let mut all = Vec::new(alloc);
     for part in parts {
@@ -130,19 +134,34 @@ fn disabled_parts<'a>(alloc: Global, parts: Vec<Part<'a>>) -> Result<Vec<Part<'a
     Ok(all)
 }
 
-// Appends a composite, if there is one.
-fn put_composite<'a>(
-    composite: Option<OpenComposite>,
-    all: &mut Vec<Part<'a>>,
-) -> Result<(), Memory>
+// Appends a composite, if there is one, as it is given.
+fn put_given<'a>(composite: Option<Given<'a>>, all: &mut Vec<Found<'a>>) -> Result<(), Memory>
     ensures { IfOk result (λ _.
-        map placed_of all.new.items ≡
-        map placed_of all.old.items ++ map made (from_option (option_map open_plan_of composite) (λ p. p ∷ []))) }
+        map found_of all.new.items ≡
+        map found_of all.old.items ++ map made (from_option (option_map own_or_made composite.entry) (λ p. p ∷ []))) }
 {
     match composite {
         None => Ok(()),
         Some(composite) => {
-            all.push(Part::Composite(composite))?;
+            all.push(Found::Composite(composite))?;
+            Ok(())
+        }
+    }
+}
+
+// Appends a composite, if there is one.
+fn put_composite<'a>(
+    composite: Option<OpenComposite>,
+    all: &mut Vec<Found<'a>>,
+) -> Result<(), Memory>
+    ensures { IfOk result (λ _.
+        map found_of all.new.items ≡
+        map found_of all.old.items ++ map made (from_option (option_map open_plan_of composite) (λ p. p ∷ []))) }
+{
+    match composite {
+        None => Ok(()),
+        Some(composite) => {
+            all.push(Found::Composite(Given::Made(composite)))?;
             Ok(())
         }
     }
@@ -154,15 +173,33 @@ fn put_gap<'a>(
     generation: Gen,
     steps: &[Step<'a>],
     step: Step<'a>,
-    all: &mut Vec<Part<'a>>,
+    all: &mut Vec<Found<'a>>,
 ) -> Result<(), Memory>
     ensures { IfOk result (λ _.
-        map placed_of all.new.items ≡
-        map placed_of all.old.items ++ awaited generation.0 (map step_of steps.now ++ step_of step.entry ∷ []) ∷ []) }
+        map found_of all.new.items ≡
+        map found_of all.old.items ++ awaited generation.0 (map step_of steps.now ++ step_of step.entry ∷ []) ∷ []) }
 {
     let those = Vec::from_slice(alloc, steps)?;
     all.push(further_down(generation, those, step)?)?;
     Ok(())
+}
+
+// What one side of a parallel composition makes of a composite alone.
+fn alone<'a>(
+    alloc: Global,
+    gates: &GateSet,
+    row: &Row,
+    composite: Given<'a>,
+) -> Result<Option<Given<'a>>, Memory>
+    ensures { IfOk result (λ o.
+        from_option (option_map own_or_made o) (λ p. p ∷ []) ≡
+        plans_alone (synchronised_of gates.now) row.now (own_or_made composite.entry)) }
+{
+    if is_alone(gates, composite.kind()) {
+        Ok(Some(composite.under(alloc, row)?))
+    } else {
+        Ok(None)
+    }
 }
 
 // Appends what one side of a parallel composition makes of a part alone.
@@ -170,20 +207,21 @@ fn put_alone<'a>(
     alloc: Global,
     gates: &'a GateSet,
     row: &Row,
-    part: &Part<'a>,
-    all: &mut Vec<Part<'a>>,
+    part: Found<'a>,
+    all: &mut Vec<Found<'a>>,
 ) -> Result<(), Memory>
     ensures { IfOk result (λ _.
-        map placed_of all.new.items ≡
-        map placed_of all.old.items ++
+        map found_of all.new.items ≡
+        map found_of all.old.items ++
         stepped (by_itself (synchronised_of gates.now)) (λ p. map made (plans_alone (synchronised_of gates.now) row.now p))
-        (placed_of part.now)) }
+        (found_of part.entry)) }
 {
     match part {
-        Part::Gap(generation, steps) => {
-            put_gap(alloc, *generation, steps, Step::Alone(gates), all)
+        Found::Gap(generation, steps) => {
+            all.push(further_down(generation, steps, Step::Alone(gates))?)?;
+            Ok(())
         }
-        Part::Composite(composite) => put_composite(alone(alloc, gates, row, composite)?, all),
+        Found::Composite(composite) => put_given(alone(alloc, gates, row, composite)?, all),
     }
 }
 
@@ -192,17 +230,58 @@ fn put_all_alone<'a>(
     alloc: Global,
     gates: &'a GateSet,
     row: &Row,
-    parts: &[Part<'a>],
-    all: &mut Vec<Part<'a>>,
+    parts: Vec<Found<'a>>,
+    all: &mut Vec<Found<'a>>,
 ) -> Result<(), Memory>
     ensures { IfOk result (λ _.
-        map placed_of all.new.items ≡
-        map placed_of all.old.items ++ placed_alone (synchronised_of gates.now) row.now (map placed_of parts.now)) }
+        map found_of all.new.items ≡
+        map found_of all.old.items ++ placed_alone (synchronised_of gates.now) row.now (map found_of parts.entry.items)) }
 {
     for part in parts {
         put_alone(alloc, gates, row, part, all)?;
     }
     Ok(())
+}
+
+// What a composite of the left side makes together with one of the right side, which is under a rule. Nothing is copied where their actions
+// are of two kinds.
+fn joint_beneath(
+    alloc: Global,
+    algebra: &DataSpec,
+    gates: &GateSet,
+    left: &OpenComposite,
+    row: &Row,
+    right: &OpenComposite,
+) -> Result<Option<OpenComposite>, Memory>
+    ensures { IfOk result (λ o.
+        from_option (option_map open_plan_of o) (λ p. p ∷ []) ≡
+        plans_joint (theory_of algebra.now) (synchronised_of gates.now) (open_plan_of left.now) (under_row row.now (open_plan_of right.now))) }
+{
+    if same_kind(left.kind, right.kind) {
+        let right = copied_below(alloc, row, right)?;
+        joint(alloc, algebra, gates, left, &right)
+    } else {
+        Ok(None)
+    }
+}
+
+// What a composite of the left side makes together with one of the right side.
+fn joint_given(
+    alloc: Global,
+    algebra: &DataSpec,
+    gates: &GateSet,
+    left: &OpenComposite,
+    right: &Given<'_>,
+) -> Result<Option<OpenComposite>, Memory>
+    ensures { IfOk result (λ o.
+        from_option (option_map open_plan_of o) (λ p. p ∷ []) ≡
+        plans_joint (theory_of algebra.now) (synchronised_of gates.now) (open_plan_of left.now) (own_or_made right.now)) }
+{
+    match right {
+        Given::Own(right) => joint(alloc, algebra, gates, left, right),
+        Given::Beneath(row, right) => joint_beneath(alloc, algebra, gates, left, row, right),
+        Given::Made(right) => joint(alloc, algebra, gates, left, right),
+    }
 }
 
 // Appends what a composite of the left side makes together with a part of the right side.
@@ -211,21 +290,23 @@ fn put_partner<'a>(
     algebra: &DataSpec,
     gates: &GateSet,
     left: &OpenComposite,
-    part: &Part<'a>,
-    all: &mut Vec<Part<'a>>,
+    part: &Found<'a>,
+    all: &mut Vec<Found<'a>>,
 ) -> Result<(), Memory>
     ensures { IfOk result (λ _.
-        map placed_of all.new.items ≡
-        map placed_of all.old.items ++
+        map found_of all.new.items ≡
+        map found_of all.old.items ++
         stepped (as_another (open_plan_of left.now).kind)
         (λ p. map made (plans_joint (theory_of algebra.now) (synchronised_of gates.now) (open_plan_of left.now) p))
-        (placed_of part.now)) }
+        (found_of part.now)) }
 {
     match part {
-        Part::Gap(generation, steps) => {
+        Found::Gap(generation, steps) => {
             put_gap(alloc, *generation, steps, Step::Beside(left.kind), all)
         }
-        Part::Composite(right) => put_composite(joint(alloc, algebra, gates, left, right)?, all),
+        Found::Composite(right) => {
+            put_composite(joint_given(alloc, algebra, gates, left, right)?, all)
+        }
     }
 }
 
@@ -235,15 +316,15 @@ fn put_each_partner<'a>(
     algebra: &DataSpec,
     gates: &GateSet,
     left: &OpenComposite,
-    right: &[Part<'a>],
-    all: &mut Vec<Part<'a>>,
+    right: &[Found<'a>],
+    all: &mut Vec<Found<'a>>,
 ) -> Result<(), Memory>
     ensures { IfOk result (λ _.
-        map placed_of all.new.items ≡
-        map placed_of all.old.items ++
+        map found_of all.new.items ≡
+        map found_of all.old.items ++
         flat_map (stepped (as_another (open_plan_of left.now).kind)
         (λ p. map made (plans_joint (theory_of algebra.now) (synchronised_of gates.now) (open_plan_of left.now) p)))
-        (map placed_of right.now)) }
+        (map found_of right.now)) }
 {
     for part in right {
         put_partner(alloc, algebra, gates, left, part, all)?;
@@ -257,13 +338,13 @@ fn put_partners<'a>(
     algebra: &DataSpec,
     gates: &GateSet,
     left: &OpenComposite,
-    right: &[Part<'a>],
-    all: &mut Vec<Part<'a>>,
+    right: &[Found<'a>],
+    all: &mut Vec<Found<'a>>,
 ) -> Result<(), Memory>
     ensures { IfOk result (λ _.
-        map placed_of all.new.items ≡
-        map placed_of all.old.items ++
-        placed_partners (theory_of algebra.now) (synchronised_of gates.now) (map placed_of right.now) (open_plan_of left.now)) }
+        map found_of all.new.items ≡
+        map found_of all.old.items ++
+        placed_partners (theory_of algebra.now) (synchronised_of gates.now) (map found_of right.now) (open_plan_of left.now)) }
 {
     if is_joint(gates, left.kind) {
         put_each_partner(alloc, algebra, gates, left, right, all)
@@ -272,81 +353,139 @@ fn put_partners<'a>(
     }
 }
 
+// The same, where the composite is under a rule.
+fn put_partners_beneath<'a>(
+    alloc: Global,
+    algebra: &DataSpec,
+    gates: &GateSet,
+    row: &Row,
+    left: &OpenComposite,
+    right: &[Found<'a>],
+    all: &mut Vec<Found<'a>>,
+) -> Result<(), Memory>
+    ensures { IfOk result (λ _.
+        map found_of all.new.items ≡
+        map found_of all.old.items ++
+        placed_partners (theory_of algebra.now) (synchronised_of gates.now) (map found_of right.now)
+        (under_row row.now (open_plan_of left.now))) }
+{
+    if is_joint(gates, left.kind) {
+        let left = copied_below(alloc, row, left)?;
+        put_each_partner(alloc, algebra, gates, &left, right, all)
+    } else {
+        Ok(())
+    }
+}
+
+// The same, as the composite is given.
+fn put_partners_given<'a>(
+    alloc: Global,
+    algebra: &DataSpec,
+    gates: &GateSet,
+    left: &Given<'_>,
+    right: &[Found<'a>],
+    all: &mut Vec<Found<'a>>,
+) -> Result<(), Memory>
+    ensures { IfOk result (λ _.
+        map found_of all.new.items ≡
+        map found_of all.old.items ++
+        placed_partners (theory_of algebra.now) (synchronised_of gates.now) (map found_of right.now) (own_or_made left.now)) }
+{
+    match left {
+        Given::Own(left) => put_partners(alloc, algebra, gates, left, right, all),
+        Given::Beneath(row, left) => {
+            put_partners_beneath(alloc, algebra, gates, row, left, right, all)
+        }
+        Given::Made(left) => put_partners(alloc, algebra, gates, left, right, all),
+    }
+}
+
 // Appends what a part of the left side makes together with the right side.
 fn put_together<'a>(
     alloc: Global,
     algebra: &DataSpec,
     gates: &'a GateSet,
-    part: &Part<'a>,
-    right: &[Part<'a>],
-    all: &mut Vec<Part<'a>>,
+    part: &Found<'a>,
+    right: &[Found<'a>],
+    all: &mut Vec<Found<'a>>,
 ) -> Result<(), Memory>
     ensures { IfOk result (λ _.
-        map placed_of all.new.items ≡
-        map placed_of all.old.items ++
+        map found_of all.new.items ≡
+        map found_of all.old.items ++
         stepped (with_another (synchronised_of gates.now))
-        (placed_partners (theory_of algebra.now) (synchronised_of gates.now) (map placed_of right.now)) (placed_of part.now)) }
+        (placed_partners (theory_of algebra.now) (synchronised_of gates.now) (map found_of right.now)) (found_of part.now)) }
 {
     match part {
-        Part::Gap(generation, steps) => {
+        Found::Gap(generation, steps) => {
             put_gap(alloc, *generation, steps, Step::Together(gates), all)
         }
-        Part::Composite(left) => put_partners(alloc, algebra, gates, left, right, all),
+        Found::Composite(left) => put_partners_given(alloc, algebra, gates, left, right, all),
     }
 }
 
-// Appends what both sides of a parallel composition do together.
-fn put_all_together<'a>(
+// What both sides of a parallel composition do together.
+fn all_together<'a>(
     alloc: Global,
     algebra: &DataSpec,
     gates: &'a GateSet,
-    left: &[Part<'a>],
-    right: &[Part<'a>],
-    all: &mut Vec<Part<'a>>,
-) -> Result<(), Memory>
-    ensures { IfOk result (λ _.
-        map placed_of all.new.items ≡
-        map placed_of all.old.items ++
+    left: &[Found<'a>],
+    right: &[Found<'a>],
+) -> Result<Vec<Found<'a>>, Memory>
+    ensures { IfOk result (λ all.
+        map found_of all.items ≡
         flat_map (stepped (with_another (synchronised_of gates.now))
-        (placed_partners (theory_of algebra.now) (synchronised_of gates.now) (map placed_of right.now)))
-        (map placed_of left.now)) }
+        (placed_partners (theory_of algebra.now) (synchronised_of gates.now) (map found_of right.now)))
+        (map found_of left.now)) }
 {
+    let mut all = Vec::new(alloc);
     for part in left {
-        put_together(alloc, algebra, gates, part, right, all)?;
+        put_together(alloc, algebra, gates, part, right, &mut all)?;
     }
+    Ok(all)
+}
+
+// Appends others.
+fn put_others<'a>(others: Vec<Found<'a>>, all: &mut Vec<Found<'a>>) -> Result<(), Memory>
+    ensures { IfOk result (λ _.
+        map found_of all.new.items ≡ map found_of all.old.items ++ map found_of others.entry.items) }
+{
+    let mut others = others;
+    all.append(&mut others)?;
     Ok(())
 }
 
-// What a parallel composition makes of the composites of its sides.
+// What a parallel composition makes of the composites of its sides. What both do together is made first, so that what one side does alone
+// is made of its composites themselves and not of copies.
 fn beside<'a>(
     alloc: Global,
     algebra: &DataSpec,
     gates: &'a GateSet,
-    left: &[Part<'a>],
-    right: &[Part<'a>],
-) -> Result<Vec<Part<'a>>, Memory>
+    left: Vec<Found<'a>>,
+    right: Vec<Found<'a>>,
+) -> Result<Vec<Found<'a>>, Memory>
     ensures { IfOk result (λ all.
-        map placed_of all.items ≡
-        placed_over_two (theory_of algebra.now) (nodes.beside (synchronised_of gates.now)) (map placed_of left.now)
-        (map placed_of right.now)) }
+        map found_of all.items ≡
+        placed_over_two (theory_of algebra.now) (nodes.beside (synchronised_of gates.now)) (map found_of left.entry.items)
+        (map found_of right.entry.items)) }
 {
+    let together = all_together(alloc, algebra, gates, &left, &right)?;
     let mut all = Vec::new(alloc);
     put_all_alone(alloc, gates, &Row::Parl, left, &mut all)?;
     put_all_alone(alloc, gates, &Row::Parr, right, &mut all)?;
-    put_all_together(alloc, algebra, gates, left, right, &mut all)?;
+    put_others(together, &mut all)?;
     Ok(all)
 }
 
 // What a choice makes of the composites of its sides.
 fn choice<'a>(
     alloc: Global,
-    left: Vec<Part<'a>>,
-    right: Vec<Part<'a>>,
-) -> Result<Vec<Part<'a>>, Memory>
+    left: Vec<Found<'a>>,
+    right: Vec<Found<'a>>,
+) -> Result<Vec<Found<'a>>, Memory>
     ensures { IfOk result (λ all.
-        map placed_of all.items ≡
-        map (turned_there (under_row Row.Chl)) (map placed_of left.entry.items) ++
-        map (turned_there (under_row Row.Chr)) (map placed_of right.entry.items)) }
+        map found_of all.items ≡
+        map (turned_there (under_row Row.Chl)) (map found_of left.entry.items) ++
+        map (turned_there (under_row Row.Chr)) (map found_of right.entry.items)) }
 {
     let mut all = Vec::new(alloc);
     put_below(alloc, &Row::Chl, left, &mut all)?;
@@ -357,13 +496,13 @@ fn choice<'a>(
 // What a disabling makes of the composites of its sides.
 fn disable<'a>(
     alloc: Global,
-    left: Vec<Part<'a>>,
-    right: Vec<Part<'a>>,
-) -> Result<Vec<Part<'a>>, Memory>
+    left: Vec<Found<'a>>,
+    right: Vec<Found<'a>>,
+) -> Result<Vec<Found<'a>>, Memory>
     ensures { IfOk result (λ all.
-        map placed_of all.items ≡
-        map (turned_there plan_by_disabling) (map placed_of left.entry.items) ++
-        map (turned_there (under_row Row.Distake)) (map placed_of right.entry.items)) }
+        map found_of all.items ≡
+        map (turned_there plan_by_disabling) (map found_of left.entry.items) ++
+        map (turned_there (under_row Row.Distake)) (map found_of right.entry.items)) }
 {
     let mut all = disabled_parts(alloc, left)?;
     put_below(alloc, &Row::Distake, right, &mut all)?;
@@ -375,17 +514,17 @@ pub fn over_sides<'a>(
     alloc: Global,
     algebra: &DataSpec,
     operator: &'a Double,
-    left: Vec<Part<'a>>,
-    right: Vec<Part<'a>>,
-) -> Result<Vec<Part<'a>>, Memory>
+    left: Vec<Found<'a>>,
+    right: Vec<Found<'a>>,
+) -> Result<Vec<Found<'a>>, Memory>
     ensures over { IfOk result (λ all.
-        map placed_of all.items ≡
-        placed_over_two (theory_of algebra.now) (binary_of operator.now) (map placed_of left.entry.items)
-        (map placed_of right.entry.items)) }
+        map found_of all.items ≡
+        placed_over_two (theory_of algebra.now) (binary_of operator.now) (map found_of left.entry.items)
+        (map found_of right.entry.items)) }
 {
     match operator {
         Double::Choice => choice(alloc, left, right),
-        Double::Par(gates) => beside(alloc, algebra, gates, &left, &right),
+        Double::Par(gates) => beside(alloc, algebra, gates, left, right),
         Double::Disable => disable(alloc, left, right),
     }
 }

@@ -204,8 +204,8 @@ fn every_below(alloc: Global, step: &Step<'_>) -> Result<Sought, Memory>
     }
 }
 
-// What is sought below a step.
-fn sought_below(alloc: Global, step: &Step<'_>, above: &Sought) -> Result<Sought, Memory>
+/// What is sought below a step.
+pub(crate) fn sought_below(alloc: Global, step: &Step<'_>, above: &Sought) -> Result<Sought, Memory>
     ensures { IfOk result (λ v. sought_in v ≡ sought.sought_below (step_of step.now) (sought_in above.now)) }
 {
     match above {
@@ -228,6 +228,16 @@ pub fn sought_at(alloc: Global, steps: &[Step<'_>], whole: Sought) -> Result<Sou
 }
 
 impl Sought {
+    /// Whether actions of the kind are sought. It takes no memory.
+    pub(crate) fn seeks(&self, kind: ActionKind) -> bool
+        ensures { result ≡ sought.is_sought (sought_in self.now) (kind_in kind) }
+    {
+        match self {
+            Sought::Every => true,
+            Sought::These(kinds) => is_one_kind(kind, kinds),
+        }
+    }
+
     /// Whether actions of some kind are sought. It takes no memory.
     pub fn seeks_some(&self) -> bool
         ensures seeks { result ≡ sought.seeks_some (sought_in self.now) }

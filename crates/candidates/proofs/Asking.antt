@@ -1,7 +1,7 @@
 -- Searches in a known tree, one met thing after another.
-use Rattle.std.proofs.Common.{◌≡◌, ◌++◌, ◌∙◌, ◌||◌, List, [], ◌∷◌, map, sym, ap, Option, Some, Bool, true, false}
+use Rattle.std.proofs.Common.{◌≡◌, ◌++◌, ◌∙◌, ◌||◌, List, [], ◌∷◌, map, flat_map, sym, ap, Option, Some, Bool, true, false}
 use Rattle.std.proofs.lemmas.List.{map-append}
-use Rattle.spec_core.specs.Theories.{theory_of}
+use Rattle.spec_core.specs.Theories.{Theory, theory_of}
 use Rattle.rule_model.specs.declared.offer.Offer.{Offer}
 use Rattle.rule_model.specs.declared.rules.Rules.{Rules}
 use Rattle.rule_model.specs.Derivations.{Derivation, derivation_of}
@@ -14,12 +14,23 @@ use Rattle.decision_order.specs.declared.listing.First.{First}
 use Rattle.decision_order.specs.declared.listing.First.TheVariants.{Is}
 use Rattle.node_trees.specs.Shapes.{shape_of}
 use Rattle.candidate_verdicts.specs.Stored.{stored}
-use Rattle.candidates.specs.Listed.{verdict_for}
+use Rattle.candidate_composites.specs.Windows.{Windows}
+use Rattle.candidate_composites.specs.Known.{PlacedPlan, plans_sought}
+use Rattle.candidate_laws.specs.Sought.{Sought}
+use Rattle.candidates.specs.Listed.{kinds_sought, trees_in, trees_sought, verdict_for}
 use Rattle.candidates.specs.Jobs.{NodeJob, jobs_of}
 use Rattle.candidates.specs.KnownTrees.{is_out_in, first_of_those, all_of_those, left_to_first, left_to_all, is_held_among}
 use Rattle.candidates.specs.declared.known_tree.KnownTree.{KnownTree}
 use Rattle.candidates.proofs.Stepping.{first_then, all_then, and_more, one_more, first_from, all_from, more_to_first, end_to_first, job_to_first}
 use Rattle.candidates.proofs.Stepping.{more_to_all, job_to_all, held_from}
+
+-- a search looks for the same trees where the parts are those that are sought
+pub sought_alone : (theory : Theory) (w : Windows) (q : Query Offer) (v : Sought) (ps qs : List PlacedPlan) → v ≡ kinds_sought q →
+    flat_map (plans_sought v) ps ≡ flat_map (plans_sought v) qs → trees_sought theory w q ps ≡ trees_sought theory w q qs
+sought_alone theory w q v ps qs e f =
+    ap (λ u. trees_in theory w q (flat_map (plans_sought u) ps)) (sym e)
+    ∙ ap (trees_in theory w q) f
+    ∙ ap (λ u. trees_in theory w q (flat_map (plans_sought u) qs)) e
 
 module _ (s : KnownTree) (q : Query Offer) (l : List (OrGap Derivation)) (x : OrGap Derivation) (rest : List (OrGap Derivation))
     (next : l ≡ x ∷ rest) where

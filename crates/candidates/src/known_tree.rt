@@ -5,7 +5,8 @@ ghost use Rattle.log_states.specs.Views.{pending_of};
 ghost use Rattle.board_offers.specs.Offers.{no_offer};
 
 use crate::job::NodeJob;
-use candidate_composites::known::known_composites;
+use crate::walk::only;
+use candidate_composites::known::{known_composites, sought_composites};
 use candidate_composites::part::Part;
 use candidate_verdicts::pieces::Pieces;
 use log_states::pending::Pending;
@@ -26,6 +27,8 @@ pub struct KnownTree<'a> {
     pub pieces: &'a Pieces,
     pub offers: &'a [Pending],
     pub out: &'a [NodeJob],
+    // Whether all composites of the tree are listed, and these, or none.
+    pub(crate) listed: bool,
     pub(crate) parts: Vec<Part<'a>>,
     // What stands for an offer that there isn't.
     pub(crate) nowhere: Pending,
@@ -47,10 +50,26 @@ fn made_by_nobody(alloc: Global) -> Pending
     }
 }
 
+// Whether the tree may have a composite at the gate of one of these offers, or a gap.
+fn may_meet(
+    alloc: Global,
+    algebra: &DataSpec,
+    tree: &Branch,
+    offers: &[Pending],
+) -> Result<bool, Memory> {
+    for pending in offers {
+        let sought = only(alloc, &pending.offer)?;
+        if !sought_composites(alloc, algebra, tree, &sought)?.is_empty() {
+            return Ok(true);
+        }
+    }
+    Ok(false)
+}
+
 impl<'a> KnownTree<'a> {
     ghost use Rattle.candidates.specs.KnownTrees.{HasItsParts};
 
-    /// A tree with what is known of it. It lists the composites of its nodes.
+    /// A tree with what is known of it. It lists the composites of its nodes, unless one may meet a pending offer.
     pub fn new(
         alloc: Global,
         algebra: &'a DataSpec,
@@ -68,7 +87,13 @@ impl<'a> KnownTree<'a> {
         ensures parts { IfOk result HasItsParts }
         ensures out { IfOk result (λ s. s.out.now ≡ out.now) }
     {
-        let parts = known_composites(alloc, algebra, tree)?;
+        // Where no offer may be met there will be searches for more than the action of one gate.
+        let listed = !may_meet(alloc, algebra, tree, offers)?;
+        let parts = if listed {
+            known_composites(alloc, algebra, tree)?
+        } else {
+            Vec::new(alloc)
+        };
         Ok(KnownTree {
             algebra,
             windows,
@@ -76,6 +101,7 @@ impl<'a> KnownTree<'a> {
             pieces,
             offers,
             out,
+            listed,
             parts,
             nowhere: made_by_nobody(alloc),
         })

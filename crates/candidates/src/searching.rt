@@ -11,15 +11,21 @@ ghost use Rattle.decision_order.specs.Searches.{first_of, all_of};
 ghost use Rattle.candidate_search.specs.Searches.{query_of};
 ghost use Rattle.node_trees.specs.Shapes.{shape_of};
 ghost use Rattle.candidate_verdicts.specs.Stored.{stored};
+ghost use Rattle.candidate_composites.specs.Tables.{windows_in};
+ghost use Rattle.candidate_composites.specs.Known.{placed_of, placed_plans};
+ghost use Rattle.candidates.specs.Listed.{trees_sought};
 ghost use Rattle.candidates.specs.Jobs.{jobs_of};
+ghost use Rattle.spec_core.specs.Theories.{theory_of};
 ghost use Rattle.candidates.specs.Models.{job_of};
 ghost use Rattle.candidates.specs.Walks.{met_of, ahead};
 ghost use Rattle.candidates.specs.KnownTrees.{offer_in, numbered, is_out_in, first_of_those, all_of_those, left_to_first, left_to_all};
-ghost use Rattle.candidates.specs.KnownTrees.{is_held_among, trees_for};
+ghost use Rattle.candidates.specs.KnownTrees.{is_held_among, parts_along, trees_for};
 
 use crate::job::{NodeJob, first_unjudged, is_expanded};
 use crate::known_tree::KnownTree;
-use crate::walk::{Met, Walk};
+use crate::walk::{Met, Walk, kinds_sought};
+use candidate_composites::known::sought_composites;
+use candidate_composites::part::Part;
 use candidate_search::searches::TreeSearch;
 use candidate_verdicts::asked::verdict;
 use decision_order::asking::Missing;
@@ -141,12 +147,40 @@ impl<'a> KnownTree<'a> {
         }
     }
 
-    // A walk along the trees for which a query may ask.
-    fn walk<'b>(&'b self, search: TreeSearch<'b>) -> Walk<'b, 'a>
-        ensures { ahead result ≡ trees_for self.now (query_of search.entry) }
+    // The composites of the tree that a query may ask for, and the gaps.
+    fn sought(&self, alloc: Global, search: &TreeSearch<'_>) -> Result<Vec<Part<'a>>, Memory>
+        ensures { IfOk result (λ all. trees_sought (theory_of self.now.algebra.now) (windows_in self.now.windows.now) (query_of search.now)
+            (map placed_of all.items) ≡ trees_sought (theory_of self.now.algebra.now) (windows_in self.now.windows.now)
+            (query_of search.now) (placed_plans (theory_of self.now.algebra.now) (shape_of self.now.tree.now))) }
     {
-        Walk::new(self.algebra, self.windows, search, &self.parts)
+        let sought = kinds_sought(alloc, search)?;
+        sought_composites(alloc, self.algebra, self.tree, &sought)
     }
+
+    // The same, where the tree hasn't listed its composites; else none.
+    fn others(&self, alloc: Global, search: &TreeSearch<'_>) -> Result<Vec<Part<'a>>, Memory>
+        ensures { IfOk result (λ all. trees_sought (theory_of self.now.algebra.now) (windows_in self.now.windows.now) (query_of search.now)
+            (parts_along self.now (map placed_of all.items)) ≡ trees_for self.now (query_of search.now)) }
+    {
+        if self.listed {
+            Ok(Vec::new(alloc))
+        } else {
+            self.sought(alloc, search)
+        }
+    }
+
+    // A walk along the trees of the listed parts, or else of others, for which a query may ask.
+    fn walk<'b>(&'b self, search: TreeSearch<'b>, others: &'b [Part<'a>]) -> Walk<'b, 'a>
+        ensures { ahead result ≡ trees_sought (theory_of self.now.algebra.now) (windows_in self.now.windows.now) (query_of search.entry)
+            (parts_along self.now (map placed_of others.now)) }
+    {
+        if self.listed {
+            Walk::new(self.algebra, self.windows, search, &self.parts)
+        } else {
+            Walk::new(self.algebra, self.windows, search, others)
+        }
+    }
+
     // The first tree for which a query asks.
     #[tactic(auto, using(crate::proofs::Asking::first_after))]
     pub(crate) fn first_asked(
@@ -157,7 +191,8 @@ impl<'a> KnownTree<'a> {
         ensures { IfOk result (λ f. first_of derivation_of f ≡
             first_of_those self.now (query_of search.entry) (trees_for self.now (query_of search.entry))) }
     {
-        let mut walk = self.walk(search);
+        let others = self.others(alloc, &search)?;
+        let mut walk = self.walk(search, &others);
         while let Some(met) = walk.next(alloc)? {
             match first_at(alloc, self, &search, met)? {
                 First::Open => return Ok(First::Open),
@@ -178,7 +213,8 @@ impl<'a> KnownTree<'a> {
         ensures { IfOk result (λ a. all_of derivation_of a ≡
             all_of_those self.now (query_of search.entry) (trees_for self.now (query_of search.entry))) }
     {
-        let mut walk = self.walk(search);
+        let others = self.others(alloc, &search)?;
+        let mut walk = self.walk(search, &others);
         let mut those = Vec::new(alloc);
         while let Some(met) = walk.next(alloc)? {
             match first_at(alloc, self, &search, met)? {
@@ -201,7 +237,8 @@ impl<'a> KnownTree<'a> {
             (left_to_first self.now (query_of search.entry) (trees_for self.now (query_of search.entry)))
             (is_held_among self.now (query_of search.entry) (trees_for self.now (query_of search.entry)))) }
     {
-        let mut walk = self.walk(search);
+        let others = self.others(alloc, &search)?;
+        let mut walk = self.walk(search, &others);
         while let Some(met) = walk.next(alloc)? {
             match missing_at(alloc, self, &search, met)? {
                 Missing::Job(job) => return Ok(Missing::Job(job)),
@@ -223,7 +260,8 @@ impl<'a> KnownTree<'a> {
             (left_to_all self.now (query_of search.entry) (trees_for self.now (query_of search.entry)))
             (is_held_among self.now (query_of search.entry) (trees_for self.now (query_of search.entry)))) }
     {
-        let mut walk = self.walk(search);
+        let others = self.others(alloc, &search)?;
+        let mut walk = self.walk(search, &others);
         let mut held = false;
         while let Some(met) = walk.next(alloc)? {
             match missing_at(alloc, self, &search, met)? {

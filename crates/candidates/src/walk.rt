@@ -102,8 +102,8 @@ fn take_tree(
     }
 }
 
-// The kinds of the actions that a query may ask for.
-fn kinds_sought(alloc: Global, search: &TreeSearch<'_>) -> Result<Sought, Memory>
+/// The kinds of the actions that a query may ask for.
+pub(crate) fn kinds_sought(alloc: Global, search: &TreeSearch<'_>) -> Result<Sought, Memory>
     ensures { IfOk result (λ v. sought_in v ≡ kinds_sought (query_of search.now)) }
 {
     match search {
@@ -116,8 +116,8 @@ fn kinds_sought(alloc: Global, search: &TreeSearch<'_>) -> Result<Sought, Memory
     }
 }
 
-// The kind of the actions that may meet an offer.
-fn only(alloc: Global, offer: &Offer) -> Result<Sought, Memory>
+/// The kind of the actions that may meet an offer.
+pub(crate) fn only(alloc: Global, offer: &Offer) -> Result<Sought, Memory>
     ensures { IfOk result (λ v. sought_in v ≡ these_kinds (at_gate offer.now.gate.0 ∷ [])) }
 {
     let mut kinds = Vec::new(alloc);
