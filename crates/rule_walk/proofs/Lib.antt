@@ -1,6 +1,7 @@
 pub mod Bounds
 pub mod Faults
 pub mod Filling
+pub mod Frames
 pub mod Judging
 pub mod Misfits
 pub mod NoStep

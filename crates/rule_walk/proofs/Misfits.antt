@@ -9,7 +9,7 @@ use Rattle.rule_model.specs.declared.action.Action.{Action}
 use Rattle.rule_model.specs.declared.action.Action.TheVariants.{Exit}
 use Rattle.rule_model.specs.declared.rules.Slot.{Slot}
 use Rattle.rule_model.specs.declared.rules.Slot.TheVariants.{Of, Mark, Blank}
-use Rattle.rule_model.specs.Actions.{kind_of, doing, IsAlone, IsJoint, IsUnhidden, IsNoEnd, IsEnd}
+use Rattle.rule_model.specs.Actions.{kind_of, IsJoint}
 use Rattle.rule_model.specs.Behaviours.{Behaviour, action, choice, guarded, bound, value_choice, gate_choice, parallel}
 use Rattle.rule_model.specs.Behaviours.{hide, enable, disable, call, relabel}
 use Rattle.rule_model.specs.Code.{IsDefinition}
@@ -20,7 +20,7 @@ use Rattle.rule_model.specs.Fields.{GuardHolds, FieldsHave, ArgumentsHave, IsHan
 use Rattle.rule_model.specs.Substitution.{Assignment}
 use Rattle.rule_walk.specs.declared.fault.FireFault.{FireFault}
 use Rattle.rule_walk.specs.Asking.{GuardAsks, ArgumentsAsk, RuleAsks, Asks}
-use Rattle.rule_walk.specs.Ends.{IsAtHidden, CanHandOn}
+use Rattle.rule_walk.specs.Ends.{CanHandOn}
 use Rattle.rule_walk.specs.Faults.{Explains, Here, Within, IsMisfit, IsFault, HasNoArguments}
 use Rattle.rule_walk.specs.Faults.{HandsOnNothing}
 use Rattle.rule_walk.specs.Parts.{HasNone, OnFirst, OnSecond, At, IsUnfit, IsUnfitAt}
@@ -101,7 +101,7 @@ module _ (program : Program) where
         (λ x h. (0 ∷ h.0, first_of d e b c s t (λ u y z. At program u y z h.0 (RuleAsks program x)) is h.1))
 
 -- what a part does isn't what the rule asks of it
-condition_fault : (program : Program) → IsExecutable program.theory → (budget : ℕ) (s : Assignment) (b : Behaviour) (whole : Derivation)
+pub condition_fault : (program : Program) → IsExecutable program.theory → (budget : ℕ) (s : Assignment) (b : Behaviour) (whole : Derivation)
     (f : FireFault) (part : Behaviour) (d : Derivation) (a : Action) (e : Behaviour) (P : Action → Type 0) →
     DerivesWith program s part d a e →
     ((x : Action) (y : Behaviour) → DerivesWith program s b whole x y →
@@ -161,79 +161,6 @@ module _ (program : Program) (executable : IsExecutable program.theory) (budget 
       other none gates ys c t again have =
           none t (subst (λ (zs : List Variable). ArgumentsHave program.theory s variable zs terms t)
           (one_definition program p gates formal ys xs c body again defined).1 have)
-
-  pub left_not_alone : (gates : Synchronised) (left right : Behaviour) (d : Derivation) (a : Action) (e : Behaviour) → b ≡ parallel gates
-      left right →
-      DerivesWith program s left d a e → IsMisfit (IsAlone gates (kind_of a) → ⊥) f → IsFault program budget s b (parl d) f
-  left_not_alone gates left right d a e is does h =
-      subst (λ (c : Behaviour). IsFault program budget s c (parl d) f) (sym is)
-      (condition_fault program executable budget s (parallel gates left right) (parl d) f left d a e (λ x. IsAlone gates (kind_of x)) does
-      (λ x y k. (x, k.0, k.1, k.2))
-      (λ k. k) (λ k. k) h)
-
-  pub right_not_alone : (gates : Synchronised) (left right : Behaviour) (d : Derivation) (a : Action) (e : Behaviour) → b ≡ parallel gates
-      left right →
-      DerivesWith program s right d a e → IsMisfit (IsAlone gates (kind_of a) → ⊥) f → IsFault program budget s b (parr d) f
-  right_not_alone gates left right d a e is does h =
-      subst (λ (c : Behaviour). IsFault program budget s c (parr d) f) (sym is)
-      (condition_fault program executable budget s (parallel gates left right) (parr d) f right d a e (λ x. IsAlone gates (kind_of x))
-      does (λ x y k. (x, k.0, k.1, k.2))
-      (λ k. k) (λ k. k) h)
-
-  pub not_hidden : (gates : List ℕ) (body : Behaviour) (d : Derivation) (a : Action) (e : Behaviour) → b ≡ hide gates body →
-      DerivesWith program s body d a e → IsMisfit (IsAtHidden gates a → ⊥) f → IsFault program budget s b (hiding d) f
-  not_hidden gates body d a e is does h =
-      subst (λ (c : Behaviour). IsFault program budget s c (hiding d) f) (sym is)
-      (condition_fault program executable budget s (hide gates body) (hiding d) f body d a e (IsAtHidden gates) does (λ x y k. (
-        doing k.0
-            k.1,
-        k.2,
-        k.3,
-        (k.0, k.1, refl, k.4),
-      ))
-      (λ k. k) (λ k. k) h)
-
-  pub not_passed : (gates : List ℕ) (body : Behaviour) (d : Derivation) (a : Action) (e : Behaviour) → b ≡ hide gates body →
-      DerivesWith program s body d a e → IsMisfit (IsUnhidden gates (kind_of a) → ⊥) f → IsFault program budget s b (pass d) f
-  not_passed gates body d a e is does h =
-      subst (λ (c : Behaviour). IsFault program budget s c (pass d) f) (sym is)
-      (condition_fault program executable budget s (hide gates body) (pass d) f body d a e (λ x. IsUnhidden gates (kind_of x)) does (λ x y
-      k. (x, k.0, k.1, k.2))
-      (λ k. k) (λ k. k) h)
-
-  pub enabling_ends : (left : Behaviour) (xs : List Variable) (right : Behaviour) (d : Derivation) (a : Action) (e : Behaviour) → b ≡
-      enable left xs right →
-      DerivesWith program s left d a e → IsMisfit (IsNoEnd (kind_of a) → ⊥) f → IsFault program budget s b (enstep d) f
-  enabling_ends left xs right d a e is does h =
-      subst (λ (c : Behaviour). IsFault program budget s c (enstep d) f) (sym is)
-      (condition_fault program executable budget s (enable left xs right) (enstep d) f left d a e (λ x. IsNoEnd (kind_of x)) does (λ x y
-      k. (x, k.0, k.1, k.2))
-      (λ k. k) (λ k. k) h)
-
-  pub not_enabled : (left : Behaviour) (xs : List Variable) (right : Behaviour) (d : Derivation) (a : Action) (e : Behaviour) → b ≡ enable
-      left xs right →
-      DerivesWith program s left d a e → IsMisfit (CanHandOn program.theory s xs a → ⊥) f → IsFault program budget s b (enend d) f
-  not_enabled left xs right d a e is does h =
-      subst (λ (c : Behaviour). IsFault program budget s c (enend d) f) (sym is)
-      (condition_fault program executable budget s (enable left xs right) (enend d) f left d a e (CanHandOn program.theory s xs) does (λ x
-      y k. (Exit k.0, k.1, k.3, (k.0, k.2, refl, k.5)))
-      (λ k. k) (λ k. k) h)
-
-  pub disabling_ends : (left right : Behaviour) (d : Derivation) (a : Action) (e : Behaviour) → b ≡ disable left right →
-      DerivesWith program s left d a e → IsMisfit (IsNoEnd (kind_of a) → ⊥) f → IsFault program budget s b (disstep d) f
-  disabling_ends left right d a e is does h =
-      subst (λ (c : Behaviour). IsFault program budget s c (disstep d) f) (sym is)
-      (condition_fault program executable budget s (disable left right) (disstep d) f left d a e (λ x. IsNoEnd (kind_of x)) does (λ x y k.
-      (x, k.0, k.1, k.2))
-      (λ k. k) (λ k. k) h)
-
-  pub not_ended : (left right : Behaviour) (d : Derivation) (a : Action) (e : Behaviour) → b ≡ disable left right →
-      DerivesWith program s left d a e → IsMisfit (IsEnd (kind_of a) → ⊥) f → IsFault program budget s b (disend d) f
-  not_ended left right d a e is does h =
-      subst (λ (c : Behaviour). IsFault program budget s c (disend d) f) (sym is)
-      (condition_fault program executable budget s (disable left right) (disend d) f left d a e (λ x. IsEnd (kind_of x)) does (λ x y k.
-      (x, y, k.0, k.1))
-      (λ k. k) (λ k. k) h)
 
   pub not_joint : (gates : Synchronised) (left right : Behaviour) (d e : Derivation) (a x : Action) (c y : Behaviour) →
       b ≡ parallel gates left right → DerivesWith program s left d a c → DerivesWith program s right e x y →

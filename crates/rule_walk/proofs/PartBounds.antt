@@ -50,7 +50,7 @@ module _ (program : Program) where
   rule_fits x s (calling d) (call p actual terms) h = tt
   rule_fits x s _ _ h = absurd h
 
-  first_fits : (P : Assignment → Behaviour → Derivation → Type 0) (s : Assignment) (d : Derivation) (b : Behaviour) →
+  pub first_fits : (P : Assignment → Behaviour → Derivation → Type 0) (s : Assignment) (d : Derivation) (b : Behaviour) →
       OnFirst program s b d P → IsItsConstruct b d
   first_fits P s (chl d) (choice left right) h = tt
   first_fits P s (chr d) (choice left right) h = tt
@@ -91,11 +91,6 @@ module _ (program : Program) where
       (IsItsConstruct b rule → ⊥) → (x : TermTree) → Asks program s b d x → W x
   asks_nothing W s b d rule is none x h =
       absurd (none (subst (λ (e : Derivation). IsItsConstruct b e) is (asks_fit s b d x h)))
-
-  -- the tree is this one
-  pub by_rule : (W : TermTree → Type 0) (s : Assignment) (b : Behaviour) (d rule : Derivation) →
-      ((x : TermTree) → Asks program s b rule x → W x) → d ≡ rule → (x : TermTree) → Asks program s b d x → W x
-  by_rule W s b d rule h is = subst (λ (e : Derivation). (x : TermTree) → Asks program s b e x → W x) (sym is) h
 
   module _ (executable : IsExecutable program.theory) (W : TermTree → Type 0) (s : Assignment) where
     -- W holds of each term that is asked, where it does of those that the rule asks, and of those that its parts ask

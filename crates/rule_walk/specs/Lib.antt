@@ -1,6 +1,9 @@
+pub mod Answers
 pub mod Asking
 pub mod Bounds
 pub mod Ends
 pub mod Faults
+pub mod Frames
 pub mod Laws
+pub mod Models
 pub mod Parts

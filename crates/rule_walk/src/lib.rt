@@ -3,6 +3,7 @@
 
 mod fault;
 mod fields;
+mod frame;
 mod judge;
 pub mod laws;
 mod rows;

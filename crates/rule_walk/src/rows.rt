@@ -1,24 +1,29 @@
 // Each rule's own part: what it makes of the steps of its parts.
 
-ghost use Rattle.std.specs.Prelude.{◌≡◌, ◌∷◌, [], true, false, IfOk, IfErr, IfSome, IfNone, IsTrue, map};
+ghost use Rattle.std.specs.Prelude.{◌≡◌, ◌∷◌, [], true, false, IfOk, IfErr, map};
 ghost use Rattle.spec_core.specs.Code.{program_of, relabelling_of, synchronised_of, variable_of};
 ghost use Rattle.spec_core.specs.Numbers.{gate_number};
 ghost use Rattle.spec_core.specs.Ready.{IsReady};
 ghost use Rattle.rule_model.specs.declared.action.Action.TheVariants.{Inner};
-ghost use Rattle.rule_model.specs.Actions.{kind_of, synchronises, IsAlone, IsJoint, IsUnhidden, IsNoEnd, IsEnd, renamed_action};
-ghost use Rattle.rule_model.specs.Behaviours.{behaviour_of, parallel, hide, enable, disable, relabel};
+ghost use Rattle.rule_model.specs.Actions.{kind_of, synchronises, IsAlone, IsJoint, IsUnhidden, IsNoEnd, IsEnd};
+ghost use Rattle.rule_model.specs.Behaviours.{behaviour_of, parallel, relabel};
 ghost use Rattle.rule_model.specs.Constructs.{OnInner};
 ghost use Rattle.rule_model.specs.Derivations.{pre, exiting};
 ghost use Rattle.rule_model.specs.Derives.{DerivesWith};
-ghost use Rattle.rule_model.specs.Substitution.{put, tidied, without};
+ghost use Rattle.rule_model.specs.Substitution.{put};
 ghost use Rattle.rule_substitution.specs.Scopes.{terms_of};
+ghost use Rattle.rule_walk.specs.Answers.{Leaves};
 ghost use Rattle.rule_walk.specs.Asking.{Asks};
 ghost use Rattle.rule_walk.specs.Bounds.{BoundsEach};
-ghost use Rattle.rule_walk.specs.Ends.{CanHandOn, HandsOn, IsAtHidden};
+ghost use Rattle.rule_walk.specs.Ends.{IsAtHidden};
 ghost use Rattle.rule_walk.specs.Faults.{IsFault, IsMisfit};
+ghost use Rattle.rule_walk.specs.Frames as frames;
+ghost use Rattle.rule_walk.specs.Frames.{before_right, after_left, hidden_in, passing, handing, ending, renaming};
+ghost use Rattle.rule_walk.specs.Models.{surrounding_of};
 
 use crate::fault::{FireFault, unfit};
 use crate::fields::{Filled, fill, fill_exit, hand_on};
+use crate::frame::Frame;
 use crate::judge::ask_guard;
 use rule_model::action::{Action, Values};
 use rule_model::beh::Beh;
@@ -161,20 +166,17 @@ fn is_joint(gates: &GateSet, action: &Action) -> bool
     }
 }
 
-/// The left side of a parallel composition acts alone, and the right side stays.
-pub fn left_alone(
+// The left side of a parallel composition acts alone, and the right side stays.
+fn left_alone(
     alloc: Global,
+    checked: &Checked,
     scope: &Scope,
     gates: &GateSet,
     done: Step,
     right: &Beh,
 ) -> Result<Step, FireFault>
-    ensures action { IfOk result (λ s. s.action ≡ done.action) }
-    ensures alone { IfOk result (λ s. IsAlone (synchronised_of gates.now) (kind_of done.action)) }
-    ensures rest { IfOk result (λ s.
-        behaviour_of s.rest ≡
-        parallel (synchronised_of gates.now) (behaviour_of done.rest) (put (terms_of scope.now) (behaviour_of right.now))) }
-    ensures misfit { IfErr result (IsMisfit (IsAlone (synchronised_of gates.now) (kind_of done.action) → ⊥)) }
+    ensures { Leaves (program_of checked.now).theory (terms_of scope.now)
+        (before_right (synchronised_of gates.now) (behaviour_of right.now)) done result }
 {
     let Step { action, rest } = done;
     if is_alone(gates, &action) {
@@ -186,20 +188,17 @@ pub fn left_alone(
     }
 }
 
-/// The right side of a parallel composition acts alone, and the left side stays.
-pub fn right_alone(
+// The right side of a parallel composition acts alone, and the left side stays.
+fn right_alone(
     alloc: Global,
+    checked: &Checked,
     scope: &Scope,
     gates: &GateSet,
     left: &Beh,
     done: Step,
 ) -> Result<Step, FireFault>
-    ensures action { IfOk result (λ s. s.action ≡ done.action) }
-    ensures alone { IfOk result (λ s. IsAlone (synchronised_of gates.now) (kind_of done.action)) }
-    ensures rest { IfOk result (λ s.
-        behaviour_of s.rest ≡
-        parallel (synchronised_of gates.now) (put (terms_of scope.now) (behaviour_of left.now)) (behaviour_of done.rest)) }
-    ensures misfit { IfErr result (IsMisfit (IsAlone (synchronised_of gates.now) (kind_of done.action) → ⊥)) }
+    ensures { Leaves (program_of checked.now).theory (terms_of scope.now)
+        (after_left (synchronised_of gates.now) (behaviour_of left.now)) done result }
 {
     let Step { action, rest } = done;
     if is_alone(gates, &action) {
@@ -250,12 +249,15 @@ fn is_hidden(gates: &[Gate], action: &Action) -> bool
     }
 }
 
-/// What the body of a hiding does at a hidden gate is internal.
-pub fn hidden(alloc: Global, gates: &[Gate], done: Step) -> Result<Step, FireFault>
-    ensures action { IfOk result (λ s. s.action ≡ Inner) }
-    ensures hidden { IfOk result (λ s. IsAtHidden (map gate_number gates.now) done.action) }
-    ensures rest { IfOk result (λ s. behaviour_of s.rest ≡ hide (map gate_number gates.now) (behaviour_of done.rest)) }
-    ensures misfit { IfErr result (IsMisfit (IsAtHidden (map gate_number gates.now) done.action → ⊥)) }
+// What the body of a hiding does at a hidden gate is internal.
+fn hidden(
+    alloc: Global,
+    checked: &Checked,
+    scope: &Scope,
+    gates: &[Gate],
+    done: Step,
+) -> Result<Step, FireFault>
+    ensures { Leaves (program_of checked.now).theory (terms_of scope.now) (hidden_in (map gate_number gates.now)) done result }
 {
     let Step { action, rest } = done;
     if is_hidden(gates, &action) {
@@ -269,12 +271,15 @@ pub fn hidden(alloc: Global, gates: &[Gate], done: Step) -> Result<Step, FireFau
     }
 }
 
-/// The body of a hiding does anything but at a hidden gate.
-pub fn passed(alloc: Global, gates: &[Gate], done: Step) -> Result<Step, FireFault>
-    ensures action { IfOk result (λ s. s.action ≡ done.action) }
-    ensures unhidden { IfOk result (λ s. IsUnhidden (map gate_number gates.now) (kind_of done.action)) }
-    ensures rest { IfOk result (λ s. behaviour_of s.rest ≡ hide (map gate_number gates.now) (behaviour_of done.rest)) }
-    ensures misfit { IfErr result (IsMisfit (IsUnhidden (map gate_number gates.now) (kind_of done.action) → ⊥)) }
+// The body of a hiding does anything but at a hidden gate.
+fn passed(
+    alloc: Global,
+    checked: &Checked,
+    scope: &Scope,
+    gates: &[Gate],
+    done: Step,
+) -> Result<Step, FireFault>
+    ensures { Leaves (program_of checked.now).theory (terms_of scope.now) (passing (map gate_number gates.now)) done result }
 {
     let Step { action, rest } = done;
     if is_hidden(gates, &action) {
@@ -297,21 +302,17 @@ fn is_end(action: &Action) -> bool
     }
 }
 
-/// The left side of an enabling acts and doesn't terminate.
-pub fn still_enabling(
+// The left side of an enabling acts and doesn't terminate.
+fn still_enabling(
     alloc: Global,
+    checked: &Checked,
     scope: &Scope,
     done: Step,
     vars: &[(u32, Sort)],
     right: &Beh,
 ) -> Result<Step, FireFault>
-    ensures action { IfOk result (λ s. s.action ≡ done.action) }
-    ensures no_end { IfOk result (λ s. IsNoEnd (kind_of done.action)) }
-    ensures rest { IfOk result (λ s.
-        behaviour_of s.rest ≡
-        enable (behaviour_of done.rest) (map variable_of vars.now)
-        (put (without (map variable_of vars.now) (terms_of scope.now)) (behaviour_of right.now))) }
-    ensures misfit { IfErr result (IsMisfit (IsNoEnd (kind_of done.action) → ⊥)) }
+    ensures { Leaves (program_of checked.now).theory (terms_of scope.now)
+        (frames.still_enabling (map variable_of vars.now) (behaviour_of right.now)) done result }
 {
     let Step { action, rest } = done;
     if is_end(&action) {
@@ -324,8 +325,8 @@ pub fn still_enabling(
     }
 }
 
-/// The left side of an enabling terminates, and the right side begins with the values.
-pub fn enabled(
+// The left side of an enabling terminates, and the right side begins with the values.
+fn enabled(
     alloc: Global,
     checked: &Checked,
     scope: &Scope,
@@ -334,12 +335,8 @@ pub fn enabled(
     right: &Beh,
 ) -> Result<Step, FireFault>
     requires ready { IsReady (program_of checked.now) }
-    ensures action { IfOk result (λ s. s.action ≡ Inner) }
-    ensures hands_on { IfOk result (λ s.
-        HandsOn (program_of checked.now).theory (terms_of scope.now) done.action (map variable_of vars.now) (behaviour_of right.now)
-        (behaviour_of s.rest)) }
-    ensures misfit { IfErr result
-        (IsMisfit (CanHandOn (program_of checked.now).theory (terms_of scope.now) (map variable_of vars.now) done.action → ⊥)) }
+    ensures { Leaves (program_of checked.now).theory (terms_of scope.now)
+        (handing (map variable_of vars.now) (behaviour_of right.now)) done result }
 {
     match &done.action {
         Action::Inner => Err(unfit(alloc)),
@@ -355,18 +352,15 @@ pub fn enabled(
     }
 }
 
-/// The left side of a disabling acts and doesn't terminate.
-pub fn still_disabled(
+// The left side of a disabling acts and doesn't terminate.
+fn still_disabled(
     alloc: Global,
+    checked: &Checked,
     scope: &Scope,
     done: Step,
     right: &Beh,
 ) -> Result<Step, FireFault>
-    ensures action { IfOk result (λ s. s.action ≡ done.action) }
-    ensures no_end { IfOk result (λ s. IsNoEnd (kind_of done.action)) }
-    ensures rest { IfOk result (λ s.
-        behaviour_of s.rest ≡ disable (behaviour_of done.rest) (put (terms_of scope.now) (behaviour_of right.now))) }
-    ensures misfit { IfErr result (IsMisfit (IsNoEnd (kind_of done.action) → ⊥)) }
+    ensures { Leaves (program_of checked.now).theory (terms_of scope.now) (frames.still_disabled (behaviour_of right.now)) done result }
 {
     let Step { action, rest } = done;
     let over = is_end(&action);
@@ -379,11 +373,9 @@ pub fn still_disabled(
     }
 }
 
-/// The left side of a disabling terminates, and so does the whole.
-pub fn ended(alloc: Global, done: Step) -> Result<Step, FireFault>
-    ensures same { IfOk result (λ s. s ≡ done) }
-    ensures end { IfOk result (λ s. IsEnd (kind_of done.action)) }
-    ensures misfit { IfErr result (IsMisfit (IsEnd (kind_of done.action) → ⊥)) }
+// The left side of a disabling terminates, and so does the whole.
+fn ended(alloc: Global, checked: &Checked, scope: &Scope, done: Step) -> Result<Step, FireFault>
+    ensures { Leaves (program_of checked.now).theory (terms_of scope.now) ending done result }
 {
     if is_end(&done.action) {
         Ok(done)
@@ -392,10 +384,15 @@ pub fn ended(alloc: Global, done: Step) -> Result<Step, FireFault>
     }
 }
 
-/// A relabelled behaviour acts at the gate that stands in the place of its body's, and stays relabelled.
-pub fn relabelled(alloc: Global, pairs: &[(Gate, Gate)], done: Step) -> Result<Step, Memory>
-    ensures action { IfOk result (λ s. s.action ≡ renamed_action (map relabelling_of pairs.now) done.action) }
-    ensures rest { IfOk result (λ s. behaviour_of s.rest ≡ tidied (map relabelling_of pairs.now) (behaviour_of done.rest)) }
+// A relabelled behaviour acts at the gate that stands in the place of its body's, and stays relabelled.
+fn relabelled(
+    alloc: Global,
+    checked: &Checked,
+    scope: &Scope,
+    pairs: &[(Gate, Gate)],
+    done: Step,
+) -> Result<Step, FireFault>
+    ensures { Leaves (program_of checked.now).theory (terms_of scope.now) (renaming (map relabelling_of pairs.now)) done result }
 {
     let Step { action, rest } = done;
     let rest = tidied(alloc, pairs, rest)?;
@@ -403,4 +400,29 @@ pub fn relabelled(alloc: Global, pairs: &[(Gate, Gate)], done: Step) -> Result<S
         action: renamed(pairs, action),
         rest,
     })
+}
+
+/// The step of a whole, made of what its part does, where that is what the rule asks.
+pub fn leave(
+    alloc: Global,
+    checked: &Checked,
+    scope: &Scope,
+    frame: Frame<'_>,
+    done: Step,
+) -> Result<Step, FireFault>
+    requires ready { IsReady (program_of checked.now) }
+    ensures { Leaves (program_of checked.now).theory (terms_of scope.now) (surrounding_of frame.entry) done result }
+{
+    match frame {
+        Frame::Same => Ok(done),
+        Frame::BesideRight(gates, right) => left_alone(alloc, checked, scope, gates, done, right),
+        Frame::BesideLeft(gates, left) => right_alone(alloc, checked, scope, gates, left, done),
+        Frame::Hidden(gates) => hidden(alloc, checked, scope, gates, done),
+        Frame::Passing(gates) => passed(alloc, checked, scope, gates, done),
+        Frame::Enabling(vars, right) => still_enabling(alloc, checked, scope, done, vars, right),
+        Frame::Handing(vars, right) => enabled(alloc, checked, scope, done, vars, right),
+        Frame::Disabling(right) => still_disabled(alloc, checked, scope, done, right),
+        Frame::Ending => ended(alloc, checked, scope, done),
+        Frame::Renamed(pairs) => relabelled(alloc, checked, scope, pairs, done),
+    }
 }

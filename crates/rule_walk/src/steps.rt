@@ -10,13 +10,16 @@ ghost use Rattle.rule_model.specs.Behaviours.{behaviour_of};
 ghost use Rattle.rule_model.specs.Derivations.{derivation_of, val, gate, guard, letting, both, calling};
 ghost use Rattle.rule_model.specs.Derives.{Derives, DerivesWith};
 ghost use Rattle.rule_substitution.specs.Scopes.{terms_of};
+ghost use Rattle.rule_walk.specs.Answers.{Answers};
 ghost use Rattle.rule_walk.specs.Asking.{Asks};
 ghost use Rattle.rule_walk.specs.Bounds.{BoundsEach};
 ghost use Rattle.rule_walk.specs.Faults.{Explains, IsFault, OnUnfit, OnSpent, OnTooLarge, Within};
+ghost use Rattle.rule_walk.specs.Frames.{IsOver};
 ghost use Rattle.rule_walk.specs.Parts.{HasNone, IsUnfitAt};
 
 use crate::fault::{FireFault, below, unfit};
 use crate::fields::{bind, bind_arguments, choose};
+use crate::frame::part_under;
 use crate::judge::ask_premise;
 use crate::rows;
 use crate::rows::Step;
@@ -70,106 +73,30 @@ fn step(
     budget: u64,
 ) -> Result<Step, FireFault>
     requires ready { IsReady (program_of checked.now) }
-    ensures derives { IfOk result (λ s.
-        DerivesWith (program_of checked.now) (terms_of scope.now) (behaviour_of from.now) (derivation_of rules.now) s.action
-        (behaviour_of s.rest)) }
-    ensures fault { IfErr result
-        (IsFault (program_of checked.now) budget (terms_of scope.now) (behaviour_of from.now) (derivation_of rules.now)) }
-    ensures within { BoundsEach (program_of checked.now).theory budget
-        (Asks (program_of checked.now) (terms_of scope.now) (behaviour_of from.now) (derivation_of rules.now)) result }
+    ensures { Answers (program_of checked.now) budget (terms_of scope.now) (behaviour_of from.now) (derivation_of rules.now) result }
 {
     match rules {
         Rules::Pre(slots) => rows::prefix(alloc, checked, scope, from, slots.as_slice(), budget),
         Rules::Int => rows::inner(alloc, scope, from),
         Rules::Exit(slots) => rows::exits(alloc, checked, scope, from, slots.as_slice(), budget),
-        Rules::Chl(part) => match from.as_choice() {
-            None => Err(unfit(alloc)),
-            Some((left, _)) => step_in(alloc, checked, scope, left, part, budget, 0),
-        },
-        Rules::Chr(part) => match from.as_choice() {
-            None => Err(unfit(alloc)),
-            Some((_, right)) => step_in(alloc, checked, scope, right, part, budget, 0),
-        },
         Rules::Val(slot, part) => by_value(alloc, checked, scope, from, slot, part, budget),
         Rules::Gate(place, part) => by_gate(alloc, checked, scope, from, *place, part, budget),
         Rules::Guard(part) => by_premise(alloc, checked, scope, from, part, budget),
         Rules::Let(part) => by_bindings(alloc, checked, scope, from, part, budget),
-        Rules::Parl(part) => match from.as_parallel() {
-            None => Err(unfit(alloc)),
-            Some((gates, left, right)) => {
-                let done = step_in(alloc, checked, scope, left, part, budget, 0)?;
-                rows::left_alone(alloc, scope, gates, done, right)
-            }
-        },
-        Rules::Parr(part) => match from.as_parallel() {
-            None => Err(unfit(alloc)),
-            Some((gates, left, right)) => {
-                let done = step_in(alloc, checked, scope, right, part, budget, 0)?;
-                rows::right_alone(alloc, scope, gates, left, done)
-            }
-        },
-        Rules::Both(part, other) => match from.as_parallel() {
-            None => Err(unfit(alloc)),
-            Some((gates, left, right)) => {
-                let first = step_in(alloc, checked, scope, left, part, budget, 0)?;
-                let second = step_in(alloc, checked, scope, right, other, budget, 1)?;
-                rows::together(alloc, gates, first, second)
-            }
-        },
-        Rules::Hide(part) => match from.as_hide() {
-            None => Err(unfit(alloc)),
-            Some((gates, body)) => {
-                let done = step_in(alloc, checked, scope, body, part, budget, 0)?;
-                rows::hidden(alloc, gates, done)
-            }
-        },
-        Rules::Pass(part) => match from.as_hide() {
-            None => Err(unfit(alloc)),
-            Some((gates, body)) => {
-                let done = step_in(alloc, checked, scope, body, part, budget, 0)?;
-                rows::passed(alloc, gates, done)
-            }
-        },
-        Rules::Enstep(part) => match from.as_enable() {
-            None => Err(unfit(alloc)),
-            Some((left, vars, right)) => {
-                let done = step_in(alloc, checked, scope, left, part, budget, 0)?;
-                rows::still_enabling(alloc, scope, done, vars, right)
-            }
-        },
-        Rules::Enend(part) => match from.as_enable() {
-            None => Err(unfit(alloc)),
-            Some((left, vars, right)) => {
-                let done = step_in(alloc, checked, scope, left, part, budget, 0)?;
-                rows::enabled(alloc, checked, scope, done, vars, right)
-            }
-        },
-        Rules::Disstep(part) => match from.as_disable() {
-            None => Err(unfit(alloc)),
-            Some((left, right)) => {
-                let done = step_in(alloc, checked, scope, left, part, budget, 0)?;
-                rows::still_disabled(alloc, scope, done, right)
-            }
-        },
-        Rules::Disend(part) => match from.as_disable() {
-            None => Err(unfit(alloc)),
-            Some((left, _)) => {
-                let done = step_in(alloc, checked, scope, left, part, budget, 0)?;
-                rows::ended(alloc, done)
-            }
-        },
-        Rules::Distake(part) => match from.as_disable() {
-            None => Err(unfit(alloc)),
-            Some((_, right)) => step_in(alloc, checked, scope, right, part, budget, 0),
-        },
+        Rules::Both(part, other) => by_both(alloc, checked, scope, from, part, other, budget),
         Rules::Call(part) => by_call(alloc, checked, scope, from, part, budget),
-        Rules::Rel(part) => match from.as_relabel() {
-            None => Err(unfit(alloc)),
-            Some((pairs, body)) => {
-                let done = step_in(alloc, checked, scope, body, part, budget, 0)?;
-                Ok(rows::relabelled(alloc, pairs, done)?)
-            }
-        },
+        Rules::Chl(part) => over_part(alloc, checked, scope, from, rules, part, budget),
+        Rules::Chr(part) => over_part(alloc, checked, scope, from, rules, part, budget),
+        Rules::Parl(part) => over_part(alloc, checked, scope, from, rules, part, budget),
+        Rules::Parr(part) => over_part(alloc, checked, scope, from, rules, part, budget),
+        Rules::Hide(part) => over_part(alloc, checked, scope, from, rules, part, budget),
+        Rules::Pass(part) => over_part(alloc, checked, scope, from, rules, part, budget),
+        Rules::Enstep(part) => over_part(alloc, checked, scope, from, rules, part, budget),
+        Rules::Enend(part) => over_part(alloc, checked, scope, from, rules, part, budget),
+        Rules::Disstep(part) => over_part(alloc, checked, scope, from, rules, part, budget),
+        Rules::Disend(part) => over_part(alloc, checked, scope, from, rules, part, budget),
+        Rules::Distake(part) => over_part(alloc, checked, scope, from, rules, part, budget),
+        Rules::Rel(part) => over_part(alloc, checked, scope, from, rules, part, budget),
     }
 }
 
@@ -198,6 +125,62 @@ fn step_in(
     match step(alloc, checked, scope, from, part, budget) {
         Ok(done) => Ok(done),
         Err(fault) => Err(below(fault, place)),
+    }
+}
+
+// The step of a rule over one part.
+#[cycle(step)]
+fn over_part(
+    alloc: Global,
+    checked: &Checked,
+    scope: &Scope,
+    from: &Beh,
+    rules: &Rules,
+    part: &Rules,
+    budget: u64,
+) -> Result<Step, FireFault>
+    requires ready { IsReady (program_of checked.now) }
+    requires over { IsOver (derivation_of rules.now) (derivation_of part.now) }
+    ensures { Answers (program_of checked.now) budget (terms_of scope.now) (behaviour_of from.now) (derivation_of rules.now) result }
+{
+    match part_under(from, rules) {
+        None => Err(unfit(alloc)),
+        Some(framed) => {
+            let done = step_in(alloc, checked, scope, framed.part, part, budget, 0)?;
+            rows::leave(alloc, checked, scope, framed.frame, done)
+        }
+    }
+}
+
+// The step of both sides of a parallel composition.
+#[cycle(step)]
+fn by_both(
+    alloc: Global,
+    checked: &Checked,
+    scope: &Scope,
+    from: &Beh,
+    part: &Rules,
+    other: &Rules,
+    budget: u64,
+) -> Result<Step, FireFault>
+    requires ready { IsReady (program_of checked.now) }
+    ensures derives { IfOk result (λ s.
+        DerivesWith (program_of checked.now) (terms_of scope.now) (behaviour_of from.now)
+        (both (derivation_of part.now) (derivation_of other.now)) s.action (behaviour_of s.rest)) }
+    ensures fault { IfErr result
+        (IsFault (program_of checked.now) budget (terms_of scope.now) (behaviour_of from.now)
+        (both (derivation_of part.now) (derivation_of other.now))) }
+    ensures within { BoundsEach (program_of checked.now).theory budget
+        (Asks (program_of checked.now) (terms_of scope.now) (behaviour_of from.now)
+        (both (derivation_of part.now) (derivation_of other.now))) result }
+{
+    match from.as_parallel() {
+        None => Err(unfit(alloc)),
+        Some((gates, left, right)) => {
+            let first = step_in(alloc, checked, scope, left, part, budget, 0)?;
+            let second = step_in(alloc, checked, scope, right, other, budget, 1)?;
+            rows::together(alloc, gates, first, second)
+        }
     }
 }
 

@@ -1,277 +1,62 @@
-use Rattle.std.proofs.Common.{rules, ℕ, ◌≡◌, [], ◌∷◌, map, refl, sym, ap, subst, ◌∙◌}
+use Rattle.std.proofs.Common.{rules, ◌≡◌, map, refl, sym, ap}
 use Rattle.spec_core.specs.Code.{program_of, synchronised_of, variable_of}
 use Rattle.spec_core.specs.Numbers.{gate_number}
 use Rattle.spec_core.specs.Terms.{term_of}
 use Rattle.spec_core.proofs.Options.{if_none_at}
-use Rattle.rewriter.specs.Answers.{IsWithin}
 use Rattle.rule_model.specs.declared.rules.Slot.{Slot}
 use Rattle.rule_model.specs.declared.rules.Slot.TheVariants.{Of}
-use Rattle.rule_model.specs.Actions.{kind_of, IsAlone, IsJoint, IsUnhidden, IsNoEnd, IsEnd}
-use Rattle.rule_model.specs.Behaviours.{behaviour_of, relabel}
-use Rattle.rule_model.specs.Derivations.{Derivation, derivation_of, chl, chr, val, gate, guard, letting, parl, parr, both, hiding, pass}
-use Rattle.rule_model.specs.Derivations.{enstep, enend, disstep, disend, distake, calling, rel}
+use Rattle.rule_model.specs.Actions.{kind_of, IsJoint}
+use Rattle.rule_model.specs.Behaviours.{behaviour_of}
+use Rattle.rule_model.specs.Derivations.{derivation_of, val, gate, guard, letting, both, calling}
 use Rattle.rule_substitution.specs.Scopes.{terms_of}
 use Rattle.rule_walk.specs.Asking.{Asks}
 use Rattle.rule_walk.specs.Bounds.{FaultBounds, Bounds}
-use Rattle.rule_walk.specs.Ends.{CanHandOn, IsAtHidden}
-use Rattle.rule_walk.specs.Faults.{IsFault, IsMisfit}
+use Rattle.rule_walk.specs.Faults.{IsMisfit}
+use Rattle.rule_walk.specs.Models.{framed_in}
 use Rattle.rule_walk.proofs.Bounds.{fault_within, bounds_within, below_bounds, of_fault}
 use Rattle.rule_walk.proofs.Faults.{handed_on}
-use Rattle.rule_walk.proofs.Misfits.{call_undefined, call_arguments, left_not_alone, right_not_alone, not_hidden, not_passed, enabling_ends}
-use Rattle.rule_walk.proofs.Misfits.{not_enabled, disabling_ends, not_ended, not_joint, second_fault}
+use Rattle.rule_walk.proofs.Frames.{no_part, part_fails, part_does, failed, answers, inner_answers, below_explains}
+use Rattle.rule_walk.proofs.Misfits.{call_undefined, call_arguments, not_joint, second_fault}
 use Rattle.rule_walk.proofs.PartFaults.{on_rule, part_fault, part_faults}
-use Rattle.rule_walk.proofs.PartBounds.{asks_nothing, by_rule, part_asked}
-use Rattle.rule_walk.proofs.RuleBounds.{inner_asked, gate_asked, undefined_asked, own_arguments, both_asked, choice_fails, premise_fails, bindings_fail}
+use Rattle.rule_walk.proofs.PartBounds.{asks_nothing, part_asked}
+use Rattle.rule_walk.proofs.RuleBounds.{gate_asked, undefined_asked, own_arguments, both_asked, choice_fails, premise_fails, bindings_fail}
 use Rattle.rule_walk.proofs.RuleBounds.{arguments_fail, first_side_fails}
 use Rattle.rule_walk.proofs.steps.+step.Goals as goal
 
-pub step-returns-in-Some-clause-fault : goal.step-returns-in-Some-clause-fault
-step-returns-in-Some-clause-fault t c =
-    part_faults (program_of c.args.checked.now) c.args.budget (terms_of c.args.scope.now) (behaviour_of c.args.from.now) c.step_in.result
-    (derivation_of c.args.rules.now) (chl (derivation_of c.deref.result.now)) _ (terms_of c.args.scope.now)
-    (behaviour_of c.in-Some.left.now) (derivation_of c.deref.result.now) (search rules) c.in-Some.ensures.some (refl, refl, refl)
-    c.step_in.ensures.fault
-
-pub step-returns-in-Some-as_choice-clause-fault : goal.step-returns-in-Some-as_choice-clause-fault
-step-returns-in-Some-as_choice-clause-fault t c =
-    part_faults (program_of c.args.checked.now) c.args.budget (terms_of c.args.scope.now) (behaviour_of c.args.from.now)
-    c.step_in-in-Some-as_choice.result (derivation_of c.args.rules.now) (chr (derivation_of c.deref-in-Some-as_choice.result.now)) _
+pub by_both-returns-in_err-first-in-Some-clause-fault : goal.by_both-returns-in_err-first-in-Some-clause-fault
+by_both-returns-in_err-first-in-Some-clause-fault t c =
+    let d = both (derivation_of c.args.part.now) (derivation_of c.args.other.now) in
+    let f = c.in_err-first-in-Some.field-0.0 in
+    handed_on c.from_residual.result _ f (search rules)
+    (part_fault (program_of c.args.checked.now) c.args.budget (terms_of c.args.scope.now) (behaviour_of c.args.from.now) d d _
     (terms_of c.args.scope.now)
-    (behaviour_of c.in-Some-as_choice.right.now) (derivation_of c.deref-in-Some-as_choice.result.now) (search rules)
-    c.in-Some-as_choice.ensures.some (refl, refl, refl)
-    c.step_in-in-Some-as_choice.ensures.fault
+    (behaviour_of c.in-Some.left.now) (derivation_of c.args.part.now) f refl c.in-Some.ensures.some
+    (refl, refl, refl) c.in_err-first-in-Some.ensures.fault)
 
-pub step-returns-in-Some-as_disable-3-clause-fault : goal.step-returns-in-Some-as_disable-3-clause-fault
-step-returns-in-Some-as_disable-3-clause-fault t c =
-    part_faults (program_of c.args.checked.now) c.args.budget (terms_of c.args.scope.now) (behaviour_of c.args.from.now)
-    c.step_in-in-Some-as_disable-3.result (derivation_of c.args.rules.now) (distake (derivation_of
-    c.deref-in-Some-as_disable-3.result.now)) _ (terms_of c.args.scope.now)
-    (behaviour_of c.in-Some-as_disable-3.right.now) (derivation_of c.deref-in-Some-as_disable-3.result.now) (search rules)
-    c.in-Some-as_disable-3.ensures.some (refl, refl, refl)
-    c.step_in-in-Some-as_disable-3.ensures.fault
+pub by_both-returns-in_err-second-in-Some-clause-fault : goal.by_both-returns-in_err-second-in-Some-clause-fault
+by_both-returns-in_err-second-in-Some-clause-fault t c =
+    let f = c.in_err-second-in-Some.field-0.0 in
+    handed_on c.from_residual-in_err-second-in-Some.result _ f (search rules)
+    (second_fault (program_of c.args.checked.now) c.requires.ready.executable c.args.budget (terms_of c.args.scope.now)
+    (behaviour_of c.args.from.now) f
+    (synchronised_of c.in-Some.gates.now) (behaviour_of c.in-Some.left.now) (behaviour_of c.in-Some.right.now)
+    (derivation_of c.args.part.now) (derivation_of c.args.other.now) c.in_ok-first-in-Some.first.action
+    (behaviour_of c.in_ok-first-in-Some.first.rest) c.in-Some.ensures.some c.in_ok-first-in-Some.ensures.derives
+    c.in_err-second-in-Some.ensures.fault)
 
-pub step-returns-in_err-done-in-Some-as_parallel-clause-fault : goal.step-returns-in_err-done-in-Some-as_parallel-clause-fault
-step-returns-in_err-done-in-Some-as_parallel-clause-fault t c =
-    handed_on c.from_residual.result _ c.in_err-done-in-Some-as_parallel.field-0.0 (search rules)
-    (part_fault (program_of c.args.checked.now) c.args.budget (terms_of c.args.scope.now) (behaviour_of c.args.from.now) (derivation_of
-    c.args.rules.now) (parl (derivation_of c.deref-in-Some-as_parallel.result.now)) _ (terms_of c.args.scope.now)
-    (behaviour_of c.in-Some-as_parallel.left.now) (derivation_of c.deref-in-Some-as_parallel.result.now)
-    c.in_err-done-in-Some-as_parallel.field-0.0 (search rules) c.in-Some-as_parallel.ensures.some (refl, refl, refl)
-    c.in_err-done-in-Some-as_parallel.ensures.fault)
-
-pub step-returns-in_err-done-in-Some-as_parallel-2-clause-fault : goal.step-returns-in_err-done-in-Some-as_parallel-2-clause-fault
-step-returns-in_err-done-in-Some-as_parallel-2-clause-fault t c =
-    handed_on c.from_residual-in_err-done-in-Some-as_parallel-2.result _ c.in_err-done-in-Some-as_parallel-2.field-0.0 (search rules)
-    (part_fault (program_of c.args.checked.now) c.args.budget (terms_of c.args.scope.now) (behaviour_of c.args.from.now) (derivation_of
-    c.args.rules.now) (parr (derivation_of c.deref-in-Some-as_parallel-2.result.now)) _ (terms_of c.args.scope.now)
-    (behaviour_of c.in-Some-as_parallel-2.right.now) (derivation_of c.deref-in-Some-as_parallel-2.result.now)
-    c.in_err-done-in-Some-as_parallel-2.field-0.0 (search rules) c.in-Some-as_parallel-2.ensures.some (refl, refl, refl)
-    c.in_err-done-in-Some-as_parallel-2.ensures.fault)
-
-pub step-returns-in_err-first-in-Some-as_parallel-3-clause-fault : goal.step-returns-in_err-first-in-Some-as_parallel-3-clause-fault
-step-returns-in_err-first-in-Some-as_parallel-3-clause-fault t c =
-    handed_on c.from_residual-in_err-first-in-Some-as_parallel-3.result _ c.in_err-first-in-Some-as_parallel-3.field-0.0 (search rules)
-    (part_fault (program_of c.args.checked.now) c.args.budget (terms_of c.args.scope.now) (behaviour_of c.args.from.now) (derivation_of
-    c.args.rules.now) (both (derivation_of c.deref-in-Some-as_parallel-3.result.now) (derivation_of c.in-Both.other.value)) _ (terms_of
-    c.args.scope.now)
-    (behaviour_of c.in-Some-as_parallel-3.left.now) (derivation_of c.deref-in-Some-as_parallel-3.result.now)
-    c.in_err-first-in-Some-as_parallel-3.field-0.0 (search rules) c.in-Some-as_parallel-3.ensures.some (refl, refl, refl)
-    c.in_err-first-in-Some-as_parallel-3.ensures.fault)
-
-pub step-returns-in_err-done-in-Some-as_hide-clause-fault : goal.step-returns-in_err-done-in-Some-as_hide-clause-fault
-step-returns-in_err-done-in-Some-as_hide-clause-fault t c =
-    handed_on c.from_residual-in_err-done-in-Some-as_hide.result _ c.in_err-done-in-Some-as_hide.field-0.0 (search rules)
-    (part_fault (program_of c.args.checked.now) c.args.budget (terms_of c.args.scope.now) (behaviour_of c.args.from.now) (derivation_of
-    c.args.rules.now) (hiding (derivation_of c.deref-in-Some-as_hide.result.now)) _ (terms_of c.args.scope.now)
-    (behaviour_of c.in-Some-as_hide.body.now) (derivation_of c.deref-in-Some-as_hide.result.now) c.in_err-done-in-Some-as_hide.field-0.0
-    (search rules) c.in-Some-as_hide.ensures.some (refl, refl, refl)
-    c.in_err-done-in-Some-as_hide.ensures.fault)
-
-pub step-returns-in_err-done-in-Some-as_hide-2-clause-fault : goal.step-returns-in_err-done-in-Some-as_hide-2-clause-fault
-step-returns-in_err-done-in-Some-as_hide-2-clause-fault t c =
-    handed_on c.from_residual-in_err-done-in-Some-as_hide-2.result _ c.in_err-done-in-Some-as_hide-2.field-0.0 (search rules)
-    (part_fault (program_of c.args.checked.now) c.args.budget (terms_of c.args.scope.now) (behaviour_of c.args.from.now) (derivation_of
-    c.args.rules.now) (pass (derivation_of c.deref-in-Some-as_hide-2.result.now)) _ (terms_of c.args.scope.now)
-    (behaviour_of c.in-Some-as_hide-2.body.now) (derivation_of c.deref-in-Some-as_hide-2.result.now)
-    c.in_err-done-in-Some-as_hide-2.field-0.0 (search rules) c.in-Some-as_hide-2.ensures.some (refl, refl, refl)
-    c.in_err-done-in-Some-as_hide-2.ensures.fault)
-
-pub step-returns-in_err-done-in-Some-as_enable-clause-fault : goal.step-returns-in_err-done-in-Some-as_enable-clause-fault
-step-returns-in_err-done-in-Some-as_enable-clause-fault t c =
-    handed_on c.from_residual-in_err-done-in-Some-as_enable.result _ c.in_err-done-in-Some-as_enable.field-0.0 (search rules)
-    (part_fault (program_of c.args.checked.now) c.args.budget (terms_of c.args.scope.now) (behaviour_of c.args.from.now) (derivation_of
-    c.args.rules.now) (enstep (derivation_of c.deref-in-Some-as_enable.result.now)) _ (terms_of c.args.scope.now)
-    (behaviour_of c.in-Some-as_enable.left.now) (derivation_of c.deref-in-Some-as_enable.result.now)
-    c.in_err-done-in-Some-as_enable.field-0.0 (search rules) c.in-Some-as_enable.ensures.some (refl, refl, refl)
-    c.in_err-done-in-Some-as_enable.ensures.fault)
-
-pub step-returns-in_err-done-in-Some-as_enable-2-clause-fault : goal.step-returns-in_err-done-in-Some-as_enable-2-clause-fault
-step-returns-in_err-done-in-Some-as_enable-2-clause-fault t c =
-    handed_on c.from_residual-in_err-done-in-Some-as_enable-2.result _ c.in_err-done-in-Some-as_enable-2.field-0.0 (search rules)
-    (part_fault (program_of c.args.checked.now) c.args.budget (terms_of c.args.scope.now) (behaviour_of c.args.from.now) (derivation_of
-    c.args.rules.now) (enend (derivation_of c.deref-in-Some-as_enable-2.result.now)) _ (terms_of c.args.scope.now)
-    (behaviour_of c.in-Some-as_enable-2.left.now) (derivation_of c.deref-in-Some-as_enable-2.result.now)
-    c.in_err-done-in-Some-as_enable-2.field-0.0 (search rules) c.in-Some-as_enable-2.ensures.some (refl, refl, refl)
-    c.in_err-done-in-Some-as_enable-2.ensures.fault)
-
-pub step-returns-in_err-done-in-Some-as_disable-clause-fault : goal.step-returns-in_err-done-in-Some-as_disable-clause-fault
-step-returns-in_err-done-in-Some-as_disable-clause-fault t c =
-    handed_on c.from_residual-in_err-done-in-Some-as_disable.result _ c.in_err-done-in-Some-as_disable.field-0.0 (search rules)
-    (part_fault (program_of c.args.checked.now) c.args.budget (terms_of c.args.scope.now) (behaviour_of c.args.from.now) (derivation_of
-    c.args.rules.now) (disstep (derivation_of c.deref-in-Some-as_disable.result.now)) _ (terms_of c.args.scope.now)
-    (behaviour_of c.in-Some-as_disable.left.now) (derivation_of c.deref-in-Some-as_disable.result.now)
-    c.in_err-done-in-Some-as_disable.field-0.0 (search rules) c.in-Some-as_disable.ensures.some (refl, refl, refl)
-    c.in_err-done-in-Some-as_disable.ensures.fault)
-
-pub step-returns-in_err-done-in-Some-as_disable-2-clause-fault : goal.step-returns-in_err-done-in-Some-as_disable-2-clause-fault
-step-returns-in_err-done-in-Some-as_disable-2-clause-fault t c =
-    handed_on c.from_residual-in_err-done-in-Some-as_disable-2.result _ c.in_err-done-in-Some-as_disable-2.field-0.0 (search rules)
-    (part_fault (program_of c.args.checked.now) c.args.budget (terms_of c.args.scope.now) (behaviour_of c.args.from.now) (derivation_of
-    c.args.rules.now) (disend (derivation_of c.deref-in-Some-as_disable-2.result.now)) _ (terms_of c.args.scope.now)
-    (behaviour_of c.in-Some-as_disable-2.left.now) (derivation_of c.deref-in-Some-as_disable-2.result.now)
-    c.in_err-done-in-Some-as_disable-2.field-0.0 (search rules) c.in-Some-as_disable-2.ensures.some (refl, refl, refl)
-    c.in_err-done-in-Some-as_disable-2.ensures.fault)
-
-pub step-returns-in_err-done-in-Some-as_relabel-clause-fault : goal.step-returns-in_err-done-in-Some-as_relabel-clause-fault
-step-returns-in_err-done-in-Some-as_relabel-clause-fault t c =
-    handed_on c.from_residual-in_err-done-in-Some-as_relabel.result _ c.in_err-done-in-Some-as_relabel.field-0.0 (search rules)
-    (part_fault (program_of c.args.checked.now) c.args.budget (terms_of c.args.scope.now) (behaviour_of c.args.from.now) (derivation_of
-    c.args.rules.now) (rel (derivation_of c.deref-in-Some-as_relabel.result.now)) _ (terms_of c.args.scope.now)
-    (behaviour_of c.in-Some-as_relabel.body.now) (derivation_of c.deref-in-Some-as_relabel.result.now)
-    c.in_err-done-in-Some-as_relabel.field-0.0 (search rules) c.in-Some-as_relabel.ensures.some (refl, refl, refl)
-    c.in_err-done-in-Some-as_relabel.ensures.fault)
-
-pub step-returns-in_err-second-in-Some-as_parallel-3-clause-fault : goal.step-returns-in_err-second-in-Some-as_parallel-3-clause-fault
-step-returns-in_err-second-in-Some-as_parallel-3-clause-fault t c =
-    handed_on c.from_residual-in_err-second-in-Some-as_parallel-3.result _ c.in_err-second-in-Some-as_parallel-3.field-0.0 (search rules)
-    (subst (λ (x : Derivation). IsFault (program_of c.args.checked.now) c.args.budget (terms_of c.args.scope.now) (behaviour_of
-    c.args.from.now) x c.in_err-second-in-Some-as_parallel-3.field-0.0) (search rules)
-    (second_fault (program_of c.args.checked.now) c.requires.ready.executable c.args.budget (terms_of c.args.scope.now) (behaviour_of
-    c.args.from.now) c.in_err-second-in-Some-as_parallel-3.field-0.0
-    (synchronised_of c.in-Some-as_parallel-3.gates.now) (behaviour_of c.in-Some-as_parallel-3.left.now) (behaviour_of
-    c.in-Some-as_parallel-3.right.now) (derivation_of c.deref-in-Some-as_parallel-3.result.now)
-    (derivation_of c.deref-in-Some-as_parallel-3-2.result.now) c.in_ok-first-in-Some-as_parallel-3.first.action (behaviour_of
-    c.in_ok-first-in-Some-as_parallel-3.first.rest) c.in-Some-as_parallel-3.ensures.some
-    c.in_ok-first-in-Some-as_parallel-3.ensures.derives
-    c.in_err-second-in-Some-as_parallel-3.ensures.fault))
-
-pub step-returns-in_ok-done-in-Some-as_parallel-clause-fault : goal.step-returns-in_ok-done-in-Some-as_parallel-clause-fault
-step-returns-in_ok-done-in-Some-as_parallel-clause-fault t c =
-    on_rule (program_of c.args.checked.now) c.args.budget (terms_of c.args.scope.now) (behaviour_of c.args.from.now) c.left_alone.result
-    (derivation_of c.args.rules.now) (parl (derivation_of c.deref-in-Some-as_parallel.result.now))
-    (IsMisfit (IsAlone (synchronised_of c.in-Some-as_parallel.gates.now) (kind_of c.in_ok-done-in-Some-as_parallel.done.action) → ⊥))
-    (search rules)
+pub by_both-returns-in_ok-second-in-Some-clause-fault : goal.by_both-returns-in_ok-second-in-Some-clause-fault
+by_both-returns-in_ok-second-in-Some-clause-fault t c =
+    let d = both (derivation_of c.args.part.now) (derivation_of c.args.other.now) in
+    on_rule (program_of c.args.checked.now) c.args.budget (terms_of c.args.scope.now) (behaviour_of c.args.from.now) c.together.result d d
+    (IsMisfit ((c.in_ok-second-in-Some.second.action ≡ c.in_ok-first-in-Some.first.action) ×
+    IsJoint (synchronised_of c.in-Some.gates.now) (kind_of c.in_ok-first-in-Some.first.action) → ⊥)) refl
     (λ f.
-    left_not_alone (program_of c.args.checked.now) c.requires.ready.executable c.args.budget (terms_of c.args.scope.now) (behaviour_of
-    c.args.from.now) f (synchronised_of c.in-Some-as_parallel.gates.now) (behaviour_of c.in-Some-as_parallel.left.now) (behaviour_of
-    c.in-Some-as_parallel.right.now) (derivation_of c.deref-in-Some-as_parallel.result.now)
-    c.in_ok-done-in-Some-as_parallel.done.action (behaviour_of c.in_ok-done-in-Some-as_parallel.done.rest)
-    c.in-Some-as_parallel.ensures.some c.in_ok-done-in-Some-as_parallel.ensures.derives) c.left_alone.ensures.misfit
-
-pub step-returns-in_ok-done-in-Some-as_parallel-2-clause-fault : goal.step-returns-in_ok-done-in-Some-as_parallel-2-clause-fault
-step-returns-in_ok-done-in-Some-as_parallel-2-clause-fault t c =
-    on_rule (program_of c.args.checked.now) c.args.budget (terms_of c.args.scope.now) (behaviour_of c.args.from.now) c.right_alone.result
-    (derivation_of c.args.rules.now) (parr (derivation_of c.deref-in-Some-as_parallel-2.result.now))
-    (IsMisfit (IsAlone (synchronised_of c.in-Some-as_parallel-2.gates.now) (kind_of c.in_ok-done-in-Some-as_parallel-2.done.action) → ⊥))
-    (search rules)
-    (λ f.
-    right_not_alone (program_of c.args.checked.now) c.requires.ready.executable c.args.budget (terms_of c.args.scope.now) (behaviour_of
-    c.args.from.now) f (synchronised_of c.in-Some-as_parallel-2.gates.now) (behaviour_of c.in-Some-as_parallel-2.left.now) (behaviour_of
-    c.in-Some-as_parallel-2.right.now) (derivation_of c.deref-in-Some-as_parallel-2.result.now)
-    c.in_ok-done-in-Some-as_parallel-2.done.action (behaviour_of c.in_ok-done-in-Some-as_parallel-2.done.rest)
-    c.in-Some-as_parallel-2.ensures.some c.in_ok-done-in-Some-as_parallel-2.ensures.derives) c.right_alone.ensures.misfit
-
-pub step-returns-in_ok-done-in-Some-as_hide-clause-fault : goal.step-returns-in_ok-done-in-Some-as_hide-clause-fault
-step-returns-in_ok-done-in-Some-as_hide-clause-fault t c =
-    on_rule (program_of c.args.checked.now) c.args.budget (terms_of c.args.scope.now) (behaviour_of c.args.from.now) c.hidden.result
-    (derivation_of c.args.rules.now) (hiding (derivation_of c.deref-in-Some-as_hide.result.now))
-    (IsMisfit (IsAtHidden (map gate_number c.in-Some-as_hide.gates.now) c.in_ok-done-in-Some-as_hide.done.action → ⊥)) (search rules)
-    (λ f.
-    not_hidden (program_of c.args.checked.now) c.requires.ready.executable c.args.budget (terms_of c.args.scope.now) (behaviour_of
-    c.args.from.now) f (map gate_number c.in-Some-as_hide.gates.now) (behaviour_of c.in-Some-as_hide.body.now) (derivation_of
-    c.deref-in-Some-as_hide.result.now)
-    c.in_ok-done-in-Some-as_hide.done.action (behaviour_of c.in_ok-done-in-Some-as_hide.done.rest) c.in-Some-as_hide.ensures.some
-    c.in_ok-done-in-Some-as_hide.ensures.derives) c.hidden.ensures.misfit
-
-pub step-returns-in_ok-done-in-Some-as_hide-2-clause-fault : goal.step-returns-in_ok-done-in-Some-as_hide-2-clause-fault
-step-returns-in_ok-done-in-Some-as_hide-2-clause-fault t c =
-    on_rule (program_of c.args.checked.now) c.args.budget (terms_of c.args.scope.now) (behaviour_of c.args.from.now) c.passed.result
-    (derivation_of c.args.rules.now) (pass (derivation_of c.deref-in-Some-as_hide-2.result.now))
-    (IsMisfit (IsUnhidden (map gate_number c.in-Some-as_hide-2.gates.now) (kind_of c.in_ok-done-in-Some-as_hide-2.done.action) → ⊥))
-    (search rules)
-    (λ f.
-    not_passed (program_of c.args.checked.now) c.requires.ready.executable c.args.budget (terms_of c.args.scope.now) (behaviour_of
-    c.args.from.now) f (map gate_number c.in-Some-as_hide-2.gates.now) (behaviour_of c.in-Some-as_hide-2.body.now) (derivation_of
-    c.deref-in-Some-as_hide-2.result.now)
-    c.in_ok-done-in-Some-as_hide-2.done.action (behaviour_of c.in_ok-done-in-Some-as_hide-2.done.rest) c.in-Some-as_hide-2.ensures.some
-    c.in_ok-done-in-Some-as_hide-2.ensures.derives) c.passed.ensures.misfit
-
-pub step-returns-in_ok-done-in-Some-as_enable-clause-fault : goal.step-returns-in_ok-done-in-Some-as_enable-clause-fault
-step-returns-in_ok-done-in-Some-as_enable-clause-fault t c =
-    on_rule (program_of c.args.checked.now) c.args.budget (terms_of c.args.scope.now) (behaviour_of c.args.from.now)
-    c.still_enabling.result (derivation_of c.args.rules.now) (enstep (derivation_of c.deref-in-Some-as_enable.result.now))
-    (IsMisfit (IsNoEnd (kind_of c.in_ok-done-in-Some-as_enable.done.action) → ⊥)) (search rules)
-    (λ f.
-    enabling_ends (program_of c.args.checked.now) c.requires.ready.executable c.args.budget (terms_of c.args.scope.now) (behaviour_of
-    c.args.from.now) f (behaviour_of c.in-Some-as_enable.left.now) (map variable_of c.in-Some-as_enable.vars.now) (behaviour_of
-    c.in-Some-as_enable.right.now) (derivation_of c.deref-in-Some-as_enable.result.now)
-    c.in_ok-done-in-Some-as_enable.done.action (behaviour_of c.in_ok-done-in-Some-as_enable.done.rest) c.in-Some-as_enable.ensures.some
-    c.in_ok-done-in-Some-as_enable.ensures.derives) c.still_enabling.ensures.misfit
-
-pub step-returns-in_ok-done-in-Some-as_enable-2-clause-fault : goal.step-returns-in_ok-done-in-Some-as_enable-2-clause-fault
-step-returns-in_ok-done-in-Some-as_enable-2-clause-fault t c =
-    on_rule (program_of c.args.checked.now) c.args.budget (terms_of c.args.scope.now) (behaviour_of c.args.from.now) c.enabled.result
-    (derivation_of c.args.rules.now) (enend (derivation_of c.deref-in-Some-as_enable-2.result.now))
-    (IsMisfit (CanHandOn (program_of c.args.checked.now).theory (terms_of c.args.scope.now) (map variable_of
-    c.in-Some-as_enable-2.vars.now) c.in_ok-done-in-Some-as_enable-2.done.action → ⊥)) (search rules)
-    (λ f.
-    not_enabled (program_of c.args.checked.now) c.requires.ready.executable c.args.budget (terms_of c.args.scope.now) (behaviour_of
-    c.args.from.now) f (behaviour_of c.in-Some-as_enable-2.left.now) (map variable_of c.in-Some-as_enable-2.vars.now) (behaviour_of
-    c.in-Some-as_enable-2.right.now) (derivation_of c.deref-in-Some-as_enable-2.result.now)
-    c.in_ok-done-in-Some-as_enable-2.done.action (behaviour_of c.in_ok-done-in-Some-as_enable-2.done.rest)
-    c.in-Some-as_enable-2.ensures.some c.in_ok-done-in-Some-as_enable-2.ensures.derives) c.enabled.ensures.misfit
-
-pub step-returns-in_ok-done-in-Some-as_disable-clause-fault : goal.step-returns-in_ok-done-in-Some-as_disable-clause-fault
-step-returns-in_ok-done-in-Some-as_disable-clause-fault t c =
-    on_rule (program_of c.args.checked.now) c.args.budget (terms_of c.args.scope.now) (behaviour_of c.args.from.now)
-    c.still_disabled.result (derivation_of c.args.rules.now) (disstep (derivation_of c.deref-in-Some-as_disable.result.now))
-    (IsMisfit (IsNoEnd (kind_of c.in_ok-done-in-Some-as_disable.done.action) → ⊥)) (search rules)
-    (λ f.
-    disabling_ends (program_of c.args.checked.now) c.requires.ready.executable c.args.budget (terms_of c.args.scope.now) (behaviour_of
-    c.args.from.now) f (behaviour_of c.in-Some-as_disable.left.now) (behaviour_of c.in-Some-as_disable.right.now) (derivation_of
-    c.deref-in-Some-as_disable.result.now)
-    c.in_ok-done-in-Some-as_disable.done.action (behaviour_of c.in_ok-done-in-Some-as_disable.done.rest) c.in-Some-as_disable.ensures.some
-    c.in_ok-done-in-Some-as_disable.ensures.derives) c.still_disabled.ensures.misfit
-
-pub step-returns-in_ok-done-in-Some-as_disable-2-clause-fault : goal.step-returns-in_ok-done-in-Some-as_disable-2-clause-fault
-step-returns-in_ok-done-in-Some-as_disable-2-clause-fault t c =
-    on_rule (program_of c.args.checked.now) c.args.budget (terms_of c.args.scope.now) (behaviour_of c.args.from.now) c.ended.result
-    (derivation_of c.args.rules.now) (disend (derivation_of c.deref-in-Some-as_disable-2.result.now))
-    (IsMisfit (IsEnd (kind_of c.in_ok-done-in-Some-as_disable-2.done.action) → ⊥)) (search rules)
-    (λ f.
-    not_ended (program_of c.args.checked.now) c.requires.ready.executable c.args.budget (terms_of c.args.scope.now) (behaviour_of
-    c.args.from.now) f (behaviour_of c.in-Some-as_disable-2.left.now) (behaviour_of c.in-Some-as_disable-2.field-0-1.now) (derivation_of
-    c.deref-in-Some-as_disable-2.result.now)
-    c.in_ok-done-in-Some-as_disable-2.done.action (behaviour_of c.in_ok-done-in-Some-as_disable-2.done.rest)
-    c.in-Some-as_disable-2.ensures.some c.in_ok-done-in-Some-as_disable-2.ensures.derives) c.ended.ensures.misfit
-
-pub step-returns-in_ok-second-in-Some-as_parallel-3-clause-fault : goal.step-returns-in_ok-second-in-Some-as_parallel-3-clause-fault
-step-returns-in_ok-second-in-Some-as_parallel-3-clause-fault t c =
-    on_rule (program_of c.args.checked.now) c.args.budget (terms_of c.args.scope.now) (behaviour_of c.args.from.now) c.together.result
-    (derivation_of c.args.rules.now) (both (derivation_of c.deref-in-Some-as_parallel-3.result.now) (derivation_of
-    c.deref-in-Some-as_parallel-3-2.result.now))
-    (IsMisfit ((c.in_ok-second-in-Some-as_parallel-3.second.action ≡ c.in_ok-first-in-Some-as_parallel-3.first.action) × IsJoint
-    (synchronised_of c.in-Some-as_parallel-3.gates.now) (kind_of c.in_ok-first-in-Some-as_parallel-3.first.action) → ⊥))
-    (search rules)
-    (λ f.
-    not_joint (program_of c.args.checked.now) c.requires.ready.executable c.args.budget (terms_of c.args.scope.now) (behaviour_of
-    c.args.from.now) f (synchronised_of c.in-Some-as_parallel-3.gates.now) (behaviour_of c.in-Some-as_parallel-3.left.now) (behaviour_of
-    c.in-Some-as_parallel-3.right.now)
-    (derivation_of c.deref-in-Some-as_parallel-3.result.now) (derivation_of c.deref-in-Some-as_parallel-3-2.result.now)
-    c.in_ok-first-in-Some-as_parallel-3.first.action c.in_ok-second-in-Some-as_parallel-3.second.action (behaviour_of
-    c.in_ok-first-in-Some-as_parallel-3.first.rest) (behaviour_of c.in_ok-second-in-Some-as_parallel-3.second.rest)
-    c.in-Some-as_parallel-3.ensures.some c.in_ok-first-in-Some-as_parallel-3.ensures.derives
-    c.in_ok-second-in-Some-as_parallel-3.ensures.derives) c.together.ensures.misfit
+    not_joint (program_of c.args.checked.now) c.requires.ready.executable c.args.budget (terms_of c.args.scope.now)
+    (behaviour_of c.args.from.now) f
+    (synchronised_of c.in-Some.gates.now) (behaviour_of c.in-Some.left.now) (behaviour_of c.in-Some.right.now)
+    (derivation_of c.args.part.now) (derivation_of c.args.other.now) c.in_ok-first-in-Some.first.action c.in_ok-second-in-Some.second.action
+    (behaviour_of c.in_ok-first-in-Some.first.rest) (behaviour_of c.in_ok-second-in-Some.second.rest) c.in-Some.ensures.some
+    c.in_ok-first-in-Some.ensures.derives c.in_ok-second-in-Some.ensures.derives) c.together.ensures.misfit
 
 pub by_bindings-returns-in_ok-more-in-Some-clause-fault : goal.by_bindings-returns-in_ok-more-in-Some-clause-fault
 by_bindings-returns-in_ok-more-in-Some-clause-fault t c =
@@ -339,239 +124,45 @@ by_call-returns-in_ok-body-in-Some-2-clause-fault t c =
       (refl, (search rules), refl),
     ) c.step_in.ensures.fault
 
-pub step-returns-in-Some-clause-within : goal.step-returns-in-Some-clause-within
-step-returns-in-Some-clause-within t c =
-    part_asked (program_of c.args.checked.now) c.requires.ready.executable (λ x. Bounds (program_of c.args.checked.now).theory
-    c.args.budget c.step_in.result x) (terms_of c.args.scope.now) (behaviour_of c.args.from.now) (derivation_of c.args.rules.now) (chl
-    (derivation_of c.deref.result.now)) _ (terms_of c.args.scope.now) (behaviour_of c.in-Some.left.now) (derivation_of
-    c.deref.result.now) (search rules) c.in-Some.ensures.some (refl, refl, refl) (λ x h. absurd h) (λ x h. absurd h)
-    c.step_in.ensures.within
-
-pub step-returns-in-Some-as_choice-clause-within : goal.step-returns-in-Some-as_choice-clause-within
-step-returns-in-Some-as_choice-clause-within t c =
-    part_asked (program_of c.args.checked.now) c.requires.ready.executable (λ x. Bounds (program_of c.args.checked.now).theory
-    c.args.budget c.step_in-in-Some-as_choice.result x) (terms_of c.args.scope.now) (behaviour_of c.args.from.now) (derivation_of
-    c.args.rules.now) (chr (derivation_of c.deref-in-Some-as_choice.result.now)) _ (terms_of c.args.scope.now) (behaviour_of
-    c.in-Some-as_choice.right.now) (derivation_of c.deref-in-Some-as_choice.result.now) (search rules)
-    c.in-Some-as_choice.ensures.some (refl, refl, refl) (λ x h. absurd h) (λ x h. absurd h) c.step_in-in-Some-as_choice.ensures.within
-
-pub step-returns-in-Some-as_disable-3-clause-within : goal.step-returns-in-Some-as_disable-3-clause-within
-step-returns-in-Some-as_disable-3-clause-within t c =
-    part_asked (program_of c.args.checked.now) c.requires.ready.executable (λ x. Bounds (program_of c.args.checked.now).theory
-    c.args.budget c.step_in-in-Some-as_disable-3.result x) (terms_of c.args.scope.now) (behaviour_of c.args.from.now) (derivation_of
-    c.args.rules.now) (distake (derivation_of c.deref-in-Some-as_disable-3.result.now)) _ (terms_of c.args.scope.now) (behaviour_of
-    c.in-Some-as_disable-3.right.now) (derivation_of c.deref-in-Some-as_disable-3.result.now) (search rules)
-    c.in-Some-as_disable-3.ensures.some (refl, refl, refl) (λ x h. absurd h) (λ x h. absurd h)
-    c.step_in-in-Some-as_disable-3.ensures.within
-
-pub step-returns-in_err-done-in-Some-as_parallel-clause-within : goal.step-returns-in_err-done-in-Some-as_parallel-clause-within
-step-returns-in_err-done-in-Some-as_parallel-clause-within t c =
+pub by_both-returns-in_err-first-in-Some-clause-within : goal.by_both-returns-in_err-first-in-Some-clause-within
+by_both-returns-in_err-first-in-Some-clause-within t c =
+    let d = both (derivation_of c.args.part.now) (derivation_of c.args.other.now) in
+    let f = c.in_err-first-in-Some.field-0.0 in
     of_fault (program_of c.args.checked.now).theory c.args.budget (Asks (program_of c.args.checked.now) (terms_of c.args.scope.now)
-    (behaviour_of c.args.from.now) (derivation_of c.args.rules.now)) c.from_residual.result
-    c.in_err-done-in-Some-as_parallel.field-0.0 (search rules) (part_asked (program_of c.args.checked.now) c.requires.ready.executable
-    (λ x. FaultBounds (program_of c.args.checked.now).theory c.args.budget c.in_err-done-in-Some-as_parallel.field-0.0 x) (terms_of
-    c.args.scope.now) (behaviour_of c.args.from.now) (derivation_of c.args.rules.now) (parl (derivation_of
-    c.deref-in-Some-as_parallel.result.now)) _ (terms_of c.args.scope.now) (behaviour_of c.in-Some-as_parallel.left.now)
-    (derivation_of c.deref-in-Some-as_parallel.result.now) (search rules) c.in-Some-as_parallel.ensures.some (refl, refl, refl) (λ x
-    h. absurd h) (λ x h. absurd h) c.in_err-done-in-Some-as_parallel.ensures.within)
+    (behaviour_of c.args.from.now) d)
+    c.from_residual.result f (search rules)
+    (first_side_fails (program_of c.args.checked.now) c.requires.ready.executable c.args.budget (terms_of c.args.scope.now)
+    (behaviour_of c.args.from.now) f
+    (synchronised_of c.in-Some.gates.now) (behaviour_of c.in-Some.left.now) (behaviour_of c.in-Some.right.now) d
+    (derivation_of c.args.part.now) (derivation_of c.args.other.now) refl c.in-Some.ensures.some c.in_err-first-in-Some.ensures.fault
+    c.in_err-first-in-Some.ensures.within)
 
-pub step-returns-in_err-done-in-Some-as_parallel-2-clause-within : goal.step-returns-in_err-done-in-Some-as_parallel-2-clause-within
-step-returns-in_err-done-in-Some-as_parallel-2-clause-within t c =
+pub by_both-returns-in_err-second-in-Some-clause-within : goal.by_both-returns-in_err-second-in-Some-clause-within
+by_both-returns-in_err-second-in-Some-clause-within t c =
+    let d = both (derivation_of c.args.part.now) (derivation_of c.args.other.now) in
+    let f = c.in_err-second-in-Some.field-0.0 in
     of_fault (program_of c.args.checked.now).theory c.args.budget (Asks (program_of c.args.checked.now) (terms_of c.args.scope.now)
-    (behaviour_of c.args.from.now) (derivation_of c.args.rules.now)) c.from_residual-in_err-done-in-Some-as_parallel-2.result
-    c.in_err-done-in-Some-as_parallel-2.field-0.0 (search rules) (part_asked (program_of c.args.checked.now)
-    c.requires.ready.executable (λ x. FaultBounds (program_of c.args.checked.now).theory c.args.budget
-    c.in_err-done-in-Some-as_parallel-2.field-0.0 x) (terms_of c.args.scope.now) (behaviour_of c.args.from.now) (derivation_of
-    c.args.rules.now) (parr (derivation_of c.deref-in-Some-as_parallel-2.result.now)) _ (terms_of c.args.scope.now) (behaviour_of
-    c.in-Some-as_parallel-2.right.now) (derivation_of c.deref-in-Some-as_parallel-2.result.now) (search rules)
-    c.in-Some-as_parallel-2.ensures.some (refl, refl, refl) (λ x h. absurd h) (λ x h. absurd h)
-    c.in_err-done-in-Some-as_parallel-2.ensures.within)
+    (behaviour_of c.args.from.now) d)
+    c.from_residual-in_err-second-in-Some.result f (search rules)
+    (both_asked (program_of c.args.checked.now) c.requires.ready.executable (FaultBounds
+    (program_of c.args.checked.now).theory c.args.budget f)
+    (terms_of c.args.scope.now) (behaviour_of c.args.from.now) (synchronised_of c.in-Some.gates.now) (behaviour_of c.in-Some.left.now)
+    (behaviour_of c.in-Some.right.now) d (derivation_of c.args.part.now) (derivation_of c.args.other.now) refl c.in-Some.ensures.some
+    (λ x h. fault_within (program_of c.args.checked.now).theory c.args.budget f x (c.in_ok-first-in-Some.ensures.within x h))
+    (λ x does h. c.in_err-second-in-Some.ensures.within x h))
 
-pub step-returns-in_err-first-in-Some-as_parallel-3-clause-within : goal.step-returns-in_err-first-in-Some-as_parallel-3-clause-within
-step-returns-in_err-first-in-Some-as_parallel-3-clause-within t c =
-    of_fault (program_of c.args.checked.now).theory c.args.budget (Asks (program_of c.args.checked.now) (terms_of c.args.scope.now)
-    (behaviour_of c.args.from.now) (derivation_of c.args.rules.now)) c.from_residual-in_err-first-in-Some-as_parallel-3.result
-    c.in_err-first-in-Some-as_parallel-3.field-0.0 (search rules) (first_side_fails (program_of c.args.checked.now)
-    c.requires.ready.executable c.args.budget (terms_of c.args.scope.now) (behaviour_of c.args.from.now)
-    c.in_err-first-in-Some-as_parallel-3.field-0.0 (synchronised_of c.in-Some-as_parallel-3.gates.now) (behaviour_of
-    c.in-Some-as_parallel-3.left.now) (behaviour_of c.in-Some-as_parallel-3.right.now) (derivation_of c.args.rules.now) (derivation_of
-    c.deref-in-Some-as_parallel-3.result.now) (derivation_of c.in-Both.other.value) (search rules)
-    c.in-Some-as_parallel-3.ensures.some c.in_err-first-in-Some-as_parallel-3.ensures.fault
-    c.in_err-first-in-Some-as_parallel-3.ensures.within)
-
-pub step-returns-in_err-done-in-Some-as_hide-clause-within : goal.step-returns-in_err-done-in-Some-as_hide-clause-within
-step-returns-in_err-done-in-Some-as_hide-clause-within t c =
-    of_fault (program_of c.args.checked.now).theory c.args.budget (Asks (program_of c.args.checked.now) (terms_of c.args.scope.now)
-    (behaviour_of c.args.from.now) (derivation_of c.args.rules.now)) c.from_residual-in_err-done-in-Some-as_hide.result
-    c.in_err-done-in-Some-as_hide.field-0.0 (search rules) (part_asked (program_of c.args.checked.now) c.requires.ready.executable (λ
-    x. FaultBounds (program_of c.args.checked.now).theory c.args.budget c.in_err-done-in-Some-as_hide.field-0.0 x) (terms_of
-    c.args.scope.now) (behaviour_of c.args.from.now) (derivation_of c.args.rules.now) (hiding (derivation_of
-    c.deref-in-Some-as_hide.result.now)) _ (terms_of c.args.scope.now) (behaviour_of c.in-Some-as_hide.body.now) (derivation_of
-    c.deref-in-Some-as_hide.result.now) (search rules) c.in-Some-as_hide.ensures.some (refl, refl, refl) (λ x h. absurd h) (λ x h.
-    absurd h) c.in_err-done-in-Some-as_hide.ensures.within)
-
-pub step-returns-in_err-done-in-Some-as_hide-2-clause-within : goal.step-returns-in_err-done-in-Some-as_hide-2-clause-within
-step-returns-in_err-done-in-Some-as_hide-2-clause-within t c =
-    of_fault (program_of c.args.checked.now).theory c.args.budget (Asks (program_of c.args.checked.now) (terms_of c.args.scope.now)
-    (behaviour_of c.args.from.now) (derivation_of c.args.rules.now)) c.from_residual-in_err-done-in-Some-as_hide-2.result
-    c.in_err-done-in-Some-as_hide-2.field-0.0 (search rules) (part_asked (program_of c.args.checked.now) c.requires.ready.executable
-    (λ x. FaultBounds (program_of c.args.checked.now).theory c.args.budget c.in_err-done-in-Some-as_hide-2.field-0.0 x) (terms_of
-    c.args.scope.now) (behaviour_of c.args.from.now) (derivation_of c.args.rules.now) (pass (derivation_of
-    c.deref-in-Some-as_hide-2.result.now)) _ (terms_of c.args.scope.now) (behaviour_of c.in-Some-as_hide-2.body.now) (derivation_of
-    c.deref-in-Some-as_hide-2.result.now) (search rules) c.in-Some-as_hide-2.ensures.some (refl, refl, refl) (λ x h. absurd h) (λ x h.
-    absurd h) c.in_err-done-in-Some-as_hide-2.ensures.within)
-
-pub step-returns-in_err-done-in-Some-as_enable-clause-within : goal.step-returns-in_err-done-in-Some-as_enable-clause-within
-step-returns-in_err-done-in-Some-as_enable-clause-within t c =
-    of_fault (program_of c.args.checked.now).theory c.args.budget (Asks (program_of c.args.checked.now) (terms_of c.args.scope.now)
-    (behaviour_of c.args.from.now) (derivation_of c.args.rules.now)) c.from_residual-in_err-done-in-Some-as_enable.result
-    c.in_err-done-in-Some-as_enable.field-0.0 (search rules) (part_asked (program_of c.args.checked.now) c.requires.ready.executable
-    (λ x. FaultBounds (program_of c.args.checked.now).theory c.args.budget c.in_err-done-in-Some-as_enable.field-0.0 x) (terms_of
-    c.args.scope.now) (behaviour_of c.args.from.now) (derivation_of c.args.rules.now) (enstep (derivation_of
-    c.deref-in-Some-as_enable.result.now)) _ (terms_of c.args.scope.now) (behaviour_of c.in-Some-as_enable.left.now) (derivation_of
-    c.deref-in-Some-as_enable.result.now) (search rules) c.in-Some-as_enable.ensures.some (refl, refl, refl) (λ x h. absurd h) (λ x h.
-    absurd h) c.in_err-done-in-Some-as_enable.ensures.within)
-
-pub step-returns-in_err-done-in-Some-as_enable-2-clause-within : goal.step-returns-in_err-done-in-Some-as_enable-2-clause-within
-step-returns-in_err-done-in-Some-as_enable-2-clause-within t c =
-    of_fault (program_of c.args.checked.now).theory c.args.budget (Asks (program_of c.args.checked.now) (terms_of c.args.scope.now)
-    (behaviour_of c.args.from.now) (derivation_of c.args.rules.now)) c.from_residual-in_err-done-in-Some-as_enable-2.result
-    c.in_err-done-in-Some-as_enable-2.field-0.0 (search rules) (part_asked (program_of c.args.checked.now) c.requires.ready.executable
-    (λ x. FaultBounds (program_of c.args.checked.now).theory c.args.budget c.in_err-done-in-Some-as_enable-2.field-0.0 x) (terms_of
-    c.args.scope.now) (behaviour_of c.args.from.now) (derivation_of c.args.rules.now) (enend (derivation_of
-    c.deref-in-Some-as_enable-2.result.now)) _ (terms_of c.args.scope.now) (behaviour_of c.in-Some-as_enable-2.left.now)
-    (derivation_of c.deref-in-Some-as_enable-2.result.now) (search rules) c.in-Some-as_enable-2.ensures.some (refl, refl, refl) (λ x
-    h. absurd h) (λ x h. absurd h) c.in_err-done-in-Some-as_enable-2.ensures.within)
-
-pub step-returns-in_err-done-in-Some-as_disable-clause-within : goal.step-returns-in_err-done-in-Some-as_disable-clause-within
-step-returns-in_err-done-in-Some-as_disable-clause-within t c =
-    of_fault (program_of c.args.checked.now).theory c.args.budget (Asks (program_of c.args.checked.now) (terms_of c.args.scope.now)
-    (behaviour_of c.args.from.now) (derivation_of c.args.rules.now)) c.from_residual-in_err-done-in-Some-as_disable.result
-    c.in_err-done-in-Some-as_disable.field-0.0 (search rules) (part_asked (program_of c.args.checked.now) c.requires.ready.executable
-    (λ x. FaultBounds (program_of c.args.checked.now).theory c.args.budget c.in_err-done-in-Some-as_disable.field-0.0 x) (terms_of
-    c.args.scope.now) (behaviour_of c.args.from.now) (derivation_of c.args.rules.now) (disstep (derivation_of
-    c.deref-in-Some-as_disable.result.now)) _ (terms_of c.args.scope.now) (behaviour_of c.in-Some-as_disable.left.now) (derivation_of
-    c.deref-in-Some-as_disable.result.now) (search rules) c.in-Some-as_disable.ensures.some (refl, refl, refl) (λ x h. absurd h) (λ x
-    h. absurd h) c.in_err-done-in-Some-as_disable.ensures.within)
-
-pub step-returns-in_err-done-in-Some-as_disable-2-clause-within : goal.step-returns-in_err-done-in-Some-as_disable-2-clause-within
-step-returns-in_err-done-in-Some-as_disable-2-clause-within t c =
-    of_fault (program_of c.args.checked.now).theory c.args.budget (Asks (program_of c.args.checked.now) (terms_of c.args.scope.now)
-    (behaviour_of c.args.from.now) (derivation_of c.args.rules.now)) c.from_residual-in_err-done-in-Some-as_disable-2.result
-    c.in_err-done-in-Some-as_disable-2.field-0.0 (search rules) (part_asked (program_of c.args.checked.now)
-    c.requires.ready.executable (λ x. FaultBounds (program_of c.args.checked.now).theory c.args.budget
-    c.in_err-done-in-Some-as_disable-2.field-0.0 x) (terms_of c.args.scope.now) (behaviour_of c.args.from.now) (derivation_of
-    c.args.rules.now) (disend (derivation_of c.deref-in-Some-as_disable-2.result.now)) _ (terms_of c.args.scope.now) (behaviour_of
-    c.in-Some-as_disable-2.left.now) (derivation_of c.deref-in-Some-as_disable-2.result.now) (search rules)
-    c.in-Some-as_disable-2.ensures.some (refl, refl, refl) (λ x h. absurd h) (λ x h. absurd h)
-    c.in_err-done-in-Some-as_disable-2.ensures.within)
-
-pub step-returns-in_err-done-in-Some-as_relabel-clause-within : goal.step-returns-in_err-done-in-Some-as_relabel-clause-within
-step-returns-in_err-done-in-Some-as_relabel-clause-within t c =
-    of_fault (program_of c.args.checked.now).theory c.args.budget (Asks (program_of c.args.checked.now) (terms_of c.args.scope.now)
-    (behaviour_of c.args.from.now) (derivation_of c.args.rules.now)) c.from_residual-in_err-done-in-Some-as_relabel.result
-    c.in_err-done-in-Some-as_relabel.field-0.0 (search rules) (part_asked (program_of c.args.checked.now) c.requires.ready.executable
-    (λ x. FaultBounds (program_of c.args.checked.now).theory c.args.budget c.in_err-done-in-Some-as_relabel.field-0.0 x) (terms_of
-    c.args.scope.now) (behaviour_of c.args.from.now) (derivation_of c.args.rules.now) (rel (derivation_of
-    c.deref-in-Some-as_relabel.result.now)) _ (terms_of c.args.scope.now) (behaviour_of c.in-Some-as_relabel.body.now) (derivation_of
-    c.deref-in-Some-as_relabel.result.now) (search rules) c.in-Some-as_relabel.ensures.some (refl, refl, refl) (λ x h. absurd h) (λ x
-    h. absurd h) c.in_err-done-in-Some-as_relabel.ensures.within)
-
-pub step-returns-in_err-second-in-Some-as_parallel-3-clause-within : goal.step-returns-in_err-second-in-Some-as_parallel-3-clause-within
-step-returns-in_err-second-in-Some-as_parallel-3-clause-within t c =
-    of_fault (program_of c.args.checked.now).theory c.args.budget (Asks (program_of c.args.checked.now) (terms_of c.args.scope.now)
-    (behaviour_of c.args.from.now) (derivation_of c.args.rules.now)) c.from_residual-in_err-second-in-Some-as_parallel-3.result
-    c.in_err-second-in-Some-as_parallel-3.field-0.0 (search rules) (both_asked (program_of c.args.checked.now)
-    c.requires.ready.executable (λ x. FaultBounds (program_of c.args.checked.now).theory c.args.budget
-    c.in_err-second-in-Some-as_parallel-3.field-0.0 x) (terms_of c.args.scope.now) (behaviour_of c.args.from.now) (synchronised_of
-    c.in-Some-as_parallel-3.gates.now) (behaviour_of c.in-Some-as_parallel-3.left.now) (behaviour_of
-    c.in-Some-as_parallel-3.right.now) (derivation_of c.args.rules.now) (derivation_of c.deref-in-Some-as_parallel-3.result.now)
-    (derivation_of c.deref-in-Some-as_parallel-3-2.result.now) (search rules) c.in-Some-as_parallel-3.ensures.some (λ x h.
-    fault_within (program_of c.args.checked.now).theory c.args.budget c.in_err-second-in-Some-as_parallel-3.field-0.0 x
-    (c.in_ok-first-in-Some-as_parallel-3.ensures.within x h)) (λ x does h. c.in_err-second-in-Some-as_parallel-3.ensures.within x h))
-
-pub step-returns-in_ok-done-in-Some-as_parallel-clause-within : goal.step-returns-in_ok-done-in-Some-as_parallel-clause-within
-step-returns-in_ok-done-in-Some-as_parallel-clause-within t c =
-    part_asked (program_of c.args.checked.now) c.requires.ready.executable (λ x. Bounds (program_of c.args.checked.now).theory
-    c.args.budget c.left_alone.result x) (terms_of c.args.scope.now) (behaviour_of c.args.from.now) (derivation_of c.args.rules.now)
-    (parl (derivation_of c.deref-in-Some-as_parallel.result.now)) _ (terms_of c.args.scope.now) (behaviour_of
-    c.in-Some-as_parallel.left.now) (derivation_of c.deref-in-Some-as_parallel.result.now) (search rules)
-    c.in-Some-as_parallel.ensures.some (refl, refl, refl) (λ x h. absurd h) (λ x h. absurd h) (λ x h. bounds_within (program_of
-    c.args.checked.now).theory c.args.budget c.left_alone.result x (c.in_ok-done-in-Some-as_parallel.ensures.within x h))
-
-pub step-returns-in_ok-done-in-Some-as_parallel-2-clause-within : goal.step-returns-in_ok-done-in-Some-as_parallel-2-clause-within
-step-returns-in_ok-done-in-Some-as_parallel-2-clause-within t c =
-    part_asked (program_of c.args.checked.now) c.requires.ready.executable (λ x. Bounds (program_of c.args.checked.now).theory
-    c.args.budget c.right_alone.result x) (terms_of c.args.scope.now) (behaviour_of c.args.from.now) (derivation_of c.args.rules.now)
-    (parr (derivation_of c.deref-in-Some-as_parallel-2.result.now)) _ (terms_of c.args.scope.now) (behaviour_of
-    c.in-Some-as_parallel-2.right.now) (derivation_of c.deref-in-Some-as_parallel-2.result.now) (search rules)
-    c.in-Some-as_parallel-2.ensures.some (refl, refl, refl) (λ x h. absurd h) (λ x h. absurd h) (λ x h. bounds_within (program_of
-    c.args.checked.now).theory c.args.budget c.right_alone.result x (c.in_ok-done-in-Some-as_parallel-2.ensures.within x h))
-
-pub step-returns-in_ok-done-in-Some-as_hide-clause-within : goal.step-returns-in_ok-done-in-Some-as_hide-clause-within
-step-returns-in_ok-done-in-Some-as_hide-clause-within t c =
-    part_asked (program_of c.args.checked.now) c.requires.ready.executable (λ x. Bounds (program_of c.args.checked.now).theory
-    c.args.budget c.hidden.result x) (terms_of c.args.scope.now) (behaviour_of c.args.from.now) (derivation_of c.args.rules.now)
-    (hiding (derivation_of c.deref-in-Some-as_hide.result.now)) _ (terms_of c.args.scope.now) (behaviour_of
-    c.in-Some-as_hide.body.now) (derivation_of c.deref-in-Some-as_hide.result.now) (search rules) c.in-Some-as_hide.ensures.some
-    (refl, refl, refl) (λ x h. absurd h) (λ x h. absurd h) (λ x h. bounds_within (program_of c.args.checked.now).theory c.args.budget
-    c.hidden.result x (c.in_ok-done-in-Some-as_hide.ensures.within x h))
-
-pub step-returns-in_ok-done-in-Some-as_hide-2-clause-within : goal.step-returns-in_ok-done-in-Some-as_hide-2-clause-within
-step-returns-in_ok-done-in-Some-as_hide-2-clause-within t c =
-    part_asked (program_of c.args.checked.now) c.requires.ready.executable (λ x. Bounds (program_of c.args.checked.now).theory
-    c.args.budget c.passed.result x) (terms_of c.args.scope.now) (behaviour_of c.args.from.now) (derivation_of c.args.rules.now) (pass
-    (derivation_of c.deref-in-Some-as_hide-2.result.now)) _ (terms_of c.args.scope.now) (behaviour_of c.in-Some-as_hide-2.body.now)
-    (derivation_of c.deref-in-Some-as_hide-2.result.now) (search rules) c.in-Some-as_hide-2.ensures.some (refl, refl, refl) (λ x h.
-    absurd h) (λ x h. absurd h) (λ x h. bounds_within (program_of c.args.checked.now).theory c.args.budget c.passed.result x
-    (c.in_ok-done-in-Some-as_hide-2.ensures.within x h))
-
-pub step-returns-in_ok-done-in-Some-as_enable-clause-within : goal.step-returns-in_ok-done-in-Some-as_enable-clause-within
-step-returns-in_ok-done-in-Some-as_enable-clause-within t c =
-    part_asked (program_of c.args.checked.now) c.requires.ready.executable (λ x. Bounds (program_of c.args.checked.now).theory
-    c.args.budget c.still_enabling.result x) (terms_of c.args.scope.now) (behaviour_of c.args.from.now) (derivation_of
-    c.args.rules.now) (enstep (derivation_of c.deref-in-Some-as_enable.result.now)) _ (terms_of c.args.scope.now) (behaviour_of
-    c.in-Some-as_enable.left.now) (derivation_of c.deref-in-Some-as_enable.result.now) (search rules) c.in-Some-as_enable.ensures.some
-    (refl, refl, refl) (λ x h. absurd h) (λ x h. absurd h) (λ x h. bounds_within (program_of c.args.checked.now).theory c.args.budget
-    c.still_enabling.result x (c.in_ok-done-in-Some-as_enable.ensures.within x h))
-
-pub step-returns-in_ok-done-in-Some-as_enable-2-clause-within : goal.step-returns-in_ok-done-in-Some-as_enable-2-clause-within
-step-returns-in_ok-done-in-Some-as_enable-2-clause-within t c =
-    part_asked (program_of c.args.checked.now) c.requires.ready.executable (λ x. Bounds (program_of c.args.checked.now).theory
-    c.args.budget c.enabled.result x) (terms_of c.args.scope.now) (behaviour_of c.args.from.now) (derivation_of c.args.rules.now)
-    (enend (derivation_of c.deref-in-Some-as_enable-2.result.now)) _ (terms_of c.args.scope.now) (behaviour_of
-    c.in-Some-as_enable-2.left.now) (derivation_of c.deref-in-Some-as_enable-2.result.now) (search rules)
-    c.in-Some-as_enable-2.ensures.some (refl, refl, refl) (λ x h. absurd h) (λ x h. absurd h) (λ x h. bounds_within (program_of
-    c.args.checked.now).theory c.args.budget c.enabled.result x (c.in_ok-done-in-Some-as_enable-2.ensures.within x h))
-
-pub step-returns-in_ok-done-in-Some-as_disable-clause-within : goal.step-returns-in_ok-done-in-Some-as_disable-clause-within
-step-returns-in_ok-done-in-Some-as_disable-clause-within t c =
-    part_asked (program_of c.args.checked.now) c.requires.ready.executable (λ x. Bounds (program_of c.args.checked.now).theory
-    c.args.budget c.still_disabled.result x) (terms_of c.args.scope.now) (behaviour_of c.args.from.now) (derivation_of
-    c.args.rules.now) (disstep (derivation_of c.deref-in-Some-as_disable.result.now)) _ (terms_of c.args.scope.now) (behaviour_of
-    c.in-Some-as_disable.left.now) (derivation_of c.deref-in-Some-as_disable.result.now) (search rules)
-    c.in-Some-as_disable.ensures.some (refl, refl, refl) (λ x h. absurd h) (λ x h. absurd h) (λ x h. bounds_within (program_of
-    c.args.checked.now).theory c.args.budget c.still_disabled.result x (c.in_ok-done-in-Some-as_disable.ensures.within x h))
-
-pub step-returns-in_ok-done-in-Some-as_disable-2-clause-within : goal.step-returns-in_ok-done-in-Some-as_disable-2-clause-within
-step-returns-in_ok-done-in-Some-as_disable-2-clause-within t c =
-    part_asked (program_of c.args.checked.now) c.requires.ready.executable (λ x. Bounds (program_of c.args.checked.now).theory
-    c.args.budget c.ended.result x) (terms_of c.args.scope.now) (behaviour_of c.args.from.now) (derivation_of c.args.rules.now)
-    (disend (derivation_of c.deref-in-Some-as_disable-2.result.now)) _ (terms_of c.args.scope.now) (behaviour_of
-    c.in-Some-as_disable-2.left.now) (derivation_of c.deref-in-Some-as_disable-2.result.now) (search rules)
-    c.in-Some-as_disable-2.ensures.some (refl, refl, refl) (λ x h. absurd h) (λ x h. absurd h) (λ x h. bounds_within (program_of
-    c.args.checked.now).theory c.args.budget c.ended.result x (c.in_ok-done-in-Some-as_disable-2.ensures.within x h))
-
-pub step-returns-in_ok-second-in-Some-as_parallel-3-clause-within : goal.step-returns-in_ok-second-in-Some-as_parallel-3-clause-within
-step-returns-in_ok-second-in-Some-as_parallel-3-clause-within t c =
-    both_asked (program_of c.args.checked.now) c.requires.ready.executable (λ x. Bounds (program_of c.args.checked.now).theory
-    c.args.budget c.together.result x) (terms_of c.args.scope.now) (behaviour_of c.args.from.now) (synchronised_of
-    c.in-Some-as_parallel-3.gates.now) (behaviour_of c.in-Some-as_parallel-3.left.now) (behaviour_of
-    c.in-Some-as_parallel-3.right.now) (derivation_of c.args.rules.now) (derivation_of c.deref-in-Some-as_parallel-3.result.now)
-    (derivation_of c.deref-in-Some-as_parallel-3-2.result.now) (search rules) c.in-Some-as_parallel-3.ensures.some (λ x h.
-    bounds_within (program_of c.args.checked.now).theory c.args.budget c.together.result x
-    (c.in_ok-first-in-Some-as_parallel-3.ensures.within x h)) (λ x does h. bounds_within (program_of c.args.checked.now).theory
-    c.args.budget c.together.result x (c.in_ok-second-in-Some-as_parallel-3.ensures.within x h))
+pub by_both-returns-in_ok-second-in-Some-clause-within : goal.by_both-returns-in_ok-second-in-Some-clause-within
+by_both-returns-in_ok-second-in-Some-clause-within t c =
+    let d = both (derivation_of c.args.part.now) (derivation_of c.args.other.now) in
+    both_asked (program_of c.args.checked.now) c.requires.ready.executable
+    (Bounds (program_of c.args.checked.now).theory c.args.budget c.together.result) (terms_of c.args.scope.now)
+    (behaviour_of c.args.from.now)
+    (synchronised_of c.in-Some.gates.now) (behaviour_of c.in-Some.left.now) (behaviour_of c.in-Some.right.now) d
+    (derivation_of c.args.part.now) (derivation_of c.args.other.now) refl c.in-Some.ensures.some
+    (λ x h. bounds_within (program_of c.args.checked.now).theory c.args.budget c.together.result x
+    (c.in_ok-first-in-Some.ensures.within x h))
+    (λ x does h. bounds_within (program_of c.args.checked.now).theory c.args.budget c.together.result x
+    (c.in_ok-second-in-Some.ensures.within x h))
 
 pub by_bindings-returns-in_ok-more-in-Some-clause-within : goal.by_bindings-returns-in_ok-more-in-Some-clause-within
 by_bindings-returns-in_ok-more-in-Some-clause-within t c =
@@ -635,7 +226,8 @@ by_call-returns-in_err-more-in-Some-2-clause-within t c =
     (behaviour_of c.args.from.now) (calling (derivation_of c.args.part.now))) c.from_residual-in_err-more-in-Some-2.result
     c.in_err-more-in-Some-2.field-0.0 (search rules) (arguments_fail (program_of c.args.checked.now) c.requires.ready.executable
     c.args.budget (terms_of c.args.scope.now) (behaviour_of c.args.from.now) c.in_err-more-in-Some-2.field-0.0 c.in-Some.process (map
-    gate_number c.in-Some.actual.now) (map term_of c.in-Some.terms.now) (map gate_number c.in-Some-2.defined.gates.items) (map variable_of c.deref.result.now) (behaviour_of c.in-Some-2.defined.body) (derivation_of c.args.part.now)
+    gate_number c.in-Some.actual.now) (map term_of c.in-Some.terms.now) (map gate_number c.in-Some-2.defined.gates.items)
+    (map variable_of c.deref.result.now) (behaviour_of c.in-Some-2.defined.body) (derivation_of c.args.part.now)
     c.in-Some.ensures.some (search rules) c.in_err-more-in-Some-2.ensures.fault c.in_err-more-in-Some-2.ensures.within)
 
 pub by_call-returns-in_ok-body-in-Some-2-clause-within : goal.by_call-returns-in_ok-body-in-Some-2-clause-within
@@ -661,135 +253,23 @@ by_call-returns-in_ok-body-in-Some-2-clause-within t c =
     c.args.checked.now).theory c.args.budget c.step_in.result x (c.in_ok-more-in-Some-2.ensures.within x h))) (λ x h. absurd h)
     c.step_in.ensures.within
 
-pub step-returns-in-None-clause-within : goal.step-returns-in-None-clause-within
-step-returns-in-None-clause-within t c =
+pub by_both-returns-in-None-clause-within : goal.by_both-returns-in-None-clause-within
+by_both-returns-in-None-clause-within t c =
+    let d = both (derivation_of c.args.part.now) (derivation_of c.args.other.now) in
     asks_nothing (program_of c.args.checked.now) (FaultBounds (program_of c.args.checked.now).theory c.args.budget c.unfit.result)
-    (terms_of c.args.scope.now) (behaviour_of c.args.from.now) (derivation_of c.args.rules.now) (chl (derivation_of
-    c.in-Chl.part.value)) (search rules) c.in-None.ensures.none
+    (terms_of c.args.scope.now) (behaviour_of c.args.from.now) d d refl c.in-None.ensures.none
 
-pub step-returns-in-None-as_choice-clause-within : goal.step-returns-in-None-as_choice-clause-within
-step-returns-in-None-as_choice-clause-within t c =
-    asks_nothing (program_of c.args.checked.now) (FaultBounds (program_of c.args.checked.now).theory c.args.budget
-    c.unfit-in-None-as_choice.result) (terms_of c.args.scope.now) (behaviour_of c.args.from.now) (derivation_of c.args.rules.now) (chr
-    (derivation_of c.in-Chr.part.value)) (search rules) c.in-None-as_choice.ensures.none
+pub step_in-returns-in-Ok-clause-derives : goal.step_in-returns-in-Ok-clause-derives
+step_in-returns-in-Ok-clause-derives t c = c.in-Ok.ensures.derives
 
-pub step-returns-in-None-as_parallel-clause-within : goal.step-returns-in-None-as_parallel-clause-within
-step-returns-in-None-as_parallel-clause-within t c =
-    asks_nothing (program_of c.args.checked.now) (FaultBounds (program_of c.args.checked.now).theory c.args.budget
-    c.unfit-in-None-as_parallel.result) (terms_of c.args.scope.now) (behaviour_of c.args.from.now) (derivation_of c.args.rules.now)
-    (parl (derivation_of c.in-Parl.part.value)) (search rules) c.in-None-as_parallel.ensures.none
+pub step_in-returns-in-Ok-clause-within : goal.step_in-returns-in-Ok-clause-within
+step_in-returns-in-Ok-clause-within t c = c.in-Ok.ensures.within
 
-pub step-returns-in-None-as_parallel-2-clause-within : goal.step-returns-in-None-as_parallel-2-clause-within
-step-returns-in-None-as_parallel-2-clause-within t c =
-    asks_nothing (program_of c.args.checked.now) (FaultBounds (program_of c.args.checked.now).theory c.args.budget
-    c.unfit-in-None-as_parallel-2.result) (terms_of c.args.scope.now) (behaviour_of c.args.from.now) (derivation_of c.args.rules.now)
-    (parr (derivation_of c.in-Parr.part.value)) (search rules) c.in-None-as_parallel-2.ensures.none
-
-pub step-returns-in-None-as_parallel-3-clause-within : goal.step-returns-in-None-as_parallel-3-clause-within
-step-returns-in-None-as_parallel-3-clause-within t c =
-    asks_nothing (program_of c.args.checked.now) (FaultBounds (program_of c.args.checked.now).theory c.args.budget
-    c.unfit-in-None-as_parallel-3.result) (terms_of c.args.scope.now) (behaviour_of c.args.from.now) (derivation_of c.args.rules.now)
-    (both (derivation_of c.in-Both.part.value) (derivation_of c.in-Both.other.value)) (search rules)
-    c.in-None-as_parallel-3.ensures.none
-
-pub step-returns-in-None-as_hide-clause-within : goal.step-returns-in-None-as_hide-clause-within
-step-returns-in-None-as_hide-clause-within t c =
-    asks_nothing (program_of c.args.checked.now) (FaultBounds (program_of c.args.checked.now).theory c.args.budget
-    c.unfit-in-None-as_hide.result) (terms_of c.args.scope.now) (behaviour_of c.args.from.now) (derivation_of c.args.rules.now)
-    (hiding (derivation_of c.in-Hide.part.value)) (search rules) c.in-None-as_hide.ensures.none
-
-pub step-returns-in-None-as_hide-2-clause-within : goal.step-returns-in-None-as_hide-2-clause-within
-step-returns-in-None-as_hide-2-clause-within t c =
-    asks_nothing (program_of c.args.checked.now) (FaultBounds (program_of c.args.checked.now).theory c.args.budget
-    c.unfit-in-None-as_hide-2.result) (terms_of c.args.scope.now) (behaviour_of c.args.from.now) (derivation_of c.args.rules.now)
-    (pass (derivation_of c.in-Pass.part.value)) (search rules) c.in-None-as_hide-2.ensures.none
-
-pub step-returns-in-None-as_enable-clause-within : goal.step-returns-in-None-as_enable-clause-within
-step-returns-in-None-as_enable-clause-within t c =
-    asks_nothing (program_of c.args.checked.now) (FaultBounds (program_of c.args.checked.now).theory c.args.budget
-    c.unfit-in-None-as_enable.result) (terms_of c.args.scope.now) (behaviour_of c.args.from.now) (derivation_of c.args.rules.now)
-    (enstep (derivation_of c.in-Enstep.part.value)) (search rules) c.in-None-as_enable.ensures.none
-
-pub step-returns-in-None-as_enable-2-clause-within : goal.step-returns-in-None-as_enable-2-clause-within
-step-returns-in-None-as_enable-2-clause-within t c =
-    asks_nothing (program_of c.args.checked.now) (FaultBounds (program_of c.args.checked.now).theory c.args.budget
-    c.unfit-in-None-as_enable-2.result) (terms_of c.args.scope.now) (behaviour_of c.args.from.now) (derivation_of c.args.rules.now)
-    (enend (derivation_of c.in-Enend.part.value)) (search rules) c.in-None-as_enable-2.ensures.none
-
-pub step-returns-in-None-as_disable-clause-within : goal.step-returns-in-None-as_disable-clause-within
-step-returns-in-None-as_disable-clause-within t c =
-    asks_nothing (program_of c.args.checked.now) (FaultBounds (program_of c.args.checked.now).theory c.args.budget
-    c.unfit-in-None-as_disable.result) (terms_of c.args.scope.now) (behaviour_of c.args.from.now) (derivation_of c.args.rules.now)
-    (disstep (derivation_of c.in-Disstep.part.value)) (search rules) c.in-None-as_disable.ensures.none
-
-pub step-returns-in-None-as_disable-2-clause-within : goal.step-returns-in-None-as_disable-2-clause-within
-step-returns-in-None-as_disable-2-clause-within t c =
-    asks_nothing (program_of c.args.checked.now) (FaultBounds (program_of c.args.checked.now).theory c.args.budget
-    c.unfit-in-None-as_disable-2.result) (terms_of c.args.scope.now) (behaviour_of c.args.from.now) (derivation_of c.args.rules.now)
-    (disend (derivation_of c.in-Disend.part.value)) (search rules) c.in-None-as_disable-2.ensures.none
-
-pub step-returns-in-None-as_disable-3-clause-within : goal.step-returns-in-None-as_disable-3-clause-within
-step-returns-in-None-as_disable-3-clause-within t c =
-    asks_nothing (program_of c.args.checked.now) (FaultBounds (program_of c.args.checked.now).theory c.args.budget
-    c.unfit-in-None-as_disable-3.result) (terms_of c.args.scope.now) (behaviour_of c.args.from.now) (derivation_of c.args.rules.now)
-    (distake (derivation_of c.in-Distake.part.value)) (search rules) c.in-None-as_disable-3.ensures.none
-
-pub step-returns-in-None-as_relabel-clause-within : goal.step-returns-in-None-as_relabel-clause-within
-step-returns-in-None-as_relabel-clause-within t c =
-    asks_nothing (program_of c.args.checked.now) (FaultBounds (program_of c.args.checked.now).theory c.args.budget
-    c.unfit-in-None-as_relabel.result) (terms_of c.args.scope.now) (behaviour_of c.args.from.now) (derivation_of c.args.rules.now)
-    (rel (derivation_of c.in-Rel.part.value)) (search rules) c.in-None-as_relabel.ensures.none
-
-pub step-returns-in-Pre-clause-within : goal.step-returns-in-Pre-clause-within
-step-returns-in-Pre-clause-within t c =
-    by_rule (program_of c.args.checked.now) (Bounds (program_of c.args.checked.now).theory c.args.budget c.prefix.result) (terms_of
-    c.args.scope.now) (behaviour_of c.args.from.now) (derivation_of c.args.rules.now) _ c.prefix.ensures.within (search rules)
-
-pub step-returns-in-Exit-clause-within : goal.step-returns-in-Exit-clause-within
-step-returns-in-Exit-clause-within t c =
-    by_rule (program_of c.args.checked.now) (Bounds (program_of c.args.checked.now).theory c.args.budget c.exits.result) (terms_of
-    c.args.scope.now) (behaviour_of c.args.from.now) (derivation_of c.args.rules.now) _ c.exits.ensures.within (search rules)
-
-pub step-returns-in-Val-clause-within : goal.step-returns-in-Val-clause-within
-step-returns-in-Val-clause-within t c =
-    by_rule (program_of c.args.checked.now) (Bounds (program_of c.args.checked.now).theory c.args.budget c.by_value.result) (terms_of
-    c.args.scope.now) (behaviour_of c.args.from.now) (derivation_of c.args.rules.now) _ c.by_value.ensures.within (search rules)
-
-pub step-returns-in-Gate-clause-within : goal.step-returns-in-Gate-clause-within
-step-returns-in-Gate-clause-within t c =
-    by_rule (program_of c.args.checked.now) (Bounds (program_of c.args.checked.now).theory c.args.budget c.by_gate.result) (terms_of
-    c.args.scope.now) (behaviour_of c.args.from.now) (derivation_of c.args.rules.now) _ c.by_gate.ensures.within (search rules)
-
-pub step-returns-in-Guard-clause-within : goal.step-returns-in-Guard-clause-within
-step-returns-in-Guard-clause-within t c =
-    by_rule (program_of c.args.checked.now) (Bounds (program_of c.args.checked.now).theory c.args.budget c.by_premise.result)
-    (terms_of c.args.scope.now) (behaviour_of c.args.from.now) (derivation_of c.args.rules.now) _ c.by_premise.ensures.within (search
-    rules)
-
-pub step-returns-in-Let-clause-within : goal.step-returns-in-Let-clause-within
-step-returns-in-Let-clause-within t c =
-    by_rule (program_of c.args.checked.now) (Bounds (program_of c.args.checked.now).theory c.args.budget c.by_bindings.result)
-    (terms_of c.args.scope.now) (behaviour_of c.args.from.now) (derivation_of c.args.rules.now) _ c.by_bindings.ensures.within (search
-    rules)
-
-pub step-returns-in-Call-clause-within : goal.step-returns-in-Call-clause-within
-step-returns-in-Call-clause-within t c =
-    by_rule (program_of c.args.checked.now) (Bounds (program_of c.args.checked.now).theory c.args.budget c.by_call.result) (terms_of
-    c.args.scope.now) (behaviour_of c.args.from.now) (derivation_of c.args.rules.now) _ c.by_call.ensures.within (search rules)
-
-pub step-returns-in-Int-clause-within : goal.step-returns-in-Int-clause-within
-step-returns-in-Int-clause-within t c =
-    inner_asked (program_of c.args.checked.now) c.requires.ready.executable (Bounds (program_of c.args.checked.now).theory
-    c.args.budget c.inner.result) (terms_of c.args.scope.now) (behaviour_of c.args.from.now) (derivation_of c.args.rules.now) (search
-    rules)
-
-pub step-returns-in_ok-relabelled-in-Some-as_relabel-clause-within : goal.step-returns-in_ok-relabelled-in-Some-as_relabel-clause-within
-step-returns-in_ok-relabelled-in-Some-as_relabel-clause-within t c =
-    part_asked (program_of c.args.checked.now) c.requires.ready.executable (λ x. IsWithin (program_of c.args.checked.now).theory x
-    c.args.budget) (terms_of c.args.scope.now) (behaviour_of c.args.from.now) (derivation_of c.args.rules.now) (rel (derivation_of
-    c.deref-in-Some-as_relabel.result.now)) _ (terms_of c.args.scope.now) (behaviour_of c.in-Some-as_relabel.body.now) (derivation_of
-    c.deref-in-Some-as_relabel.result.now) (search rules) c.in-Some-as_relabel.ensures.some (refl, refl, refl) (λ x h. absurd h) (λ x
-    h. absurd h) c.in_ok-done-in-Some-as_relabel.ensures.within
+pub step_in-returns-in-Err-clause-fault : goal.step_in-returns-in-Err-clause-fault
+step_in-returns-in-Err-clause-fault t c =
+    below_explains (program_of c.args.checked.now).theory c.args.budget c.args.place _
+    (Asks (program_of c.args.checked.now) (terms_of c.args.scope.now) (behaviour_of c.args.from.now) (derivation_of c.args.part.now))
+    c.in-Err.fault c.below.result c.below.ensures.below c.in-Err.ensures.fault
 
 pub step_in-returns-in-Err-clause-within : goal.step_in-returns-in-Err-clause-within
 step_in-returns-in-Err-clause-within t c =
@@ -855,3 +335,115 @@ by_gate-returns-in-None-gate_at-clause-within t c =
     gate_asked (program_of c.args.checked.now) c.requires.ready.executable (FaultBounds (program_of c.args.checked.now).theory
     c.args.budget c.unfit-in-None-gate_at.result) (terms_of c.args.scope.now) (behaviour_of c.args.from.now) _ _ _ c.args.place
     (derivation_of c.args.part.now) c.in-Some.ensures.some (λ h. c.in-None-gate_at.ensures.none h.0 h.1 h.2 h.3)
+
+pub over_part-returns-in-None : goal.over_part-returns-in-None
+over_part-returns-in-None t c =
+    no_part (program_of c.args.checked.now) c.requires.ready.executable c.args.budget (terms_of c.args.scope.now)
+    (behaviour_of c.args.from.now) (derivation_of c.args.rules.now) (derivation_of c.args.part.now) c.requires.over c.unfit.result
+    (search rules) c.unfit.ensures.here
+
+pub over_part-returns-in_err-done-in-Some : goal.over_part-returns-in_err-done-in-Some
+over_part-returns-in_err-done-in-Some t c =
+    failed (program_of c.args.checked.now) c.args.budget (terms_of c.args.scope.now) (behaviour_of c.args.from.now)
+    (derivation_of c.args.rules.now) c.from_residual.result c.in_err-done-in-Some.field-0.0 (search rules)
+    (part_fails (program_of c.args.checked.now) c.requires.ready.executable c.args.budget (terms_of c.args.scope.now)
+    (behaviour_of c.args.from.now) (derivation_of c.args.rules.now) (derivation_of c.args.part.now) c.requires.over
+    (framed_in c.in-Some.framed) (search rules) c.in_err-done-in-Some.field-0.0 c.in_err-done-in-Some.ensures.fault
+    c.in_err-done-in-Some.ensures.within)
+
+pub over_part-returns-in_ok-done-in-Some : goal.over_part-returns-in_ok-done-in-Some
+over_part-returns-in_ok-done-in-Some t c =
+    part_does (program_of c.args.checked.now) c.requires.ready.executable c.args.budget (terms_of c.args.scope.now)
+    (behaviour_of c.args.from.now) (derivation_of c.args.rules.now) (derivation_of c.args.part.now) c.requires.over
+    (framed_in c.in-Some.framed) (search rules) c.in_ok-done-in-Some.done c.leave.result c.in_ok-done-in-Some.ensures.derives
+    c.in_ok-done-in-Some.ensures.within c.leave.ensures
+
+pub step-returns-in-Pre : goal.step-returns-in-Pre
+step-returns-in-Pre t c =
+    answers (program_of c.args.checked.now) c.args.budget (terms_of c.args.scope.now) (behaviour_of c.args.from.now)
+    (derivation_of c.args.rules.now) _ c.prefix.result c.prefix.ensures.within (search rules)
+    c.prefix.ensures.derives c.prefix.ensures.fault
+
+pub step-returns-in-Exit : goal.step-returns-in-Exit
+step-returns-in-Exit t c =
+    answers (program_of c.args.checked.now) c.args.budget (terms_of c.args.scope.now) (behaviour_of c.args.from.now)
+    (derivation_of c.args.rules.now) _ c.exits.result c.exits.ensures.within (search rules)
+    c.exits.ensures.derives c.exits.ensures.fault
+
+pub step-returns-in-Val : goal.step-returns-in-Val
+step-returns-in-Val t c =
+    answers (program_of c.args.checked.now) c.args.budget (terms_of c.args.scope.now) (behaviour_of c.args.from.now)
+    (derivation_of c.args.rules.now) _ c.by_value.result c.by_value.ensures.within (search rules)
+    c.by_value.ensures.derives c.by_value.ensures.fault
+
+pub step-returns-in-Gate : goal.step-returns-in-Gate
+step-returns-in-Gate t c =
+    answers (program_of c.args.checked.now) c.args.budget (terms_of c.args.scope.now) (behaviour_of c.args.from.now)
+    (derivation_of c.args.rules.now) _ c.by_gate.result c.by_gate.ensures.within (search rules)
+    c.by_gate.ensures.derives c.by_gate.ensures.fault
+
+pub step-returns-in-Guard : goal.step-returns-in-Guard
+step-returns-in-Guard t c =
+    answers (program_of c.args.checked.now) c.args.budget (terms_of c.args.scope.now) (behaviour_of c.args.from.now)
+    (derivation_of c.args.rules.now) _ c.by_premise.result c.by_premise.ensures.within (search rules)
+    c.by_premise.ensures.derives c.by_premise.ensures.fault
+
+pub step-returns-in-Let : goal.step-returns-in-Let
+step-returns-in-Let t c =
+    answers (program_of c.args.checked.now) c.args.budget (terms_of c.args.scope.now) (behaviour_of c.args.from.now)
+    (derivation_of c.args.rules.now) _ c.by_bindings.result c.by_bindings.ensures.within (search rules)
+    c.by_bindings.ensures.derives c.by_bindings.ensures.fault
+
+pub step-returns-in-Both : goal.step-returns-in-Both
+step-returns-in-Both t c =
+    answers (program_of c.args.checked.now) c.args.budget (terms_of c.args.scope.now) (behaviour_of c.args.from.now)
+    (derivation_of c.args.rules.now) _ c.by_both.result c.by_both.ensures.within (search rules)
+    c.by_both.ensures.derives c.by_both.ensures.fault
+
+pub step-returns-in-Call : goal.step-returns-in-Call
+step-returns-in-Call t c =
+    answers (program_of c.args.checked.now) c.args.budget (terms_of c.args.scope.now) (behaviour_of c.args.from.now)
+    (derivation_of c.args.rules.now) _ c.by_call.result c.by_call.ensures.within (search rules)
+    c.by_call.ensures.derives c.by_call.ensures.fault
+
+pub step-returns-in-Int : goal.step-returns-in-Int
+step-returns-in-Int t c =
+    inner_answers (program_of c.args.checked.now) c.requires.ready.executable c.args.budget (terms_of c.args.scope.now)
+    (behaviour_of c.args.from.now) (derivation_of c.args.rules.now) c.inner.result (search rules) c.inner.ensures.does
+    c.inner.ensures.misfit
+
+pub step-returns-in-Chl : goal.step-returns-in-Chl
+step-returns-in-Chl t c = c.over_part.ensures
+
+pub step-returns-in-Chr : goal.step-returns-in-Chr
+step-returns-in-Chr t c = c.over_part-in-Chr.ensures
+
+pub step-returns-in-Parl : goal.step-returns-in-Parl
+step-returns-in-Parl t c = c.over_part-in-Parl.ensures
+
+pub step-returns-in-Parr : goal.step-returns-in-Parr
+step-returns-in-Parr t c = c.over_part-in-Parr.ensures
+
+pub step-returns-in-Hide : goal.step-returns-in-Hide
+step-returns-in-Hide t c = c.over_part-in-Hide.ensures
+
+pub step-returns-in-Pass : goal.step-returns-in-Pass
+step-returns-in-Pass t c = c.over_part-in-Pass.ensures
+
+pub step-returns-in-Enstep : goal.step-returns-in-Enstep
+step-returns-in-Enstep t c = c.over_part-in-Enstep.ensures
+
+pub step-returns-in-Enend : goal.step-returns-in-Enend
+step-returns-in-Enend t c = c.over_part-in-Enend.ensures
+
+pub step-returns-in-Disstep : goal.step-returns-in-Disstep
+step-returns-in-Disstep t c = c.over_part-in-Disstep.ensures
+
+pub step-returns-in-Disend : goal.step-returns-in-Disend
+step-returns-in-Disend t c = c.over_part-in-Disend.ensures
+
+pub step-returns-in-Distake : goal.step-returns-in-Distake
+step-returns-in-Distake t c = c.over_part-in-Distake.ensures
+
+pub step-returns-in-Rel : goal.step-returns-in-Rel
+step-returns-in-Rel t c = c.over_part-in-Rel.ensures

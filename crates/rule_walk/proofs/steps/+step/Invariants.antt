@@ -1,4 +1,4 @@
-use Rattle.std.proofs.Common.{◌+◌, ◌*◌}
+use Rattle.std.proofs.Common.{◌+◌, ◌*◌, max}
 use Rattle.rule_model.specs.declared.rules.Rules.{size-Rules}
 use Rattle.rule_walk.proofs.steps.+step.Given as goal
 
@@ -7,6 +7,12 @@ decreases-step l = 3 * size-Rules l.rules.now
 
 abbrev pub decreases-step_in : goal.decreases-step_in
 decreases-step_in l = 3 * size-Rules l.part.now + 1
+
+abbrev pub decreases-over_part : goal.decreases-over_part
+decreases-over_part l = 3 * size-Rules l.part.now + 2
+
+abbrev pub decreases-by_both : goal.decreases-by_both
+decreases-by_both l = 3 * max (size-Rules l.part.now) (size-Rules l.other.now) + 2
 
 abbrev pub decreases-by_value : goal.decreases-by_value
 decreases-by_value l = 3 * size-Rules l.part.now + 2

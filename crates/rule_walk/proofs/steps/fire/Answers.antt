@@ -3,7 +3,9 @@ use Rattle.spec_core.specs.Code.{program_of}
 use Rattle.spec_core.specs.Terms.{variable}
 use Rattle.rule_model.specs.Behaviours.{behaviour_of}
 use Rattle.rule_model.specs.Derivations.{derivation_of}
+use Rattle.rule_walk.specs.Asking.{Asks}
 use Rattle.rule_walk.specs.Parts.{HasNone, IsUnfitAt}
+use Rattle.rule_walk.proofs.Bounds.{of_fault}
 use Rattle.rule_walk.proofs.Faults.{handed_on}
 use Rattle.rule_walk.proofs.NoStep.{unfit_none}
 use Rattle.rule_walk.proofs.PartFaults.{unfit_on}
@@ -18,3 +20,21 @@ returns-in_err-action-clause-no_step c =
     (λ path.
     unfit_none (program_of c.args.checked.now) c.requires.ready.executable path (derivation_of c.args.rules.now)
     (behaviour_of c.args.from.now) variable) c.in_err-action.ensures.fault.unfit)
+
+pub returns-in_err-action-clause-unfit : goal.returns-in_err-action-clause-unfit
+returns-in_err-action-clause-unfit c =
+    handed_on c.from_residual.result _ c.in_err-action.field-0.0 (search rules) c.in_err-action.ensures.fault.unfit
+
+pub returns-in_err-action-clause-spent : goal.returns-in_err-action-clause-spent
+returns-in_err-action-clause-spent c =
+    handed_on c.from_residual.result _ c.in_err-action.field-0.0 (search rules) c.in_err-action.ensures.fault.spent
+
+pub returns-in_err-action-clause-too_large : goal.returns-in_err-action-clause-too_large
+returns-in_err-action-clause-too_large c =
+    handed_on c.from_residual.result _ c.in_err-action.field-0.0 (search rules) c.in_err-action.ensures.fault.too_large
+
+pub returns-in_err-action-clause-within : goal.returns-in_err-action-clause-within
+returns-in_err-action-clause-within c =
+    of_fault (program_of c.args.checked.now).theory c.args.budget
+    (Asks (program_of c.args.checked.now) variable (behaviour_of c.args.from.now) (derivation_of c.args.rules.now))
+    c.from_residual.result c.in_err-action.field-0.0 (search rules) c.in_err-action.ensures.within
