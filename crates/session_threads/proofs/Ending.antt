@@ -21,33 +21,9 @@ use Rattle.session.specs.Sessions.{SessionView, Who, IsClientOf, IsWorkerOf, who
 use Rattle.session.specs.Starting.{new_pass, new_work_pass}
 use Rattle.session_threads.specs.declared.rows.Row.{Row}
 use Rattle.session_threads.specs.declared.rows.Row.TheVariants.{Client, Worker}
-use Rattle.session_threads.specs.Rows.{client_passes, worker_passes, worker_row, wishes_made, AreClientRows, FitSession, IsDone, IsReadyRow, IsServed}
-use Rattle.session_threads.specs.Rows.{SameRow}
+use Rattle.session_threads.specs.Rows.{client_passes, worker_passes, worker_row, wishes_made, AreClientRows, AreServed, FitSession, IsDone, IsReadyRow}
 use Rattle.rule_model.specs.declared.wish.ClientWish.{ClientWish}
 use Rattle.session_threads.specs.Runs.{all_wishes_of, AnswersClients}
-
--- each row at its place
-
-pub at_place : (P : Row → Type 0) (xs : List Row) → Each P xs → (i : ℕ) (row : Row) → i < length xs → row ≡ get_or xs i row → P row
-at_place P [] each i row below at = absurd (omega (arith, below))
-at_place P (x ∷ xs) each zero row below at = subst P (sym at) each.0
-at_place P (x ∷ xs) each (suc i) row below at = at_place P xs each.1 i row (omega (arith, below)) at
-
--- the rows follow those that were there, one by one
-abbrev pub Follows : List Row → List Row → Type 0
-Follows [] [] = Unit {0}
-Follows (row ∷ rows) (new ∷ news) = SameRow row new × IsServed new × Follows rows news
-Follows _ _ = ⊥
-
-pub follow : (xs ys : List Row) → length ys ≡ length xs →
-    ((i : ℕ) (row new : Row) → i < length xs → row ≡ get_or xs i row → new ≡ get_or ys i new → SameRow row new × IsServed new) →
-    Follows xs ys
-follow [] [] e h = tt
-follow [] (y ∷ ys) e h = absurd (omega (arith, e))
-follow (x ∷ xs) [] e h = absurd (omega (arith, e))
-follow (x ∷ xs) (y ∷ ys) e h =
-    let first = h 0 x y (omega arith) refl refl in
-    (first.0, first.1, follow xs ys (omega (arith, e)) (λ i row new below at now. h (suc i) row new (omega (arith, below)) at now))
 
 -- rows that are ready
 
@@ -87,7 +63,7 @@ AreWorkers id clients k (suc m) (p ∷ passes) =
     (who_of p ≡ record { lock = id; number = k; clients = clients }) × AreWorkers id clients (k + 1) m passes
 AreWorkers id clients k _ _ = ⊥
 
-no_clients : (id : LockId) (k : ℕ) (workers : List WorkPassView) (news : List Row) → Follows (map worker_row workers) news →
+no_clients : (id : LockId) (k : ℕ) (workers : List WorkPassView) (news : List Row) → AreServed (map worker_row workers) news →
     EndsAs id k [] (client_passes news)
 no_clients id k [] [] h = tt
 no_clients id k [] (new ∷ news) h = absurd h
@@ -96,9 +72,9 @@ no_clients id k (w ∷ workers) (Client q v b ∷ news) h = absurd h.0
 no_clients id k (w ∷ workers) (Worker q b ∷ news) h = no_clients id k workers news h.2
 
 pub clients_end : (id : LockId) (first : ℕ) (clients : List (List Wish)) (workers : List WorkPassView) (rows news : List Row) →
-    AreClientRows (map (new_pass id) (range_with_len first (length clients))) clients (map worker_row workers) rows → Follows rows news →
+    AreClientRows (map (new_pass id) (range_with_len first (length clients))) clients (map worker_row workers) rows → AreServed rows news →
     Each IsDone news → EndsAs id (first + 1) clients (client_passes news)
-clients_end id first [] workers rows news is h done = no_clients id (first + 1) workers news (subst (λ l. Follows l news) is h)
+clients_end id first [] workers rows news is h done = no_clients id (first + 1) workers news (subst (λ l. AreServed l news) is h)
 clients_end id first (wishes ∷ clients) workers [] news is h done = absurd is
 clients_end id first (wishes ∷ clients) workers (Worker p b ∷ rows) news is h done = absurd is
 clients_end id first (wishes ∷ clients) workers (Client p v b ∷ rows) [] is h done = absurd h
@@ -113,7 +89,7 @@ clients_end id first (wishes ∷ clients) workers (Client p v b ∷ rows) (Clien
     )
 
 only_workers : (id : LockId) (n k m : ℕ) (news : List Row) →
-    Follows (map worker_row (map (new_work_pass id n) (range_with_len k m))) news → AreWorkers id n k m (worker_passes news)
+    AreServed (map worker_row (map (new_work_pass id n) (range_with_len k m))) news → AreWorkers id n k m (worker_passes news)
 only_workers id n k zero [] h = tt
 only_workers id n k zero (new ∷ news) h = absurd h
 only_workers id n k (suc m) [] h = absurd h
@@ -121,9 +97,9 @@ only_workers id n k (suc m) (Client q v b ∷ news) h = absurd h.0
 only_workers id n k (suc m) (Worker q b ∷ news) h = (h.0, only_workers id n (k + 1) m news h.2)
 
 pub workers_end : (id : LockId) (n k m : ℕ) (passes : List PassView) (clients : List (List Wish)) (rows news : List Row) →
-    AreClientRows passes clients (map worker_row (map (new_work_pass id n) (range_with_len k m))) rows → Follows rows news →
+    AreClientRows passes clients (map worker_row (map (new_work_pass id n) (range_with_len k m))) rows → AreServed rows news →
     AreWorkers id n k m (worker_passes news)
-workers_end id n k m [] [] rows news is h = only_workers id n k m news (subst (λ l. Follows l news) is h)
+workers_end id n k m [] [] rows news is h = only_workers id n k m news (subst (λ l. AreServed l news) is h)
 workers_end id n k m [] (wishes ∷ clients) rows news is h = absurd is
 workers_end id n k m (p ∷ passes) [] rows news is h = absurd is
 workers_end id n k m (p ∷ passes) (wishes ∷ clients) [] news is h = absurd is
@@ -263,7 +239,7 @@ pub record EndsWell (s : SessionView) (clients : List (List Wish)) (m : ℕ) (pa
   pub workers_are : AreWorkers s.lock.id s.lock.fixed.clients s.lock.fixed.clients m works
 
 pub ends : (s : SessionView) (clients : List (List Wish)) (m : ℕ) (rows news : List Row) (passes : List PassView) (works : List WorkPassView) →
-    AreBegun s clients m rows → Follows rows news → passes ≡ client_passes news → works ≡ worker_passes news → Each IsDone news →
+    AreBegun s clients m rows → AreServed rows news → passes ≡ client_passes news → works ≡ worker_passes news → Each IsDone news →
     EndsWell s clients m passes works
 ends s clients m rows news passes works h follows are_passes are_works done = record {
   clients_are =

@@ -3,3 +3,4 @@ pub mod Ordering
 pub mod Crossing
 pub mod Windowing
 pub mod Ending
+pub mod Spawning

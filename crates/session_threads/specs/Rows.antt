@@ -3,12 +3,15 @@ use Rattle.std.specs.Prelude.{◌≡◌, ◌<◌, [], ◌∷◌, List, length, m
 use Rattle.spec_core.specs.Code.{program_of}
 use Rattle.spec_core.specs.Lists.{Each}
 use Rattle.rule_model.specs.Wishes.{Wish}
+use Rattle.rule_model.specs.declared.wish.ClientWish.{ClientWish}
 use Rattle.rule_model.specs.WishViews.{wish_of}
 use Rattle.session_laws.specs.Wishes.{wishes_by}
 use Rattle.session_board.specs.Lines.{events_in}
 use Rattle.session.specs.Passes.{PassView, WorkPassView, HasLeft, SamePass}
 use Rattle.session.specs.Sessions.{SessionView, IsClientOf, IsWorkerOf, who_of}
 use Rattle.session_threads.specs.declared.rows.Row.{Row}
+use Rattle.session_threads.specs.declared.rows.ServedClient.{ServedClient}
+use Rattle.session_threads.specs.declared.rows.ServedWorker.{ServedWorker}
 use Rattle.session_threads.specs.declared.rows.Row.TheVariants.{Client, Worker}
 
 -- what a client wished, by the lines that it has made, in order
@@ -19,9 +22,13 @@ wishes_made p = wishes_by p.client (events_in p.own)
 abbrev pub FitSession : SessionView → List Wish → Type 0
 FitSession s wishes = Each (λ (w : Wish). w.offer.gate.0 < length (program_of s.lock.fixed.checked).gates) wishes
 
--- the client has done nothing yet, and its offers are at gates of the specification; the worker is the session's
+-- the client has done nothing yet, and its offers are at gates of the specification
+abbrev pub IsReadyClient : SessionView → PassView → List ClientWish → Type 0
+IsReadyClient s pass wishes = IsClientOf s pass × (pass.own ≡ []) × FitSession s (map wish_of wishes)
+
+-- so it is with a client; a worker is the session's
 abbrev pub IsReadyRow : SessionView → Row → Type 0
-IsReadyRow s (Client pass wishes is_done) = IsClientOf s pass × (pass.own ≡ []) × FitSession s (map wish_of wishes.now)
+IsReadyRow s (Client pass wishes is_done) = IsReadyClient s pass wishes.now
 IsReadyRow s (Worker pass is_done) = IsWorkerOf s (who_of pass)
 
 -- the same client with the same wishes, or the same worker
@@ -34,6 +41,21 @@ SameRow _ _ = ⊥
 abbrev pub IsServed : Row → Type 0
 IsServed (Client pass wishes is_done) = is_done ≡ true → HasLeft pass × (wishes_made pass ≡ map wish_of wishes.now)
 IsServed (Worker pass is_done) = Unit {0}
+
+-- the same client; where it has done what it was to do, it has made these offers, in order, and has left
+abbrev pub IsServedClient : PassView → List ClientWish → ServedClient → Type 0
+IsServedClient pass wishes served =
+    SamePass pass served.pass × (served.is_done ≡ true → HasLeft served.pass × (wishes_made served.pass ≡ map wish_of wishes))
+
+-- the same worker
+abbrev pub IsServedWorker : WorkPassView → ServedWorker → Type 0
+IsServedWorker pass served = who_of served.pass ≡ who_of pass
+
+-- the rows are served, one by one
+abbrev pub AreServed : List Row → List Row → Type 0
+AreServed [] [] = Unit {0}
+AreServed (row ∷ rows) (new ∷ news) = SameRow row new × IsServed new × AreServed rows news
+AreServed _ _ = ⊥
 
 -- the row has done what it was to do
 abbrev pub IsDone : Row → Type 0

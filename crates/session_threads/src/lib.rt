@@ -4,3 +4,4 @@
 mod rows;
 pub mod run;
 mod serving;
+mod threads;

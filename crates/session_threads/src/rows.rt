@@ -19,3 +19,17 @@ pub enum Row<'w> {
         is_done: bool,
     },
 }
+
+/// A client as its thread leaves it, and whether it has done all that it was to do, or met want of memory.
+#[derive(Drop)]
+pub struct ServedClient {
+    pub pass: Pass,
+    pub is_done: bool,
+}
+
+/// A worker as its thread leaves it, and whether it has done all that it was to do, or met want of memory.
+#[derive(Drop)]
+pub struct ServedWorker {
+    pub pass: WorkPass,
+    pub is_done: bool,
+}

@@ -1,6 +1,6 @@
 // The session of clients and workers in threads.
 
-ghost use Rattle.std.specs.Prelude.{ℕ, ◌≡◌, ◌≤◌, ◌<◌, ◌++◌, ◌∷◌, [], IfOk, OnOk, length, map, slice_index_or};
+ghost use Rattle.std.specs.Prelude.{◌≡◌, ◌≤◌, ◌<◌, ◌++◌, ◌∷◌, [], IfOk, OnOk, length, map};
 ghost use Rattle.spec_core.specs.Code.{program_of};
 ghost use Rattle.spec_core.specs.Lists.{Each};
 ghost use Rattle.spec_core.specs.Ready.{IsReady};
@@ -9,11 +9,11 @@ ghost use Rattle.rule_model.specs.Logs.{events_of};
 ghost use Rattle.symbolic_rules.specs.Windows.{Windows};
 ghost use Rattle.board_laws.specs.Next.{AreSessionWindows};
 ghost use Rattle.session_laws.specs.Sessions.{IsWholeSession};
-ghost use Rattle.session_threads.specs.Rows.{client_passes, worker_passes, worker_row, AreClientRows, IsDone, IsReadyRow, IsServed, SameRow};
+ghost use Rattle.session_threads.specs.Rows.{client_passes, worker_passes, worker_row, AreClientRows, AreServed, IsDone, IsReadyRow};
 ghost use Rattle.session_threads.specs.Runs.{all_wishes_of, AnswersClients};
 
 use crate::rows::Row;
-use crate::serving::serve;
+use crate::threads::serve_rows;
 use rule_model::log::{End, Log};
 use rule_model::wish::ClientWish;
 use session::pass::Pass;
@@ -68,30 +68,24 @@ fn add_client_rows<'w>(
 }
 
 // Each row in a thread of its own.
-fn serve_all<R: Threads + Wait + Sync, P: Probe + Sync>(
+fn serve_all<'w, R: Threads + Wait + Sync, P: Probe + Sync>(
     rt: &R,
+    alloc: Global,
     session: &Session,
-    rows: &mut Vec<Row>,
+    rows: Vec<Row<'w>>,
     probe: &P,
-)
-    requires ready { (i : ℕ) (row : _) → i < length rows.old.items → row ≡ slice_index_or rows.old.items i row → IsReadyRow session.now row }
-    ensures count { length rows.new.items ≡ length rows.old.items }
-    ensures served { (i : ℕ) (row new : _) → i < length rows.old.items → row ≡ slice_index_or rows.old.items i row →
-        new ≡ slice_index_or rows.new.items i new → SameRow row new × IsServed new }
+) -> Result<Vec<Row<'w>>, Memory>
+    requires ready { Each (IsReadyRow session.now) rows.items }
+    ensures served { IfOk result (λ news. AreServed rows.entry.items news.items) }
 {
-    let threads = rows.len();
-    if threads == 0 {
-        return;
-    }
-    thread::for_each_mut(
+    thread::scope(
+        thread::scope_env(),
         rt,
-        rows.as_mut_slice(),
-        threads,
-        &|_, row: &mut Row|
-            requires { IsReadyRow session.now row.old }
-            ensures { SameRow row.old row.new × IsServed row.new }
-        { serve(rt, session, row, probe) },
-    );
+        move |scope| -> Result<Vec<Row>, Memory>
+            requires { Each (IsReadyRow session.now) rows.items }
+            ensures { IfOk result (λ news. AreServed rows.entry.items news.items) }
+        { serve_rows(scope, rt, alloc, session, rows, probe) },
+    )
 }
 
 // Hands on the pass of a row that has done what it was to do.
@@ -165,8 +159,8 @@ pub fn run_in_threads<R: Threads + Wait + Sync, P: Probe + Sync>(
     )?;
     let mut rows = worker_rows(alloc, work_passes)?;
     add_client_rows(&mut rows, passes, clients)?;
-    serve_all(rt, &session, &mut rows, probe);
-    let (passes, work_passes) = passes_of(alloc, rows)?;
+    let served = serve_all(rt, alloc, &session, rows, probe)?;
+    let (passes, work_passes) = passes_of(alloc, served)?;
     whole_sessions_answer_clients();
     session.close(passes, work_passes)
 }

@@ -5,15 +5,16 @@ ghost use Rattle.rule_model.specs.Answers.{answer_of};
 ghost use Rattle.rule_model.specs.WishViews.{wish_of};
 ghost use Rattle.session.specs.Calls.{ExplainsCall};
 ghost use Rattle.session.specs.Passes.{HasLeft, KnowsAnswer, SamePass};
-ghost use Rattle.session.specs.Sessions.{IsClientOf};
-ghost use Rattle.session_threads.specs.Rows.{wishes_made, FitSession, IsReadyRow, IsServed, SameRow};
+ghost use Rattle.session.specs.Sessions.{IsClientOf, IsWorkerOf, who_of};
+ghost use Rattle.session_threads.specs.Rows.{wishes_made, FitSession, IsReadyClient, IsServedClient, IsServedWorker};
 
-use crate::rows::Row;
+use crate::rows::{ServedClient, ServedWorker};
 use rule_model::reply::Reply;
 use rule_model::wish::ClientWish;
 use session::calls::CallFault;
 use session::pass::Pass;
 use session::session::Session;
+use session::work_pass::WorkPass;
 use spec_core::memory::Memory;
 use std::sync::Wait;
 use worker_drive::{Probe, drive};
@@ -117,18 +118,30 @@ fn serve_client<R: Wait>(
     leave(rt, session, pass)
 }
 
-/// Does what the row is to do.
-pub fn serve<R: Wait, P: Probe>(rt: &R, session: &Session, row: &mut Row, probe: &P)
-    requires ready { IsReadyRow session.now row.old }
-    ensures same { SameRow row.old row.new }
-    ensures served { IsServed row.new }
+/// The client as it is once it has made its offers in order and left, or met want of memory.
+pub fn served_client<R: Wait>(
+    rt: &R,
+    session: &Session,
+    mut pass: Pass,
+    wishes: &[ClientWish],
+) -> ServedClient
+    requires ready { IsReadyClient session.now pass wishes.now }
+    ensures served { IsServedClient pass wishes.now result }
 {
-    match row {
-        Row::Client {
-            pass,
-            wishes,
-            is_done,
-        } => *is_done = serve_client(rt, session, pass, wishes).is_ok(),
-        Row::Worker { pass, is_done } => *is_done = drive(rt, session, pass, probe).is_ok(),
-    }
+    let is_done = serve_client(rt, session, &mut pass, wishes).is_ok();
+    ServedClient { pass, is_done }
+}
+
+/// The worker as it is once each client has left, or it met want of memory.
+pub fn served_worker<R: Wait, P: Probe>(
+    rt: &R,
+    session: &Session,
+    mut pass: WorkPass,
+    probe: &P,
+) -> ServedWorker
+    requires ours { IsWorkerOf session.now (who_of pass) }
+    ensures served { IsServedWorker pass result }
+{
+    let is_done = drive(rt, session, &mut pass, probe).is_ok();
+    ServedWorker { pass, is_done }
 }

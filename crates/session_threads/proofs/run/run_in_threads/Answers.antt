@@ -18,7 +18,7 @@ use Rattle.session.specs.Starting.{new_pass}
 use Rattle.session_threads.specs.Rows.{IsReadyRow}
 use Rattle.session_threads.specs.Runs.{all_wishes_of}
 use Rattle.session_threads.proofs.Windowing.{tells_windows, HasWindows}
-use Rattle.session_threads.proofs.Ending.{all_ready, answers_clients, at_place, begun, clients_ours, clients_there, ends, follow}
+use Rattle.session_threads.proofs.Ending.{all_ready, answers_clients, begun, clients_ours, clients_there, ends}
 use Rattle.session_threads.proofs.Ending.{workers_ours, workers_there}
 use Rattle.session_threads.proofs.run.run_in_threads.Goals as goal
 
@@ -39,7 +39,7 @@ serve_all-requires-clause-ready g c κs within =
     f.fixed.2 f.passes f.workers c.in_ok-rows.ensures.rows c.in_ok-add_client_rows.ensures.rows in
     let fit =
     subst (λ (p : Checked). Each (Each (λ (w : Wish). w.offer.gate.0 < length (program_of p).gates)) wishes) (sym f.fixed.0) c.requires.gates in
-    at_place (IsReadyRow s) rows (all_ready s c.args.clients.now c.args.workers rows f.fixed.2 is fit)
+    all_ready s c.args.clients.now c.args.workers rows f.fixed.2 is fit
 
 pub close-requires-clause-clients : goal.close-requires-clause-clients
 close-requires-clause-clients g c =
@@ -49,9 +49,9 @@ close-requires-clause-clients g c =
     let rows = c.add_client_rows.new.rows.items in
     let is = begun s c.args.clients.now c.args.workers c.in_ok-session.passes.items c.in_ok-session.work_passes.items c.in_ok-rows.rows.items rows
     f.fixed.2 f.passes f.workers c.in_ok-rows.ensures.rows c.in_ok-add_client_rows.ensures.rows in
-    let news = c.serve_all.new.rows.items in
+    let news = c.in_ok-served.served.items in
     let e = ends s wishes c.args.workers rows news c.in_ok-passes.passes.items c.in_ok-passes.work_passes.items is
-    (follow rows news c.serve_all.ensures.count c.serve_all.ensures.served) c.in_ok-passes.ensures.clients c.in_ok-passes.ensures.workers
+    c.in_ok-served.ensures.served c.in_ok-passes.ensures.clients c.in_ok-passes.ensures.workers
     c.in_ok-passes.ensures.done in
     let long : length wishes ≡ s.lock.fixed.clients = length-map c.args.clients.now all_wishes_of ∙ sym f.fixed.2 in
     All-from_recursion (IsClientOf s) c.in_ok-passes.passes.items
@@ -65,9 +65,9 @@ close-requires-clause-all_clients g c =
     let rows = c.add_client_rows.new.rows.items in
     let is = begun s c.args.clients.now c.args.workers c.in_ok-session.passes.items c.in_ok-session.work_passes.items c.in_ok-rows.rows.items rows
     f.fixed.2 f.passes f.workers c.in_ok-rows.ensures.rows c.in_ok-add_client_rows.ensures.rows in
-    let news = c.serve_all.new.rows.items in
+    let news = c.in_ok-served.served.items in
     let e = ends s wishes c.args.workers rows news c.in_ok-passes.passes.items c.in_ok-passes.work_passes.items is
-    (follow rows news c.serve_all.ensures.count c.serve_all.ensures.served) c.in_ok-passes.ensures.clients c.in_ok-passes.ensures.workers
+    c.in_ok-served.ensures.served c.in_ok-passes.ensures.clients c.in_ok-passes.ensures.workers
     c.in_ok-passes.ensures.done in
     let long : length wishes ≡ s.lock.fixed.clients = length-map c.args.clients.now all_wishes_of ∙ sym f.fixed.2 in
     λ k least most. clients_there s.lock.id 1 wishes c.in_ok-passes.passes.items e.clients_are k least (omega (arith, long, most))
@@ -80,9 +80,9 @@ close-requires-clause-workers g c =
     let rows = c.add_client_rows.new.rows.items in
     let is = begun s c.args.clients.now c.args.workers c.in_ok-session.passes.items c.in_ok-session.work_passes.items c.in_ok-rows.rows.items rows
     f.fixed.2 f.passes f.workers c.in_ok-rows.ensures.rows c.in_ok-add_client_rows.ensures.rows in
-    let news = c.serve_all.new.rows.items in
+    let news = c.in_ok-served.served.items in
     let e = ends s wishes c.args.workers rows news c.in_ok-passes.passes.items c.in_ok-passes.work_passes.items is
-    (follow rows news c.serve_all.ensures.count c.serve_all.ensures.served) c.in_ok-passes.ensures.clients c.in_ok-passes.ensures.workers
+    c.in_ok-served.ensures.served c.in_ok-passes.ensures.clients c.in_ok-passes.ensures.workers
     c.in_ok-passes.ensures.done in
     let long : length wishes ≡ s.lock.fixed.clients = length-map c.args.clients.now all_wishes_of ∙ sym f.fixed.2 in
     All-from_recursion (λ (p : WorkPassView). IsWorkerOf s (who_of p)) c.in_ok-passes.work_passes.items
@@ -96,9 +96,9 @@ close-requires-clause-all_workers g c =
     let rows = c.add_client_rows.new.rows.items in
     let is = begun s c.args.clients.now c.args.workers c.in_ok-session.passes.items c.in_ok-session.work_passes.items c.in_ok-rows.rows.items rows
     f.fixed.2 f.passes f.workers c.in_ok-rows.ensures.rows c.in_ok-add_client_rows.ensures.rows in
-    let news = c.serve_all.new.rows.items in
+    let news = c.in_ok-served.served.items in
     let e = ends s wishes c.args.workers rows news c.in_ok-passes.passes.items c.in_ok-passes.work_passes.items is
-    (follow rows news c.serve_all.ensures.count c.serve_all.ensures.served) c.in_ok-passes.ensures.clients c.in_ok-passes.ensures.workers
+    c.in_ok-served.ensures.served c.in_ok-passes.ensures.clients c.in_ok-passes.ensures.workers
     c.in_ok-passes.ensures.done in
     let long : length wishes ≡ s.lock.fixed.clients = length-map c.args.clients.now all_wishes_of ∙ sym f.fixed.2 in
     let count = f.fixed.3 in
@@ -114,9 +114,9 @@ returns-clause-clients g c =
     let rows = c.add_client_rows.new.rows.items in
     let is = begun s c.args.clients.now c.args.workers c.in_ok-session.passes.items c.in_ok-session.work_passes.items c.in_ok-rows.rows.items rows
     f.fixed.2 f.passes f.workers c.in_ok-rows.ensures.rows c.in_ok-add_client_rows.ensures.rows in
-    let news = c.serve_all.new.rows.items in
+    let news = c.in_ok-served.served.items in
     let e = ends s wishes c.args.workers rows news c.in_ok-passes.passes.items c.in_ok-passes.work_passes.items is
-    (follow rows news c.serve_all.ensures.count c.serve_all.ensures.served) c.in_ok-passes.ensures.clients c.in_ok-passes.ensures.workers
+    c.in_ok-served.ensures.served c.in_ok-passes.ensures.clients c.in_ok-passes.ensures.workers
     c.in_ok-passes.ensures.done in
     let long : length wishes ≡ s.lock.fixed.clients = length-map c.args.clients.now all_wishes_of ∙ sym f.fixed.2 in
     if_ok_two c.close.result (λ r whole own.
