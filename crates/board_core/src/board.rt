@@ -14,7 +14,7 @@ ghost use Rattle.board_record.specs.Answered.{answered_of, reply_to};
 ghost use Rattle.board_record.specs.Faults.{ExplainsLeave, ExplainsPend};
 ghost use Rattle.board_record.specs.Records.{IsSession};
 ghost use Rattle.log_states.specs.Possible.{MayLeave, MayOffer};
-ghost use Rattle.log_states.specs.Views.{state_of};
+ghost use Rattle.log_states.specs.Views.{state_at};
 ghost use Rattle.node_trees.specs.Generations.{AreApart, AreBelow};
 ghost use Rattle.node_trees.specs.Shapes.{AllWait, stands_for};
 ghost use Rattle.board_core.specs.Boards.{AreOfLiving};
@@ -157,9 +157,9 @@ impl Board {
         self.record.log()
     }
 
-    /// The state: who is open, what is offered, and what was done. It takes no memory.
+    /// The state, but for the behaviour that is reached: who is open, what is offered, and what was done. It takes no memory.
     pub fn state(&self) -> &SessionState
-        ensures { state_of result.now ≡ state self.now }
+        ensures { state_at (state self.now).behaviour result.now ≡ state self.now }
     {
         self.record.state()
     }

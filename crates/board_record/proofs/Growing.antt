@@ -1,5 +1,5 @@
 -- What one more entry makes of the record of a session.
-use Rattle.std.proofs.Common.{ℕ, ◌≡◌, ◌∙◌, sym, ap, subst, List, [], ◌∷◌, ◌++◌, map}
+use Rattle.std.proofs.Common.{ℕ, ◌≡◌, ◌∙◌, sym, ap, subst, List, [], ◌∷◌, ◌++◌, map, Result, Ok, Err, OnErr}
 use Rattle.std.proofs.lemmas.List.{map-append}
 use Rattle.spec_core.specs.Code.{Program}
 use Rattle.spec_core.specs.Ready.{IsReady}
@@ -9,42 +9,39 @@ use Rattle.rule_model.specs.Code.{IsStart}
 use Rattle.rule_model.specs.Events.{event_of}
 use Rattle.rule_model.specs.Legal.{IsPossible, IsDerivation}
 use Rattle.rule_model.specs.States.{State, start_state}
-use Rattle.board_record.specs.Records.{IsRecord}
+use Rattle.board_record.specs.Records.{IsRecord, state_with}
 use Rattle.log_states.proofs.Derivations.{further}
+use Rattle.log_states.specs.declared.state.SessionState.{SessionState}
 use Rattle.log_states.specs.Clients.{numbers_from}
+use Rattle.log_states.specs.Views.{state_at}
 use Rattle.node_trees.specs.Shapes.{Shape, stands_for}
+
+-- a fact, where an error is answered
+pub on_error : {A E P : Type 0} (r : Result A E) → P → OnErr r P
+on_error (Ok a) h = tt
+on_error (Err e) h = h
+
+module _ (program : Program) where
+  -- with a tree that stands for the same the state is the same
+  pub one_state : (t v : Shape) (s : SessionState) → stands_for program v ≡ stands_for program t → state_with program v s ≡ state_with program t s
+  one_state t v s = ap (λ b. state_at b s)
 
 module _ (program : Program) (clients : ℕ) where
   -- nothing happened yet
-  pub begins : (b : Behaviour) (s : State) (t : Shape) → IsReady program → IsStart program (stands_for program t) → b ≡ stands_for program t →
-      s ≡ start_state b (numbers_from 1 clients) → IsRecord program clients [] s t
-  begins b s t ready start e f = record {
-    ready = ready;
-    session = record { behaviour = b; start = subst (IsStart program) (sym e) start; derivation = f };
-    reached = ap (λ z. z.behaviour) f ∙ e;
-  }
+  pub begins : (b : Behaviour) (s : State) → IsReady program → IsStart program b → s ≡ start_state b (numbers_from 1 clients) →
+      IsRecord program clients [] s
+  begins b s ready start e = record { ready = ready; session = record { behaviour = b; start = start; derivation = e } }
 
-  -- the log, the state and the tree as other values
-  pub stays : (log logs : List Entry) (s u : State) (t v : Shape) → map event_of logs ≡ map event_of log → u ≡ s →
-      stands_for program v ≡ stands_for program t → IsRecord program clients (map event_of log) s t →
-      IsRecord program clients (map event_of logs) u v
-  stays log logs s u t v e f g h = record {
-    ready = h.ready;
-    session = record {
-      behaviour = h.session.behaviour;
-      start = h.session.start;
-      derivation =
-          subst (λ z. IsDerivation program z (start_state h.session.behaviour (numbers_from 1 clients)) u) (sym e)
-          (subst (IsDerivation program (map event_of log) (start_state h.session.behaviour (numbers_from 1 clients))) (sym f) h.session.derivation);
-    };
-    reached = ap (λ z. z.behaviour) f ∙ h.reached ∙ sym g;
-  }
+  -- the log and the state as other values
+  pub stays : (log logs : List Entry) (s u : State) → logs ≡ log → u ≡ s → IsRecord program clients (map event_of log) s →
+      IsRecord program clients (map event_of logs) u
+  stays log logs s u e f h =
+      subst (λ z. IsRecord program clients (map event_of z) u) (sym e) (subst (IsRecord program clients (map event_of log)) (sym f) h)
 
   -- one more entry
-  pub goes_on : (log logs : List Entry) (entry : Entry) (s u : State) (t v : Shape) → logs ≡ log ++ entry ∷ [] →
-      IsPossible program s (event_of entry) u → u.behaviour ≡ stands_for program v → IsRecord program clients (map event_of log) s t →
-      IsRecord program clients (map event_of logs) u v
-  goes_on log logs entry s u t v e possible reached h = record {
+  pub goes_on : (log logs : List Entry) (entry : Entry) (s u : State) → logs ≡ log ++ entry ∷ [] → IsPossible program s (event_of entry) u →
+      IsRecord program clients (map event_of log) s → IsRecord program clients (map event_of logs) u
+  goes_on log logs entry s u e possible h = record {
     ready = h.ready;
     session = record {
       behaviour = h.session.behaviour;
@@ -54,5 +51,4 @@ module _ (program : Program) (clients : ℕ) where
           (sym (ap (map event_of) e ∙ map-append event_of log (entry ∷ [])))
           (further program (map event_of log) (event_of entry) (start_state h.session.behaviour (numbers_from 1 clients)) s u h.session.derivation possible);
     };
-    reached = reached;
   }

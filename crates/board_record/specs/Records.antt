@@ -3,7 +3,7 @@ use Rattle.std.specs.Prelude.{ℕ, ◌≡◌, List, Option, Some, None}
 use Rattle.spec_core.specs.Code.{Program}
 use Rattle.spec_core.specs.Ready.{IsReady}
 use Rattle.board_tree.specs.declared.ready.Ready.{Ready}
-use Rattle.board_tree.specs.Views.{IsNext, IsNextAction}
+use Rattle.board_tree.specs.Views.{IsNextAction}
 use Rattle.rule_model.specs.declared.action.Action.{Action}
 use Rattle.rule_model.specs.Behaviours.{Behaviour}
 use Rattle.rule_model.specs.Code.{IsStart}
@@ -14,7 +14,8 @@ use Rattle.rule_model.specs.Legal.{IsAgreed, IsDerivation}
 use Rattle.rule_model.specs.States.{State, start_state, after_action}
 use Rattle.board_record.specs.declared.ready_act.ReadyAct.{ReadyAct}
 use Rattle.log_states.specs.Clients.{numbers_from}
-use Rattle.log_states.specs.Views.{state_of}
+use Rattle.log_states.specs.declared.state.SessionState.{SessionState}
+use Rattle.log_states.specs.Views.{state_at}
 use Rattle.node_trees.specs.Shapes.{Shape, stands_for}
 
 -- the log is a derivation that begins with the specification's behaviour and so many clients, and leads to the state
@@ -23,11 +24,14 @@ pub record IsSession (program : Program) (clients : ℕ) (log : List Event) (s :
   pub start : IsStart program behaviour
   pub derivation : IsDerivation program log (start_state behaviour (numbers_from 1 clients)) s
 
--- the log leads to the state, whose behaviour the tree stands for
-pub record IsRecord (program : Program) (clients : ℕ) (log : List Event) (s : State) (t : Shape) : Type 0 where
+-- the state, whose behaviour is the one that the tree stands for
+abbrev pub state_with : Program → Shape → SessionState → State
+state_with program t s = state_at (stands_for program t) s
+
+-- the log of a specification that is ready to run leads to the state
+pub record IsRecord (program : Program) (clients : ℕ) (log : List Event) (s : State) : Type 0 where
   pub ready : IsReady program
   pub session : IsSession program clients log s
-  pub reached : s.behaviour ≡ stands_for program t
 
 -- by these rules the behaviour does an action, to which the client of this offer agrees; or nobody has to, since it is unseen
 pub record MayAct (program : Program) (s : State) (d : Derivation) (by : Option OfferName) : Type 0 where
@@ -36,17 +40,14 @@ pub record MayAct (program : Program) (s : State) (d : Derivation) (by : Option 
   pub derives : Derives program s.behaviour d action rest
   pub agreed : IsAgreed program s action by
 
--- the state is the one that the action leads to, with the behaviour of the tree that stands ready, and the entry tells of the action
-pub record IsReadyAct (program : Program) (s : State) (d : Derivation) (by : Option OfferName) (t : Option Ready) (r : ReadyAct)
-    : Type 0 where
+-- the state is the one that the action of the tree that stands ready leads to, whichever behaviour is reached, and the entry tells of it
+pub record IsReadyAct (s : State) (d : Derivation) (by : Option OfferName) (t : Option Ready) (r : ReadyAct) : Type 0 where
   pub action : Action
   pub next : IsNextAction t action
-  pub rest : Behaviour
-  pub stands : (next : Shape) → IsNext t next → rest ≡ stands_for program next
-  pub state : state_of r.state ≡ after_action s action by rest
+  pub state : (rest : Behaviour) → state_at rest r.state ≡ after_action s action by rest
   pub entry : event_of r.entry ≡ acted action d by
 
 -- such an act stands ready
-abbrev pub IsReadied : Program → State → Derivation → Option OfferName → Option Ready → Option ReadyAct → Type 0
-IsReadied program s d by t None = ⊥
-IsReadied program s d by t (Some r) = IsReadyAct program s d by t r
+abbrev pub IsReadied : State → Derivation → Option OfferName → Option Ready → Option ReadyAct → Type 0
+IsReadied s d by t None = ⊥
+IsReadied s d by t (Some r) = IsReadyAct s d by t r

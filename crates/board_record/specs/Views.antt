@@ -11,13 +11,12 @@ use Rattle.rule_model.specs.Events.{Event, OfferName, acted, event_of}
 use Rattle.rule_model.specs.Legal.{IsAgreed}
 use Rattle.rule_model.specs.States.{State, after_action}
 use Rattle.board_record.specs.declared.ready_act.ReadyAct.{ReadyAct}
-use Rattle.board_record.specs.Records.{IsReadied}
+use Rattle.board_record.specs.Records.{IsReadied, state_with}
 use Rattle.log_states.specs.declared.state.SessionState.{SessionState}
-use Rattle.log_states.specs.Views.{state_of}
 use Rattle.node_trees.specs.Shapes.{stands_for}
 
--- the specification; how many clients there are; the log; the state that it leads to; the tree of its behaviour; the act that stands
--- ready; for how many more entries the log has room
+-- the specification; how many clients there are; the log; the state that it leads to, but for its behaviour; the tree of its behaviour; the
+-- act that stands ready; for how many more entries the log has room
 pub record RecordView : Type 0 where
   pub checked : Checked
   pub clients : ℕ
@@ -35,7 +34,7 @@ abbrev pub events : RecordView → List Event
 events v = map event_of v.entries
 
 abbrev pub state : RecordView → State
-state v = state_of v.session
+state v = state_with (program v) (shape v.tree) v.session
 
 -- one specification, with as many clients
 abbrev pub SameSetting : RecordView → RecordView → Type 0
@@ -57,7 +56,7 @@ SameTree old new =
 -- all that the action by these rules needs stands ready, where it takes the offer of this name
 pub record IsActReserved (v : RecordView) (d : Derivation) (by : Option OfferName) : Type 0 where
   pub tree : IsReserved (program v) (shape v.tree) v.tree.next d v.tree.ready
-  pub act : IsReadied (program v) (state v) d by v.tree.ready v.ready
+  pub act : IsReadied (state v) d by v.tree.ready v.ready
   pub room : 0 < v.room
 
 -- The behaviour has done an action by these rules, to which the client of this offer agreed, or nobody had to. The log has it as its last

@@ -18,7 +18,7 @@ ghost use Rattle.board_record.specs.Faults.{ExplainsLeave, ExplainsPend};
 ghost use Rattle.board_record.specs.Records.{IsSession, MayAct};
 ghost use Rattle.board_record.specs.Views.{events, program, state, HasActed, HasOneMore, IsActReserved, SameLog, SameSetting, SameTree};
 ghost use Rattle.log_states.specs.Possible.{MayLeave, MayOffer, MayStall};
-ghost use Rattle.log_states.specs.Views.{state_of};
+ghost use Rattle.log_states.specs.Views.{state_at};
 ghost use Rattle.node_trees.specs.Rests.{expansion_of};
 ghost use Rattle.node_trees.specs.Shapes.{stands_for, posted, Lives, IsRight, IsWorkFor, AllWait};
 
@@ -62,10 +62,9 @@ impl Model for Record {
     ghost use Rattle.rule_model.specs.contracts.log.Entry as e;
     ghost use Rattle.rule_model.specs.Events.{event_of};
     ghost use Rattle.board_record.specs.contracts.ready_act.ReadyAct as r;
-    ghost use Rattle.board_record.specs.Records.{IsRecord};
+    ghost use Rattle.board_record.specs.Records.{IsRecord, state_with};
     ghost use Rattle.board_record.specs.Views.{RecordView};
     ghost use Rattle.log_states.specs.contracts.state.SessionState as s;
-    ghost use Rattle.log_states.specs.Views.{state_of};
 
     ghost Value = { RecordView };
 
@@ -81,7 +80,8 @@ impl Model for Record {
       room = vec_capacity v.entries - vec_len v.entries;
     } };
 
-    ghost invariant = { λ v. IsRecord (program_of v.checked) v.clients (map event_of v.entries.items) (state_of v.session) (shape v.tree) };
+    ghost invariant = { λ v. IsRecord (program_of v.checked) v.clients (map event_of v.entries.items)
+        (state_with (program_of v.checked) (shape v.tree) v.session) };
 }
 
 // One more entry, for which there is room. It takes no memory.
@@ -119,8 +119,7 @@ impl Record {
         ensures came { IfOk result (λ r. r.tree.came ≡ []) }
     {
         let tree = Tree::new(alloc, &checked)?;
-        let behaviour = tree.stands(alloc, &checked)?;
-        let session = SessionState::new(alloc, behaviour, clients)?;
+        let session = SessionState::new(alloc, clients)?;
         Ok(Record {
             checked,
             clients,
@@ -162,9 +161,9 @@ impl Record {
         &self.entries
     }
 
-    /// The state: who is open, what is offered, and what was done. It takes no memory.
+    /// The state, but for the behaviour that is reached: who is open, what is offered, and what was done. It takes no memory.
     pub fn state(&self) -> &SessionState
-        ensures { state_of result.now ≡ state self.now }
+        ensures { state_at (state self.now).behaviour result.now ≡ state self.now }
     {
         &self.session
     }
@@ -360,9 +359,8 @@ impl Record {
     {
         self.entries.reserve(1)?;
         self.tree.reserve_step(alloc, &self.checked, rules)?;
-        let rest = self.tree.stands_next(alloc, &self.checked)?;
         let action = self.tree.action_next();
-        let ready = ready_act(alloc, &self.session, rules, action, by, rest)?;
+        let ready = ready_act(alloc, &self.session, rules, action, by)?;
         self.ready = Some(ready);
         Ok(())
     }

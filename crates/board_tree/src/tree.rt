@@ -8,7 +8,7 @@ ghost use Rattle.rule_model.specs.Code.{IsStart};
 ghost use Rattle.rule_model.specs.Derivations.{derivation_of};
 ghost use Rattle.node_trees.specs.Generations.{AreApart, AreBelow, ArePlaced};
 ghost use Rattle.node_trees.specs.Rests.{expansion_of};
-ghost use Rattle.node_trees.specs.Shapes.{Shape, shape_of, stands_for, held_of, posted, Lives, IsNodeOf, IsRight, IsWorkFor};
+ghost use Rattle.node_trees.specs.Shapes.{shape_of, stands_for, held_of, posted, Lives, IsNodeOf, IsRight, IsWorkFor};
 ghost use Rattle.node_trees.specs.Shapes.{AllWait};
 ghost use Rattle.board_tree.specs.Views.{shape, IsReserved, IsNext, IsNextAction, IsStep};
 
@@ -168,19 +168,6 @@ impl Tree {
         let ready = ready_for(alloc, checked, &self.root, rules, self.next)?;
         self.ready = Some(ready);
         Ok(())
-    }
-
-    /// The behaviour of the tree that stands ready.
-    pub fn stands_next(&self, alloc: Global, checked: &Checked) -> Result<Beh, Memory>
-        requires ready { IsReady (program_of checked.now) }
-        requires reserved { IsSome self.now.ready }
-        ensures stands { IfOk result (λ b. (next : Shape) → IsNext self.now.ready next →
-            behaviour_of b ≡ stands_for (program_of checked.now) next) }
-    {
-        match &self.ready {
-            Some(ready) => ready.branch.stands(alloc, checked),
-            None => unreachable!(),
-        }
     }
 
     /// The action that stands ready: where each node that takes part is expanded by what its origin can do, it is the one that the behaviour

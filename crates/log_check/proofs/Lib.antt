@@ -1,4 +1,5 @@
 pub mod Asked
+pub mod Becoming
 pub mod Derivations
 pub mod OneAnswer
 pub mod OneWay

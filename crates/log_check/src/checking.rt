@@ -6,14 +6,15 @@ ghost use Rattle.spec_core.specs.Ready.{IsReady};
 ghost use Rattle.rule_model.specs.Events.{event_of};
 ghost use Rattle.rule_model.specs.Legal.{IsDerivation, IsPossible};
 ghost use Rattle.rule_model.specs.Logs.{events_of};
-ghost use Rattle.log_states.specs.Views.{state_of};
 ghost use Rattle.log_check.specs.Checked.{EntriesAreWithin, Explains, FailsFrom, IsDerivationOf, LogTermsAreWithin};
 ghost use Rattle.log_check.specs.Entries.{EntryFails, EntryTermsAreWithin};
 ghost use Rattle.log_check.specs.Starting.{BeginsIn};
+ghost use Rattle.log_check.specs.Views.{state_of};
 
 use crate::clients::greatest_client;
 use crate::entry::take;
 use crate::fault::CheckFault;
+use crate::reached::Reached;
 use log_states::state::SessionState;
 use rule_model::log::{Entry, Log};
 use rule_walk::{FireFault, start};
@@ -22,14 +23,15 @@ use spec_core::memory::Memory;
 use std::alloc::Global;
 
 // The state in which a log begins.
-fn begin(alloc: Global, checked: &Checked, entries: &[Entry]) -> Result<SessionState, Memory>
+fn begin(alloc: Global, checked: &Checked, entries: &[Entry]) -> Result<Reached, Memory>
     requires ready { IsReady (program_of checked.now) }
     ensures { IfOk result (λ s. BeginsIn (program_of checked.now) (map event_of entries.now) (state_of s)) }
 {
     let behaviour = start(alloc, checked)?;
     let clients = greatest_client(entries);
     if clients <= 4_294_967_294 {
-        SessionState::new(alloc, behaviour, clients)
+        let session = SessionState::new(alloc, clients)?;
+        Ok(Reached { behaviour, session })
     } else {
         Err(Memory)
     }
@@ -39,7 +41,7 @@ fn begin(alloc: Global, checked: &Checked, entries: &[Entry]) -> Result<SessionS
 fn go_on(
     alloc: Global,
     checked: &Checked,
-    state: &mut SessionState,
+    state: &mut Reached,
     entry: &Entry,
     place: u64,
     budget: u64,
@@ -63,7 +65,7 @@ fn go_on(
 fn walk(
     alloc: Global,
     checked: &Checked,
-    state: &mut SessionState,
+    state: &mut Reached,
     entries: &[Entry],
     budget: u64,
 ) -> Result<(), CheckFault>
@@ -95,7 +97,7 @@ pub fn check(alloc: Global, checked: &Checked, log: &Log, budget: u64) -> Result
     let entries = log.as_slice();
     let mut state = begin(alloc, checked, entries)?;
     match walk(alloc, checked, &mut state, entries, budget) {
-        Ok(()) => Ok(state.actions()),
+        Ok(()) => Ok(state.session.actions()),
         Err(fault) => Err(fault),
     }
 }

@@ -7,10 +7,10 @@ ghost use Rattle.spec_core.specs.Ready.{IsReady};
 ghost use Rattle.rule_model.specs.Derivations.{derivation_of};
 ghost use Rattle.rule_model.specs.Events.{acted, event_of, left, pended, replied, stalled};
 ghost use Rattle.rule_model.specs.Answers.{answer_of};
-ghost use Rattle.log_states.specs.Views.{state_of};
 ghost use Rattle.log_check.specs.Entries.{Becomes, EntryExplains, BoundsEntry, NamesNumber};
+ghost use Rattle.log_check.specs.Views.{state_of};
 
-use log_states::state::SessionState;
+use crate::reached::Reached;
 use rule_laws::laws::trees_determine_steps;
 use rule_model::action::Action;
 use rule_model::log::Entry;
@@ -25,7 +25,7 @@ use std::alloc::Global;
 fn offer(
     alloc: Global,
     checked: &Checked,
-    state: &mut SessionState,
+    state: &mut Reached,
     client: u32,
     number: u64,
     offered: &Offer,
@@ -35,21 +35,25 @@ fn offer(
         (state_of state.new)) }
     ensures cause { IfErr result (EntryExplains (program_of checked.now) (state_of state.old) (pended client number offered.now ask) 0) }
 {
-    Ok(state.offer(alloc, checked.gates.len(), client, number, offered, ask)?)
+    Ok(
+        state
+            .session
+            .offer(alloc, checked.gates.len(), client, number, offered, ask)?,
+    )
 }
 
 // A client leaves.
 fn leave(
     alloc: Global,
     checked: &Checked,
-    state: &mut SessionState,
+    state: &mut Reached,
     client: u32,
 ) -> Result<bool, FireFault>
     ensures next { IfOk result (Becomes (program_of checked.now) (state_of state.old) (left client) (state_of state.new)) }
     ensures cause { IfErr result (EntryExplains (program_of checked.now) (state_of state.old) (left client) 0) }
 {
     let _ = checked;
-    Ok(state.leave(alloc, client)?)
+    Ok(state.session.leave(alloc, client)?)
 }
 
 // The number of actions that a reply names; none where a reply of its kind is an entry of its own.
@@ -83,7 +87,7 @@ fn is_at(reply: &Reply, actions: u64) -> bool
 fn answer(
     alloc: Global,
     checked: &Checked,
-    state: &mut SessionState,
+    state: &mut Reached,
     client: u32,
     number: u64,
     reply: &Reply,
@@ -94,8 +98,8 @@ fn answer(
         (replied client number (answer_of reply.now)) 0) }
 {
     let _ = checked;
-    if state.is_pending(client, number) && is_at(reply, state.actions()) {
-        state.answer(alloc, client, number)?;
+    if state.session.is_pending(client, number) && is_at(reply, state.session.actions()) {
+        state.session.answer(alloc, client, number)?;
         Ok(true)
     } else {
         Ok(false)
@@ -103,12 +107,12 @@ fn answer(
 }
 
 // All pending offers are stalled. It takes no memory.
-fn stall(alloc: Global, checked: &Checked, state: &mut SessionState, names: &[(u32, u64)]) -> bool
+fn stall(alloc: Global, checked: &Checked, state: &mut Reached, names: &[(u32, u64)]) -> bool
     ensures { Becomes (program_of checked.now) (state_of state.old) (stalled names.now) (state_of state.new) result }
 {
     let _ = checked;
-    if state.may_stall(names) {
-        state.stall(alloc);
+    if state.session.may_stall(names) {
+        state.session.stall(alloc);
         true
     } else {
         false
@@ -119,7 +123,7 @@ fn stall(alloc: Global, checked: &Checked, state: &mut SessionState, names: &[(u
 fn act(
     alloc: Global,
     checked: &Checked,
-    state: &mut SessionState,
+    state: &mut Reached,
     action: &Action,
     rules: &Rules,
     by: Option<(u32, u64)>,
@@ -133,14 +137,15 @@ fn act(
     ensures cause { IfErr result
         (EntryExplains (program_of checked.now) (state_of state.old) (acted action.now (derivation_of rules.now) by) budget) }
 {
-    if !state.agrees(checked, action, by) {
+    if !state.session.agrees(checked, action, by) {
         return Ok(false);
     }
-    match fire(alloc, checked, state.behaviour(), rules, budget) {
+    match fire(alloc, checked, &state.behaviour, rules, budget) {
         Ok((done, rest)) => {
             trees_determine_steps();
             if done.same(action) {
-                state.act(alloc, done, by, rest)?;
+                state.session.act(alloc, done, by)?;
+                state.behaviour = rest;
                 Ok(true)
             } else {
                 Ok(false)
@@ -158,7 +163,7 @@ fn act(
 pub fn take(
     alloc: Global,
     checked: &Checked,
-    state: &mut SessionState,
+    state: &mut Reached,
     entry: &Entry,
     budget: u64,
 ) -> Result<bool, FireFault>

@@ -6,6 +6,7 @@ mod clients;
 mod entry;
 mod fault;
 pub mod laws;
+mod reached;
 
 pub use checking::check;
 pub use fault::CheckFault;

@@ -3,21 +3,20 @@
 ghost use Rattle.std.specs.Prelude.{◌+◌, ◌&&◌, ◌≡◌, ◌↔◌, ◌<◌, ◌≤◌, Contains, IfOk, IsTrue, OnErr, OnOk, false, length, map};
 ghost use Rattle.spec_core.specs.Code.{program_of};
 ghost use Rattle.spec_core.specs.Theories.{theory_of};
-ghost use Rattle.rule_model.specs.Behaviours.{behaviour_of};
+ghost use Rattle.rule_model.specs.Behaviours.{Behaviour};
 ghost use Rattle.rule_model.specs.Legal.{AllWait, IsAgreed, IsIdle, IsPending, IsPendingAnd, NamesAll};
 ghost use Rattle.rule_model.specs.Meets.{IsUnseen, Meets};
 ghost use Rattle.rule_model.specs.States as states;
 ghost use Rattle.log_states.specs.Clients.{is_open_among, numbers_from};
 ghost use Rattle.log_states.specs.Pending.{WaitsAnd, all_wait_among, is_idle_among, names_all, names_only, waits_among};
 ghost use Rattle.log_states.specs.Possible.{HasPending, MayOffer, MayLeave, MayStall};
-ghost use Rattle.log_states.specs.Views.{pending_of, state_of};
+ghost use Rattle.log_states.specs.Views.{pending_of, state_at, state_of};
 
 use crate::clients::Client;
 use crate::naming::{is_ascending, names_all, names_only};
 use crate::pending::Pending;
 use crate::{clients, pending};
 use rule_model::action::Action;
-use rule_model::beh::Beh;
 use rule_model::offer::Offer;
 use spec_core::code::Checked;
 use spec_core::equation::DataSpec;
@@ -25,13 +24,13 @@ use spec_core::items::Gate;
 use spec_core::memory::Memory;
 use std::alloc::Global;
 
-/// The state of a session, which contracts see as a `State`: the behaviour that is reached, the open clients, the pending offers in the
-/// order in which they were made, how many offers each client has made, how many actions there were, and the last one.
+/// The state of a session, but for the behaviour that is reached: the open clients, the pending offers in the order in which they were
+/// made, how many offers each client has made, how many actions there were, and the last one. Contracts see it as a `State`, and speak of
+/// each behaviour that may be reached.
 ///
 /// A call answers false where the entry isn't possible. What answers false or an error changes nothing.
 #[derive(Drop)]
 pub struct SessionState {
-    behaviour: Beh,
     clients: Vec<Client>,
     pending: Vec<Pending>,
     actions: u64,
@@ -40,24 +39,16 @@ pub struct SessionState {
 
 impl SessionState {
     /// The state at the beginning, with so many clients, whose numbers begin with 1.
-    pub fn new(alloc: Global, behaviour: Beh, clients: u32) -> Result<SessionState, Memory>
+    pub fn new(alloc: Global, clients: u32) -> Result<SessionState, Memory>
         requires numbers { clients ≤ 4294967294 }
-        ensures start { IfOk result (λ s. state_of s ≡ states.start_state (behaviour_of behaviour) (numbers_from 1 clients)) }
+        ensures start { IfOk result (λ s. (b : Behaviour) → state_at b s ≡ states.start_state b (numbers_from 1 clients)) }
     {
         Ok(SessionState {
-            behaviour,
             clients: clients::new_clients(alloc, 1, clients)?,
             pending: Vec::new(alloc),
             actions: 0,
             last: None,
         })
-    }
-
-    /// The behaviour that is reached. It takes no memory.
-    pub fn behaviour(&self) -> &Beh
-        ensures { behaviour_of result.now ≡ (state_of self.now).behaviour }
-    {
-        &self.behaviour
     }
 
     /// How many actions there were. It takes no memory.
@@ -110,7 +101,7 @@ impl SessionState {
     /// Whether the client has no offer pending. It takes no memory.
     pub fn is_idle(&self, client: u32) -> bool
         ensures idle { IsTrue result ↔ IsIdle (state_of self.now) client }
-        ensures waits { result ≡ false → HasPending (state_of self.now) client }
+        ensures waits { (b : Behaviour) → result ≡ false → HasPending (state_at b self.now) client }
     {
         self.finds_none(client)
     }
@@ -130,14 +121,14 @@ impl SessionState {
 
     /// Whether each open client has an offer pending. It takes no memory.
     pub fn all_wait(&self) -> bool
-        ensures { IsTrue result ↔ AllWait (state_of self.now) }
+        ensures { (b : Behaviour) → IsTrue result ↔ AllWait (state_at b self.now) }
     {
         self.finds_all()
     }
 
     // Whether the client is open and has no offer pending.
     fn is_free(&self, client: u32) -> bool
-        ensures { IsTrue result ↔ MayLeave (state_of self.now) client }
+        ensures { (b : Behaviour) → IsTrue result ↔ MayLeave (state_at b self.now) client }
     {
         self.finds_open(client) && self.finds_none(client)
     }
@@ -158,7 +149,7 @@ impl SessionState {
 
     // Whether a client may make its offer of this number, at one of so many gates.
     fn may_offer(&self, gates: usize, client: u32, number: u64, offer: &Offer) -> bool
-        ensures { IsTrue result ↔ MayOffer gates (state_of self.now) client number offer.now }
+        ensures { (b : Behaviour) → IsTrue result ↔ MayOffer gates (state_at b self.now) client number offer.now }
     {
         self.is_free(client) && self.fits(gates, client, number, offer.gate)
     }
@@ -174,8 +165,9 @@ impl SessionState {
     ) -> Result<(), Memory>
         requires open { Contains (state_of self.now).open_clients client }
         requires next { number ≡ (state_of self.now).made client + 1 }
-        ensures made { OnOk result (state_of self.new ≡ states.after_offer (state_of self.old) client number offer.now ask) }
-        ensures same { OnErr result (state_of self.new ≡ state_of self.old) }
+        ensures made { OnOk result ((b : Behaviour) →
+            state_at b self.new ≡ states.after_offer (state_at b self.old) client number offer.now ask) }
+        ensures same { OnErr result ((b : Behaviour) → state_at b self.new ≡ state_at b self.old) }
     {
         let offer = offer.copy(alloc)?;
         let clients = clients::with_made(alloc, &self.clients, client, number)?;
@@ -192,8 +184,9 @@ impl SessionState {
 
     /// A client that may leaves.
     pub fn put_leave(&mut self, alloc: Global, client: u32) -> Result<(), Memory>
-        ensures left { OnOk result (state_of self.new ≡ states.after_leave (state_of self.old) client) }
-        ensures same { OnErr result (state_of self.new ≡ state_of self.old) }
+        ensures left { OnOk result ((b : Behaviour) →
+            state_at b self.new ≡ states.after_leave (state_at b self.old) client) }
+        ensures same { OnErr result ((b : Behaviour) → state_at b self.new ≡ state_at b self.old) }
     {
         self.clients = clients::without(alloc, &self.clients, client)?;
         Ok(())
@@ -209,11 +202,11 @@ impl SessionState {
         offer: &Offer,
         ask: bool,
     ) -> Result<bool, Memory>
-        ensures made { IfOk result (λ done. IsTrue done → MayOffer gates (state_of self.old) client number offer.now ×
-            (state_of self.new ≡ states.after_offer (state_of self.old) client number offer.now ask)) }
-        ensures refused { IfOk result (λ done. done ≡ false → (MayOffer gates (state_of self.old) client number offer.now → ⊥) ×
-            (state_of self.new ≡ state_of self.old)) }
-        ensures same { OnErr result (state_of self.new ≡ state_of self.old) }
+        ensures made { IfOk result (λ done. IsTrue done → (b : Behaviour) → MayOffer gates (state_at b self.old) client number offer.now ×
+            (state_at b self.new ≡ states.after_offer (state_at b self.old) client number offer.now ask)) }
+        ensures refused { IfOk result (λ done. done ≡ false → (b : Behaviour) →
+            (MayOffer gates (state_at b self.old) client number offer.now → ⊥) × (state_at b self.new ≡ state_at b self.old)) }
+        ensures same { OnErr result ((b : Behaviour) → state_at b self.new ≡ state_at b self.old) }
     {
         if self.may_offer(gates, client, number, offer) {
             self.put_offer(alloc, client, number, offer, ask)?;
@@ -225,11 +218,11 @@ impl SessionState {
 
     /// A client leaves, if it may.
     pub fn leave(&mut self, alloc: Global, client: u32) -> Result<bool, Memory>
-        ensures left { IfOk result (λ done. IsTrue done → MayLeave (state_of self.old) client ×
-            (state_of self.new ≡ states.after_leave (state_of self.old) client)) }
-        ensures refused { IfOk result (λ done. done ≡ false → (MayLeave (state_of self.old) client → ⊥) ×
-            (state_of self.new ≡ state_of self.old)) }
-        ensures same { OnErr result (state_of self.new ≡ state_of self.old) }
+        ensures left { IfOk result (λ done. IsTrue done → (b : Behaviour) → MayLeave (state_at b self.old) client ×
+            (state_at b self.new ≡ states.after_leave (state_at b self.old) client)) }
+        ensures refused { IfOk result (λ done. done ≡ false → (b : Behaviour) → (MayLeave (state_at b self.old) client → ⊥) ×
+            (state_at b self.new ≡ state_at b self.old)) }
+        ensures same { OnErr result ((b : Behaviour) → state_at b self.new ≡ state_at b self.old) }
     {
         if self.is_free(client) {
             self.put_leave(alloc, client)?;
@@ -248,15 +241,16 @@ impl SessionState {
 
     /// Whether the offer of this client and number is pending. It takes no memory.
     pub fn is_pending(&self, client: u32, number: u64) -> bool
-        ensures { IsTrue result ↔ IsPending (state_of self.now) (client, number) }
+        ensures { (b : Behaviour) → IsTrue result ↔ IsPending (state_at b self.now) (client, number) }
     {
         self.waits(client, number)
     }
 
     /// The offer of this client and number, which is answered, is no longer pending.
     pub fn answer(&mut self, alloc: Global, client: u32, number: u64) -> Result<(), Memory>
-        ensures answered { OnOk result (state_of self.new ≡ states.after_reply (state_of self.old) (client, number)) }
-        ensures same { OnErr result (state_of self.new ≡ state_of self.old) }
+        ensures answered { OnOk result ((b : Behaviour) →
+            state_at b self.new ≡ states.after_reply (state_at b self.old) (client, number)) }
+        ensures same { OnErr result ((b : Behaviour) → state_at b self.new ≡ state_at b self.old) }
     {
         self.pending = pending::without(alloc, &self.pending, client, number)?;
         Ok(())
@@ -272,21 +266,21 @@ impl SessionState {
 
     // Whether it does so by ascending client.
     fn are_named(&self, names: &[(u32, u64)]) -> bool
-        ensures { IsTrue result ↔ NamesAll (state_of self.now) names.now }
+        ensures { (b : Behaviour) → IsTrue result ↔ NamesAll (state_at b self.now) names.now }
     {
         is_ascending(names) && self.names_just(names)
     }
 
     /// Whether the pending offers may be stalled, named so. It takes no memory.
     pub fn may_stall(&self, names: &[(u32, u64)]) -> bool
-        ensures { IsTrue result ↔ MayStall (state_of self.now) names.now }
+        ensures { (b : Behaviour) → IsTrue result ↔ MayStall (state_at b self.now) names.now }
     {
         !names.is_empty() && self.are_named(names)
     }
 
     /// All pending offers are stalled. It takes no memory.
     pub fn stall(&mut self, alloc: Global)
-        ensures { state_of self.new ≡ states.after_stall (state_of self.old) }
+        ensures { (b : Behaviour) → state_at b self.new ≡ states.after_stall (state_at b self.old) }
     {
         self.pending = Vec::new(alloc);
     }
@@ -300,7 +294,8 @@ impl SessionState {
 
     // Whether the offer of this client and number is pending, and the action meets it.
     fn takes(&self, checked: &Checked, client: u32, number: u64, action: &Action) -> bool
-        ensures { IsTrue result ↔ IsPendingAnd (state_of self.now) (client, number) (Meets (program_of checked.now).theory action.now) }
+        ensures { (b : Behaviour) →
+            IsTrue result ↔ IsPendingAnd (state_at b self.now) (client, number) (Meets (program_of checked.now).theory action.now) }
     {
         self.has_taker(&checked.algebra, client, number, action)
     }
@@ -308,7 +303,7 @@ impl SessionState {
     /// Whether these may take part in an action: nobody in one that isn't seen, and else a client whose pending offer it meets. It takes no
     /// memory.
     pub fn agrees(&self, checked: &Checked, action: &Action, by: Option<(u32, u64)>) -> bool
-        ensures { IsTrue result ↔ IsAgreed (program_of checked.now) (state_of self.now) action.now by }
+        ensures { (b : Behaviour) → IsTrue result ↔ IsAgreed (program_of checked.now) (state_at b self.now) action.now by }
     {
         match by {
             None => is_unseen(action),
@@ -316,16 +311,16 @@ impl SessionState {
         }
     }
 
-    /// An action was done, which took the offer named, and this behaviour is reached.
+    /// An action was done, which took the offer named.
     pub fn act(
         &mut self,
         alloc: Global,
         action: Action,
         by: Option<(u32, u64)>,
-        rest: Beh,
     ) -> Result<(), Memory>
-        ensures done { OnOk result (state_of self.new ≡ states.after_action (state_of self.old) action by (behaviour_of rest)) }
-        ensures same { OnErr result (state_of self.new ≡ state_of self.old) }
+        ensures done { OnOk result ((rest : Behaviour) →
+            state_at rest self.new ≡ states.after_action (state_of self.old) action by rest) }
+        ensures same { OnErr result ((b : Behaviour) → state_at b self.new ≡ state_at b self.old) }
     {
         match self.actions.checked_add(1) {
             None => Err(Memory),
@@ -333,7 +328,6 @@ impl SessionState {
                 if let Some((client, number)) = by {
                     self.answer(alloc, client, number)?;
                 }
-                self.behaviour = rest;
                 self.actions = actions;
                 self.last = Some(action);
                 Ok(())
@@ -341,20 +335,19 @@ impl SessionState {
         }
     }
 
-    /// The state after an action, which takes the offer named, and by which this behaviour is reached.
+    /// The state after an action, which takes the offer named.
     pub fn acted(
         &self,
         alloc: Global,
         action: Action,
         by: Option<(u32, u64)>,
-        rest: Beh,
     ) -> Result<SessionState, Memory>
-        ensures { IfOk result (λ s. state_of s ≡ states.after_action (state_of self.now) action by (behaviour_of rest)) }
+        ensures { IfOk result (λ s. (rest : Behaviour) →
+            state_at rest s ≡ states.after_action (state_of self.now) action by rest) }
     {
         match self.actions.checked_add(1) {
             None => Err(Memory),
             Some(actions) => Ok(SessionState {
-                behaviour: rest,
                 clients: Vec::from_slice(alloc, &self.clients)?,
                 pending: pending::without_taken(alloc, &self.pending, by)?,
                 actions,

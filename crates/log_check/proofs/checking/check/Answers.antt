@@ -1,8 +1,7 @@
-use Rattle.std.proofs.Common.{rules, ◌≡◌, sym, subst, map}
+use Rattle.std.proofs.Common.{subst, map}
 use Rattle.spec_core.specs.Code.{program_of}
-use Rattle.rule_model.specs.Events.{Event, event_of}
-use Rattle.rule_model.specs.Logs.{events_of}
-use Rattle.log_states.specs.Views.{state_of}
+use Rattle.rule_model.specs.Events.{event_of}
+use Rattle.log_check.specs.Views.{state_of}
 use Rattle.log_check.specs.Checked.{Explains, LogTermsAreWithin}
 use Rattle.log_check.proofs.Asked.{log_within}
 use Rattle.log_check.proofs.Derivations.{explains}

@@ -1,8 +1,8 @@
-use Rattle.std.proofs.Common.{rules, ℕ, ◌≡◌, ◌<◌, ◌+◌, sym, subst, map, take, drop, length, get_or}
+use Rattle.std.proofs.Common.{rules, ◌≡◌, ◌<◌, ◌+◌, sym, subst, map, take, drop, length, get_or}
 use Rattle.spec_core.specs.Code.{program_of}
 use Rattle.rule_model.specs.Events.{event_of}
 use Rattle.rule_model.specs.Legal.{IsDerivation}
-use Rattle.log_states.specs.Views.{state_of}
+use Rattle.log_check.specs.Views.{state_of}
 use Rattle.log_check.specs.Checked.{EntriesAreWithin}
 use Rattle.log_check.specs.Entries.{EntryFails}
 use Rattle.log_check.proofs.Asked.{within_further}

@@ -3,7 +3,7 @@ use Rattle.spec_core.specs.Code.{program_of}
 use Rattle.rule_model.specs.Events.{event_of}
 use Rattle.rule_model.specs.Legal.{IsDerivation}
 use Rattle.log_check.specs.Checked.{EntriesAreWithin}
-use Rattle.log_states.specs.Views.{state_of}
+use Rattle.log_check.specs.Views.{state_of}
 use Rattle.log_check.proofs.checking.walk.Given as goal
 
 abbrev pub invariant-loop-place : goal.invariant-loop-place

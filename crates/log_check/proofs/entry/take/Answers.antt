@@ -1,7 +1,7 @@
-use Rattle.std.proofs.Common.{◌≡◌, sym, subst, IfOk, Ok}
+use Rattle.std.proofs.Common.{sym, subst, IfOk, Ok}
 use Rattle.spec_core.specs.Code.{program_of}
 use Rattle.rule_model.specs.Events.{event_of}
-use Rattle.log_states.specs.Views.{state_of}
+use Rattle.log_check.specs.Views.{state_of}
 use Rattle.log_check.specs.Entries.{Becomes, EntryAsks}
 use Rattle.rule_walk.specs.declared.fault.FireFault.{FireFault}
 use Rattle.log_check.proofs.Asked.{asked_nowhere}

@@ -5,9 +5,8 @@ use Rattle.board_tree.specs.Views.{shape}
 use Rattle.rule_model.specs.Derivations.{derivation_of}
 use Rattle.board_record.proofs.Acting.{acts, agreed_then, derives_then, events_then, state_then}
 use Rattle.board_record.specs.contracts.record.Record.{the_view}
-use Rattle.board_record.specs.Records.{IsReadied, MayAct}
+use Rattle.board_record.specs.Records.{IsReadied, MayAct, state_with}
 use Rattle.board_record.specs.Views.{program, state, HasActed, IsActReserved}
-use Rattle.log_states.specs.Views.{state_of}
 use Rattle.node_trees.specs.Shapes.{IsRight}
 use Rattle.board_record.proofs.record.Record.act.Goals as goal
 
@@ -15,7 +14,7 @@ pub invariant_of-self : goal.invariant_of-self
 invariant_of-self c =
     let v = c.self.inside in
     let p = program_of v.checked in
-    let s = state_of v.session in
+    let t = shape v.tree in
     let d = derivation_of c.args.rules.now in
     let r = c.in-Some.ready in
     let is = sym c.self.view_is in
@@ -24,16 +23,16 @@ invariant_of-self c =
     let right = subst (λ z. IsRight (program z) (shape z.tree)) is c.requires.right in
     let follows = subst (λ z. Follows (shape z.tree) d) is c.requires.follows in
     let there : v.ready ≡ Some r = search rules in
-    let readied = subst (IsReadied p s d c.args.by v.tree.ready) there reserved.act in
-    acts p s d c.args.by v.tree.ready r (shape c.step.new.self) readied c.step.ensures.next (shape v.tree) v.tree.next c.step.new.self.next
-    c.step.new.self.gone c.step.new.self.came c.self.invariant.reached may right follows reserved.tree c.step.ensures.step v.clients
+    let readied = subst (IsReadied (state_with p t v.session) d c.args.by v.tree.ready) there reserved.act in
+    acts p t v.session d c.args.by v.tree.ready r (shape c.step.new.self) readied v.tree.next c.step.new.self.next
+    c.step.new.self.gone c.step.new.self.came may right follows reserved.tree c.step.ensures.step v.clients
     v.entries.items c.append.new.entries.items (search rules) c.self.invariant
 
 pub returns-clause-acted : goal.returns-clause-acted
 returns-clause-acted c =
     let v = c.self.inside in
     let p = program_of v.checked in
-    let s = state_of v.session in
+    let t = shape v.tree in
     let d = derivation_of c.args.rules.now in
     let r = c.in-Some.ready in
     let n = c.step.new.self in
@@ -43,8 +42,7 @@ returns-clause-acted c =
     let right = subst (λ z. IsRight (program z) (shape z.tree)) is c.requires.right in
     let follows = subst (λ z. Follows (shape z.tree) d) is c.requires.follows in
     let there : v.ready ≡ Some r = search rules in
-    let readied = subst (IsReadied p s d c.args.by v.tree.ready) there reserved.act in
-    let reached = c.self.invariant.reached in
+    let readied = subst (IsReadied (state_with p t v.session) d c.args.by v.tree.ready) there reserved.act in
     let new = the_view (record {
       checked = v.checked;
       clients = v.clients;
@@ -57,13 +55,12 @@ returns-clause-acted c =
     (record {
       action = readied.action;
       derives =
-          derives_then p s d c.args.by v.tree.ready r (shape n) readied c.step.ensures.next (shape v.tree) v.tree.next n.next n.gone n.came reached may
+          derives_then p t v.session d c.args.by v.tree.ready r (shape n) readied v.tree.next n.next n.gone n.came may
           right follows reserved.tree c.step.ensures.step;
       agreed =
-          agreed_then p s d c.args.by v.tree.ready r (shape n) readied c.step.ensures.next (shape v.tree) v.tree.next n.next n.gone n.came reached may
+          agreed_then p t v.session d c.args.by v.tree.ready r (shape n) readied v.tree.next n.next n.gone n.came may
           right follows reserved.tree c.step.ensures.step;
-      log =
-          events_then p s d c.args.by v.tree.ready r (shape n) readied c.step.ensures.next v.entries.items c.append.new.entries.items (search rules);
+      log = events_then p t v.session d c.args.by v.tree.ready r (shape n) readied v.entries.items c.append.new.entries.items (search rules);
       one_more = (r.entry, search rules);
-      state = state_then p s d c.args.by v.tree.ready r (shape n) readied c.step.ensures.next;
+      state = state_then p t v.session d c.args.by v.tree.ready r (shape n) readied;
     })

@@ -1,20 +1,59 @@
-use Rattle.std.proofs.Common.{rules, ◌≡◌, ◌∙◌, ap, subst}
+use Rattle.std.proofs.Common.{rules, ◌≡◌, ap, sym, subst, map}
 use Rattle.spec_core.specs.Code.{program_of}
 use Rattle.board_tree.specs.Views.{shape}
 use Rattle.rule_model.specs.declared.log.Entry.TheVariants as entry
 use Rattle.rule_model.specs.Answers.{answer_of}
+use Rattle.rule_model.specs.Events.{event_of}
 use Rattle.rule_model.specs.Legal.{IsPending, IsReplyAt}
-use Rattle.board_record.proofs.Growing.{goes_on}
-use Rattle.log_states.specs.Views.{state_of}
+use Rattle.rule_model.specs.States.{after_reply}
+use Rattle.board_record.proofs.Growing.{goes_on, on_error, stays}
+use Rattle.board_record.specs.contracts.record.Record.{the_view}
+use Rattle.board_record.specs.Records.{state_with}
+use Rattle.board_record.specs.Views.{state, SameLog}
+use Rattle.node_trees.specs.Shapes.{stands_for}
 use Rattle.board_record.proofs.record.Record.reply.Goals as goal
 
 pub invariant_of-self-2 : goal.invariant_of-self-2
 invariant_of-self-2 c =
     let v = c.self.inside in
-    let same : c.args.self.now.session ≡ v.session = search rules in
-    let waits = subst (λ s. IsPending (state_of s) (c.args.client, c.args.number)) same c.requires.pending in
-    let at = subst (λ s. IsReplyAt (answer_of c.args.reply) (state_of s).actions) same c.requires.at in
-    let after = c.in_ok-answer.ensures.answered in
-    goes_on (program_of v.checked) v.clients v.entries.items c.append.new.entries.items (entry.Reply c.args.client c.args.number c.args.reply)
-    (state_of v.session) (state_of c.answer.new.self) (shape v.tree) (shape v.tree) (search rules) (waits, at, after)
-    (ap (λ z. z.behaviour) after ∙ c.self.invariant.reached) c.self.invariant
+    let p = program_of v.checked in
+    let t = shape v.tree in
+    let waits = subst (λ z. IsPending (state z) (c.args.client, c.args.number)) (sym c.self.view_is) c.requires.pending in
+    let at = subst (λ z. IsReplyAt (answer_of c.args.reply) (state z).actions) (sym c.self.view_is) c.requires.at in
+    goes_on p v.clients v.entries.items c.append.new.entries.items (entry.Reply c.args.client c.args.number c.args.reply)
+    (state_with p t v.session) (state_with p t c.answer.new.self) (search rules) (waits, at, c.in_ok-answer.ensures.answered (stands_for p t))
+    c.self.invariant
+
+pub invariant_of-self-in_err-answer : goal.invariant_of-self-in_err-answer
+invariant_of-self-in_err-answer c =
+    let v = c.self.inside in
+    let p = program_of v.checked in
+    let t = shape v.tree in
+    stays p v.clients v.entries.items c.reserve.new.self.items (state_with p t v.session) (state_with p t c.answer.new.self) (search rules)
+    (c.in_err-answer.ensures.same (stands_for p t)) c.self.invariant
+
+pub returns-in_err-answer-clause-same : goal.returns-in_err-answer-clause-same
+returns-in_err-answer-clause-same c =
+    let v = c.self.inside in
+    let new = the_view (record {
+      checked = v.checked;
+      clients = v.clients;
+      entries = c.reserve.new.self;
+      session = c.answer.new.self;
+      tree = v.tree;
+      ready = v.ready;
+    }) in
+    let same : c.reserve.new.self.items ≡ v.entries.items = search rules in
+    on_error c.from_residual-in_err-answer.result
+    (subst (λ z. SameLog z new) c.self.view_is
+    (ap (map event_of) same, c.in_err-answer.ensures.same (stands_for (program_of v.checked) (shape v.tree)), same))
+
+pub returns-clause-one_more : goal.returns-clause-one_more
+returns-clause-one_more c = (entry.Reply c.args.client c.args.number c.args.reply, search rules)
+
+pub returns-clause-state : goal.returns-clause-state
+returns-clause-state c =
+    let p = program_of c.self.inside.checked in
+    let t = shape c.self.inside.tree in
+    subst (λ z. state_with p t c.answer.new.self ≡ after_reply (state z) (c.args.client, c.args.number)) c.self.view_is
+    (c.in_ok-answer.ensures.answered (stands_for p t))

@@ -9,5 +9,5 @@ returns c =
     let waiting = map pending_of c.args.self.now.pending.items in
     record {
       idle = (λ h. idle waiting c.args.client (sym c.finds_none.ensures ∙ h), λ m. c.finds_none.ensures ∙ is_idle waiting c.args.client m);
-      waits = λ h. has_pending c.args.self.now c.args.client (sym c.finds_none.ensures ∙ h);
+      waits = λ b h. has_pending b c.args.self.now c.args.client (sym c.finds_none.ensures ∙ h);
     }
