@@ -14,7 +14,7 @@ use Rattle.rewriter.specs.Runs.{Coming, MeetsLarge}
 use Rattle.rewriter.specs.declared.step.Step.TheVariants.{Put}
 use Rattle.rewriter.proofs.Moves.{same}
 
-one_of_map : (f : ℕ → TermTree) (xs : List ℕ) (v : TermTree) → map f xs ≡ v ∷ [] → (n : ℕ) × (xs ≡ n ∷ [])
+pub one_of_map : (f : ℕ → TermTree) (xs : List ℕ) (v : TermTree) → map f xs ≡ v ∷ [] → (n : ℕ) × (xs ≡ n ∷ [])
 one_of_map f [] v e = cc
 one_of_map f (x ∷ []) v e = (x, refl)
 one_of_map f (x ∷ y ∷ xs) v e = cc

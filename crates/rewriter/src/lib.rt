@@ -1,16 +1,16 @@
 // The value of a ground term by a machine with stacks of its own, and whether two terms have one value.
 #![tactic(auto)]
 
-mod call;
-mod compaction;
-mod equations;
+pub mod call;
+pub mod compaction;
+pub mod equations;
 mod evaluate;
 mod fault;
-mod heads;
+pub mod heads;
 mod matching;
-mod run;
-mod step;
-mod values;
+pub mod run;
+pub mod step;
+pub mod values;
 
 pub use evaluate::{compare, judge, value};
 pub use fault::{Eval, Side, SideFault};

@@ -24,8 +24,8 @@ use spec_core::term::Term;
 use std::alloc::Global;
 use value_nodes::node::Nodes;
 
-// Performs one step, and gives the number of uses after it.
-fn perform(
+/// Performs one step, and gives the number of uses after it. It recurs as deep as the equations nest.
+pub fn perform(
     alloc: Global,
     algebra: &DataSpec,
     heads: &FirstEquations,
@@ -85,8 +85,8 @@ fn put(values: &mut Values, node: u32, uses: u64) -> Result<u64, Eval>
     Ok(uses)
 }
 
-// The one value that is there.
-fn the_value(values: &mut Values) -> Result<u32, Eval>
+/// The one value that is there. `Spent` where there is none, or more than one.
+pub fn the_value(values: &mut Values) -> Result<u32, Eval>
     ensures one { IfOk result (λ n. values.old ≡ n ∷ []) }
     ensures spent { IfErr result (λ e. (n : ℕ) → values.old ≡ n ∷ [] → ⊥) }
     ensures fault { IfErr result (λ e. e ≡ Eval.Spent) }

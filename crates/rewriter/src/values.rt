@@ -1,6 +1,6 @@
 // The values that are there.
 
-ghost use Rattle.std.specs.Prelude.{◌≡◌, ◌∷◌, [], OnOk, MatchOption, map, take, drop, reverse};
+ghost use Rattle.std.specs.Prelude.{◌≡◌, ◌∷◌, [], IfOk, OnOk, MatchOption, length, map, take, drop, reverse};
 ghost use Rattle.spec_core.specs.Lists.{Each};
 ghost use Rattle.value_nodes.specs.Copies.{AreCopies};
 ghost use Rattle.value_nodes.specs.Nodes.{tree_at, IsNode, IsLonger};
@@ -48,6 +48,29 @@ impl Values {
         ensures popped { MatchOption result ((self.old ≡ []) × (self.new ≡ [])) (λ n. self.old ≡ n ∷ self.new) }
     {
         self.nodes.pop()
+    }
+
+    /// How many values there are. It takes no memory.
+    pub fn len(&self) -> usize
+        ensures counted { result ≡ length self.now }
+    {
+        self.nodes.len()
+    }
+
+    /// The values, the last one last. It takes no memory.
+    pub fn all(&self) -> &[u32]
+        ensures seen { result.now ≡ reverse self.now }
+    {
+        &self.nodes
+    }
+
+    /// So many values from the top, or all of them, by themselves.
+    pub fn copy_top(&self, alloc: Global, count: usize) -> Result<Values, AllocError>
+        ensures copied { IfOk result (λ top. top ≡ take count self.now) }
+    {
+        Ok(Values {
+            nodes: Vec::from_slice(alloc, self.top(count))?,
+        })
     }
 
     /// So many values from the top, or all of them, the last one last.
