@@ -1,10 +1,12 @@
 // Ways to fill open fields, by their numbers.
 
-ghost use Rattle.std.specs.Prelude.{◌≡◌, ◌<◌, ◌-◌, ◌^◌, ◌∷◌, [], IfOk, length, map, option_copied, option_map};
+ghost use Rattle.std.specs.Prelude.{ℕ, ◌≡◌, ◌<◌, ◌-◌, ◌^◌, ◌∷◌, List, IfOk, length, map, reverse, option_copied, option_map};
 ghost use Rattle.std.specs.List.{slice_get};
+ghost use Rattle.rule_model.specs.declared.rules.Slot.{Slot};
 ghost use Rattle.symbolic_composites.specs.OpenFields as fields;
 ghost use Rattle.symbolic_plans.specs.Plans.{field_of};
 ghost use Rattle.symbolic_trees.specs.Numbers.{counted};
+ghost use Rattle.symbolic_trees.specs.Rounds.{IsRound, RoundOr, forwards};
 
 use rule_model::rules::{Slot, Slots};
 use spec_core::memory::Memory;
@@ -59,58 +61,60 @@ pub fn way_count(columns: &[Column], choices: &[Slots]) -> u64
     }
 }
 
-// One slot for a field, before those of others.
-fn slot_before(alloc: Global, slot: &Slot, others: Vec<Slots>) -> Result<Vec<Slots>, Memory>
-    ensures { IfOk result (λ all. all.items ≡ (slot.now ∷ []) ∷ others.items) }
+// One slot for a field, behind those of others, and what is left of a number that counts through its slots round by round.
+fn slot_behind(
+    alloc: Global,
+    first: &[Slot],
+    others: Vec<Slots>,
+    rounds: u64,
+) -> Result<Option<(Vec<Slots>, u64)>, Memory>
+    ensures { (choices : List (List Slot)) (n : ℕ) → IsRound (fields.one_each choices) n (reverse others.items) rounds →
+        IfOk result (λ o. RoundOr (fields.one_each (first.now ∷ choices)) n (option_map forwards o)) }
 {
-    let mut all = others;
-    let mut single = Vec::new(alloc);
-    single.push(slot.copy(alloc)?)?;
-    match all.insert(0, Slots::new(single)) {
-        Ok(()) => Ok(all),
-        Err(_) => Err(Memory),
+    let count = first.len() as u64;
+    if count == 0 {
+        return Ok(None);
+    }
+    match nth_slot(first, rounds % count) {
+        None => Ok(None),
+        Some(slot) => {
+            let mut all = others;
+            let mut single = Vec::new(alloc);
+            single.push(slot.copy(alloc)?)?;
+            all.push(Slots::new(single))?;
+            Ok(Some((all, rounds / count)))
+        }
+    }
+}
+
+// The way to fill each field with one of its slots to which a number counts round by round, from the last field on, and the rounds.
+fn way_round(alloc: Global, choices: &[Slots], n: u64) -> Result<Option<(Vec<Slots>, u64)>, Memory>
+    ensures { IfOk result (λ o. RoundOr (fields.one_each choices.now) n (option_map forwards o)) }
+{
+    match choices {
+        [] => Ok(Some((Vec::new(alloc), n))),
+        [first, rest @ ..] => match way_round(alloc, rest, n)? {
+            None => Ok(None),
+            Some((others, rounds)) => slot_behind(alloc, first.as_slice(), others, rounds),
+        },
     }
 }
 
 // The n-th way to fill each field with one of its slots.
-#[cycle(nth_each)]
 fn nth_each(alloc: Global, choices: &[Slots], n: u64) -> Result<Option<Vec<Slots>>, Memory>
-    requires { n < 2 ^ 64 - 1 }
     ensures { IfOk result (λ o. option_map (λ all. all.items) o ≡ slice_get (fields.one_each choices.now) n) }
 {
-    match choices {
-        [] => {
-            if n == 0 {
-                Ok(Some(Vec::new(alloc)))
+    match way_round(alloc, choices, n)? {
+        None => Ok(None),
+        Some((way, rounds)) => {
+            if rounds == 0 {
+                let mut all = way;
+                all.reverse();
+                Ok(Some(all))
             } else {
                 Ok(None)
             }
         }
-        [first, rest @ ..] => nth_with(alloc, first.as_slice(), rest, n),
-    }
-}
-
-// The same, with the slots of the first field.
-#[cycle(nth_each)]
-fn nth_with(
-    alloc: Global,
-    first: &[Slot],
-    choices: &[Slots],
-    n: u64,
-) -> Result<Option<Vec<Slots>>, Memory>
-    requires { n < 2 ^ 64 - 1 }
-    ensures { IfOk result (λ o. option_map (λ all. all.items) o ≡ slice_get (fields.one_each (first.now ∷ choices.now)) n) }
-{
-    let count = each_count(choices);
-    if count == 0 {
-        return Ok(None);
-    }
-    match nth_slot(first, n / count) {
-        None => Ok(None),
-        Some(slot) => match nth_each(alloc, choices, n % count)? {
-            None => Ok(None),
-            Some(others) => Ok(Some(slot_before(alloc, slot, others)?)),
-        },
     }
 }
 
