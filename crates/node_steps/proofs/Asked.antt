@@ -12,6 +12,7 @@ use Rattle.symbolic_plans.specs.Plans.{Plan, below}
 use Rattle.node_values.specs.declared.stop.Stop.{Stop}
 use Rattle.node_values.specs.Stops.{Stops, Never}
 use Rattle.node_values.proofs.Stopping.{stops_on}
+use Rattle.node_steps.specs.Parts.{own_or}
 use Rattle.node_steps.specs.declared.turn.Entered.{Entered}
 use Rattle.symbolic_reach.specs.Asking.{PlanAsks}
 use Rattle.node_steps.specs.Asking.{WithinAsks}
@@ -32,10 +33,10 @@ module _ (program : Program) where
       subst (λ (z : Behaviour). PlanAsks program p u z x) (sym f) (subst (λ (z : Assignment). PlanAsks program p z b x) (sym e) h)
 
   pub under_asks : (row : Row) (b : Behaviour) (values : List (ℕ × List ℕ)) (p : Plan) (o : Option Entered) (x : TermTree) →
-      EntersOr program row values b o → WithinAsks program o p x → PlanAsks program (below row p) (assignment program.theory values) b x
+      EntersOr program row values b o → WithinAsks program values o p x → PlanAsks program (below row p) (assignment program.theory values) b x
   under_asks row b values p None x h k = absurd k
   under_asks row b values p (Some e) x h k =
       inr
       (on_part program row b (assignment program.theory values)
-      (λ u q. (u ≡ assignment program.theory e.values.items) × (q ≡ standing program e.site)) (λ u q. PlanAsks program p u q x)
-      (λ u q is. asked_of p u (assignment program.theory e.values.items) q (standing program e.site) x is.0 is.1 k) h.part)
+      (λ u q. (u ≡ assignment program.theory (own_or values e.values)) × (q ≡ standing program e.site)) (λ u q. PlanAsks program p u q x)
+      (λ u q is. asked_of p u (assignment program.theory (own_or values e.values)) q (standing program e.site) x is.0 is.1 k) h.part)

@@ -15,6 +15,7 @@ use Rattle.rule_origins.specs.Parts.{behaviour_at}
 use Rattle.rule_origins.specs.Values.{assignment}
 use Rattle.rule_origins.proofs.Standing.{behaviours_stand}
 use Rattle.symbolic_plans.specs.declared.scheme.Row.TheVariants.{Call}
+use Rattle.node_steps.specs.Parts.{own_or}
 use Rattle.node_steps.specs.declared.turn.Entered.{Entered}
 use Rattle.node_steps.specs.declared.turn.Frame.TheVariants.{Same}
 use Rattle.node_steps.specs.declared.turn.Site.{Site}
@@ -39,7 +40,7 @@ module _ (program : Program) (ready : IsReady program) (called n : ℕ) (formal 
   pub call_enters : (actual : List ℕ) (terms : List TermTree) (values more empty : List (ℕ × List ℕ)) (x : Entered) (site : Site) →
       empty ≡ [] →
       ArgumentsHave program.theory (assignment program.theory values) (assignment program.theory empty) xs terms (assignment program.theory more) →
-      standing program site ≡ relabel (pairs_of formal actual) (behaviour_at program n) → x.site ≡ site → x.values.items ≡ more →
+      standing program site ≡ relabel (pairs_of formal actual) (behaviour_at program n) → x.site ≡ site → own_or values x.values ≡ more →
       x.frame ≡ Same → Enters program Call values (call called actual terms) x
   call_enters actual terms values more empty x site none has stands at same frame =
       let s = assignment program.theory values in

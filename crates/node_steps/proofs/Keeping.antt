@@ -13,6 +13,7 @@ use Rattle.rule_origins.specs.Values.{term_spelled, assignment}
 use Rattle.symbolic_plans.specs.declared.scheme.Row.{Row}
 use Rattle.symbolic_plans.specs.declared.scheme.Row.TheVariants.{Chl, Chr, Val, Gate, Guard, Let, Parl, Parr, Pass, Enstep, Disstep}
 use Rattle.symbolic_plans.specs.declared.scheme.Row.TheVariants.{Disend, Distake, Call, Rel}
+use Rattle.node_steps.specs.Parts.{own_or}
 use Rattle.node_steps.specs.declared.turn.Entered.{Entered}
 use Rattle.node_steps.specs.declared.turn.Frame.{Frame}
 use Rattle.node_steps.specs.declared.turn.Frame.TheVariants.{Same}
@@ -49,20 +50,20 @@ module _ (program : Program) where
 
   -- a part of a behaviour, with these values
   pub part_with : (row : Row) (values more : List (ℕ × List ℕ)) (b : Behaviour) (x : Entered) (site : Site) (frame : Frame) →
-      x.site ≡ site → x.values.items ≡ more → x.frame ≡ frame → surrounding_of program frame ≡ round_part row b →
+      x.site ≡ site → own_or values x.values ≡ more → x.frame ≡ frame → surrounding_of program frame ≡ round_part row b →
       OnPart program row (assignment program.theory values) b (λ t c. (t ≡ assignment program.theory more) × (c ≡ standing program site)) →
       Enters program row values b x
   part_with row values more b x site frame at same is round part = record {
     round = ap (surrounding_of program) is ∙ round;
     part =
         on_part row b (assignment program.theory values) (λ t c. (t ≡ assignment program.theory more) × (c ≡ standing program site))
-        (λ t c. (t ≡ assignment program.theory x.values.items) × (c ≡ standing program x.site))
+        (λ t c. (t ≡ assignment program.theory (own_or values x.values)) × (c ≡ standing program x.site))
         (λ u q h. (h.0 ∙ ap (assignment program.theory) (sym same), h.1 ∙ ap (standing program) (sym at))) part;
   }
 
   -- the same of what stands at a construct that is known
   pub node_with : (row : Row) (values more : List (ℕ × List ℕ)) (node other : Node) (x : Entered) (site : Site) (frame : Frame) →
-      node ≡ other → x.site ≡ site → x.values.items ≡ more → x.frame ≡ frame →
+      node ≡ other → x.site ≡ site → own_or values x.values ≡ more → x.frame ≡ frame →
       surrounding_of program frame ≡ round_part row (over_parts (behaviour_at program) (Some other)) →
       OnPart program row (assignment program.theory values) (over_parts (behaviour_at program) (Some other))
       (λ t c. (t ≡ assignment program.theory more) × (c ≡ standing program site)) →
@@ -73,7 +74,7 @@ module _ (program : Program) where
 
   -- the body of a choice of a value, with the value
   pub value_enters : (values : List (ℕ × List ℕ)) (slot : Slot) (v u : List ℕ) (x : Variable) (n : ℕ) (node : Node) (e : Entered) →
-      slot ≡ Of v → u ≡ v → node ≡ code.value_choice x n → e.site ≡ At n → e.values.items ≡ values ++ (x.number, u) ∷ [] → e.frame ≡ Same →
+      slot ≡ Of v → u ≡ v → node ≡ code.value_choice x n → e.site ≡ At n → own_or values e.values ≡ values ++ (x.number, u) ∷ [] → e.frame ≡ Same →
       Enters program (Val slot) values (over_parts (behaviour_at program) (Some node)) e
   value_enters values slot v u x n node e chosen copied is at same frame =
       let s = assignment program.theory values in
@@ -88,7 +89,7 @@ module _ (program : Program) where
   pub gate_enters : (values : List (ℕ × List ℕ)) (place g to n i : ℕ) (gates : List ℕ) (node : Node) (e : Entered) (site : Site) →
       node ≡ code.gate_choice g gates n → place ≡ suc i → slice_get gates i ≡ Some to →
       standing program site ≡ relabel (record { from = g; to = to } ∷ []) (behaviour_at program n) → e.site ≡ site →
-      e.values.items ≡ values → e.frame ≡ Same → Enters program (Gate place) values (over_parts (behaviour_at program) (Some node)) e
+      own_or values e.values ≡ values → e.frame ≡ Same → Enters program (Gate place) values (over_parts (behaviour_at program) (Some node)) e
   gate_enters values place g to n i gates node e site is counted there stands at same frame =
       node_with (Gate place) values values node (code.gate_choice g gates n) e site Same is at same frame refl
       (i, to, counted, there, (refl, sym stands))

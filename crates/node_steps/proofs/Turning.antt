@@ -22,6 +22,7 @@ use Rattle.symbolic_composites.specs.OpenFields.{OpenField}
 use Rattle.symbolic_plans.specs.declared.scheme.Row.{Row}
 use Rattle.symbolic_plans.specs.Plans.{Plan, prefix, internal, termination, below, hidden, handed_on, together, put_row}
 use Rattle.node_trees.specs.Rests.{slots_of, does_of, done_in, remainder_of, left_in, left_beside, Fills, IsWayOf}
+use Rattle.node_steps.specs.Parts.{own_or}
 use Rattle.node_steps.specs.declared.turn.Entered.{Entered}
 use Rattle.node_steps.specs.declared.turn.Turn.{Turn}
 use Rattle.node_steps.specs.Blanks.{blank_tree, chosen_by, width, IsTreeOf, DoesNothingBy}
@@ -86,7 +87,7 @@ module _ (program : Program) (executable : IsExecutable program.theory) where
 
   -- what is done and left of a part that was entered, and then of the whole
   pub within_turns : (values : List (ℕ × List ℕ)) (from : ℕ) (x : Entered) (p : Plan) (t : Turn) (r : Option Turn) →
-      TurnsAt program from (assignment program.theory x.values.items) (standing program x.site) p t →
+      TurnsAt program from (assignment program.theory (own_or values x.values)) (standing program x.site) p t →
       LeavesOr program values (surrounding_of program x.frame) t r → WithinOr program from values (Some x) p r
   within_turns values from x p t None h leaves = record {
     none = λ d e a f c tree k makes.
@@ -99,17 +100,17 @@ module _ (program : Program) (executable : IsExecutable program.theory) where
   }
 
   pub none_within : (values : List (ℕ × List ℕ)) (x : Entered) (p : Plan) →
-      NoTurn program (assignment program.theory x.values.items) (standing program x.site) p → NoneWithin program values x p
+      NoTurn program (assignment program.theory (own_or values x.values)) (standing program x.site) p → NoneWithin program values x p
   none_within values x p h = record { none = λ d e a f c tree k makes. h.none d e f tree k }
 
   -- the same under a rule
   entered : (row : Row) (b : Behaviour) (values : List (ℕ × List ℕ)) (x : Entered) (d : Derivation) (a : Action) (c : Behaviour) →
       Enters program row values b x → DerivesWith program (assignment program.theory values) b (put_row row d) a c →
-      (e : Action) × (f : Behaviour) × DerivesWith program (assignment program.theory x.values.items) (standing program x.site) d e f ×
+      (e : Action) × (f : Behaviour) × DerivesWith program (assignment program.theory (own_or values x.values)) (standing program x.site) d e f ×
       Makes program (assignment program.theory values) (surrounding_of program x.frame) e f a c
   entered row b values x d a c h k =
       let s = assignment program.theory values in
-      let t = assignment program.theory x.values.items in
+      let t = assignment program.theory (own_or values x.values) in
       let z = parted program executable row b s (λ u q. (u ≡ t) × (q ≡ standing program x.site)) d a c k h.part in (
         z.3,
         z.4,
@@ -137,7 +138,7 @@ module _ (program : Program) (executable : IsExecutable program.theory) where
   under_turns row b values from later p (Some x) (Some t) e h w = record {
     closed = (
       has_value program row b (assignment program.theory values)
-          (λ u q. (u ≡ assignment program.theory x.values.items) × (q ≡ standing program x.site)) h.part,
+          (λ u q. (u ≡ assignment program.theory (own_or values x.values)) × (q ≡ standing program x.site)) h.part,
       w.closed,
     );
     turns = λ before after d a c l tree k.
@@ -155,11 +156,11 @@ module _ (program : Program) (executable : IsExecutable program.theory) where
   -- the same of a hiding whose body acts at a hidden gate
   in_hiding : (b : Behaviour) (values : List (ℕ × List ℕ)) (x : Entered) (d : Derivation) (a : Action) (c : Behaviour) →
       EntersHidden program values b (Some x) → DerivesWith program (assignment program.theory values) b (hiding d) a c →
-      (e : Action) × (f : Behaviour) × DerivesWith program (assignment program.theory x.values.items) (standing program x.site) d e f ×
+      (e : Action) × (f : Behaviour) × DerivesWith program (assignment program.theory (own_or values x.values)) (standing program x.site) d e f ×
       Makes program (assignment program.theory values) (surrounding_of program x.frame) e f a c
   in_hiding (hide gates body) values x d a c h k =
       let s = assignment program.theory values in
-      let t = assignment program.theory x.values.items in (
+      let t = assignment program.theory (own_or values x.values) in (
         doing k.0 k.1,
         k.2,
         subst (λ (q : Behaviour). DerivesWith program t q d (doing k.0 k.1) k.2) h.2
@@ -202,11 +203,11 @@ module _ (program : Program) (executable : IsExecutable program.theory) where
   -- the same of an enabling whose left side terminates
   in_ending : (b : Behaviour) (values : List (ℕ × List ℕ)) (x : Entered) (d : Derivation) (a : Action) (c : Behaviour) →
       EntersEnding program values b (Some x) → DerivesWith program (assignment program.theory values) b (enend d) a c →
-      (e : Action) × (f : Behaviour) × DerivesWith program (assignment program.theory x.values.items) (standing program x.site) d e f ×
+      (e : Action) × (f : Behaviour) × DerivesWith program (assignment program.theory (own_or values x.values)) (standing program x.site) d e f ×
       Makes program (assignment program.theory values) (surrounding_of program x.frame) e f a c
   in_ending (enable left xs right) values x d a c h k =
       let s = assignment program.theory values in
-      let t = assignment program.theory x.values.items in (
+      let t = assignment program.theory (own_or values x.values) in (
         Exit k.0,
         k.1,
         subst (λ (q : Behaviour). DerivesWith program t q d (Exit k.0) k.1) h.2

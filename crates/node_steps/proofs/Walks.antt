@@ -10,6 +10,7 @@ use Rattle.rule_origins.specs.Values.{assignment}
 use Rattle.symbolic_composites.specs.OpenFields.{OpenField}
 use Rattle.symbolic_plans.specs.declared.scheme.Row.{Row}
 use Rattle.symbolic_plans.specs.Plans.{Plan, prefix, internal, termination, below, hidden, handed_on}
+use Rattle.node_steps.specs.Parts.{own_or}
 use Rattle.node_steps.specs.declared.turn.Entered.{Entered}
 use Rattle.node_steps.specs.declared.turn.Turn.{Turn}
 use Rattle.node_steps.specs.Blanks.{chosen_by}
@@ -74,18 +75,18 @@ module _ (program : Program) (executable : IsExecutable program.theory) where
   turned_some from s b p o t is h = subst (λ (z : Option Turn). TurnsOr program from s b p z) is h
 
   pub nothing_within : (values : List (ℕ × List ℕ)) (from : ℕ) (entered : Option Entered) (x : Entered) (p : Plan) (o : Option Turn) →
-      entered ≡ Some x → o ≡ None → TurnsOr program from (assignment program.theory x.values.items) (standing program x.site) p o →
+      entered ≡ Some x → o ≡ None → TurnsOr program from (assignment program.theory (own_or values x.values)) (standing program x.site) p o →
       WithinOr program from values entered p None
   nothing_within values from entered x p o is none h =
       subst (λ (z : Option Entered). WithinOr program from values z p None) (sym is)
       (none_within program executable values x p
-      (turned_none from (assignment program.theory x.values.items) (standing program x.site) p o none h))
+      (turned_none from (assignment program.theory (own_or values x.values)) (standing program x.site) p o none h))
 
   pub something_within : (values : List (ℕ × List ℕ)) (from : ℕ) (entered : Option Entered) (x : Entered) (p : Plan) (o : Option Turn)
       (t : Turn) (r : Option Turn) → entered ≡ Some x → o ≡ Some t →
-      TurnsOr program from (assignment program.theory x.values.items) (standing program x.site) p o →
+      TurnsOr program from (assignment program.theory (own_or values x.values)) (standing program x.site) p o →
       LeavesOr program values (surrounding_of program x.frame) t r → WithinOr program from values entered p r
   something_within values from entered x p o t r is some h leaves =
       subst (λ (z : Option Entered). WithinOr program from values z p r) (sym is)
       (within_turns program executable values from x p t r
-      (turned_some from (assignment program.theory x.values.items) (standing program x.site) p o t some h) leaves)
+      (turned_some from (assignment program.theory (own_or values x.values)) (standing program x.site) p o t some h) leaves)

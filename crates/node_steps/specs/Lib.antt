@@ -1,5 +1,6 @@
 pub mod Blanks
 pub mod Knowing
+pub mod Parts
 pub mod Frames
 pub mod Turns
 pub mod Asking

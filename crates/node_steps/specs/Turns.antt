@@ -17,6 +17,7 @@ use Rattle.node_steps.specs.declared.turn.Turn.{Turn}
 use Rattle.node_steps.specs.declared.turn.Entered.{Entered}
 use Rattle.node_steps.specs.Blanks.{IsTreeOf, IsClosed}
 use Rattle.symbolic_reach.specs.Parts.{OnPart}
+use Rattle.node_steps.specs.Parts.{own_or}
 use Rattle.node_steps.specs.Frames.{Surrounding, surrounding_of, round_part, Makes, standing, turning_inside, handing}
 
 -- the action, and what is left, where these values are chosen
@@ -62,7 +63,7 @@ module _ (program : Program) where
   pub record Enters (row : Row) (values : List (ℕ × List ℕ)) (b : Behaviour) (x : Entered) : Type 0 where
     pub round : surrounding_of program x.frame ≡ round_part row b
     pub part : OnPart program row (assignment program.theory values) b
-        (λ t c. (t ≡ assignment program.theory x.values.items) × (c ≡ standing program x.site))
+        (λ t c. (t ≡ assignment program.theory (own_or values x.values)) × (c ≡ standing program x.site))
 
   -- there is no such part
   pub record NoPart (row : Row) (values : List (ℕ × List ℕ)) (b : Behaviour) : Type 0 where
@@ -82,7 +83,7 @@ module _ (program : Program) where
   EntersHidden values b (Some x) =
       OnHide b (λ gates body.
       (surrounding_of program x.frame ≡ turning_inside gates) ×
-      (assignment program.theory values ≡ assignment program.theory x.values.items) × (body ≡ standing program x.site))
+      (assignment program.theory values ≡ assignment program.theory (own_or values x.values)) × (body ≡ standing program x.site))
 
   -- the same of the left side of an enabling that terminates
   abbrev pub EntersEnding : List (ℕ × List ℕ) → Behaviour → Option Entered → Type 0
@@ -90,7 +91,7 @@ module _ (program : Program) where
   EntersEnding values b (Some x) =
       OnEnable b (λ left xs right.
       (surrounding_of program x.frame ≡ handing xs right) ×
-      (assignment program.theory values ≡ assignment program.theory x.values.items) × (left ≡ standing program x.site))
+      (assignment program.theory values ≡ assignment program.theory (own_or values x.values)) × (left ≡ standing program x.site))
 
   -- what is done and left of the part becomes what is done and left of the whole
   pub record Leaves (values : List (ℕ × List ℕ)) (frame : Surrounding) (t u : Turn) : Type 0 where
@@ -113,14 +114,14 @@ module _ (program : Program) where
   pub record Within (from : ℕ) (values : List (ℕ × List ℕ)) (x : Entered) (p : Plan) (t : Turn) : Type 0 where
     pub closed : IsClosed p
     pub within : (before after : List Slot) (d : Derivation) (e a : Action) (f c : Behaviour) → length before ≡ from → IsTreeOf p d →
-        DerivesWith program (assignment program.theory x.values.items) (standing program x.site) d e f →
+        DerivesWith program (assignment program.theory (own_or values x.values)) (standing program x.site) d e f →
         Makes program (assignment program.theory values) (surrounding_of program x.frame) e f a c →
         Agrees program (before ++ (slots_of d ++ after)) t a c
 
   -- no tree of the plan makes anything of the whole
   pub record NoneWithin (values : List (ℕ × List ℕ)) (x : Entered) (p : Plan) : Type 0 where
     pub none : (d : Derivation) (e a : Action) (f c : Behaviour) → IsTreeOf p d →
-        DerivesWith program (assignment program.theory x.values.items) (standing program x.site) d e f →
+        DerivesWith program (assignment program.theory (own_or values x.values)) (standing program x.site) d e f →
         Makes program (assignment program.theory values) (surrounding_of program x.frame) e f a c →
         ⊥
 

@@ -17,6 +17,7 @@ ghost use Rattle.symbolic_plans.specs.declared.scheme.Row.TheVariants.{Disstep, 
 ghost use Rattle.node_steps.specs.declared.turn.Frame.TheVariants.{Same};
 ghost use Rattle.node_steps.specs.declared.turn.Site.TheVariants.{At};
 ghost use Rattle.symbolic_reach.specs.Asking.{RuleAsks};
+ghost use Rattle.node_steps.specs.Parts.{own_or};
 ghost use Rattle.node_steps.specs.Frames.{surrounding_of, standing};
 ghost use Rattle.node_steps.specs.Turns.{EntersOr, EntersNode, EntersHidden, EntersEnding};
 
@@ -37,61 +38,53 @@ use std::alloc::Global;
 use symbolic_plans::scheme::Row;
 
 // A part of the code with the same values.
-fn kept(alloc: Global, part: u32, values: &[(u32, Value)], frame: Frame) -> Result<Entered, Memory>
-    ensures site { IfOk result (λ x. x.site ≡ At part) }
-    ensures values { IfOk result (λ x. x.values.items ≡ values.now) }
-    ensures frame { IfOk result (λ x. x.frame ≡ frame) }
+fn kept(part: u32, values: &[(u32, Value)], frame: Frame) -> Entered
+    ensures site { result.site ≡ At part }
+    ensures values { own_or values.now result.values ≡ values.now }
+    ensures frame { result.frame ≡ frame }
 {
-    let values = copy_values(alloc, values)?;
     let site = Site::At(part);
-    Ok(Entered {
+    Entered {
         site,
-        values,
+        values: None,
         frame,
-    })
+    }
 }
 
 // A side of a choice.
 fn left_of_choice(
-    alloc: Global,
     checked: &Checked,
     construct: &CodeNode,
     values: &[(u32, Value)],
-) -> Result<Option<Entered>, Memory>
-    ensures { IfOk result (EntersNode (program_of checked.now) Chl values.now (node_of construct.now)) }
+) -> Option<Entered>
+    ensures { EntersNode (program_of checked.now) Chl values.now (node_of construct.now) result }
 {
     match construct {
-        CodeNode::Choice(left, _) => Ok(Some(kept(alloc, left.0, values, Frame::Same)?)),
-        _ => Ok(None),
+        CodeNode::Choice(left, _) => Some(kept(left.0, values, Frame::Same)),
+        _ => None,
     }
 }
 
 fn right_of_choice(
-    alloc: Global,
     checked: &Checked,
     construct: &CodeNode,
     values: &[(u32, Value)],
-) -> Result<Option<Entered>, Memory>
-    ensures { IfOk result (EntersNode (program_of checked.now) Chr values.now (node_of construct.now)) }
+) -> Option<Entered>
+    ensures { EntersNode (program_of checked.now) Chr values.now (node_of construct.now) result }
 {
     match construct {
-        CodeNode::Choice(_, right) => Ok(Some(kept(alloc, right.0, values, Frame::Same)?)),
-        _ => Ok(None),
+        CodeNode::Choice(_, right) => Some(kept(right.0, values, Frame::Same)),
+        _ => None,
     }
 }
 
 // The body of a guarded behaviour.
-fn guarded_body(
-    alloc: Global,
-    checked: &Checked,
-    construct: &CodeNode,
-    values: &[(u32, Value)],
-) -> Result<Option<Entered>, Memory>
-    ensures { IfOk result (EntersNode (program_of checked.now) Guard values.now (node_of construct.now)) }
+fn guarded_body(checked: &Checked, construct: &CodeNode, values: &[(u32, Value)]) -> Option<Entered>
+    ensures { EntersNode (program_of checked.now) Guard values.now (node_of construct.now) result }
 {
     match construct {
-        CodeNode::Guard(_, _, part) => Ok(Some(kept(alloc, part.0, values, Frame::Same)?)),
-        _ => Ok(None),
+        CodeNode::Guard(_, _, part) => Some(kept(part.0, values, Frame::Same)),
+        _ => None,
     }
 }
 
@@ -125,7 +118,7 @@ fn with_value(
     value: Value,
 ) -> Result<Entered, Memory>
     ensures site { IfOk result (λ e. e.site ≡ At part) }
-    ensures values { IfOk result (λ e. e.values.items ≡ values.now ++ (x, value) ∷ []) }
+    ensures values { IfOk result (λ e. own_or values.now e.values ≡ values.now ++ (x, value) ∷ []) }
     ensures frame { IfOk result (λ e. e.frame ≡ Same) }
 {
     let kept = copy_values(alloc, values)?;
@@ -134,7 +127,7 @@ fn with_value(
     let frame = Frame::Same;
     Ok(Entered {
         site,
-        values: more,
+        values: Some(more),
         frame,
     })
 }
@@ -153,13 +146,11 @@ fn gated_body(
         CodeNode::Gates(from, gates, part) => match gate_at(gates, place) {
             None => Ok(None),
             Some(to) => {
-                let pairs = renaming(alloc, *from, to)?;
-                let values = copy_values(alloc, values)?;
-                let site = Site::Renamed(pairs, part.0);
+                let site = Site::Renamed(renaming(alloc, *from, to)?, part.0);
                 let frame = Frame::Same;
                 Ok(Some(Entered {
                     site,
-                    values,
+                    values: None,
                     frame,
                 }))
             }
@@ -192,7 +183,7 @@ fn bound_body(
                     let frame = Frame::Same;
                     Ok(Some(Entered {
                         site,
-                        values: more,
+                        values: Some(more),
                         frame,
                     }))
                 }
@@ -214,7 +205,7 @@ fn left_alone(
     match construct {
         CodeNode::Par(gates, left, right) => {
             let frame = Frame::BesideRight(gates.copy(alloc)?, right.0);
-            Ok(Some(kept(alloc, left.0, values, frame)?))
+            Ok(Some(kept(left.0, values, frame)))
         }
         _ => Ok(None),
     }
@@ -231,7 +222,7 @@ fn right_alone(
     match construct {
         CodeNode::Par(gates, left, right) => {
             let frame = Frame::BesideLeft(gates.copy(alloc)?, left.0);
-            Ok(Some(kept(alloc, right.0, values, frame)?))
+            Ok(Some(kept(right.0, values, frame)))
         }
         _ => Ok(None),
     }
@@ -249,7 +240,7 @@ fn passing_body(
     match construct {
         CodeNode::Hide(gates, part) => {
             let frame = Frame::Hidden(Vec::from_slice(alloc, gates)?);
-            Ok(Some(kept(alloc, part.0, values, frame)?))
+            Ok(Some(kept(part.0, values, frame)))
         }
         _ => Ok(None),
     }
@@ -267,7 +258,7 @@ fn hidden_body(
     match construct {
         CodeNode::Hide(gates, part) => {
             let frame = Frame::Inside(Vec::from_slice(alloc, gates)?);
-            Ok(Some(kept(alloc, part.0, values, frame)?))
+            Ok(Some(kept(part.0, values, frame)))
         }
         _ => Ok(None),
     }
@@ -285,7 +276,7 @@ fn enabling_side(
     match construct {
         CodeNode::Enable(left, vars, right) => {
             let frame = Frame::Enabling(Vec::from_slice(alloc, vars)?, right.0);
-            Ok(Some(kept(alloc, left.0, values, frame)?))
+            Ok(Some(kept(left.0, values, frame)))
         }
         _ => Ok(None),
     }
@@ -303,7 +294,7 @@ fn ending_side(
     match construct {
         CodeNode::Enable(left, vars, right) => {
             let frame = Frame::Handing(Vec::from_slice(alloc, vars)?, right.0);
-            Ok(Some(kept(alloc, left.0, values, frame)?))
+            Ok(Some(kept(left.0, values, frame)))
         }
         _ => Ok(None),
     }
@@ -311,49 +302,37 @@ fn ending_side(
 
 // The left side of a disabling, which goes on, or terminates, and the right side, which takes over.
 fn disabled_side(
-    alloc: Global,
     checked: &Checked,
     construct: &CodeNode,
     values: &[(u32, Value)],
-) -> Result<Option<Entered>, Memory>
-    ensures { IfOk result (EntersNode (program_of checked.now) Disstep values.now (node_of construct.now)) }
+) -> Option<Entered>
+    ensures { EntersNode (program_of checked.now) Disstep values.now (node_of construct.now) result }
 {
     match construct {
-        CodeNode::Disable(left, right) => Ok(Some(kept(
-            alloc,
-            left.0,
-            values,
-            Frame::Disabling(right.0),
-        )?)),
-        _ => Ok(None),
+        CodeNode::Disable(left, right) => Some(kept(left.0, values, Frame::Disabling(right.0))),
+        _ => None,
     }
 }
 
-fn ended_side(
-    alloc: Global,
-    checked: &Checked,
-    construct: &CodeNode,
-    values: &[(u32, Value)],
-) -> Result<Option<Entered>, Memory>
-    ensures { IfOk result (EntersNode (program_of checked.now) Disend values.now (node_of construct.now)) }
+fn ended_side(checked: &Checked, construct: &CodeNode, values: &[(u32, Value)]) -> Option<Entered>
+    ensures { EntersNode (program_of checked.now) Disend values.now (node_of construct.now) result }
 {
     match construct {
-        CodeNode::Disable(left, _) => Ok(Some(kept(alloc, left.0, values, Frame::Same)?)),
-        _ => Ok(None),
+        CodeNode::Disable(left, _) => Some(kept(left.0, values, Frame::Same)),
+        _ => None,
     }
 }
 
 fn disabling_side(
-    alloc: Global,
     checked: &Checked,
     construct: &CodeNode,
     values: &[(u32, Value)],
-) -> Result<Option<Entered>, Memory>
-    ensures { IfOk result (EntersNode (program_of checked.now) Distake values.now (node_of construct.now)) }
+) -> Option<Entered>
+    ensures { EntersNode (program_of checked.now) Distake values.now (node_of construct.now) result }
 {
     match construct {
-        CodeNode::Disable(_, right) => Ok(Some(kept(alloc, right.0, values, Frame::Same)?)),
-        _ => Ok(None),
+        CodeNode::Disable(_, right) => Some(kept(right.0, values, Frame::Same)),
+        _ => None,
     }
 }
 
@@ -401,7 +380,7 @@ fn called_body(
                     let frame = Frame::Same;
                     Ok(Some(Entered {
                         site,
-                        values: more,
+                        values: Some(more),
                         frame,
                     }))
                 }
@@ -446,7 +425,7 @@ fn relabelled_body(
     match construct {
         CodeNode::Relabel(pairs, part) => {
             let frame = Frame::Renamed(Vec::from_slice(alloc, pairs)?);
-            Ok(Some(kept(alloc, part.0, values, frame)?))
+            Ok(Some(kept(part.0, values, frame)))
         }
         _ => Ok(None),
     }
@@ -468,19 +447,19 @@ fn enter_construct(
         (over_parts (behaviour_at (program_of checked.now)) (Some (node_of construct.now)))) Never) }
 {
     match row {
-        Row::Chl => Ok(left_of_choice(alloc, checked, construct, values)?),
-        Row::Chr => Ok(right_of_choice(alloc, checked, construct, values)?),
+        Row::Chl => Ok(left_of_choice(checked, construct, values)),
+        Row::Chr => Ok(right_of_choice(checked, construct, values)),
         Row::Val(slot) => Ok(valued_body(alloc, checked, construct, values, slot)?),
         Row::Gate(place) => Ok(gated_body(alloc, checked, construct, values, *place)?),
-        Row::Guard => Ok(guarded_body(alloc, checked, construct, values)?),
+        Row::Guard => Ok(guarded_body(checked, construct, values)),
         Row::Let => bound_body(alloc, checked, construct, values, budget),
         Row::Parl => Ok(left_alone(alloc, checked, construct, values)?),
         Row::Parr => Ok(right_alone(alloc, checked, construct, values)?),
         Row::Pass => Ok(passing_body(alloc, checked, construct, values)?),
         Row::Enstep => Ok(enabling_side(alloc, checked, construct, values)?),
-        Row::Disstep => Ok(disabled_side(alloc, checked, construct, values)?),
-        Row::Disend => Ok(ended_side(alloc, checked, construct, values)?),
-        Row::Distake => Ok(disabling_side(alloc, checked, construct, values)?),
+        Row::Disstep => Ok(disabled_side(checked, construct, values)),
+        Row::Disend => Ok(ended_side(checked, construct, values)),
+        Row::Distake => Ok(disabling_side(checked, construct, values)),
         Row::Call => body_of_call(alloc, checked, construct, values, budget),
         Row::Rel => Ok(relabelled_body(alloc, checked, construct, values)?),
     }
@@ -501,7 +480,7 @@ fn enter_renamed(
     match row {
         Row::Rel => {
             let frame = Frame::Renamed(Vec::from_slice(alloc, pairs)?);
-            Ok(Some(kept(alloc, part, values, frame)?))
+            Ok(Some(kept(part, values, frame)))
         }
         _ => Ok(None),
     }

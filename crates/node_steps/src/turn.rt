@@ -47,10 +47,10 @@ pub enum Frame {
     Disabling(u32),
 }
 
-/// A part that acts, the values for its variables, and what stands round it.
+/// A part that acts, the values for its variables, where they aren't those of the whole, and what stands round it.
 #[derive(Drop)]
 pub struct Entered {
     pub site: Site,
-    pub values: Vec<(u32, Value)>,
+    pub values: Option<Vec<(u32, Value)>>,
     pub frame: Frame,
 }

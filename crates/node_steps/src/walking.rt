@@ -15,6 +15,7 @@ ghost use Rattle.node_trees.specs.Rests.{way_of, IsWayOf, does_of, remainder_of,
 ghost use Rattle.symbolic_reach.specs.Asking.{PlanAsks};
 ghost use Rattle.node_steps.specs.Asking.{WithinAsks};
 ghost use Rattle.node_steps.specs.Blanks.{blank_tree, DoesNothingBy};
+ghost use Rattle.node_steps.specs.Parts.{own_or};
 ghost use Rattle.node_steps.specs.Frames.{standing};
 ghost use Rattle.node_steps.specs.Turns.{TurnsOr, WithinOr};
 
@@ -67,6 +68,19 @@ fn side_by_side(alloc: Global, gates: &GateSet, first: Turn, second: Turn) -> Re
     } = second;
     let rest = Rest::parallel(alloc, gates.copy(alloc)?, left, right)?;
     Ok(Turn { action, rest })
+}
+
+// The values for a part's variables: its own, or those of the whole.
+fn values_within<'a>(
+    values: &'a [(u32, Value)],
+    own: &'a Option<Vec<(u32, Value)>>,
+) -> &'a [(u32, Value)]
+    ensures { result.now ≡ own_or values.now own.now }
+{
+    match own {
+        None => values,
+        Some(more) => more.as_slice(),
+    }
 }
 
 // What is done and left by the trees of a plan, whose chosen values stand in the whole tree from a place on.
@@ -145,17 +159,18 @@ fn walk_within(
     requires ready { IsReady (program_of checked.now) }
     ensures turns { IfOk result (WithinOr (program_of checked.now) from values.now entered (plan_of part.now)) }
     ensures fault { IfErr result (Stops (program_of checked.now).theory budget
-        (WithinAsks (program_of checked.now) entered (plan_of part.now)) Never) }
+        (WithinAsks (program_of checked.now) values.now entered (plan_of part.now)) Never) }
 {
     match entered {
         None => Ok(None),
         Some(found) => {
             let Entered {
                 site,
-                values: inner,
+                values: own,
                 frame,
             } = found;
-            match walk(alloc, checked, &site, &inner, part, from, budget)? {
+            let inner = values_within(values, &own);
+            match walk(alloc, checked, &site, inner, part, from, budget)? {
                 None => Ok(None),
                 Some(turn) => Ok(leave(alloc, checked, values, frame, turn)?),
             }

@@ -5,6 +5,7 @@ use Rattle.rule_origins.specs.Values.{assignment}
 use Rattle.symbolic_plans.specs.Plans.{below, hidden, handed_on, field_of, plan_of}
 use Rattle.symbolic_reach.specs.Asking.{PlanAsks}
 use Rattle.node_steps.specs.Asking.{WithinAsks}
+use Rattle.node_steps.specs.Parts.{own_or}
 use Rattle.node_steps.specs.Frames.{standing}
 use Rattle.node_steps.specs.Turns.{TurnsOr}
 use Rattle.node_steps.proofs.Asked.{stops_more, under_asks}
@@ -69,7 +70,7 @@ walk_under-returns-clause-turns t c =
 pub walk_within-returns-in-None-2-clause-turns : goal.walk_within-returns-in-None-2-clause-turns
 walk_within-returns-in-None-2-clause-turns t c =
     let program = program_of c.args.checked.now in
-    let values : c.deref.result.now ≡ c.in-Some.found.values.items = search rules in
+    let values : c.values_within-inner.result.now ≡ own_or c.args.values.now c.in-Some.found.values = search rules in
     nothing_within program c.requires.ready.executable c.args.values.now c.args.from c.args.entered c.in-Some.found
     (plan_of c.args.part.now) c.in_ok-walk-in-Some.field-0 c.in-Some.is c.in-None-2.is (subst (λ l. TurnsOr program c.args.from (assignment program.theory l) (standing program c.in-Some.found.site) (plan_of c.args.part.now)
     c.in_ok-walk-in-Some.field-0) values c.in_ok-walk-in-Some.ensures.turns)
@@ -77,7 +78,7 @@ walk_within-returns-in-None-2-clause-turns t c =
 pub walk_within-returns-clause-turns : goal.walk_within-returns-clause-turns
 walk_within-returns-clause-turns t c =
     let program = program_of c.args.checked.now in
-    let values : c.deref.result.now ≡ c.in-Some.found.values.items = search rules in
+    let values : c.values_within-inner.result.now ≡ own_or c.args.values.now c.in-Some.found.values = search rules in
     something_within program c.requires.ready.executable c.args.values.now c.args.from c.args.entered c.in-Some.found
     (plan_of c.args.part.now) c.in_ok-walk-in-Some.field-0 c.in-Some-2.turn c.in_ok-leave-in-Some-2.field-0 c.in-Some.is c.in-Some-2.is
     (subst (λ l. TurnsOr program c.args.from (assignment program.theory l) (standing program c.in-Some.found.site) (plan_of c.args.part.now)
@@ -144,7 +145,7 @@ walk_under-returns-clause-fault t c =
     let p = plan_of c.args.part.now in
     let s = assignment program.theory c.args.values.now in
     let b = standing program c.args.site.now in
-    stops_more program.theory c.args.budget (WithinAsks program c.in_ok-entered.entered p) (PlanAsks program (below c.args.row.now p) s b)
+    stops_more program.theory c.args.budget (WithinAsks program c.args.values.now c.in_ok-entered.entered p) (PlanAsks program (below c.args.row.now p) s b)
     c.walk_within.result
     (λ x h. under_asks program c.args.row.now b c.args.values.now p c.in_ok-entered.entered x c.in_ok-entered.ensures.enters h)
     c.walk_within.ensures.fault
