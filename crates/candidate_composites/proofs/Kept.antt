@@ -1,32 +1,48 @@
 -- What is made of nodes' composites whose actions are sought has all that is sought.
-use Rattle.std.proofs.Common.{ℕ, ◌≡◌, ◌++◌, ◌||◌, ◌∙◌, List, [], ◌∷◌, map, filter, flat_map, refl, sym, ap, Bool, true, false, cond, if◌then◌else◌}
+use Rattle.std.proofs.Common.{ℕ, ◌≡◌, ◌++◌, ◌&&◌, ◌||◌, ◌∙◌, not, List, [], ◌∷◌, map, filter, flat_map, refl, sym, ap, Bool, true, false, cond, if◌then◌else◌}
 use Rattle.std.proofs.Common.{Option, Some, None}
+use Rattle.std.proofs.lemmas.Bool.{or_parts}
 use Rattle.std.proofs.lemmas.List.Concat.{flat_map-append}
 use Rattle.spec_core.specs.Theories.{Theory}
 use Rattle.spec_core.specs.Code.{Synchronised}
 use Rattle.rule_model.specs.Actions.{Kind, inside}
 use Rattle.symbolic_rules.specs.MayDerive.{renamed_kind}
-use Rattle.decision_trees.specs.Gaps.{element}
-use Rattle.symbolic_composites.specs.Kinds.{is_joint, is_hidden, is_end, same_kind}
+use Rattle.decision_trees.specs.Gaps.{element, gap}
+use Rattle.symbolic_composites.specs.Kinds.{is_alone, is_joint, is_hidden, is_end, same_kind}
+use Rattle.symbolic_composites.proofs.Tests.{same_kind_so}
 use Rattle.symbolic_plans.specs.declared.scheme.Row.{Row}
 use Rattle.symbolic_plans.specs.declared.scheme.Row.TheVariants.{Chl, Chr, Parl, Parr, Distake, Disend, Disstep}
 use Rattle.symbolic_plans.specs.OpenPlans.{OpenPlan, under_row, plans_alone, plans_joint, plan_by_disabling}
-use Rattle.candidate_laws.specs.Sought.{Sought, every_kind, these_kinds, is_one_kind, is_sought, under_one, by_itself, with_another, as_another}
-use Rattle.candidate_laws.specs.Sought.{kind_above, becomes_one, sought_below}
-use Rattle.candidate_laws.proofs.Sought.{below_is_above}
+use Rattle.candidate_laws.specs.Sought.{Sought, every_kind, these_kinds, is_one_kind, is_sought, seeks_some, under_one, by_itself, with_another}
+use Rattle.candidate_laws.specs.Sought.{Step, as_another, kind_above, is_one_above, becomes_one, sought_at, sought_below}
+use Rattle.candidate_laws.proofs.Sought.{below_is_above, kinds_same}
 use Rattle.node_trees.specs.Rests.{Work}
 use Rattle.node_trees.specs.Shapes.{Shape, leaf, ended, over, between, Unary, hidden, relabelled, enabled, Binary, choosing, beside, disabling}
 use Rattle.candidate_composites.specs.declared.part.Part.{Part}
-use Rattle.candidate_composites.specs.Known.{PlacedPlan, made, plans_sought, placed_of, part_of, over_one, stepped, turned_there, placed_over_one}
+use Rattle.candidate_composites.specs.Known.{PlanOrGap, PlacedPlan, made, awaited, plan_or_gap, plans_sought, placed_of, part_of, over_one}
+use Rattle.candidate_composites.specs.Known.{stepped, turned_there, placed_over_one}
 use Rattle.candidate_composites.specs.Known.{placed_alone, placed_at, placed_partners, placed_over_two, placed_plans, known_plans, sought_plans}
-use Rattle.candidate_composites.specs.Kept.{kept_at, kept_plans}
+use Rattle.candidate_composites.specs.Joining.{Joins, free, is_offered, lets, right_of}
+use Rattle.candidate_composites.specs.Kept.{is_kept, kept_at, kept_plans, node_waits, prunes_for, some_waits}
 use Rattle.candidate_composites.proofs.Placed.{placed_are_known}
 use Rattle.candidate_composites.proofs.Those.{sift, fill, sift_stepped, sift_turned, as_stepped, kind_of_either, same_either, one_over, one_alone}
 use Rattle.candidate_composites.proofs.Those.{partners_sought, all_partners}
+use Rattle.candidate_composites.proofs.Whole.{AllMade, all_plans, all_over, all_between, all_made}
 
--- each kind that is sought by the second is sought by the first
-abbrev Covers : Sought → Sought → Type 0
-Covers u v = (k : Kind) → is_sought v k ≡ true → is_sought u k ≡ true
+-- each kind that is sought passes the test
+abbrev Covers : (Kind → Bool) → Sought → Type 0
+Covers f v = (k : Kind) → is_sought v k ≡ true → f k ≡ true
+
+-- where something is left out it is said what is sought
+abbrev Allowed : Bool → Sought → Type 0
+Allowed true every_kind = ⊥
+Allowed true (these_kinds ks) = Unit {0}
+Allowed false v = Unit {0}
+
+allowed_below : (prunes : Bool) (step : Step) (v : Sought) → Allowed prunes v → Allowed prunes (sought_below step v)
+allowed_below true step every_kind a = absurd a
+allowed_below true step (these_kinds ks) a = tt
+allowed_below false step v a = tt
 
 either_still : (a b c : Bool) → a || b ≡ true → (b ≡ true → c ≡ true) → a || c ≡ true
 either_still true b c e h = refl
@@ -49,21 +65,83 @@ one_of_none_more : (k : Kind) (ks : List Kind) → is_one_kind k (ks ++ []) ≡ 
 one_of_none_more k [] = refl
 one_of_none_more k (j ∷ ks) = ap (λ z. same_kind k j || z) (one_of_none_more k ks)
 
+one_passes : (k : Kind) (p : Kind → Bool) (ks : List Kind) → is_one_kind k (filter p ks) ≡ true → p k ≡ true
+one_passes k p [] e = let no : false ≡ true = e in absurd cc
+one_passes k p (j ∷ ks) e = by_test (p j) refl e (one_passes k p ks)
+  where
+    by_kind : (b : Bool) → same_kind k j ≡ b → p j ≡ true → b || is_one_kind k (filter p ks) ≡ true →
+        (is_one_kind k (filter p ks) ≡ true → p k ≡ true) → p k ≡ true
+    by_kind true f g i h = ap p (kinds_same k j f) ∙ g
+    by_kind false f g i h = h i
+
+    by_test : (b : Bool) → p j ≡ b → is_one_kind k (cond b (j ∷ filter p ks) (filter p ks)) ≡ true →
+        (is_one_kind k (filter p ks) ≡ true → p k ≡ true) → p k ≡ true
+    by_test true f g h = by_kind (same_kind k j) refl f g h
+    by_test false f g h = h g
+
 -- what is sought at a side of a parallel composition is sought at the whole
-covers_itself : (gates : Synchronised) (u v : Sought) → Covers u v → Covers u (sought_below (by_itself gates) v)
-covers_itself gates u every_kind h k e = h k refl
-covers_itself gates u (these_kinds ks) h k e =
+covers_itself : (gates : Synchronised) (f : Kind → Bool) (v : Sought) → Covers f v → Covers f (sought_below (by_itself gates) v)
+covers_itself gates f every_kind h k e = h k refl
+covers_itself gates f (these_kinds ks) h k e =
     h k (sym (one_of_none_more k ks) ∙ one_of_all k (becomes_one (by_itself gates) ks) (ks ++ []) e)
 
-covers_with : (gates : Synchronised) (u v : Sought) → Covers u v → Covers u (sought_below (with_another gates) v)
-covers_with gates u every_kind h k e = h k refl
-covers_with gates u (these_kinds ks) h k e =
+covers_with : (gates : Synchronised) (f : Kind → Bool) (v : Sought) → Covers f v → Covers f (sought_below (with_another gates) v)
+covers_with gates f every_kind h k e = h k refl
+covers_with gates f (these_kinds ks) h k e =
     h k (sym (one_of_none_more k ks) ∙ one_of_all k (becomes_one (with_another gates) ks) (ks ++ []) e)
 
-covers_as : (j : Kind) (u v : Sought) → Covers u v → Covers u (sought_below (as_another j) v)
-covers_as j u every_kind h k e = h k refl
-covers_as j u (these_kinds ks) h k e =
+covers_as : (j : Kind) (f : Kind → Bool) (v : Sought) → Covers f v → Covers f (sought_below (as_another j) v)
+covers_as j f every_kind h k e = h k refl
+covers_as j f (these_kinds ks) h k e =
     h k (sym (one_of_none_more k ks) ∙ one_of_all k (becomes_one (as_another j) ks) (ks ++ []) e)
+
+and_second : (a b : Bool) → a && b ≡ true → b ≡ true
+and_second true b e = e
+and_second false b e = let no : false ≡ true = e in absurd cc
+
+both_so : (a b : Bool) → a ≡ true → b ≡ true → a && b ≡ true
+both_so true b e f = f
+both_so false b e f = let no : false ≡ true = e in absurd cc
+
+first_so : (a b : Bool) → a ≡ true → a || b ≡ true
+first_so true b e = refl
+first_so false b e = let no : false ≡ true = e in absurd cc
+
+-- what is sought beside the left side is of the kind of its action
+is_same : (j k : Kind) (ks : List Kind) → is_sought (sought_below (as_another j) (these_kinds ks)) k ≡ true → j ≡ k
+is_same j k ks e = kinds_same j k (by_test (same_kind j k) (one_passes k (becomes_one (as_another j) ks) (ks ++ []) e))
+  where
+    by_test : (b : Bool) → is_one_above ks (if b then Some k else None) ≡ true → b ≡ true
+    by_test true f = refl
+    by_test false f = f
+
+-- what is sought of a side by itself is what it does alone
+is_itself : (gates : Synchronised) (k : Kind) (ks : List Kind) → is_sought (sought_below (by_itself gates) (these_kinds ks)) k ≡ true →
+    is_alone gates k ≡ true
+is_itself gates k ks e = by_test (is_alone gates k) (one_passes k (becomes_one (by_itself gates) ks) (ks ++ []) e)
+  where
+    by_test : (b : Bool) → is_one_above ks (if b then Some k else None) ≡ true → b ≡ true
+    by_test true f = refl
+    by_test false f = f
+
+-- the right side of a parallel composition, of what it does alone and of what it does with an action that the left side may do
+right_alone : (prunes : Bool) (gates : Synchronised) (ps : List PlacedPlan) (u : Sought) (c : Joins) (v : Sought) → Allowed prunes v →
+    Covers (is_kept u c) v → Covers (is_kept u (right_of prunes (beside gates) ps c)) (sought_below (by_itself gates) v)
+right_alone false gates ps u c v a h k e = covers_itself gates (is_kept u c) v h k e
+right_alone true gates ps u c every_kind a h k e = absurd a
+right_alone true gates ps u c (these_kinds ks) a h k e =
+    both_so (is_alone gates k || is_offered k ps) (is_sought u k) (first_so (is_alone gates k) (is_offered k ps) (is_itself gates k ks e))
+    (and_second (lets c k) (is_sought u k) (covers_itself gates (is_kept u c) (these_kinds ks) h k e))
+
+right_with : (prunes : Bool) (gates : Synchronised) (ps : List PlacedPlan) (u : Sought) (c : Joins) (v : Sought) (j : Kind) →
+    Allowed prunes v → Covers (is_kept u c) v → is_offered j ps ≡ true →
+    Covers (is_kept u (right_of prunes (beside gates) ps c)) (sought_below (as_another j) v)
+right_with false gates ps u c v j a h i k e = covers_as j (is_kept u c) v h k e
+right_with true gates ps u c every_kind j a h i k e = absurd a
+right_with true gates ps u c (these_kinds ks) j a h i k e =
+    both_so (is_alone gates k || is_offered k ps) (is_sought u k)
+    (either_so (is_alone gates k) (is_offered k ps) (ap (λ z. is_offered z ps) (sym (is_same j k ks e)) ∙ i))
+    (and_second (lets c k) (is_sought u k) (covers_as j (is_kept u c) (these_kinds ks) h k e))
 
 -- the kind above an operator over one part
 abbrev above : Unary → Kind → Kind
@@ -76,31 +154,57 @@ is_above (hidden gates) k = refl
 is_above (relabelled pairs) k = refl
 is_above (enabled xs right values) k = refl
 
-covers_below : (o : Unary) (u v : Sought) → Covers u v → Covers (sought_below (under_one o) u) (sought_below (under_one o) v)
-covers_below o u v h k e =
+covers_below : (o : Unary) (u : Sought) (c : Joins) (v : Sought) → Covers (is_kept u c) v →
+    Covers (is_kept (sought_below (under_one o) u) free) (sought_below (under_one o) v)
+covers_below o u c v h k e =
     below_is_above (under_one o) u k (above o k) (is_above o k)
-    ∙ h (above o k) (sym (below_is_above (under_one o) v k (above o k) (is_above o k)) ∙ e)
+    ∙ and_second (lets c (above o k)) (is_sought u (above o k))
+    (h (above o k) (sym (below_is_above (under_one o) v k (above o k) (is_above o k)) ∙ e))
 
 -- of the plans of a node
-kept_sought : (u v : Sought) → Covers u v → (ps : List OpenPlan) →
-    sift v (map made (filter (λ (p : OpenPlan). is_sought u p.kind) ps)) ≡ sift v (map made ps)
-kept_sought u v h [] = refl
-kept_sought u v h (p ∷ ps) = by_test (is_sought u p.kind) (h p.kind) (kept_sought u v h ps)
+kept_sought : (f : Kind → Bool) (v : Sought) → Covers f v → (ps : List OpenPlan) →
+    sift v (map made (filter (λ (p : OpenPlan). f p.kind) ps)) ≡ sift v (map made ps)
+kept_sought f v h [] = refl
+kept_sought f v h (p ∷ ps) = by_test (f p.kind) (h p.kind) (kept_sought f v h ps)
   where
     without : (b : Bool) → (b ≡ true → false ≡ true) → sift v (map made ps) ≡ (if b then element p ∷ [] else []) ++ sift v (map made ps)
     without true i = let no : false ≡ true = i refl in absurd cc
     without false i = refl
 
     by_test : (b : Bool) → (is_sought v p.kind ≡ true → b ≡ true) →
-        sift v (map made (filter (λ (q : OpenPlan). is_sought u q.kind) ps)) ≡ sift v (map made ps) →
-        sift v (map made (cond b (p ∷ filter (λ (q : OpenPlan). is_sought u q.kind) ps) (filter (λ (q : OpenPlan). is_sought u q.kind) ps))) ≡
+        sift v (map made (filter (λ (q : OpenPlan). f q.kind) ps)) ≡ sift v (map made ps) →
+        sift v (map made (cond b (p ∷ filter (λ (q : OpenPlan). f q.kind) ps) (filter (λ (q : OpenPlan). f q.kind) ps))) ≡
         (if is_sought v p.kind then element p ∷ [] else []) ++ sift v (map made ps)
     by_test true i e = ap (λ z. (if is_sought v p.kind then element p ∷ [] else []) ++ z) e
     by_test false i e = e ∙ without (is_sought v p.kind) i
 
-at_node : (u v : Sought) → Covers u v → (g : ℕ) (work : Option Work) → sift v (kept_at u g work) ≡ sift v (placed_at g work)
-at_node u v h g None = refl
-at_node u v h g (Some work) = kept_sought u v h work.plans
+at_node : (u : Sought) (c : Joins) (v : Sought) → Covers (is_kept u c) v → (g : ℕ) (work : Option Work) →
+    sift v (kept_at u c g work) ≡ sift v (placed_at g work)
+at_node u c v h g None = refl
+at_node u c v h g (Some work) = kept_sought (is_kept u c) v h work.plans
+
+-- two fillings that agree at what may be of these kinds
+same_fill : (f g : OpenPlan → List PlanOrGap) (w : Sought) (ps all : List PlacedPlan) →
+    ((p : OpenPlan) → is_offered p.kind all ≡ true → f p ≡ g p) →
+    ((k : Kind) → is_offered k ps ≡ true → is_offered k all ≡ true) → fill f (sift w ps) ≡ fill g (sift w ps)
+same_fill f g w [] all h i = refl
+same_fill f g w (made p ∷ ps) all h i =
+    by_test (is_sought w p.kind) (same_fill f g w ps all h (λ k e. i k (either_so (same_kind p.kind k) (is_offered k ps) e)))
+  where
+    here : f p ≡ g p
+    here = h p (i p.kind (first_so (same_kind p.kind p.kind) (is_offered p.kind ps) (same_kind_so p.kind p.kind refl)))
+
+    by_test : (b : Bool) → fill f (sift w ps) ≡ fill g (sift w ps) →
+        fill f ((if b then element p ∷ [] else []) ++ sift w ps) ≡ fill g ((if b then element p ∷ [] else []) ++ sift w ps)
+    by_test true e = ap (λ z. z ++ fill f (sift w ps)) here ∙ ap (λ z. g p ++ z) e
+    by_test false e = e
+same_fill f g w (awaited n steps ∷ ps) all h i =
+    by_test (seeks_some (sought_at steps w)) (same_fill f g w ps all h (λ k e. i k refl))
+  where
+    by_test : (b : Bool) → fill f (sift w ps) ≡ fill g (sift w ps) →
+        fill f ((if b then gap n ∷ [] else []) ++ sift w ps) ≡ fill g ((if b then gap n ∷ [] else []) ++ sift w ps)
+    by_test true e = ap (λ z. gap n ∷ z) e
+    by_test false e = e
 
 join : (v : Sought) (ps qs rs ss : List PlacedPlan) → sift v ps ≡ sift v rs → sift v qs ≡ sift v ss → sift v (ps ++ qs) ≡ sift v (rs ++ ss)
 join v ps qs rs ss e f =
@@ -128,6 +232,44 @@ alones : (gates : Synchronised) (row : Row) (v : Sought) (ps rs : List PlacedPla
 alones gates row v ps rs e =
     alone_sifted gates row v ps ∙ ap (fill (λ p. map element (plans_alone gates row p))) e ∙ sym (alone_sifted gates row v rs)
 
+-- of plans without gaps, of which each kind is sought, all are sought
+
+abbrev kinds_in : List PlacedPlan → List Kind
+kinds_in [] = []
+kinds_in (made p ∷ ps) = p.kind ∷ kinds_in ps
+kinds_in (awaited g steps ∷ ps) = kinds_in ps
+
+one_of_first : (k : Kind) (js ks : List Kind) → is_one_kind k js ≡ true → is_one_kind k (js ++ ks) ≡ true
+one_of_first k [] ks e = let no : false ≡ true = e in absurd cc
+one_of_first k (j ∷ js) ks e = either_still (same_kind k j) (is_one_kind k js) (is_one_kind k (js ++ ks)) e (one_of_first k js ks)
+
+one_of_second : (k : Kind) (js ks : List Kind) → is_one_kind k ks ≡ true → is_one_kind k (js ++ ks) ≡ true
+one_of_second k [] ks e = e
+one_of_second k (j ∷ js) ks e = either_so (same_kind k j) (is_one_kind k (js ++ ks)) (one_of_second k js ks e)
+
+all_sifted : (ps : List PlacedPlan) (ks : List Kind) → AllMade ps →
+    ((k : Kind) → is_one_kind k (kinds_in ps) ≡ true → is_one_kind k ks ≡ true) → sift (these_kinds ks) ps ≡ map plan_or_gap ps
+all_sifted [] ks a h = refl
+all_sifted (made p ∷ ps) ks a h =
+    by_test (is_one_kind p.kind ks)
+    (h p.kind (first_so (same_kind p.kind p.kind) (is_one_kind p.kind (kinds_in ps)) (same_kind_so p.kind p.kind refl)))
+    (all_sifted ps ks a (λ k e. h k (either_so (same_kind k p.kind) (is_one_kind k (kinds_in ps)) e)))
+  where
+    by_test : (b : Bool) → b ≡ true → sift (these_kinds ks) ps ≡ map plan_or_gap ps →
+        (if b then element p ∷ [] else []) ++ sift (these_kinds ks) ps ≡ element p ∷ map plan_or_gap ps
+    by_test true e f = ap (λ z. element p ∷ z) f
+    by_test false e f = let no : false ≡ true = e in absurd cc
+all_sifted (awaited g steps ∷ ps) ks a h = absurd a
+
+abbrev placed_again : PlanOrGap → PlacedPlan
+placed_again (element p) = made p
+placed_again (gap g) = awaited g []
+
+back : (ps : List PlacedPlan) → AllMade ps → ps ≡ map placed_again (map plan_or_gap ps)
+back [] a = refl
+back (made p ∷ ps) a = ap (λ z. made p ∷ z) (back ps a)
+back (awaited g steps ∷ ps) a = absurd a
+
 module _ (theory : Theory) where
   both_sifted : (gates : Synchronised) (v : Sought) (ps qs : List PlacedPlan) →
       sift v (flat_map (stepped (with_another gates) (placed_partners theory gates qs)) ps) ≡
@@ -138,81 +280,134 @@ module _ (theory : Theory) where
 
   boths : (gates : Synchronised) (v : Sought) (ps qs rs ss : List PlacedPlan) →
       sift (sought_below (with_another gates) v) ps ≡ sift (sought_below (with_another gates) v) rs →
-      ((j : Kind) → sift (sought_below (as_another j) v) qs ≡ sift (sought_below (as_another j) v) ss) →
+      ((j : Kind) → is_offered j ps ≡ true → sift (sought_below (as_another j) v) qs ≡ sift (sought_below (as_another j) v) ss) →
       sift v (flat_map (stepped (with_another gates) (placed_partners theory gates qs)) ps) ≡
       sift v (flat_map (stepped (with_another gates) (placed_partners theory gates ss)) rs)
   boths gates v ps qs rs ss e f =
       both_sifted gates v ps qs
-      ∙ ap (fill (λ p. partners_sought theory gates v p qs)) e
-      ∙ ap (λ g. fill g (sift (sought_below (with_another gates) v) rs)) (λ i p. same p i)
+      ∙ same_fill (λ p. partners_sought theory gates v p qs) (λ p. partners_sought theory gates v p ss)
+      (sought_below (with_another gates) v) ps ps same (λ k i. i)
+      ∙ ap (fill (λ p. partners_sought theory gates v p ss)) e
       ∙ sym (both_sifted gates v rs ss)
     where
-      same : (p : OpenPlan) → partners_sought theory gates v p qs ≡ partners_sought theory gates v p ss
-      same p = ap (λ z. if is_joint gates p.kind then fill (λ q. map element (plans_joint theory gates p q)) z else []) (f p.kind)
+      same : (p : OpenPlan) → is_offered p.kind ps ≡ true → partners_sought theory gates v p qs ≡ partners_sought theory gates v p ss
+      same p i = ap (λ z. if is_joint gates p.kind then fill (λ q. map element (plans_joint theory gates p q)) z else []) (f p.kind i)
 
-  two_parts : (o : Binary) (u v : Sought) → Covers u v → (ps qs rs ss : List PlacedPlan) →
-      ((w : Sought) → Covers u w → sift w ps ≡ sift w rs) → ((w : Sought) → Covers u w → sift w qs ≡ sift w ss) →
+  two_parts : (prunes : Bool) (o : Binary) (u : Sought) (c : Joins) (v : Sought) → Allowed prunes v → Covers (is_kept u c) v →
+      (ps qs rs ss : List PlacedPlan) →
+      ((w : Sought) → Allowed prunes w → Covers (is_kept u c) w → sift w ps ≡ sift w rs) →
+      ((w : Sought) → Allowed prunes w → Covers (is_kept u (right_of prunes o ps c)) w → sift w qs ≡ sift w ss) →
       sift v (placed_over_two theory o ps qs) ≡ sift v (placed_over_two theory o rs ss)
-  two_parts choosing u v h ps qs rs ss e f =
+  two_parts prunes choosing u c v a h ps qs rs ss e f =
       join v (map (turned_there (under_row Chl)) ps) (map (turned_there (under_row Chr)) qs) (map (turned_there (under_row Chl)) rs)
-      (map (turned_there (under_row Chr)) ss) (turns v (under_row Chl) (λ p. refl) ps rs (e v h))
-      (turns v (under_row Chr) (λ p. refl) qs ss (f v h))
-  two_parts (beside gates) u v h ps qs rs ss e f =
+      (map (turned_there (under_row Chr)) ss) (turns v (under_row Chl) (λ p. refl) ps rs (e v a h))
+      (turns v (under_row Chr) (λ p. refl) qs ss (f v a h))
+  two_parts prunes (beside gates) u c v a h ps qs rs ss e f =
       let rights = placed_alone gates Parr qs in
       let others = placed_alone gates Parr ss in
       let first = flat_map (stepped (with_another gates) (placed_partners theory gates qs)) ps in
       let second = flat_map (stepped (with_another gates) (placed_partners theory gates ss)) rs in
-      let alone = covers_itself gates u v h in
+      let below = allowed_below prunes (by_itself gates) v a in
       join v (placed_alone gates Parl ps) (rights ++ first) (placed_alone gates Parl rs) (others ++ second)
-      (alones gates Parl v ps rs (e (sought_below (by_itself gates) v) alone))
-      (join v rights first others second (alones gates Parr v qs ss (f (sought_below (by_itself gates) v) alone))
-      (boths gates v ps qs rs ss (e (sought_below (with_another gates) v) (covers_with gates u v h))
-      (λ j. f (sought_below (as_another j) v) (covers_as j u v h))))
-  two_parts disabling u v h ps qs rs ss e f =
+      (alones gates Parl v ps rs (e (sought_below (by_itself gates) v) below (covers_itself gates (is_kept u c) v h)))
+      (join v rights first others second
+      (alones gates Parr v qs ss (f (sought_below (by_itself gates) v) below (right_alone prunes gates ps u c v a h)))
+      (boths gates v ps qs rs ss
+      (e (sought_below (with_another gates) v) (allowed_below prunes (with_another gates) v a) (covers_with gates (is_kept u c) v h))
+      (λ j i. f (sought_below (as_another j) v) (allowed_below prunes (as_another j) v a) (right_with prunes gates ps u c v j a h i))))
+  two_parts prunes disabling u c v a h ps qs rs ss e f =
       join v (map (turned_there plan_by_disabling) ps) (map (turned_there (under_row Distake)) qs) (map (turned_there plan_by_disabling) rs)
       (map (turned_there (under_row Distake)) ss)
       (turns v plan_by_disabling
-      (λ p. kind_of_either (is_end p.kind) (under_row Disend p) (under_row Disstep p) ∙ same_either (is_end p.kind) p.kind) ps rs (e v h))
-      (turns v (under_row Distake) (λ p. refl) qs ss (f v h))
+      (λ p. kind_of_either (is_end p.kind) (under_row Disend p) (under_row Disstep p) ∙ same_either (is_end p.kind) p.kind) ps rs (e v a h))
+      (turns v (under_row Distake) (λ p. refl) qs ss (f v a h))
 
-  kept_are : (t : Shape) (u v : Sought) → Covers u v → sift v (kept_plans theory t u) ≡ sift v (placed_plans theory t)
-  kept_are (leaf n) u v h = at_node u v h n.generation n.work
-  kept_are ended u v h = refl
-  kept_are (over o x) u v h =
-      part_over o v (kept_plans theory x (sought_below (under_one o) u))
+  kept_are : (prunes : Bool) (t : Shape) (u : Sought) (c : Joins) (v : Sought) → Allowed prunes v → Covers (is_kept u c) v →
+      sift v (kept_plans theory prunes t u c) ≡ sift v (placed_plans theory t)
+  kept_are prunes (leaf n) u c v a h = at_node u c v h n.generation n.work
+  kept_are prunes ended u c v a h = refl
+  kept_are prunes (over o x) u c v a h =
+      part_over o v (kept_plans theory prunes x (sought_below (under_one o) u) free)
       ∙ ap (fill (λ p. element (over_one o p) ∷ []))
-      (kept_are x (sought_below (under_one o) u) (sought_below (under_one o) v) (covers_below o u v h))
+      (kept_are prunes x (sought_below (under_one o) u) free (sought_below (under_one o) v) (allowed_below prunes (under_one o) v a)
+      (covers_below o u c v h))
       ∙ sym (part_over o v (placed_plans theory x))
-  kept_are (between o x y) u v h =
-      two_parts o u v h (kept_plans theory x u) (kept_plans theory y u) (placed_plans theory x) (placed_plans theory y)
-      (λ w i. kept_are x u w i) (λ w i. kept_are y u w i)
+  kept_are prunes (between o x y) u c v a h =
+      let ps = kept_plans theory prunes x u c in
+      two_parts prunes o u c v a h ps (kept_plans theory prunes y u (right_of prunes o ps c)) (placed_plans theory x) (placed_plans theory y)
+      (λ w b i. kept_are prunes x u c w b i) (λ w b i. kept_are prunes y u (right_of prunes o ps c) w b i)
 
-  pub kept_are_sought : (t : Shape) (v : Sought) (parts : List Part) → map placed_of parts ≡ kept_plans theory t v →
-      flat_map (plans_sought v) (map placed_of parts) ≡ sought_plans theory t v
-  kept_are_sought t v parts e = ap (sift v) e ∙ kept_are t v v (λ k i. i)
+  -- where whatever there is is sought, and nothing is left out, all are made
 
-  -- where whatever there is is sought, all are made
-
-  all_kept : (ps : List OpenPlan) → filter (λ (p : OpenPlan). is_sought every_kind p.kind) ps ≡ ps
+  all_kept : (ps : List OpenPlan) → filter (λ (p : OpenPlan). is_kept every_kind free p.kind) ps ≡ ps
   all_kept [] = refl
   all_kept (p ∷ ps) = ap (λ z. p ∷ z) (all_kept ps)
 
-  all_at_node : (g : ℕ) (work : Option Work) → kept_at every_kind g work ≡ placed_at g work
+  all_at_node : (g : ℕ) (work : Option Work) → kept_at every_kind free g work ≡ placed_at g work
   all_at_node g None = refl
   all_at_node g (Some work) = ap (map made) (all_kept work.plans)
 
-  every_is_kept : (t : Shape) → kept_plans theory t every_kind ≡ placed_plans theory t
+  still_free : (o : Binary) (ps : List PlacedPlan) → right_of false o ps free ≡ free
+  still_free choosing ps = refl
+  still_free (beside gates) ps = refl
+  still_free disabling ps = refl
+
+  every_is_kept : (t : Shape) → kept_plans theory false t every_kind free ≡ placed_plans theory t
   every_is_kept (leaf n) = all_at_node n.generation n.work
   every_is_kept ended = refl
   every_is_kept (over o x) = ap (map (placed_over_one o)) (every_is_kept x)
   every_is_kept (between o x y) =
-      ap (λ z. placed_over_two theory o z (kept_plans theory y every_kind)) (every_is_kept x)
+      let ps = kept_plans theory false x every_kind free in
+      ap (λ c. placed_over_two theory o ps (kept_plans theory false y every_kind c)) (still_free o ps)
+      ∙ ap (λ z. placed_over_two theory o z (kept_plans theory false y every_kind free)) (every_is_kept x)
       ∙ ap (placed_over_two theory o (placed_plans theory x)) (every_is_kept y)
 
-  pub every_is_placed : (t : Shape) (parts : List Part) → map placed_of parts ≡ kept_plans theory t every_kind →
-      map placed_of parts ≡ placed_plans theory t
-  every_is_placed t parts e = e ∙ every_is_kept t
+  -- the same where something is left out, and no node waits
 
-  pub every_is_known : (t : Shape) (parts : List Part) → map placed_of parts ≡ kept_plans theory t every_kind →
-      map part_of parts ≡ known_plans theory t
+  kept_made : (v : Sought) (c : Joins) (g : ℕ) (work : Option Work) → node_waits work ≡ false → AllMade (kept_at v c g work)
+  kept_made v c g None e = let no : true ≡ false = e in absurd cc
+  kept_made v c g (Some work) e = all_plans (filter (λ (p : OpenPlan). is_kept v c p.kind) work.plans)
+
+  all_kept_made : (t : Shape) (v : Sought) (c : Joins) → some_waits t ≡ false → AllMade (kept_plans theory true t v c)
+  all_kept_made (leaf n) v c e = kept_made v c n.generation n.work e
+  all_kept_made ended v c e = tt
+  all_kept_made (over o x) v c e =
+      all_over o (kept_plans theory true x (sought_below (under_one o) v) free) (all_kept_made x (sought_below (under_one o) v) free e)
+  all_kept_made (between o x y) v c e =
+      let n = or_parts (some_waits x) (some_waits y) e in
+      let ps = kept_plans theory true x v c in
+      all_between theory o ps (kept_plans theory true y v (right_of true o ps c)) (all_kept_made x v c n.0)
+      (all_kept_made y v (right_of true o ps c) n.1)
+
+  pruned_is_kept : (t : Shape) → some_waits t ≡ false → kept_plans theory true t every_kind free ≡ placed_plans theory t
+  pruned_is_kept t e =
+      let ps = kept_plans theory true t every_kind free in
+      let qs = placed_plans theory t in
+      let ks = kinds_in ps ++ kinds_in qs in
+      let a = all_kept_made t every_kind free e in
+      let b = all_made theory t e in
+      back ps a
+      ∙ ap (map placed_again)
+      (sym (all_sifted ps ks a (λ k i. one_of_first k (kinds_in ps) (kinds_in qs) i))
+      ∙ kept_are true t every_kind free (these_kinds ks) tt (λ k i. refl)
+      ∙ all_sifted qs ks b (λ k i. one_of_second k (kinds_in ps) (kinds_in qs) i))
+      ∙ sym (back qs b)
+
+  all_are_kept : (t : Shape) (b : Bool) → some_waits t ≡ b → kept_plans theory (not b) t every_kind free ≡ placed_plans theory t
+  all_are_kept t true e = every_is_kept t
+  all_are_kept t false e = pruned_is_kept t e
+
+  pub kept_are_sought : (t : Shape) (v : Sought) (parts : List Part) →
+      map placed_of parts ≡ kept_plans theory (prunes_for v t) t v free →
+      flat_map (plans_sought v) (map placed_of parts) ≡ sought_plans theory t v
+  kept_are_sought t every_kind parts e = ap (sift every_kind) (e ∙ all_are_kept t (some_waits t) refl)
+  kept_are_sought t (these_kinds ks) parts e =
+      ap (sift (these_kinds ks)) e ∙ kept_are true t (these_kinds ks) free (these_kinds ks) tt (λ k i. i)
+
+  pub every_is_placed : (t : Shape) (parts : List Part) →
+      map placed_of parts ≡ kept_plans theory (prunes_for every_kind t) t every_kind free → map placed_of parts ≡ placed_plans theory t
+  every_is_placed t parts e = e ∙ all_are_kept t (some_waits t) refl
+
+  pub every_is_known : (t : Shape) (parts : List Part) →
+      map placed_of parts ≡ kept_plans theory (prunes_for every_kind t) t every_kind free → map part_of parts ≡ known_plans theory t
   every_is_known t parts e = placed_are_known theory t parts (every_is_placed t parts e)

@@ -1,6 +1,8 @@
+pub mod Joining
 pub mod Kept
 pub mod Known
 pub mod Laws
+pub mod Staying
 pub use Rattle.symbolic_composites.specs.Composites
 pub use Rattle.symbolic_composites.specs.Evaluations
 pub use Rattle.symbolic_composites.specs.Kinds

@@ -4,12 +4,13 @@ ghost use Rattle.std.specs.Prelude.{◌≡◌, IfOk, map, filter, flat_map};
 ghost use Rattle.spec_core.specs.Theories.{theory_of};
 ghost use Rattle.symbolic_plans.specs.OpenPlans.{open_plan_of};
 ghost use Rattle.node_trees.specs.Shapes.{shape_of, held_of};
-ghost use Rattle.candidate_laws.specs.Sought.{is_sought};
 ghost use Rattle.candidate_composites.specs.Known.{part_of, known_plans, made, found_of, placed_of, placed_plans, sought_in, plans_sought};
 ghost use Rattle.candidate_composites.specs.Known.{sought_plans};
-ghost use Rattle.candidate_composites.specs.Kept.{kept_at, kept_plans};
+ghost use Rattle.candidate_composites.specs.Joining.{free, joining_of};
+ghost use Rattle.candidate_composites.specs.Kept.{is_kept, kept_at, kept_plans, node_waits, prunes_for, some_waits};
 
 use crate::found::{Found, Given, parts};
+use crate::joining::{Joining, right_of};
 use crate::operators::{over_parts, over_sides};
 use crate::part::Part;
 use crate::sought::{Sought, sought_below};
@@ -21,29 +22,67 @@ use spec_core::memory::Memory;
 use std::alloc::Global;
 use symbolic_plans::composite::OpenComposite;
 
-// Those of a node's own composites whose actions are sought.
+// Whether a node waits for its expansion.
+fn node_waits(node: &Node) -> bool
+    ensures { result ≡ node_waits (held_of node.now).work }
+{
+    match &node.work {
+        None => true,
+        Some(_) => false,
+    }
+}
+
+// Whether some node waits for its expansion.
+fn some_waits(branch: &Branch) -> bool
+    ensures { result ≡ some_waits (shape_of branch.now) }
+{
+    match branch {
+        Branch::Leaf(node) => node_waits(node),
+        Branch::Ended => false,
+        Branch::Over(_, part) => some_waits(part),
+        Branch::Between(_, left, right) => some_waits(left) || some_waits(right),
+    }
+}
+
+// Whether what can't come up by the left sides of parallel compositions is left out.
+fn prunes_for(branch: &Branch, sought: &Sought) -> bool
+    ensures { result ≡ prunes_for (sought_in sought.now) (shape_of branch.now) }
+{
+    match sought {
+        Sought::Every => !some_waits(branch),
+        Sought::These(_) => true,
+    }
+}
+
+// Those of a node's own composites whose actions are sought, and may come up.
 fn own<'a>(
     alloc: Global,
     composites: &'a [OpenComposite],
     sought: &Sought,
+    joining: Joining<'_>,
 ) -> Result<Vec<Found<'a>>, Memory>
-    ensures { IfOk result (λ all. map found_of all.items ≡
-        map made (filter (λ p. is_sought (sought_in sought.now) p.kind) (map open_plan_of composites.now))) }
+    ensures { IfOk result (λ all. map found_of all.items ≡ map made
+        (filter (λ p. is_kept (sought_in sought.now) (joining_of joining.entry) p.kind) (map open_plan_of composites.now))) }
 {
     let mut all = Vec::new(alloc);
     for composite in composites {
-        if sought.seeks(composite.kind) {
+        if joining.lets(composite.kind) && sought.seeks(composite.kind) {
             all.push(Found::Composite(Given::Own(composite)))?;
         }
     }
     Ok(all)
 }
 
-// Those composites of a node whose actions are sought, or a gap.
+// Those composites of a node whose actions are sought, and may come up, or a gap.
 #[inline(never)]
-fn at_node<'a>(alloc: Global, node: &'a Node, sought: &Sought) -> Result<Vec<Found<'a>>, Memory>
+fn at_node<'a>(
+    alloc: Global,
+    node: &'a Node,
+    sought: &Sought,
+    joining: Joining<'_>,
+) -> Result<Vec<Found<'a>>, Memory>
     ensures { IfOk result (λ all. map found_of all.items ≡
-        kept_at (sought_in sought.now) (held_of node.now).generation (held_of node.now).work) }
+        kept_at (sought_in sought.now) (joining_of joining.entry) (held_of node.now).generation (held_of node.now).work) }
 {
     match &node.work {
         None => {
@@ -51,48 +90,52 @@ fn at_node<'a>(alloc: Global, node: &'a Node, sought: &Sought) -> Result<Vec<Fou
             all.push(Found::Gap(node.generation, Vec::new(alloc)))?;
             Ok(all)
         }
-        Some(expansion) => own(alloc, &expansion.composites, sought),
+        Some(expansion) => own(alloc, &expansion.composites, sought, joining),
     }
 }
 
 // The composites of a tree that are made of those of its nodes whose actions are sought at the whole, and the gaps with the steps from them
-// up to the whole.
+// up to the whole. Where it prunes, what a right side could do only together with a left side that can't is left out.
 fn kept_composites<'a>(
     alloc: Global,
     algebra: &DataSpec,
     branch: &'a Branch,
+    prunes: bool,
     sought: &Sought,
+    joining: Joining<'_>,
 ) -> Result<Vec<Found<'a>>, Memory>
     ensures { IfOk result (λ all. map found_of all.items ≡
-        kept_plans (theory_of algebra.now) (shape_of branch.now) (sought_in sought.now)) }
+        kept_plans (theory_of algebra.now) prunes (shape_of branch.now) (sought_in sought.now) (joining_of joining.entry)) }
 {
     match branch {
-        Branch::Leaf(node) => at_node(alloc, node, sought),
+        Branch::Leaf(node) => at_node(alloc, node, sought, joining),
         Branch::Ended => Ok(Vec::new(alloc)),
         Branch::Over(operator, part) => {
             let below = sought_below(alloc, &Step::Under(operator), sought)?;
-            let parts = kept_composites(alloc, algebra, part, &below)?;
+            let parts = kept_composites(alloc, algebra, part, prunes, &below, Joining::Free)?;
             over_parts(alloc, operator, parts)
         }
         Branch::Between(operator, left, right) => {
-            let first = kept_composites(alloc, algebra, left, sought)?;
-            let second = kept_composites(alloc, algebra, right, sought)?;
+            let first = kept_composites(alloc, algebra, left, prunes, sought, joining)?;
+            let beside = right_of(prunes, operator, &first, joining);
+            let second = kept_composites(alloc, algebra, right, prunes, sought, beside)?;
             over_sides(alloc, algebra, operator, first, second)
         }
     }
 }
 
-// The same as parts.
+// The same as parts, of the whole.
 fn kept_parts<'a>(
     alloc: Global,
     algebra: &DataSpec,
     branch: &'a Branch,
     sought: &Sought,
 ) -> Result<Vec<Part<'a>>, Memory>
-    ensures { IfOk result (λ all. map placed_of all.items ≡
-        kept_plans (theory_of algebra.now) (shape_of branch.now) (sought_in sought.now)) }
+    ensures { IfOk result (λ all. map placed_of all.items ≡ kept_plans (theory_of algebra.now)
+        (prunes_for (sought_in sought.now) (shape_of branch.now)) (shape_of branch.now) (sought_in sought.now) free) }
 {
-    let all = kept_composites(alloc, algebra, branch, sought)?;
+    let prunes = prunes_for(branch, sought);
+    let all = kept_composites(alloc, algebra, branch, prunes, sought, Joining::Free)?;
     parts(alloc, all)
 }
 

@@ -2,6 +2,7 @@
 #![tactic(auto)]
 
 mod found;
+mod joining;
 pub mod known;
 pub mod laws;
 mod operators;

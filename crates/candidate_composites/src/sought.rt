@@ -1,14 +1,16 @@
 // Which actions are looked for at the parts of a tree.
 
-ghost use Rattle.std.specs.Prelude.{◌≡◌, ◌++◌, ◌&&◌, not, IfOk, List, map, filter, option_map};
+ghost use Rattle.std.specs.Prelude.{◌≡◌, ◌++◌, ◌&&◌, not, IfOk, List, map, filter, option_map, true};
 ghost use Rattle.std.specs.Prelude.{Some, None, if◌then◌else◌};
 ghost use Rattle.spec_core.specs.Code.{Relabelling, relabelling_of};
 ghost use Rattle.spec_core.specs.Numbers.{gate_number};
 ghost use Rattle.rule_model.specs.Actions as actions;
 ghost use Rattle.symbolic_plans.specs.OpenPlans.{kind_in};
 ghost use Rattle.candidate_laws.specs.Sought as sought;
+ghost use Rattle.candidate_laws.specs.Sought.{seeks_some};
 ghost use Rattle.node_trees.specs.Shapes.{unary_of};
 ghost use Rattle.candidate_composites.specs.Known.{sought_in, step_of};
+ghost use Rattle.candidate_composites.specs.Staying.{may_become, stays};
 
 use crate::step::Step;
 use node_trees::branch::Single;
@@ -171,7 +173,31 @@ fn put_becoming(
     Ok(())
 }
 
+// Whether an action that changes its kind at an operator may be of one of these kinds above it.
+fn may_become_over(operator: &Single, kinds: &[ActionKind]) -> bool
+    ensures { result ≡ may_become (sought.under_one (unary_of operator.now)) (map kind_in kinds.now) }
+{
+    match operator {
+        Single::Hide(_) => is_one_kind(ActionKind::Inner, kinds),
+        Single::Relabel(_) => true,
+        Single::Enable { .. } => is_one_kind(ActionKind::Inner, kinds),
+    }
+}
+
+// The same at a step.
+fn may_become(step: &Step<'_>, kinds: &[ActionKind]) -> bool
+    ensures { result ≡ may_become (step_of step.now) (map kind_in kinds.now) }
+{
+    match step {
+        Step::Under(operator) => may_become_over(operator, kinds),
+        Step::Alone(_) => false,
+        Step::Together(_) => false,
+        Step::Beside(_) => false,
+    }
+}
+
 // The kinds that are sought below a step, where these are sought above it.
+#[tactic(auto, using(crate::proofs::Staying::none_becomes))]
 fn those_below(
     alloc: Global,
     step: &Step<'_>,
@@ -180,10 +206,13 @@ fn those_below(
     ensures { IfOk result (λ all.
         sought.these_kinds (map kind_in all.items) ≡ sought.sought_below (step_of step.now) (sought.these_kinds (map kind_in kinds.now))) }
 {
-    let changing = changing(alloc, step)?;
-    let others = without(alloc, &changing, kinds)?;
     let mut all = Vec::new(alloc);
     put_becoming(step, kinds, kinds, &mut all)?;
+    if !may_become(step, kinds) {
+        return Ok(all);
+    }
+    let changing = changing(alloc, step)?;
+    let others = without(alloc, &changing, kinds)?;
     put_becoming(step, kinds, &others, &mut all)?;
     Ok(all)
 }
@@ -214,9 +243,9 @@ pub(crate) fn sought_below(alloc: Global, step: &Step<'_>, above: &Sought) -> Re
     }
 }
 
-/// What is sought below steps, of which the first one is the lowest. It recurs as often as there are steps.
-pub fn sought_at(alloc: Global, steps: &[Step<'_>], whole: Sought) -> Result<Sought, Memory>
-    ensures sought { IfOk result (λ v. sought_in v ≡ sought.sought_at (map step_of steps.now) (sought_in whole)) }
+// What is sought below steps, of which the first one is the lowest.
+fn sought_at(alloc: Global, steps: &[Step<'_>], whole: Sought) -> Result<Sought, Memory>
+    ensures { IfOk result (λ v. sought_in v ≡ sought.sought_at (map step_of steps.now) (sought_in whole)) }
 {
     match steps {
         [] => Ok(whole),
@@ -225,6 +254,52 @@ pub fn sought_at(alloc: Global, steps: &[Step<'_>], whole: Sought) -> Result<Sou
             sought_below(alloc, step, &above)
         }
     }
+}
+
+// Whether an action of a kind is one of the same kind above each of these steps.
+fn stays(steps: &[Step<'_>], kind: ActionKind) -> bool
+    ensures { result ≡ stays (map step_of steps.now) (kind_in kind) }
+{
+    for step in steps {
+        if !becomes_one(step, &[kind], kind) {
+            return false;
+        }
+    }
+    true
+}
+
+// Whether an action of the first of these kinds stays of its kind.
+#[tactic(auto, using(crate::proofs::Staying::stays_first))]
+fn first_stays(steps: &[Step<'_>], kinds: &[ActionKind]) -> bool
+    ensures { result ≡ true → seeks_some (sought.sought_at (map step_of steps.now) (sought.these_kinds (map kind_in kinds.now))) ≡ true }
+{
+    match kinds {
+        [] => false,
+        [first, _others @ ..] => stays(steps, *first),
+    }
+}
+
+// Whether an action stays of a kind that is sought at the whole, be it the first such kind.
+#[tactic(auto, using(crate::proofs::Staying::stays_sought))]
+fn some_stays(steps: &[Step<'_>], whole: &Sought) -> bool
+    ensures { result ≡ true → seeks_some (sought.sought_at (map step_of steps.now) (sought_in whole.now)) ≡ true }
+{
+    match whole {
+        Sought::Every => stays(steps, ActionKind::Inner),
+        Sought::These(kinds) => first_stays(steps, kinds),
+    }
+}
+
+/// Whether actions of some kind are sought below steps, of which the first one is the lowest. It recurs as often as there are steps, unless
+/// an action of the first kind that is sought at the whole stays of that kind.
+pub fn seeks_some_at(alloc: Global, steps: &[Step<'_>], whole: Sought) -> Result<bool, Memory>
+    ensures seeks { IfOk result (λ b. b ≡ seeks_some (sought.sought_at (map step_of steps.now) (sought_in whole))) }
+{
+    if some_stays(steps, &whole) {
+        return Ok(true);
+    }
+    let below = sought_at(alloc, steps, whole)?;
+    Ok(below.seeks_some())
 }
 
 impl Sought {
@@ -238,9 +313,9 @@ impl Sought {
         }
     }
 
-    /// Whether actions of some kind are sought. It takes no memory.
-    pub fn seeks_some(&self) -> bool
-        ensures seeks { result ≡ sought.seeks_some (sought_in self.now) }
+    // Whether actions of some kind are sought.
+    fn seeks_some(&self) -> bool
+        ensures { result ≡ seeks_some (sought_in self.now) }
     {
         match self {
             Sought::Every => true,
