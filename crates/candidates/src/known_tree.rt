@@ -5,18 +5,20 @@ ghost use Rattle.log_states.specs.Views.{pending_of};
 ghost use Rattle.board_offers.specs.Offers.{no_offer};
 
 use crate::job::NodeJob;
-use crate::walk::only;
-use candidate_composites::known::{known_composites, sought_composites};
+use candidate_composites::known::known_composites;
 use candidate_composites::part::Part;
 use candidate_verdicts::pieces::Pieces;
 use log_states::pending::Pending;
-use node_trees::branch::Branch;
+use node_trees::branch::{Branch, Double, Single};
+use node_trees::node::Node;
 use rule_model::offer::{Fields, Offer};
 use spec_core::equation::DataSpec;
 use spec_core::items::Gate;
 use spec_core::memory::Memory;
 use spec_core::window::Window;
 use std::alloc::Global;
+use symbolic_plans::composite::ActionKind;
+use symbolic_plans::kind::{is_hidden, is_joint, renamed, same_kind};
 
 /// A tree of nodes with what is known of them, the pending offers, and the jobs that are out.
 #[derive(Drop)]
@@ -50,20 +52,62 @@ fn made_by_nobody(alloc: Global) -> Pending
     }
 }
 
-// Whether the tree may have a composite at the gate of one of these offers, or a gap.
-fn may_meet(
-    alloc: Global,
-    algebra: &DataSpec,
-    tree: &Branch,
-    offers: &[Pending],
-) -> Result<bool, Memory> {
-    for pending in offers {
-        let sought = only(alloc, &pending.offer)?;
-        if !sought_composites(alloc, algebra, tree, &sought)?.is_empty() {
-            return Ok(true);
+// Whether the node may act at a gate: it can, or it isn't expanded.
+fn node_may_act(node: &Node, gate: Gate) -> bool {
+    match &node.work {
+        None => true,
+        Some(expansion) => {
+            for composite in &expansion.composites {
+                if same_kind(composite.kind, ActionKind::At(gate)) {
+                    return true;
+                }
+            }
+            false
         }
     }
-    Ok(false)
+}
+
+// Whether the tree may act at a gate, as far as the gates of its operators say: it may have a composite there, or a gap. It makes none, and
+// recurs as deep as operators nest.
+fn may_act(branch: &Branch, gate: Gate) -> bool {
+    match branch {
+        Branch::Leaf(node) => node_may_act(node, gate),
+        Branch::Ended => false,
+        Branch::Over(Single::Hide(gates), part) => {
+            !is_hidden(gates, ActionKind::At(gate)) && may_act(part, gate)
+        }
+        Branch::Over(Single::Relabel(pairs), part) => {
+            for pair in pairs {
+                if pair.1.0 == gate.0 && may_act(part, pair.0) {
+                    return true;
+                }
+            }
+            same_kind(renamed(pairs, ActionKind::At(gate)), ActionKind::At(gate))
+                && may_act(part, gate)
+        }
+        Branch::Over(Single::Enable { .. }, part) => may_act(part, gate),
+        Branch::Between(Double::Par(gates), left, right) => {
+            if is_joint(gates, ActionKind::At(gate)) {
+                may_act(left, gate) && may_act(right, gate)
+            } else {
+                may_act(left, gate) || may_act(right, gate)
+            }
+        }
+        Branch::Between(Double::Choice, left, right)
+        | Branch::Between(Double::Disable, left, right) => {
+            may_act(left, gate) || may_act(right, gate)
+        }
+    }
+}
+
+// Whether the tree may act at the gate of one of these offers.
+fn may_meet(branch: &Branch, offers: &[Pending]) -> bool {
+    for pending in offers {
+        if may_act(branch, pending.offer.gate) {
+            return true;
+        }
+    }
+    false
 }
 
 impl<'a> KnownTree<'a> {
@@ -88,7 +132,7 @@ impl<'a> KnownTree<'a> {
         ensures out { IfOk result (λ s. s.out.now ≡ out.now) }
     {
         // Where no offer may be met there will be searches for more than the action of one gate.
-        let listed = !may_meet(alloc, algebra, tree, offers)?;
+        let listed = !may_meet(tree, offers);
         let parts = if listed {
             known_composites(alloc, algebra, tree)?
         } else {

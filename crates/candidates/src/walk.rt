@@ -14,7 +14,7 @@ ghost use Rattle.candidates.specs.Listed.{kinds_sought, trees_sought};
 ghost use Rattle.candidates.specs.Walks.{met_of, trees_left, behind, ahead};
 
 use candidate_composites::part::Part;
-use candidate_composites::sought::{Sought, sought_at};
+use candidate_composites::sought::{Sought, seeks_some_at};
 use candidate_composites::step::Step;
 use candidate_search::searches::{TreeSearch, next_among, slots_asked};
 use node_trees::origin::Gen;
@@ -116,8 +116,8 @@ pub(crate) fn kinds_sought(alloc: Global, search: &TreeSearch<'_>) -> Result<Sou
     }
 }
 
-/// The kind of the actions that may meet an offer.
-pub(crate) fn only(alloc: Global, offer: &Offer) -> Result<Sought, Memory>
+// The kind of the actions that may meet an offer.
+fn only(alloc: Global, offer: &Offer) -> Result<Sought, Memory>
     ensures { IfOk result (λ v. sought_in v ≡ these_kinds (at_gate offer.now.gate.0 ∷ [])) }
 {
     let mut kinds = Vec::new(alloc);
@@ -151,8 +151,7 @@ fn is_sought_at(alloc: Global, steps: &[Step<'_>], search: &TreeSearch<'_>) -> R
     ensures { IfOk result (λ b. b ≡ seeks_some (sought_at (map step_of steps.now) (kinds_sought (query_of search.now)))) }
 {
     let whole = kinds_sought(alloc, search)?;
-    let below = sought_at(alloc, steps, whole)?;
-    Ok(below.seeks_some())
+    seeks_some_at(alloc, steps, whole)
 }
 
 impl<'a, 't> Walk<'a, 't> {
