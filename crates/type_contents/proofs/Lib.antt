@@ -1,6 +1,8 @@
 pub mod Broughts
 pub mod Copies
 pub mod Folds
+pub mod Found
+pub mod Indexed
 pub mod Keys
 pub mod Lists
 pub mod Looks

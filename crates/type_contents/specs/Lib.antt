@@ -8,5 +8,6 @@ pub mod Numbering
 pub mod Own
 pub mod Rounds
 pub mod Settled
+pub mod TypeIndexes
 pub mod Uses
 pub mod Views

@@ -1,5 +1,5 @@
 -- What the definitions see of the values of the code.
-use Rattle.std.specs.Prelude.{ℕ, ◌<◌, Bool, false, List, [], ◌++◌, Option, Some, None, option_map, Vec, map, string_bytes}
+use Rattle.std.specs.Prelude.{ℕ, ◌≡◌, ◌<◌, Bool, false, List, [], ◌++◌, Option, Some, None, option_map, Vec, map, string_bytes}
 use Rattle.std.specs.List.{slice_index_or, AllByRecursion}
 use Rattle.type_contents.specs.declared.item.Item.{Item}
 use Rattle.type_contents.specs.declared.own.Declared.{Declared}
@@ -122,3 +122,7 @@ brought_at (Some b) = brought_of b
 
 abbrev pub IsBroughtSettled : List TypeDef → List (Option Brought) → ℕ → Type 0
 IsBroughtSettled types found n = IsSettled [] (brings types) types (map (option_map brought_of) found) n
+
+-- a set has just the items that are described, in the same order
+abbrev pub AreItemsOf : List Item → List items.Described → Type 0
+AreItemsOf keys ds = map item_of keys ≡ map items.item_of ds

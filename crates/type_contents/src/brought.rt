@@ -10,7 +10,7 @@ ghost use Rattle.type_contents.specs.Views.{described_of, parts_at, brought_at, 
 use crate::brings::brings_of;
 use crate::contents::Contents;
 use crate::order::{Brought, itself_and_parts};
-use crate::schedule::{Links, are_all_found, next_ready};
+use crate::schedule::{Links, are_all_found, next_ready_from};
 use crate::standing::Standing;
 use lotos_ast::types::{TypeBody, TypeDef};
 use spec_core::memory::Memory;
@@ -133,10 +133,14 @@ fn brought_once<'a>(
 {
     let needed = needs_of(alloc, types, standings)?;
     let mut found = nothing_found(alloc, types)?;
+    let mut from = 0;
     for _found in 0..types.len() {
-        match next_ready(&found, &needed) {
+        match next_ready_from(&found, &needed, from) {
             None => return Ok(found),
-            Some(number) => bring_one(alloc, types, made, standings, &mut found, number)?,
+            Some(number) => {
+                bring_one(alloc, types, made, standings, &mut found, number)?;
+                from = number;
+            }
         }
     }
     Ok(found)

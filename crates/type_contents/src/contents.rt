@@ -11,7 +11,7 @@ ghost use Rattle.type_contents.specs.Views.{items_at, AreWithin, made_at, AreMad
 use crate::item_table::ItemTable;
 use crate::numbers::{Numbers, made_formals, made_items};
 use crate::parts::made_from;
-use crate::schedule::{Links, are_all_found, links_of, next_ready};
+use crate::schedule::{Links, are_all_found, links_of, next_ready_from};
 use lotos_ast::types::TypeDef;
 use spec_core::memory::Memory;
 use std::alloc::Global;
@@ -109,10 +109,14 @@ fn made_once(
         ≡ contents.contents types.now) }
 {
     let mut made = nothing_made(alloc, types)?;
+    let mut from = 0;
     for _made in 0..types.len() {
-        match next_ready(&made, linked) {
+        match next_ready_from(&made, linked, from) {
             None => return Ok(made),
-            Some(number) => make_one(alloc, types, linked, table, &mut made, number)?,
+            Some(number) => {
+                make_one(alloc, types, linked, table, &mut made, number)?;
+                from = number;
+            }
         }
     }
     Ok(made)

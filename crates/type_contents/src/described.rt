@@ -27,8 +27,8 @@ fn copied_names(alloc: Global, names: &[String]) -> Result<Vec<String>, Memory>
     Ok(all)
 }
 
-// An equal item.
-fn copied_item(alloc: Global, item: &Item) -> Result<Item, Memory>
+/// An equal item.
+pub fn copied_item(alloc: Global, item: &Item) -> Result<Item, Memory>
     ensures { IfOk result (λ x. item_of x ≡ item_of item.now) }
 {
     Ok(Item {

@@ -7,15 +7,17 @@ ghost use Rattle.type_contents.specs.Items.{is_sort, is_same_described, firsts};
 ghost use Rattle.type_contents.specs.Numbering as numbering;
 ghost use Rattle.type_contents.specs.Contents as contents;
 ghost use Rattle.type_contents.specs.FormalTypes as formal;
-ghost use Rattle.type_contents.specs.Views.{described_of, brought_at, formal_at};
+ghost use Rattle.type_contents.specs.Views.{described_of, brought_at, formal_at, AreItemsOf};
 
 use crate::brought::all_brought;
 use crate::contents::{Contents, contents_of};
-use crate::described::add_first;
+use crate::described::{copied, copied_item};
+use crate::item::Item;
 use crate::item_kind::ItemKind;
 use crate::order::Brought;
 use crate::own::Declared;
 use crate::standing::{Standing, standings_of};
+use indexmap::IndexSet;
 use lotos_ast::types::TypeDef;
 use spec_core::memory::Memory;
 use std::alloc::Global;
@@ -35,17 +37,39 @@ pub struct FlatData<'a> {
     pub formal: Vec<bool>,
 }
 
+// Adds a description, unless its item is among those that are found.
+fn add_new<'a>(
+    alloc: Global,
+    all: &mut Vec<Declared<'a>>,
+    found: &mut IndexSet<Item>,
+    one: &Declared<'a>,
+) -> Result<(), Memory>
+    requires { AreItemsOf found.old.keys (map described_of all.old.items) }
+    ensures all { OnOk result (map described_of all.new.items ≡ with_one is_same_described (map described_of all.old.items)
+        (described_of one.now)) }
+    ensures found { OnOk result (AreItemsOf found.new.keys (map described_of all.new.items)) }
+{
+    let item = copied_item(alloc, &one.item)?;
+    if found.insert(item)? {
+        all.push(copied(alloc, one)?)?;
+    }
+    Ok(())
+}
+
 // Adds descriptions, each item once.
 fn add_firsts<'a>(
     alloc: Global,
     all: &mut Vec<Declared<'a>>,
+    found: &mut IndexSet<Item>,
     entries: &[Declared<'a>],
 ) -> Result<(), Memory>
-    ensures { OnOk result (map described_of all.new.items ≡ fold (with_one is_same_described) (map described_of all.old.items)
+    requires { AreItemsOf found.old.keys (map described_of all.old.items) }
+    ensures all { OnOk result (map described_of all.new.items ≡ fold (with_one is_same_described) (map described_of all.old.items)
         (map described_of entries.now)) }
+    ensures found { OnOk result (AreItemsOf found.new.keys (map described_of all.new.items)) }
 {
     for one in entries {
-        add_first(alloc, all, one)?;
+        add_new(alloc, all, found, one)?;
     }
     Ok(())
 }
@@ -54,14 +78,17 @@ fn add_firsts<'a>(
 fn add_brought<'a>(
     alloc: Global,
     all: &mut Vec<Declared<'a>>,
+    found: &mut IndexSet<Item>,
     brought: &Option<Brought<'a>>,
 ) -> Result<(), Memory>
-    ensures { OnOk result (map described_of all.new.items ≡ fold (with_one is_same_described) (map described_of all.old.items)
+    requires { AreItemsOf found.old.keys (map described_of all.old.items) }
+    ensures all { OnOk result (map described_of all.new.items ≡ fold (with_one is_same_described) (map described_of all.old.items)
         (brought_at brought.now)) }
+    ensures found { OnOk result (AreItemsOf found.new.keys (map described_of all.new.items)) }
 {
     match brought {
         None => Ok(()),
-        Some(some) => add_firsts(alloc, all, &some.all),
+        Some(some) => add_firsts(alloc, all, found, &some.all),
     }
 }
 
@@ -73,8 +100,9 @@ fn all_items<'a>(
     ensures { IfOk result (λ all. map described_of all.items ≡ firsts (flat_map (λ all. all) (map brought_at brought.now))) }
 {
     let mut all = Vec::new(alloc);
+    let mut found = IndexSet::new(alloc);
     for one in brought {
-        add_brought(alloc, &mut all, one)?;
+        add_brought(alloc, &mut all, &mut found, one)?;
     }
     Ok(all)
 }

@@ -1,6 +1,6 @@
 // Items, each with a number.
 
-ghost use Rattle.std.specs.Prelude.{◌≡◌, List, [], Some, IfOk, length, take, map, ◌<◌, ◌≤◌, slice_get, slice_index_or, nat_eq};
+ghost use Rattle.std.specs.Prelude.{◌≡◌, ℕ, List, [], Some, IfOk, length, take, map, ◌<◌, ◌≤◌, slice_get, slice_index_or, nat_eq};
 ghost use Rattle.std.specs.List.{list_any};
 ghost use Rattle.type_contents.specs.Lists.{each_once};
 ghost use Rattle.type_contents.specs.Items.{union, is_in};
@@ -100,14 +100,23 @@ impl ItemTable {
     }
 }
 
-/// Numbers, each once.
-pub fn each_once(alloc: Global, numbers: &[usize]) -> Result<Vec<usize>, Memory>
-    ensures { IfOk result (λ all. all.items ≡ each_once nat_eq numbers.now) }
+/// Numbers as a set.
+pub fn number_set(alloc: Global, numbers: &[usize]) -> Result<IndexSet<usize>, Memory>
+    ensures keys { IfOk result (λ set. set.keys ≡ each_once nat_eq numbers.now) }
+    ensures among { IfOk result (λ set. (n : ℕ) → list_any (nat_eq n) set.keys ≡ list_any (nat_eq n) numbers.now) }
 {
     let mut found = IndexSet::new(alloc);
     for number in numbers {
         found.insert(*number)?;
     }
+    Ok(found)
+}
+
+/// Numbers, each once.
+pub fn each_once(alloc: Global, numbers: &[usize]) -> Result<Vec<usize>, Memory>
+    ensures { IfOk result (λ all. all.items ≡ each_once nat_eq numbers.now) }
+{
+    let found = number_set(alloc, numbers)?;
     Ok(Vec::from_slice(alloc, found.as_slice())?)
 }
 

@@ -16,3 +16,4 @@ pub mod own;
 pub mod parts;
 pub mod schedule;
 pub mod standing;
+pub mod type_index;

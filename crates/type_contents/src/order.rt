@@ -12,10 +12,11 @@ ghost use Rattle.type_contents.specs.Views.{item_of, described_of, items_at, Are
 use crate::contents::Contents;
 use crate::described::add_first;
 use crate::item::Item;
-use crate::item_table::{ItemTable, is_among};
+use crate::item_table::{ItemTable, number_set};
 use crate::numbers::number_of;
 use crate::own::Declared;
 use crate::standing::{Standing, parts_at};
+use indexmap::IndexSet;
 use lotos_ast::token::Token;
 use lotos_ast::types::TypeDef;
 use spec_core::memory::Memory;
@@ -99,14 +100,14 @@ fn add_brought<'a>(
     table: &ItemTable,
     items: &[usize],
     found: &[Option<Brought<'a>>],
-    among: &[usize],
+    chosen: &IndexSet<usize>,
     number: usize,
 ) -> Result<(), Memory>
     requires { AreWithin (length table.now) items.now }
     ensures { OnOk result (map described_of all.new.items ≡ fold (with_one is_same_described) (map described_of all.old.items)
-        (numbering.brought_by (map brought_at found.now) among.now (items_at table.now items.now) number)) }
+        (numbering.brought_by (map brought_at found.now) chosen.now.keys (items_at table.now items.now) number)) }
 {
-    if is_among(among, number) {
+    if chosen.contains(&number) {
         add_all(alloc, all, table, items, brought_at(found, number))
     } else {
         Ok(())
@@ -126,9 +127,10 @@ fn in_order<'a>(
     ensures { IfOk result (λ all. map described_of all.items ≡ numbering.in_order count (map brought_at found.now) among.now
         (items_at table.now items.now)) }
 {
+    let chosen = number_set(alloc, among)?;
     let mut all = Vec::new(alloc);
     for number in 0..count {
-        add_brought(alloc, &mut all, table, items, found, among, number)?;
+        add_brought(alloc, &mut all, table, items, found, &chosen, number)?;
     }
     Ok(all)
 }

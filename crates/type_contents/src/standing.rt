@@ -1,21 +1,20 @@
 // Of which types each is made, and which types are formal.
 
-ghost use Rattle.std.specs.Prelude.{◌≡◌, ◌<◌, ◌∷◌, ◌++◌, ℕ, [], suc, true, false, not, ◌==◌, IfOk, OnOk, None, is_some};
+ghost use Rattle.std.specs.Prelude.{◌≡◌, List, ◌<◌, ◌∷◌, ◌++◌, ℕ, [], suc, true, false, not, ◌==◌, IfOk, OnOk, None, is_some};
 ghost use Rattle.std.specs.Prelude.{length, map, slice_index_or, nat_eq};
 ghost use Rattle.std.specs.List.{list_all, list_any, flat_map};
 ghost use Rattle.type_contents.specs.Lists.{listed, each_once};
 ghost use Rattle.type_contents.specs.Own.{sort_names};
-ghost use Rattle.type_contents.specs.Uses.{links};
+ghost use Rattle.lotos_ast.specs.declared.types.TypeDef.{TypeDef};
+ghost use Rattle.type_contents.specs.Uses.{links, number_of, uses_by};
 ghost use Rattle.type_contents.specs.FormalTypes as formal;
 ghost use Rattle.type_contents.specs.Numbering as numbering;
 ghost use Rattle.type_contents.specs.Settled.{are_ready};
 ghost use Rattle.type_contents.specs.Views.{formal_at, parts_at, AreStandingsSettled};
 
 use crate::item_table::each_once;
-use crate::numbers::number_of;
 use crate::own::{formal_operations, sort_names};
-use crate::schedule::{Links, are_all_found, links_of, next_ready};
-use lotos_ast::token::Token;
+use crate::schedule::{Links, are_all_found, links_of, next_ready_from};
 use lotos_ast::types::{EquationBody, Formals, OperationDecl, SortEquations, TypeBody, TypeDef};
 use spec_core::memory::Memory;
 use std::alloc::Global;
@@ -96,53 +95,35 @@ pub fn parts_at(found: &[Option<Standing>], number: usize) -> &[usize]
     }
 }
 
-// Whether the type of this name is found to be formal.
-fn is_formal_in(types: &[TypeDef], found: &[Option<Standing>], name: &Token) -> bool
-    ensures { result ≡ formal.is_formal_in types.now (map formal_at found.now) name.now }
+// Whether one of the types of these numbers is found to be formal.
+fn is_one_formal(found: &[Option<Standing>], numbers: &[usize]) -> bool
+    ensures { result ≡ list_any (λ k. slice_index_or (map formal_at found.now) k false) numbers.now }
 {
-    formal_at(found, number_of(types, name))
-}
-
-// Whether one of the types of these names is found to be formal.
-fn is_one_formal(types: &[TypeDef], found: &[Option<Standing>], names: &[Token]) -> bool
-    ensures { result ≡ list_any (formal.is_formal_in types.now (map formal_at found.now)) names.now }
-{
-    match names {
+    match numbers {
         [] => false,
-        [first, others @ ..] => {
-            is_formal_in(types, found, first) || is_one_formal(types, found, others)
-        }
+        [first, others @ ..] => formal_at(found, *first) || is_one_formal(found, others),
     }
 }
 
-// The imports of a type.
-fn imports_of(imports: &Option<Vec<Token>>) -> &[Token]
-    ensures { result.now ≡ listed imports.now }
-{
-    match imports {
-        None => &[],
-        Some(all) => all,
-    }
-}
-
-// Whether a type that is made in this way is formal.
-fn is_formal_by(types: &[TypeDef], found: &[Option<Standing>], body: &TypeBody) -> bool
-    ensures { result ≡ formal.is_formal_by types.now (map formal_at found.now) body.now }
+// Whether a type is formal that is made in this way of the types of these numbers.
+fn is_formal_by(found: &[Option<Standing>], body: &TypeBody, linked: &[usize]) -> bool
+    ensures { (types : List TypeDef) → linked.now ≡ map (number_of types) (uses_by body.now) → result
+        ≡ formal.is_formal_by types (map formal_at found.now) body.now }
 {
     match body {
         TypeBody::Declared {
             place: _,
-            imports,
+            imports: _,
             formals,
             sorts: _,
             operations: _,
             equations: _,
-        } => declares_formals(formals) || is_one_formal(types, found, imports_of(imports)),
+        } => declares_formals(formals) || is_one_formal(found, linked),
         TypeBody::Renamed {
             place: _,
-            source,
+            source: _,
             pairs: _,
-        } => is_formal_in(types, found, source),
+        } => is_one_formal(found, linked),
         TypeBody::Actualized {
             place: _,
             source: _,
@@ -152,9 +133,10 @@ fn is_formal_by(types: &[TypeDef], found: &[Option<Standing>], body: &TypeBody) 
     }
 }
 
-// Whether a type is formal.
-fn is_formal_from(types: &[TypeDef], found: &[Option<Standing>], definition: &TypeDef) -> bool
-    ensures { result ≡ formal.is_formal_from types.now (map formal_at found.now) definition.now }
+// Whether a type is formal that is made of the types of these numbers.
+fn is_formal_from(found: &[Option<Standing>], definition: &TypeDef, linked: &[usize]) -> bool
+    ensures { (types : List TypeDef) → linked.now ≡ links types definition.now → result
+        ≡ formal.is_formal_from types (map formal_at found.now) definition.now }
 {
     match definition {
         TypeDef::Library { place: _, names: _ } => false,
@@ -162,7 +144,7 @@ fn is_formal_from(types: &[TypeDef], found: &[Option<Standing>], definition: &Ty
             place: _,
             name: _,
             body,
-        } => is_formal_by(types, found, body),
+        } => is_formal_by(found, body, linked),
     }
 }
 
@@ -203,8 +185,9 @@ fn standing_from(
     ensures formal { IfOk result (λ s. s.formal ≡ formal.is_formal_from types.now (map formal_at found.now) definition.now) }
     ensures parts { IfOk result (λ s. s.parts.items ≡ numbering.parts_from types.now (map parts_at found.now) definition.now) }
 {
+    let _ = types;
     Ok(Standing {
-        formal: is_formal_from(types, found, definition),
+        formal: is_formal_from(found, definition, linked),
         parts: parts_from(alloc, found, linked)?,
     })
 }
@@ -252,10 +235,14 @@ fn standings_once(
     ensures parts { IfOk result (λ found. list_all is_some found.items ≡ true → map parts_at found.items ≡ numbering.parts types.now) }
 {
     let mut found = nothing_found(alloc, types)?;
+    let mut from = 0;
     for _found in 0..types.len() {
-        match next_ready(&found, linked) {
+        match next_ready_from(&found, linked, from) {
             None => return Ok(found),
-            Some(number) => stand_one(alloc, types, linked, &mut found, number)?,
+            Some(number) => {
+                stand_one(alloc, types, linked, &mut found, number)?;
+                from = number;
+            }
         }
     }
     Ok(found)

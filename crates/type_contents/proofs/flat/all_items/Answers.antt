@@ -6,4 +6,7 @@ use Rattle.type_contents.proofs.Folds.{lists_next}
 use Rattle.type_contents.proofs.flat.all_items.Goals as goal
 
 pub loop-one-preserved : goal.loop-one-preserved
-loop-one-preserved c = lists_next (with_one is_same_described) brought_at [] (map described_of c.loop-one.all.items) (map described_of c.add_brought.new.all.items) c.args.brought.now c.loop-one.one-index c.one-item.result c.loop-one-test.true c.one-item.is c.loop-one.invariant c.in_ok-add_brought.ensures
+loop-one-preserved c = record {
+  all = lists_next (with_one is_same_described) brought_at [] (map described_of c.loop-one.all.items) (map described_of c.add_brought.new.all.items) c.args.brought.now c.loop-one.one-index c.one-item.result c.loop-one-test.true c.one-item.is c.loop-one.invariant.all c.in_ok-add_brought.ensures.all;
+  found = c.in_ok-add_brought.ensures.found;
+}
