@@ -1,5 +1,5 @@
 -- Marks of what one type is made of.
-use Rattle.std.proofs.Common.{ℕ, zero, suc, ◌≡◌, ◌<◌, ◌≤◌, ◌+◌, inl, inr, List, [], ◌∷◌, ◌++◌, length, take, get_or, set, replicate, arith, ap, subst, sym, ◌∙◌, Bool, true, false, None}
+use Rattle.std.proofs.Common.{ℕ, zero, suc, ◌≡◌, ◌<◌, ◌≤◌, ◌+◌, inl, inr, List, [], ◌∷◌, ◌++◌, length, take, get_or, set, replicate, arith, refl, ap, subst, sym, ◌∙◌, Bool, true, false, None}
 use Rattle.std.specs.List.{slice_index_or, Contains}
 use Rattle.std.proofs.lemmas.List.{take_more, get_or_past, get_or-replicate, get_or-set_same, get_or-set_other, length-set}
 use Rattle.std.proofs.lemmas.List.Elements.{Contains-append_cases, Contains-append_left, Contains-append_right}
@@ -86,3 +86,8 @@ no_cycle_closed links k marks waiting none h unmarked = no_cycle_unless links k 
 
     by_first : {n : ℕ} → IsClosedBut links k marks [] → Reaches links (suc n) k k → ⊥
     by_first closed (there {j = j} c r) = differ (sym (carried closed r (elim (closed.from_this j c) [ inl f ↦ f | inr w ↦ absurd (contains_none j w) ])) ∙ unmarked)
+
+-- a type that is made of none
+pub no_cycle_unlinked : (links : List (List ℕ)) (k : ℕ) → k < length links → slice_index_or links k [] ≡ [] → cycle_of links k ≡ None
+no_cycle_unlinked links k within none =
+    no_cycle_closed links k (replicate (length links) false) [] refl (first_closed links k (replicate (length links) false) [] refl (sym none)) (get_or-replicate (length links) k false true within)

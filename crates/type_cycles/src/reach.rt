@@ -60,8 +60,8 @@ fn are_none(types: &[usize]) -> bool
     }
 }
 
-/// Whether a type may be on a cycle: where the answer is no, it isn't made from itself. The cost is that of what the type is made of.
-pub fn may_reach(alloc: Global, links: &[Numbers], from: usize) -> Result<bool, Memory>
+// Whether a type may be on a cycle that is made of others. The cost is that of what the type is made of, and of a mark for each type.
+fn may_reach_on(alloc: Global, links: &[Numbers], from: usize) -> Result<bool, Memory>
     requires { from < length links.now }
     ensures { IfOk result (λ may. may ≡ false → cycle_of links.now from ≡ None) }
 {
@@ -74,4 +74,17 @@ pub fn may_reach(alloc: Global, links: &[Numbers], from: usize) -> Result<bool, 
         waiting = reach_all(alloc, links, &mut marks, &waiting)?;
     }
     Ok(true)
+}
+
+/// Whether a type may be on a cycle: where the answer is no, it isn't made from itself. One that is made of none isn't, without memory; of
+/// others the cost is that of what the type is made of, and of a mark for each type.
+pub fn may_reach(alloc: Global, links: &[Numbers], from: usize) -> Result<bool, Memory>
+    requires { from < length links.now }
+    ensures { IfOk result (λ may. may ≡ false → cycle_of links.now from ≡ None) }
+{
+    if are_none(links[from].as_slice()) {
+        Ok(false)
+    } else {
+        may_reach_on(alloc, links, from)
+    }
 }

@@ -1,6 +1,6 @@
 use Rattle.std.proofs.Common.{◌≡◌, length}
 use Rattle.type_cycles.specs.Closed.{IsClosedBut}
-use Rattle.type_cycles.proofs.reach.may_reach.Given as goal
+use Rattle.type_cycles.proofs.reach.may_reach_on.Given as goal
 
 abbrev pub invariant-loop-round : goal.invariant-loop-round
 invariant-loop-round l = record {
