@@ -1,0 +1,31 @@
+use Rattle.std.proofs.Common.{◌∷◌}
+use Rattle.std.proofs.lemmas.Result.{err_from_is_err_and}
+use Rattle.spec_core.specs.Terms.{term_of}
+use Rattle.spec_core.specs.Theories.{theory_of}
+use Rattle.match_code.proofs.States.{state_stepped, state_spent, state_large, still_entries}
+use Rattle.match_code.proofs.moves.plainly.Goals as goal
+
+pub returns-in_err-runs-clause-cause : goal.returns-in_err-runs-clause-cause
+returns-in_err-runs-clause-cause c =
+    let t = theory_of c.args.algebra.now in
+    let todo = c.args.step ∷ c.args.runs.now.todo in
+    let p = err_from_is_err_and c.from_residual.result c.from_residual.ensures.1 in
+    rw (p.1, p.2)
+    (record {
+      spent = λ e. state_spent t c.requires.executable (term_of c.args.term.now) c.args.budget c.args.store.now.nodes c.args.runs.now.frames
+          todo c.args.runs.now.values c.args.runs.now.uses c.requires.stands (c.in_err-runs.ensures.spent e);
+      large = λ e. state_large t c.requires.executable (term_of c.args.term.now) c.args.budget c.args.store.now.nodes c.args.runs.now.frames
+          todo c.args.runs.now.values c.args.runs.now.uses c.requires.stands (c.in_err-runs.ensures.large e);
+    })
+
+pub returns-clause-stands : goal.returns-clause-stands
+returns-clause-stands c =
+    let made = c.in_ok-runs.ensures in
+    state_stepped (theory_of c.args.algebra.now) c.requires.executable (term_of c.args.term.now) c.args.budget c.args.store.now.nodes
+    c.args.runs.now.frames c.perform.new.nodes (c.args.step ∷ c.args.runs.now.todo) c.perform.new.todo c.args.runs.now.values
+    c.perform.new.values c.args.runs.now.uses c.in_ok-runs.field-0 c.requires.stands made.longer made.ready made.within made.kept
+
+pub returns-clause-remembers : goal.returns-clause-remembers
+returns-clause-remembers c =
+    still_entries (theory_of c.args.algebra.now) c.args.store.now.nodes c.perform.new.nodes c.in_ok-runs.ensures.longer
+    c.args.store.now.memo.entries.items c.requires.remembers

@@ -1,0 +1,131 @@
+// Calls whose values are known.
+
+ghost use Rattle.std.specs.Prelude.{◌≡◌, ◌++◌, ◌∷◌, [], List, IfSome, IsTrue, OnOk, reverse};
+ghost use Rattle.spec_core.specs.Lists.{Each};
+ghost use Rattle.spec_core.specs.Theories.{Theory};
+ghost use Rattle.value_nodes.specs.declared.node.Node.{Node};
+ghost use Rattle.match_code.specs.Entries.{IsEntry, IsRemembered};
+
+use crate::hints::{Hints, mark_of};
+use rewriter::values::Values;
+use spec_core::items::Op;
+use spec_core::memory::Memory;
+use std::alloc::Global;
+
+/// The most calls that are remembered.
+pub const MOST_ENTRIES: u32 = 65_536;
+
+/// A call of an operation over values, the value that it comes to, and after how many uses of equations.
+#[derive(Drop)]
+pub struct Entry {
+    pub op: Op,
+    pub args: Values,
+    pub value: u32,
+    pub uses: u64,
+}
+
+/// What a call comes to: the node of a value, after so many uses of equations.
+#[derive(Clone, Copy)]
+pub struct Known {
+    pub value: u32,
+    pub uses: u64,
+}
+
+/// Calls that are remembered.
+#[derive(Drop)]
+pub struct Memo {
+    pub entries: Vec<Entry>,
+    hints: Hints,
+    /// How many more calls may be taken up to be remembered.
+    room: u32,
+}
+
+// Whether an entry is of this call.
+fn is_of(entry: &Entry, op: Op, args: &[u32]) -> bool
+    ensures same { IsTrue result → (entry.now.op.0 ≡ op.0) × (reverse entry.now.args ≡ args.now) }
+{
+    entry.op.0 == op.0 && entry.args.all() == args
+}
+
+impl Memo {
+    /// No calls. It takes no memory.
+    pub fn new(alloc: Global) -> Memo
+        ensures none { result.entries.items ≡ [] }
+    {
+        Memo {
+            entries: Vec::new(alloc),
+            hints: Hints::new(alloc),
+            room: MOST_ENTRIES,
+        }
+    }
+
+    /// No calls, and room for none. It takes no memory.
+    pub fn closed(alloc: Global) -> Memo
+        ensures none { result.entries.items ≡ [] }
+    {
+        Memo {
+            entries: Vec::new(alloc),
+            hints: Hints::new(alloc),
+            room: 0,
+        }
+    }
+
+    /// What a call comes to, if it is remembered and found under the mark. It takes no memory.
+    pub fn find(&self, mark: u32, op: Op, args: &[u32]) -> Option<Known>
+        ensures known { IfSome result (λ k. (theory : Theory) (rows : List Node) →
+            Each (IsEntry theory rows) self.now.entries.items → IsRemembered theory rows op.0 args.now k.value k.uses) }
+    {
+        match self.looked_up(self.hints.first(mark), op, args) {
+            Some(known) => Some(known),
+            None => self.looked_up(self.hints.second(mark), op, args),
+        }
+    }
+
+    // What the call of an entry comes to, where the entry is of this call.
+    fn looked_up(&self, hint: Option<u32>, op: Op, args: &[u32]) -> Option<Known>
+        ensures known { IfSome result (λ k. (theory : Theory) (rows : List Node) →
+            Each (IsEntry theory rows) self.now.entries.items → IsRemembered theory rows op.0 args.now k.value k.uses) }
+    {
+        match hint {
+            None => None,
+            Some(number) => {
+                let place = number as usize;
+                if place < self.entries.len() && is_of(&self.entries[place], op, args) {
+                    Some(Known {
+                        value: self.entries[place].value,
+                        uses: self.entries[place].uses,
+                    })
+                } else {
+                    None
+                }
+            }
+        }
+    }
+
+    /// Whether one more call may be taken up, for which room is taken. It takes no memory.
+    pub fn takes_up(&mut self) -> bool
+        ensures same { self.new.entries ≡ self.old.entries }
+    {
+        if self.room > 0 {
+            self.room -= 1;
+            true
+        } else {
+            false
+        }
+    }
+
+    /// Whether no more call is taken up. It takes no memory.
+    pub fn is_full(&self) -> bool {
+        self.room == 0
+    }
+
+    /// Remembers one more call.
+    pub fn add(&mut self, alloc: Global, entry: Entry) -> Result<(), Memory>
+        ensures added { OnOk result (self.new.entries.items ≡ self.old.entries.items ++ entry ∷ []) }
+    {
+        let place = self.entries.len();
+        let mark = mark_of(entry.op, entry.args.all());
+        self.entries.push(entry)?;
+        self.hints.note(alloc, mark, (place & 0xFFFF_FFFF) as u32)
+    }
+}

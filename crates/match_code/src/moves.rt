@@ -1,0 +1,328 @@
+// The moves of a machine that remembers calls.
+
+ghost use Rattle.std.specs.Prelude.{ℕ, ◌≡◌, ◌≤◌, ◌<◌, ◌+◌, ◌-◌, ◌∷◌, ◌++◌, [], List, IfErr, OnOk, length, take, drop};
+ghost use Rattle.spec_core.specs.Executable.{IsExecutable};
+ghost use Rattle.spec_core.specs.Terms.{TermTree, term_of};
+ghost use Rattle.spec_core.specs.Theories.{Theory, Heads, theory_of};
+ghost use Rattle.value_nodes.specs.declared.node.Node.{Node};
+ghost use Rattle.rewriter.specs.Calls.{HasRoom};
+ghost use Rattle.rewriter.specs.Index.{IsIndex};
+ghost use Rattle.rewriter.specs.Steps.{equation_at};
+ghost use Rattle.rewriter.specs.declared.step.Step.TheVariants.{Call};
+ghost use Rattle.match_code.specs.States.{Stands, StandsAt, Remembers, IsCause};
+
+use crate::frames::Frame;
+use crate::hints::{Hints, mark_of};
+use crate::interned::interned;
+use crate::memo::{Entry, Known, Memo};
+use crate::state::{MOST_TERMS, Runs, Store};
+use rewriter::Eval;
+use rewriter::heads::FirstEquations;
+use rewriter::run::perform;
+use rewriter::step::{Step, Todo};
+use rewriter::values::Values;
+use spec_core::equation::DataSpec;
+use spec_core::items::Op;
+use spec_core::memory::Memory;
+use spec_core::term::Term;
+use std::alloc::{AllocError, Global};
+use std::mem;
+
+// Performs a step as a machine does that remembers nothing.
+fn plainly(
+    alloc: Global,
+    algebra: &DataSpec,
+    heads: &FirstEquations,
+    store: &mut Store,
+    runs: &mut Runs,
+    bound: &mut [u32],
+    term: &Term,
+    step: Step,
+    budget: u64,
+) -> Result<(), Eval>
+    requires executable { IsExecutable (theory_of algebra.now) }
+    requires indexed { IsIndex (theory_of algebra.now) heads.now }
+    requires room { HasRoom (theory_of algebra.now) (length bound.old) }
+    requires stands { StandsAt (theory_of algebra.now) (term_of term.now) budget store.old.nodes runs.old step }
+    requires remembers { Remembers (theory_of algebra.now) store.old }
+    ensures room { length bound.new ≡ length bound.old }
+    ensures stands { OnOk result (Stands (theory_of algebra.now) (term_of term.now) budget store.new.nodes runs.new) }
+    ensures remembers { OnOk result (Remembers (theory_of algebra.now) store.new) }
+    ensures cause { IfErr result (IsCause (theory_of algebra.now) (term_of term.now) budget) }
+{
+    runs.uses = perform(
+        alloc,
+        algebra,
+        heads,
+        &mut store.nodes,
+        &mut runs.todo,
+        &mut runs.values,
+        bound,
+        step,
+        runs.uses,
+        budget,
+    )?;
+    Ok(())
+}
+
+// Puts a value in the place of so many values from the top.
+fn put_value(values: &mut Values, count: usize, node: u32) -> Result<(), AllocError>
+    ensures put { OnOk result (values.new ≡ node ∷ drop count values.old) }
+{
+    values.forget(count);
+    values.push(node)
+}
+
+// Uses what a call comes to.
+fn use_known(runs: &mut Runs, known: Known, count: usize, budget: u64) -> Result<(), Eval>
+    requires within { runs.old.uses ≤ budget }
+    ensures frames { OnOk result (runs.new.frames ≡ runs.old.frames) }
+    ensures todo { OnOk result (runs.new.todo ≡ runs.old.todo) }
+    ensures values { OnOk result (runs.new.values ≡ known.value ∷ drop count runs.old.values) }
+    ensures uses { OnOk result (runs.new.uses ≡ runs.old.uses + known.uses) }
+    ensures within { OnOk result (runs.old.uses + known.uses ≤ budget) }
+    ensures spent { IfErr result (λ e. e ≡ Eval.Spent → budget < runs.old.uses + known.uses) }
+    ensures small { IfErr result (λ e. e ≡ Eval.TooLarge → ⊥) }
+{
+    if known.uses > budget - runs.uses {
+        return Err(Eval::Spent);
+    }
+    put_value(&mut runs.values, count, known.value)?;
+    runs.uses = runs.uses + known.uses;
+    Ok(())
+}
+
+// Lets a call be run by itself.
+fn open(alloc: Global, runs: &mut Runs, op: Op, count: usize) -> Result<(), AllocError>
+    requires enough { count ≤ length runs.old.values }
+    ensures stands { OnOk result
+        ((theory : Theory) (t : TermTree) (budget : ℕ) (rows : List Node) → IsExecutable theory →
+        StandsAt theory t budget rows runs.old (Call op count) → StandsAt theory t budget rows runs.new (Call op count)) }
+{
+    let args = runs.values.copy_top(alloc, count)?;
+    let inner = runs.values.copy_top(alloc, count)?;
+    runs.values.forget(count);
+    let todo = mem::replace(&mut runs.todo, Todo::new(alloc));
+    let values = mem::replace(&mut runs.values, inner);
+    runs.frames.push(Frame {
+        op,
+        args,
+        start: runs.uses,
+        todo,
+        values,
+    })?;
+    Ok(())
+}
+
+// Lets a call be run by itself, where there is room to remember it.
+fn begin(
+    alloc: Global,
+    memo: &mut Memo,
+    runs: &mut Runs,
+    op: Op,
+    count: usize,
+) -> Result<(), AllocError>
+    ensures entries { memo.new.entries ≡ memo.old.entries }
+    ensures stands { OnOk result
+        ((theory : Theory) (t : TermTree) (budget : ℕ) (rows : List Node) → IsExecutable theory →
+        StandsAt theory t budget rows runs.old (Call op count) → StandsAt theory t budget rows runs.new (Call op count)) }
+{
+    if count <= runs.values.len() && memo.takes_up() {
+        open(alloc, runs, op, count)
+    } else {
+        Ok(())
+    }
+}
+
+// Performs a call of an operation that heads equations.
+fn take_up(
+    alloc: Global,
+    algebra: &DataSpec,
+    heads: &FirstEquations,
+    store: &mut Store,
+    runs: &mut Runs,
+    bound: &mut [u32],
+    term: &Term,
+    op: Op,
+    count: usize,
+    budget: u64,
+) -> Result<(), Eval>
+    requires executable { IsExecutable (theory_of algebra.now) }
+    requires indexed { IsIndex (theory_of algebra.now) heads.now }
+    requires room { HasRoom (theory_of algebra.now) (length bound.old) }
+    requires stands { StandsAt (theory_of algebra.now) (term_of term.now) budget store.old.nodes runs.old (Call op count) }
+    requires remembers { Remembers (theory_of algebra.now) store.old }
+    ensures room { length bound.new ≡ length bound.old }
+    ensures stands { OnOk result (Stands (theory_of algebra.now) (term_of term.now) budget store.new.nodes runs.new) }
+    ensures remembers { OnOk result (Remembers (theory_of algebra.now) store.new) }
+    ensures cause { IfErr result (IsCause (theory_of algebra.now) (term_of term.now) budget) }
+{
+    let mark = mark_of(op, runs.values.top(count));
+    match store.memo.find(mark, op, runs.values.top(count)) {
+        Some(known) => {
+            use_known(runs, known, count, budget)?;
+            Ok(())
+        }
+        None => {
+            begin(alloc, &mut store.memo, runs, op, count)?;
+            plainly(
+                alloc,
+                algebra,
+                heads,
+                store,
+                runs,
+                bound,
+                term,
+                Step::Call(op, count),
+                budget,
+            )
+        }
+    }
+}
+
+// Notes the last value under a mark, while there is room for more terms.
+fn note_last(
+    alloc: Global,
+    hints: &mut Hints,
+    count: usize,
+    values: &Values,
+    mark: u32,
+) -> Result<(), Memory> {
+    if count > MOST_TERMS {
+        return Ok(());
+    }
+    match values.top(1) {
+        [] => Ok(()),
+        [node, ..] => hints.note(alloc, mark, *node),
+    }
+}
+
+// Performs a call of a constructor.
+fn build(
+    alloc: Global,
+    algebra: &DataSpec,
+    heads: &FirstEquations,
+    store: &mut Store,
+    runs: &mut Runs,
+    bound: &mut [u32],
+    term: &Term,
+    op: Op,
+    count: usize,
+    budget: u64,
+) -> Result<(), Eval>
+    requires executable { IsExecutable (theory_of algebra.now) }
+    requires indexed { IsIndex (theory_of algebra.now) heads.now }
+    requires constructor { (j : ℕ) → j < length (theory_of algebra.now).equations → Heads op.0 (equation_at (theory_of algebra.now) j) → ⊥ }
+    requires room { HasRoom (theory_of algebra.now) (length bound.old) }
+    requires stands { StandsAt (theory_of algebra.now) (term_of term.now) budget store.old.nodes runs.old (Call op count) }
+    requires remembers { Remembers (theory_of algebra.now) store.old }
+    ensures room { length bound.new ≡ length bound.old }
+    ensures stands { OnOk result (Stands (theory_of algebra.now) (term_of term.now) budget store.new.nodes runs.new) }
+    ensures remembers { OnOk result (Remembers (theory_of algebra.now) store.new) }
+    ensures cause { IfErr result (IsCause (theory_of algebra.now) (term_of term.now) budget) }
+{
+    let mark = mark_of(op, runs.values.top(count));
+    match interned(&store.hints, &store.nodes, mark, op, runs.values.top(count)) {
+        Some(node) => {
+            put_value(&mut runs.values, count, node)?;
+            Ok(())
+        }
+        None => {
+            plainly(
+                alloc,
+                algebra,
+                heads,
+                store,
+                runs,
+                bound,
+                term,
+                Step::Call(op, count),
+                budget,
+            )?;
+            note_last(
+                alloc,
+                &mut store.hints,
+                store.nodes.len(),
+                &runs.values,
+                mark,
+            )?;
+            Ok(())
+        }
+    }
+}
+
+/// Takes a step.
+pub fn take_step(
+    alloc: Global,
+    algebra: &DataSpec,
+    heads: &FirstEquations,
+    store: &mut Store,
+    runs: &mut Runs,
+    bound: &mut [u32],
+    term: &Term,
+    step: Step,
+    budget: u64,
+) -> Result<(), Eval>
+    requires executable { IsExecutable (theory_of algebra.now) }
+    requires indexed { IsIndex (theory_of algebra.now) heads.now }
+    requires room { HasRoom (theory_of algebra.now) (length bound.old) }
+    requires stands { StandsAt (theory_of algebra.now) (term_of term.now) budget store.old.nodes runs.old step }
+    requires remembers { Remembers (theory_of algebra.now) store.old }
+    ensures room { length bound.new ≡ length bound.old }
+    ensures stands { OnOk result (Stands (theory_of algebra.now) (term_of term.now) budget store.new.nodes runs.new) }
+    ensures remembers { OnOk result (Remembers (theory_of algebra.now) store.new) }
+    ensures cause { IfErr result (IsCause (theory_of algebra.now) (term_of term.now) budget) }
+{
+    match step {
+        Step::Put(_) => plainly(
+            alloc, algebra, heads, store, runs, bound, term, step, budget,
+        ),
+        Step::Decide(..) => plainly(
+            alloc, algebra, heads, store, runs, bound, term, step, budget,
+        ),
+        Step::Call(op, count) => {
+            if heads.first(algebra, op) < algebra.equations.len() {
+                take_up(
+                    alloc, algebra, heads, store, runs, bound, term, op, count, budget,
+                )
+            } else {
+                build(
+                    alloc, algebra, heads, store, runs, bound, term, op, count, budget,
+                )
+            }
+        }
+    }
+}
+
+/// Goes on behind a call that has come to a value, and remembers it.
+pub fn close(
+    alloc: Global,
+    memo: &mut Memo,
+    runs: &mut Runs,
+    frame: Frame,
+    node: u32,
+) -> Result<(), Memory>
+    requires later { frame.start ≤ runs.old.uses }
+    ensures frames { runs.new.frames ≡ runs.old.frames }
+    ensures todo { OnOk result (runs.new.todo ≡ frame.todo) }
+    ensures values { OnOk result (runs.new.values ≡ node ∷ frame.values) }
+    ensures uses { OnOk result (runs.new.uses ≡ runs.old.uses) }
+    ensures remembered { OnOk result
+        (memo.new.entries.items ≡
+        memo.old.entries.items ++
+        record { op = frame.op; args = frame.args; value = node; uses = runs.old.uses - frame.start } ∷ []) }
+{
+    let uses = runs.uses - frame.start;
+    runs.todo = frame.todo;
+    runs.values = frame.values;
+    runs.values.push(node)?;
+    memo.add(
+        alloc,
+        Entry {
+            op: frame.op,
+            args: frame.args,
+            value: node,
+            uses,
+        },
+    )
+}

@@ -1,0 +1,114 @@
+// The main loop.
+
+ghost use Rattle.std.specs.Prelude.{◌≡◌, [], IfOk, IfErr, IfSome, IfNone, length};
+ghost use Rattle.spec_core.specs.Executable.{IsExecutable};
+ghost use Rattle.spec_core.specs.Terms.{term_of};
+ghost use Rattle.spec_core.specs.Theories.{theory_of};
+ghost use Rattle.rewriter.specs.Calls.{HasRoom};
+ghost use Rattle.rewriter.specs.Index.{IsIndex};
+ghost use Rattle.match_code.specs.States.{Stands, Remembers, IsCause, IsStore, IsEnd};
+
+use crate::moves::{close, take_step};
+use crate::state::{Runs, Store};
+use crate::tidying::tidy;
+use rewriter::Eval;
+use rewriter::compaction::FEWEST;
+use rewriter::heads::FirstEquations;
+use rewriter::run::the_value;
+use spec_core::equation::DataSpec;
+use spec_core::term::Term;
+use std::alloc::Global;
+
+// Goes on behind the innermost call; or gives the node of the term's value, where no call is run.
+fn leave(
+    alloc: Global,
+    algebra: &DataSpec,
+    store: &mut Store,
+    runs: &mut Runs,
+    term: &Term,
+    budget: u64,
+) -> Result<Option<u32>, Eval>
+    requires executable { IsExecutable (theory_of algebra.now) }
+    requires stands { Stands (theory_of algebra.now) (term_of term.now) budget store.old.nodes runs.old }
+    requires done { runs.old.todo ≡ [] }
+    requires remembers { Remembers (theory_of algebra.now) store.old }
+    ensures stands { IfOk result (λ r. IfNone r (Stands (theory_of algebra.now) (term_of term.now) budget store.new.nodes runs.new)) }
+    ensures ended { IfOk result (λ r. IfSome r (IsEnd (theory_of algebra.now) (term_of term.now) budget store.new.nodes)) }
+    ensures store { IfOk result (λ r. IsStore (theory_of algebra.now) store.new) }
+    ensures cause { IfErr result (IsCause (theory_of algebra.now) (term_of term.now) budget) }
+{
+    let node = the_value(&mut runs.values)?;
+    match runs.frames.pop() {
+        None => Ok(Some(node)),
+        Some(frame) => {
+            close(alloc, &mut store.memo, runs, frame, node)?;
+            Ok(None)
+        }
+    }
+}
+
+// Takes the next step, or goes on behind the innermost call; or gives the node of the term's value.
+fn turn(
+    alloc: Global,
+    algebra: &DataSpec,
+    heads: &FirstEquations,
+    store: &mut Store,
+    runs: &mut Runs,
+    bound: &mut [u32],
+    term: &Term,
+    budget: u64,
+) -> Result<Option<u32>, Eval>
+    requires executable { IsExecutable (theory_of algebra.now) }
+    requires indexed { IsIndex (theory_of algebra.now) heads.now }
+    requires room { HasRoom (theory_of algebra.now) (length bound.old) }
+    requires stands { Stands (theory_of algebra.now) (term_of term.now) budget store.old.nodes runs.old }
+    requires remembers { Remembers (theory_of algebra.now) store.old }
+    ensures room { length bound.new ≡ length bound.old }
+    ensures stands { IfOk result (λ r. IfNone r (Stands (theory_of algebra.now) (term_of term.now) budget store.new.nodes runs.new)) }
+    ensures ended { IfOk result (λ r. IfSome r (IsEnd (theory_of algebra.now) (term_of term.now) budget store.new.nodes)) }
+    ensures store { IfOk result (λ r. IsStore (theory_of algebra.now) store.new) }
+    ensures cause { IfErr result (IsCause (theory_of algebra.now) (term_of term.now) budget) }
+{
+    match runs.todo.pop() {
+        Some(step) => {
+            take_step(
+                alloc, algebra, heads, store, runs, bound, term, step, budget,
+            )?;
+            Ok(None)
+        }
+        None => leave(alloc, algebra, store, runs, term, budget),
+    }
+}
+
+/// Goes on to the end: the node of the term's value.
+pub fn run(
+    alloc: Global,
+    algebra: &DataSpec,
+    heads: &FirstEquations,
+    store: &mut Store,
+    runs: &mut Runs,
+    bound: &mut [u32],
+    term: &Term,
+    budget: u64,
+) -> Result<u32, Eval>
+    requires executable { IsExecutable (theory_of algebra.now) }
+    requires indexed { IsIndex (theory_of algebra.now) heads.now }
+    requires room { HasRoom (theory_of algebra.now) (length bound.old) }
+    requires stands { Stands (theory_of algebra.now) (term_of term.now) budget store.old.nodes runs.old }
+    requires remembers { Remembers (theory_of algebra.now) store.old }
+    ensures room { length bound.new ≡ length bound.old }
+    ensures ended { IfOk result (IsEnd (theory_of algebra.now) (term_of term.now) budget store.new.nodes) }
+    ensures store { IfOk result (λ n. IsStore (theory_of algebra.now) store.new) }
+    ensures cause { IfErr result (IsCause (theory_of algebra.now) (term_of term.now) budget) }
+{
+    let mut limit = FEWEST;
+    for _turn in 0..u64::MAX {
+        match turn(alloc, algebra, heads, store, runs, bound, term, budget)? {
+            Some(node) => return Ok(node),
+            None => {
+                limit = tidy(alloc, algebra, store, runs, term, budget, limit)?;
+            }
+        }
+    }
+    Err(Eval::Memory)
+}
