@@ -9,7 +9,8 @@ ghost use Rattle.command_equal.specs.Comparisons.{AnswersCause, AnswersFault, Co
 
 use crate::answer::Answer;
 use lotos_ast::text_kind::TextKind;
-use rewriter::{Eval, Side, SideFault, compare};
+use match_code::Engine;
+use rewriter::{Eval, Side, SideFault};
 use script_text::fault::ScriptFault;
 use script_text::read_typed_term;
 use sort_overloads::resolution::TypedTerm;
@@ -42,7 +43,8 @@ fn compared(
     requires second { FitsGround (theory_of checked.now.algebra) (term_of second) }
     ensures { IfOk result (TermsCome (theory_of checked.now.algebra) (term_of first) (term_of second) budget) }
 {
-    match compare(alloc, &checked.algebra, &first, &second, budget) {
+    let mut engine = Engine::new(alloc, &checked.algebra)?;
+    match engine.compare(alloc, &first, &second, budget) {
         Ok(true) => Ok(Answer::Equal),
         Ok(false) => Ok(Answer::Unequal),
         Err(SideFault { side, cause }) => match side {
