@@ -3,7 +3,7 @@ the examples, the tools that draw and explain, the files for editors, and what i
 import commands
 import program
 
-DOCUMENTS = ["README.md"] + [f"docs/{name}.md" for name in ("TUTORIAL", "LANGUAGE", "SEMANTICS", "FORMATS", "TESTING", "COMPARISON", "PROMISES", "GLOSSARY")]
+DOCUMENTS = ["README.md"] + [f"docs/{name}.md" for name in ("TUTORIAL", "LANGUAGE", "SEMANTICS", "FORMATS", "TESTING", "COMPARISON", "PROMISES", "TRUST", "GLOSSARY")]
 # The tools that are called, and what they are made of.
 TOOLS = ["draw", "explain"]
 MODULES = ["boxes", "charts", "commands", "specification", "steps", "traces"]
