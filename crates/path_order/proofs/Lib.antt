@@ -1,5 +1,6 @@
 pub mod Asked
 pub mod Depending
+pub mod Noting
 pub mod Ordering
 pub mod Refusing
 pub mod Smaller

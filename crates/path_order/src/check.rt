@@ -3,13 +3,14 @@
 ghost use Rattle.std.specs.Prelude.{◌≡◌, IfOk, IfSome, OnOk};
 ghost use Rattle.lotos_ast.specs.Refusals.{IfRefused};
 ghost use Rattle.path_order.specs.Decrease.{IsAdded, IsFirstRefusal, refusal_naming};
-ghost use Rattle.path_order.specs.Below.{AreDependents};
+ghost use Rattle.path_order.specs.Mentioning.{AreDependents, AreMentions};
 ghost use Rattle.spec_core.specs.Lists.{IsOneOf};
 ghost use Rattle.spec_core.specs.Order.{IsDecreasing};
 ghost use Rattle.spec_core.specs.Terms.{term_of};
 ghost use Rattle.spec_core.specs.Theories.{theory_of, equation_of};
 
 use crate::dependence::{Dependents, dependents_of};
+use crate::mentions::Mentions;
 use crate::sides::first_not_below;
 use lotos_ast::first_refusal::first_refusal;
 use lotos_ast::names::Names;
@@ -29,10 +30,11 @@ pub fn check_decrease(alloc: Global, algebra: &DataSpec) -> Result<(), FrontFaul
     ensures refused { IfRefused result (IsFirstRefusal (theory_of algebra.now)) }
     ensures not_decreasing { IfRefused result (λ _. IsDecreasing (theory_of algebra.now) → ⊥) }
 {
+    let mentions = Mentions::of(alloc, algebra)?;
     let mut refusals = Vec::new(alloc);
     let mut last = None;
     for equation in &algebra.equations {
-        last = add_refusal(alloc, algebra, equation, last, &mut refusals)?;
+        last = add_refusal(alloc, algebra, &mentions, equation, last, &mut refusals)?;
     }
     match first_refusal(refusals) {
         Some(refusal) => Err(FrontFault::Refused(refusal)),
@@ -44,20 +46,22 @@ pub fn check_decrease(alloc: Global, algebra: &DataSpec) -> Result<(), FrontFaul
 fn add_refusal(
     alloc: Global,
     algebra: &DataSpec,
+    mentions: &Mentions,
     equation: &Equation,
     last: Option<Dependents>,
     refusals: &mut Vec<Refusal>,
 ) -> Result<Option<Dependents>, Memory>
+    requires mentions { AreMentions (theory_of algebra.now) mentions.now }
     requires listed { IsOneOf (equation_of equation.now) (theory_of algebra.now).equations }
-    requires last { IfSome last (λ d. AreDependents (theory_of algebra.now) d.op.0 d.set) }
-    ensures last { IfOk result (λ found. IfSome found (λ d. AreDependents (theory_of algebra.now) d.op.0 d.set)) }
+    requires last { IfSome last (λ d. AreDependents (theory_of algebra.now) d.op.0 d.found.keys) }
+    ensures last { IfOk result (λ found. IfSome found (λ d. AreDependents (theory_of algebra.now) d.op.0 d.found.keys)) }
     ensures added { OnOk result (IsAdded (theory_of algebra.now) (equation_of equation.now) refusals.old.items refusals.new.items) }
 {
     match &equation.left {
         Term::Var(_) => Ok(last),
         Term::App(op, args) => {
-            let level = dependents_of(alloc, algebra, *op, last)?;
-            match first_not_below(equation, algebra, &level.set, args) {
+            let level = dependents_of(alloc, mentions, *op, last)?;
+            match first_not_below(equation, algebra, &level, args) {
                 None => Ok(Some(level)),
                 Some(side) => {
                     refusals.push(not_decreasing(alloc, algebra, equation, side)?)?;

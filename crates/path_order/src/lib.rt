@@ -5,6 +5,7 @@ mod below;
 mod check;
 mod dependence;
 mod inside;
+mod mentions;
 mod sides;
 
 pub use check::check_decrease;

@@ -8,7 +8,7 @@ ghost use Rattle.spec_core.specs.Terms.{term_of, terms};
 ghost use Rattle.spec_core.specs.Theories.{theory_of, equation_of};
 
 use crate::below::is_below;
-use equation_sets::set::NumberSet;
+use crate::dependence::Dependents;
 use spec_core::equation::{DataSpec, Equation};
 use spec_core::term::Term;
 
@@ -16,13 +16,13 @@ use spec_core::term::Term;
 pub fn first_not_below<'a>(
     equation: &'a Equation,
     algebra: &DataSpec,
-    level: &NumberSet,
+    level: &Dependents,
     args: &[Term],
 ) -> Option<&'a Term>
     ensures none { IfNone result
-        (Each (IsBelowBy (theory_of algebra.now) level.now (terms (map term_of args.now))) (sides (equation_of equation.now))) }
+        (Each (IsBelowBy (theory_of algebra.now) level.now.found.keys (terms (map term_of args.now))) (sides (equation_of equation.now))) }
     ensures first { IfSome result (λ side.
-        IsFirstNot (IsBelowBy (theory_of algebra.now) level.now (terms (map term_of args.now)))
+        IsFirstNot (IsBelowBy (theory_of algebra.now) level.now.found.keys (terms (map term_of args.now)))
         (sides (equation_of equation.now)) (term_of side.now)) }
 {
     for premise in &equation.premises {

@@ -14,6 +14,7 @@ loop-equation-init c = record {
 
 pub add_refusal-requires : goal.add_refusal-requires
 add_refusal-requires c = record {
+  mentions = c.in_ok-mentions.ensures;
   listed = one_of_at equation_of c.args.algebra.now.equations.items c.deref-equation-items.result.now c.loop-equation.equation-index
       c.equation-item.result c.deref-equation-items.ensures.value c.loop-equation-test.true c.equation-item.is;
   last = c.loop-equation.invariant.last;

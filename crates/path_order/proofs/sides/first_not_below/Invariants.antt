@@ -8,4 +8,4 @@ use Rattle.path_order.proofs.sides.first_not_below.Given as goal
 
 abbrev pub invariant-loop-premise : goal.invariant-loop-premise
 invariant-loop-premise l =
-    Each (IsBelowBy (theory_of l.algebra) l.level (terms (map term_of l.args))) (premise_sides (map premise_of (take l.premise-index l.premise-items)))
+    Each (IsBelowBy (theory_of l.algebra) l.level.found.keys (terms (map term_of l.args))) (premise_sides (map premise_of (take l.premise-index l.premise-items)))

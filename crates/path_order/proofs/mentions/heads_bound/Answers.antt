@@ -2,10 +2,10 @@ use Rattle.std.proofs.Common.{◌≤◌, arith, refl, subst}
 use Rattle.spec_core.specs.Lists.{Each}
 use Rattle.spec_core.specs.Theories.{equation_of}
 use Rattle.spec_core.proofs.Lists.{each-next, each-all, each-map}
-use Rattle.path_order.specs.Below.{HeadIsBelow}
+use Rattle.path_order.specs.Mentioning.{HeadIsBelow}
 use Rattle.path_order.proofs.Depending.{raised}
-use Rattle.path_order.proofs.dependence.heads_bound.Goals as goal
-use Rattle.path_order.proofs.dependence.heads_bound.Goals.{then-bound-needed, else-bound-needed}
+use Rattle.path_order.proofs.mentions.heads_bound.Goals as goal
+use Rattle.path_order.proofs.mentions.heads_bound.Goals.{then-bound-needed, else-bound-needed}
 
 pub loop-equation-preserved : goal.loop-equation-preserved
 loop-equation-preserved c =
