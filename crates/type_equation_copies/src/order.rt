@@ -9,9 +9,10 @@ ghost use Rattle.type_images.specs.Views.{shared_of};
 ghost use Rattle.type_equation_copies.specs.Views.{made_at};
 
 use crate::equations::{TypeEquations, all_at, brought_at};
+use indexmap::IndexSet;
 use spec_core::memory::Memory;
 use std::alloc::Global;
-use type_contents::item_table::is_among;
+use type_contents::item_table::number_set;
 use type_images::set::{EquationSet, grouped};
 use type_images::shared::SharedEquation;
 
@@ -57,16 +58,16 @@ fn add_brought(
     set: &mut EquationSet,
     content: &EquationSet,
     found: &[Option<TypeEquations>],
-    among: &[usize],
+    chosen: &IndexSet<usize>,
     number: usize,
 ) -> Result<(), Memory>
     requires set { IsGrouped set.old }
     requires content { IsGrouped content.now }
     ensures equations { OnOk result (equations_of set.new ≡ fold same.with_equation (equations_of set.old)
-        (contents.brought_by (map made_at found.now) among.now (equations_of content.now) number)) }
+        (contents.brought_by (map made_at found.now) chosen.now.keys (equations_of content.now) number)) }
     ensures grouped { OnOk result (IsGrouped set.new) }
 {
-    if is_among(among, number) {
+    if chosen.contains(&number) {
         add_those_in(set, content, brought_at(found, number))
     } else {
         Ok(())
@@ -85,9 +86,10 @@ pub fn in_order(
         (map shared_of content.now)) }
 {
     let content = grouped(alloc, content)?;
+    let chosen = number_set(alloc, among)?;
     let mut set = EquationSet::new(alloc);
     for number in 0..count {
-        add_brought(&mut set, &content, found, among, number)?;
+        add_brought(&mut set, &content, found, &chosen, number)?;
     }
     Ok(set.into_vec())
 }

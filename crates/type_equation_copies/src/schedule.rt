@@ -14,7 +14,7 @@ use lotos_ast::types::TypeDef;
 use spec_core::equation::Equation;
 use spec_core::memory::Memory;
 use std::alloc::Global;
-use type_contents::schedule::{Links, are_all_found, links_of, next_ready};
+use type_contents::schedule::{Links, are_all_found, links_of, next_ready_from};
 use type_contents::standing::{Standing, parts_at};
 
 // Adds a type and all of which it is made.
@@ -124,10 +124,14 @@ fn made_once(
 {
     let needed = needs_of(alloc, prepared)?;
     let mut found = nothing_found(alloc, prepared.types)?;
+    let mut from = 0;
     for _found in 0..prepared.types.len() {
-        match next_ready(&found, &needed) {
+        match next_ready_from(&found, &needed, from) {
             None => return Ok(found),
-            Some(number) => make_one(alloc, prepared, own, &mut found, number)?,
+            Some(number) => {
+                make_one(alloc, prepared, own, &mut found, number)?;
+                from = number;
+            }
         }
     }
     Ok(found)
