@@ -10,10 +10,16 @@ use crate::hints::{Hints, mark_of};
 use rewriter::values::Values;
 use spec_core::items::Op;
 use spec_core::memory::Memory;
-use std::alloc::Global;
+use std::alloc::{AllocError, Global};
 
 /// The most calls that are remembered.
 pub const MOST_ENTRIES: u32 = 65_536;
+
+/// How many calls of an operation in a row may be looked for in vain before it is given up.
+const PATIENCE: u32 = 4_096;
+
+/// How many more may be for each one that is found.
+const REWARD: u32 = 16;
 
 /// A call of an operation over values, the value that it comes to, and after how many uses of equations.
 #[derive(Drop)]
@@ -38,6 +44,8 @@ pub struct Memo {
     hints: Hints,
     /// How many more calls may be taken up to be remembered.
     room: u32,
+    /// For each operation how many more of its calls may be looked for in vain; as many as at first where it has no place yet.
+    patience: Vec<u32>,
 }
 
 // Whether an entry is of this call.
@@ -45,6 +53,14 @@ fn is_of(entry: &Entry, op: Op, args: &[u32]) -> bool
     ensures same { IsTrue result → (entry.now.op.0 ≡ op.0) × (reverse entry.now.args ≡ args.now) }
 {
     entry.op.0 == op.0 && entry.args.all() == args
+}
+
+// Gives the operations up to this place as much patience as at first.
+fn lengthen(patience: &mut Vec<u32>, place: usize) -> Result<(), AllocError> {
+    for _more in patience.len()..=place {
+        patience.push(PATIENCE)?;
+    }
+    Ok(())
 }
 
 impl Memo {
@@ -56,6 +72,7 @@ impl Memo {
             entries: Vec::new(alloc),
             hints: Hints::new(alloc),
             room: MOST_ENTRIES,
+            patience: Vec::new(alloc),
         }
     }
 
@@ -67,18 +84,64 @@ impl Memo {
             entries: Vec::new(alloc),
             hints: Hints::new(alloc),
             room: 0,
+            patience: Vec::new(alloc),
         }
     }
 
-    /// What a call comes to, if it is remembered and found under the mark. It takes no memory.
-    pub fn find(&self, mark: u32, op: Op, args: &[u32]) -> Option<Known>
+    /// What a call comes to, if it is remembered and found, and its operation isn't given up. It takes no memory.
+    pub fn find(&mut self, op: Op, args: &[u32]) -> Option<Known>
+        ensures same { self.new.entries ≡ self.old.entries }
+        ensures known { IfSome result (λ k. (theory : Theory) (rows : List Node) →
+            Each (IsEntry theory rows) self.old.entries.items → IsRemembered theory rows op.0 args.now k.value k.uses) }
+    {
+        if !self.may_pay(op) {
+            return None;
+        }
+        let known = self.found(op, args);
+        if known.is_some() {
+            self.reward(op);
+        }
+        known
+    }
+
+    // What a call comes to, if it is remembered and found.
+    fn found(&self, op: Op, args: &[u32]) -> Option<Known>
         ensures known { IfSome result (λ k. (theory : Theory) (rows : List Node) →
             Each (IsEntry theory rows) self.now.entries.items → IsRemembered theory rows op.0 args.now k.value k.uses) }
     {
+        let mark = mark_of(op, args);
         match self.looked_up(self.hints.first(mark), op, args) {
             Some(known) => Some(known),
             None => self.looked_up(self.hints.second(mark), op, args),
         }
+    }
+
+    // Whether the operation isn't given up.
+    fn may_pay(&self, op: Op) -> bool {
+        let place = op.0 as usize;
+        place >= self.patience.len() || self.patience[place] > 0
+    }
+
+    // A call of the operation was found.
+    fn reward(&mut self, op: Op)
+        ensures same { self.new.entries ≡ self.old.entries }
+    {
+        let place = op.0 as usize;
+        if place < self.patience.len() {
+            self.patience[place] = self.patience[place].saturating_add(REWARD);
+        }
+    }
+
+    // A call of the operation wasn't found.
+    fn tire(&mut self, op: Op) -> Result<(), AllocError>
+        ensures same { OnOk result (self.new.entries ≡ self.old.entries) }
+    {
+        let place = op.0 as usize;
+        lengthen(&mut self.patience, place)?;
+        if place < self.patience.len() {
+            self.patience[place] = self.patience[place].saturating_sub(1);
+        }
+        Ok(())
     }
 
     // What the call of an entry comes to, where the entry is of this call.
@@ -102,15 +165,19 @@ impl Memo {
         }
     }
 
-    /// Whether one more call may be taken up, for which room is taken. It takes no memory.
-    pub fn takes_up(&mut self) -> bool
-        ensures same { self.new.entries ≡ self.old.entries }
+    /// Whether a call of the operation that wasn't found may be taken up, for which room is taken.
+    pub fn takes_up(&mut self, op: Op) -> Result<bool, AllocError>
+        ensures same { OnOk result (self.new.entries ≡ self.old.entries) }
     {
+        if !self.may_pay(op) {
+            return Ok(false);
+        }
+        self.tire(op)?;
         if self.room > 0 {
             self.room -= 1;
-            true
+            Ok(true)
         } else {
-            false
+            Ok(false)
         }
     }
 

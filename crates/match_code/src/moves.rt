@@ -122,12 +122,12 @@ fn begin(
     op: Op,
     count: usize,
 ) -> Result<(), AllocError>
-    ensures entries { memo.new.entries ≡ memo.old.entries }
+    ensures entries { OnOk result (memo.new.entries ≡ memo.old.entries) }
     ensures stands { OnOk result
         ((theory : Theory) (t : TermTree) (budget : ℕ) (rows : List Node) → IsExecutable theory →
         StandsAt theory t budget rows runs.old (Call op count) → StandsAt theory t budget rows runs.new (Call op count)) }
 {
-    if count <= runs.values.len() && memo.takes_up() {
+    if count <= runs.values.len() && memo.takes_up(op)? {
         open(alloc, runs, op, count)
     } else {
         Ok(())
@@ -157,8 +157,7 @@ fn take_up(
     ensures remembers { OnOk result (Remembers (theory_of algebra.now) store.new) }
     ensures cause { IfErr result (IsCause (theory_of algebra.now) (term_of term.now) budget) }
 {
-    let mark = mark_of(op, runs.values.top(count));
-    match store.memo.find(mark, op, runs.values.top(count)) {
+    match store.memo.find(op, runs.values.top(count)) {
         Some(known) => {
             use_known(runs, known, count, budget)?;
             Ok(())

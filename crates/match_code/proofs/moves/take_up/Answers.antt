@@ -18,7 +18,7 @@ returns-in_ok-use_known-in-Some-clause-stands c =
     let rows = c.args.store.now.nodes in
     let runs = c.args.runs.now in
     let known = c.in-Some.known in
-    let r = subst (λ args. IsRemembered theory rows c.args.op.0 args known.value known.uses) c.top-2.ensures.seen
+    let r = subst (λ args. IsRemembered theory rows c.args.op.0 args known.value known.uses) c.top.ensures.seen
     (c.in-Some.ensures.known theory rows c.requires.remembers) in
     let made = c.in_ok-use_known-in-Some.ensures in
     at_equal theory t c.args.budget rows runs.frames c.use_known.new.runs.frames runs.todo c.use_known.new.runs.todo _
@@ -34,7 +34,7 @@ returns-in_err-use_known-in-Some-clause-cause c =
     let rows = c.args.store.now.nodes in
     let runs = c.args.runs.now in
     let known = c.in-Some.known in
-    let r = subst (λ args. IsRemembered theory rows c.args.op.0 args known.value known.uses) c.top-2.ensures.seen
+    let r = subst (λ args. IsRemembered theory rows c.args.op.0 args known.value known.uses) c.top.ensures.seen
     (c.in-Some.ensures.known theory rows c.requires.remembers) in
     let p = err_from_is_err_and c.from_residual.result c.from_residual.ensures.1 in
     rw (p.1, p.2)
