@@ -32,8 +32,8 @@ fn node_waits(node: &Node) -> bool
     }
 }
 
-// Whether some node waits for its expansion.
-fn some_waits(branch: &Branch) -> bool
+/// Whether some node waits for its expansion. It takes no memory, and recurs as deep as operators nest.
+pub fn some_waits(branch: &Branch) -> bool
     ensures { result ≡ some_waits (shape_of branch.now) }
 {
     match branch {
