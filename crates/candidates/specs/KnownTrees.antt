@@ -1,5 +1,5 @@
 -- What a known tree of the program stands for, and what searches in it come to. (This profile.)
-use Rattle.std.specs.Prelude.{ℕ, ◌≡◌, List, map, Option, Bool, is_some, if◌then◌else◌}
+use Rattle.std.specs.Prelude.{ℕ, ◌≡◌, List, map, Option, Bool, is_some}
 use Rattle.spec_core.specs.Theories.{theory_of}
 use Rattle.rule_model.specs.declared.offer.Offer.{Offer}
 use Rattle.rule_model.specs.Derivations.{Derivation}
@@ -14,9 +14,10 @@ use Rattle.log_states.specs.Views.{pending_of}
 use Rattle.candidate_laws.specs.Asked.{TreeQuery}
 use Rattle.candidate_search.specs.Searches.{for_offer}
 use Rattle.node_trees.specs.Shapes.{shape_of}
-use Rattle.candidate_composites.specs.Known.{PlacedPlan, placed_of, placed_plans}
+use Rattle.candidate_composites.specs.Known.{PlacedPlan, placed_plans}
 use Rattle.candidate_verdicts.specs.Stored.{stored}
 use Rattle.board_offers.specs.Offers.{offer_at}
+use Rattle.candidates.specs.Composites.{listed_or}
 use Rattle.candidates.specs.Listed.{trees_sought, verdict_for, first_tree, all_trees, asked_for_first, asked_for_all, is_known_to_hold}
 use Rattle.candidates.specs.Jobs.{NodeJob, all_jobs, is_out}
 use Rattle.candidates.specs.Models.{job_of}
@@ -83,17 +84,17 @@ module _ (s : KnownTree) where
     is_held_among = is_some (first (known_to_hold
         (verdict_for (theory_of s.algebra.now) (windows_in s.windows.now) (stored s.pieces.now) (shape_of s.tree.now) q) those))
 
-  -- the parts that were listed, or else those of the tree; a search walks along those that were listed, or else along others
-  abbrev pub parts_in : List PlacedPlan
-  parts_in = if s.listed then map placed_of s.parts.items else placed_plans (theory_of s.algebra.now) (shape_of s.tree.now)
-
+  -- the parts that are listed, or else those of the tree; a search walks along those that are listed, or else along others
   abbrev pub parts_along : List PlacedPlan → List PlacedPlan
-  parts_along others = if s.listed then map placed_of s.parts.items else others
+  parts_along others = listed_or s.composites others
+
+  abbrev pub parts_in : List PlacedPlan
+  parts_in = parts_along (placed_plans (theory_of s.algebra.now) (shape_of s.tree.now))
 
   -- the trees of the parts for which a query may ask, and in its place each gap from which such a tree can come
   abbrev pub trees_for : Query Offer → List (OrGap Derivation)
   trees_for q = trees_sought (theory_of s.algebra.now) (windows_in s.windows.now) q parts_in
 
--- parts that were listed are those of the tree, as `KnownTree::new` lists them
+-- parts that are listed are those of the tree
 abbrev pub HasItsParts : KnownTree → Type 0
 HasItsParts s = parts_in s ≡ placed_plans (theory_of s.algebra.now) (shape_of s.tree.now)

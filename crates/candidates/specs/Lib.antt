@@ -1,4 +1,5 @@
 pub mod Listed
+pub mod Composites
 pub mod Walks
 pub mod Jobs
 pub mod Models

@@ -11,6 +11,7 @@ use Rattle.symbolic_plans.specs.OpenPlans.{open_plan_of}
 use Rattle.candidate_search.specs.Numbers.{trees_at_once}
 use Rattle.candidate_search.specs.Searches.{is_wanted, wanted_from, query_of}
 use Rattle.candidate_composites.specs.Known.{placed_of}
+use Rattle.candidates.specs.Composites.{without_gaps}
 use Rattle.candidates.specs.Listed.{trees_sought}
 use Rattle.candidates.specs.declared.walk.TreesLeft.{TreesLeft}
 use Rattle.candidates.specs.declared.walk.Met.{Met}
@@ -30,9 +31,11 @@ module _ (theory : Theory) (w : Windows) (q : Query Offer) where
       wanted_from (is_wanted q)
       (trees_at_once theory w (open_plan_of c.composite.now).fields (open_plan_of c.composite.now).plan c.choices.items) c.number
 
--- what is in the parts behind the composite where the walk stands
+-- what is in the composites and the parts behind the composite where the walk stands
 abbrev pub behind : Walk → List (OrGap Derivation)
-behind s = trees_sought (theory_of s.algebra.now) (windows_in s.windows.now) (query_of s.search) (map placed_of s.parts.now)
+behind s =
+    trees_sought (theory_of s.algebra.now) (windows_in s.windows.now) (query_of s.search)
+    (without_gaps s.composites.now ++ map placed_of s.parts.now)
 
 -- what is left of the composite where the walk stands, and then what is behind it
 abbrev pub ahead : Walk → List (OrGap Derivation)

@@ -1,6 +1,7 @@
 // The agreements that a session may commit, from what is known of its tree.
 #![tactic(auto)]
 
+mod composites;
 pub mod entry;
 pub mod job;
 pub mod known_tree;

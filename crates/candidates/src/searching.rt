@@ -21,6 +21,7 @@ ghost use Rattle.candidates.specs.Walks.{met_of, ahead};
 ghost use Rattle.candidates.specs.KnownTrees.{offer_in, numbered, is_out_in, first_of_those, all_of_those, left_to_first, left_to_all};
 ghost use Rattle.candidates.specs.KnownTrees.{is_held_among, parts_along, trees_for};
 
+use crate::composites::Composites;
 use crate::job::{NodeJob, first_unjudged, is_expanded};
 use crate::known_tree::KnownTree;
 use crate::walk::{Met, Walk, kinds_sought};
@@ -157,27 +158,33 @@ impl<'a> KnownTree<'a> {
         sought_composites(alloc, self.algebra, self.tree, &sought)
     }
 
-    // The same, where the tree hasn't listed its composites; else none.
+    // The same, where the composites of the tree aren't listed; else none.
     fn others(&self, alloc: Global, search: &TreeSearch<'_>) -> Result<Vec<Part<'a>>, Memory>
         ensures { IfOk result (λ all. trees_sought (theory_of self.now.algebra.now) (windows_in self.now.windows.now) (query_of search.now)
             (parts_along self.now (map placed_of all.items)) ≡ trees_for self.now (query_of search.now)) }
     {
-        if self.listed {
-            Ok(Vec::new(alloc))
-        } else {
-            self.sought(alloc, search)
+        match &self.composites {
+            Composites::Unlisted => self.sought(alloc, search),
+            Composites::Lent(_) => Ok(Vec::new(alloc)),
+            Composites::Listed(_) => Ok(Vec::new(alloc)),
         }
     }
 
-    // A walk along the trees of the listed parts, or else of others, for which a query may ask.
+    // A walk along the trees of the parts that are listed, or else of others, for which a query may ask.
     fn walk<'b>(&'b self, search: TreeSearch<'b>, others: &'b [Part<'a>]) -> Walk<'b, 'a>
         ensures { ahead result ≡ trees_sought (theory_of self.now.algebra.now) (windows_in self.now.windows.now) (query_of search.entry)
             (parts_along self.now (map placed_of others.now)) }
     {
-        if self.listed {
-            Walk::new(self.algebra, self.windows, search, &self.parts)
-        } else {
-            Walk::new(self.algebra, self.windows, search, others)
+        match &self.composites {
+            Composites::Unlisted => {
+                return Walk::new(self.algebra, self.windows, search, others);
+            }
+            Composites::Lent(all) => {
+                return Walk::over(self.algebra, self.windows, search, *all);
+            }
+            Composites::Listed(parts) => {
+                return Walk::new(self.algebra, self.windows, search, parts);
+            }
         }
     }
 

@@ -1,4 +1,4 @@
-// The trees of parts for which a query may ask, one after another.
+// The trees of composites and parts for which a query may ask, one after another.
 
 ghost use Rattle.std.specs.Prelude.{◌≡◌, ◌∷◌, [], IfOk, MatchOption, Some, map};
 ghost use Rattle.spec_core.specs.Theories.{theory_of};
@@ -10,6 +10,7 @@ ghost use Rattle.candidate_search.specs.Searches.{asked_from, query_of};
 ghost use Rattle.rule_model.specs.Actions.{inside, ends, at_gate};
 ghost use Rattle.candidate_laws.specs.Sought.{these_kinds, seeks_some, sought_at};
 ghost use Rattle.candidate_composites.specs.Known.{sought_in, step_of, placed_of};
+ghost use Rattle.candidates.specs.Composites.{without_gaps};
 ghost use Rattle.candidates.specs.Listed.{kinds_sought, trees_sought};
 ghost use Rattle.candidates.specs.Walks.{met_of, trees_left, behind, ahead};
 
@@ -34,13 +35,15 @@ pub struct TreesLeft<'a> {
     pub number: u64,
 }
 
-/// A walk along the trees of parts for which a query may ask: what is left of the composite where it stands, and the parts behind it.
+/// A walk along the trees of composites and of parts for which a query may ask: what is left of the composite where it stands, the
+/// composites behind it, and the parts behind these.
 #[derive(Drop)]
 pub struct Walk<'a, 't> {
     pub algebra: &'a DataSpec,
     pub windows: &'a [Window],
     pub search: TreeSearch<'a>,
     pub current: Option<TreesLeft<'a>>,
+    pub composites: &'a [OpenComposite],
     pub parts: &'a [Part<'t>],
 }
 
@@ -170,7 +173,28 @@ impl<'a, 't> Walk<'a, 't> {
             windows,
             search,
             current: None,
+            composites: &[],
             parts,
+        }
+    }
+
+    /// A walk along all trees of the composites. It takes no memory.
+    pub fn over(
+        algebra: &'a DataSpec,
+        windows: &'a [Window],
+        search: TreeSearch<'a>,
+        composites: &'a [OpenComposite],
+    ) -> Walk<'a, 't>
+        ensures starts { ahead result ≡
+            trees_sought (theory_of algebra.now) (windows_in windows.now) (query_of search.entry) (without_gaps composites.now) }
+    {
+        Walk {
+            algebra,
+            windows,
+            search,
+            current: None,
+            composites,
+            parts: &[],
         }
     }
 
@@ -179,6 +203,7 @@ impl<'a, 't> Walk<'a, 't> {
         ensures taken { IfOk result (λ o. MatchOption o
             (ahead self.old ≡ behind self.old)
             (λ tree. ahead self.old ≡ element (derivation_of tree) ∷ ahead self.new)) }
+        ensures composites { self.new.composites ≡ self.old.composites }
         ensures parts { self.new.parts ≡ self.old.parts }
         ensures behind { behind self.new ≡ behind self.old }
     {
@@ -200,26 +225,38 @@ impl<'a, 't> Walk<'a, 't> {
                 return Ok(Some(Met::Tree(tree)));
             }
             self.current = None;
-            match self.parts {
-                [] => return Ok(None),
-                [part, rest @ ..] => {
-                    self.parts = rest;
-                    match part {
-                        Part::Gap(generation, steps) => {
-                            if is_sought_at(alloc, steps, &self.search)? {
-                                return Ok(Some(Met::Gap(*generation)));
+            match self.composites {
+                [] => match self.parts {
+                    [] => return Ok(None),
+                    [part, rest @ ..] => {
+                        self.parts = rest;
+                        match part {
+                            Part::Gap(generation, steps) => {
+                                if is_sought_at(alloc, steps, &self.search)? {
+                                    return Ok(Some(Met::Gap(*generation)));
+                                }
+                            }
+                            Part::Composite(composite) => {
+                                self.current = trees_of(
+                                    alloc,
+                                    self.algebra,
+                                    self.windows,
+                                    self.search,
+                                    composite,
+                                )?;
                             }
                         }
-                        Part::Composite(composite) => {
-                            self.current = trees_of(
-                                alloc,
-                                self.algebra,
-                                self.windows,
-                                self.search,
-                                composite,
-                            )?;
-                        }
                     }
+                },
+                [composite, rest @ ..] => {
+                    self.composites = rest;
+                    self.current = trees_of(
+                        alloc,
+                        self.algebra,
+                        self.windows,
+                        self.search,
+                        composite,
+                    )?;
                 }
             }
         }
