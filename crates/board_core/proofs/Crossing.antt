@@ -6,6 +6,7 @@ use Rattle.board_core.specs.contracts.board.Board.TheInside as board_inside
 use Rattle.spec_core.proofs.Crossing.{simple, term_send}
 use Rattle.rule_model.proofs.Crossing.{rules_send}
 use Rattle.board_record.proofs.Crossing.{record_send}
+use Rattle.offer_index.proofs.Crossing.{index_send}
 
 pub board_send : IsSend board.the_row
 board_send =
@@ -22,7 +23,10 @@ board_send =
               search (rules_send, simple) depth 60 fits 20000,
               (
                 search (term_send, simple) depth 60 fits 20000,
-                tt,
+                (
+                  search (index_send, simple) depth 60 fits 20000,
+                  tt,
+                ),
               ),
             ),
           ),

@@ -10,9 +10,9 @@ use Rattle.rule_model.specs.Derives.{Derives}
 use Rattle.rule_model.specs.Events.{OfferName}
 use Rattle.rule_model.specs.Legal.{IsAgreed}
 use Rattle.rule_model.specs.States.{PendingOffer}
-use Rattle.candidate_composites.proofs.Answers.{exact_answers_exist}
-use Rattle.candidate_composites.specs.MarkedTerms.{unmarked}
-use Rattle.candidate_composites.specs.Evaluations.{Evaluation, IsExact}
+use Rattle.offer_index.proofs.Answers.{exact_answers_exist}
+use Rattle.offer_index.specs.MarkedTerms.{unmarked}
+use Rattle.offer_index.specs.Evaluations.{Evaluation, IsExact}
 use Rattle.board_laws.specs.Laws.{composites_of}
 use Rattle.board_laws.proofs.Own.{own_plans_are_those}
 use Rattle.board_laws.specs.Rules.{Next, takes, deadlocks, is_beyond, is_not_now, goes_on, stalls, nothing, meeting, unseen, next_of}

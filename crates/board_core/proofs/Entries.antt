@@ -22,7 +22,7 @@ use Rattle.board_record.specs.Records.{IsSession}
 use Rattle.board_record.specs.Views.{HasActed}
 use Rattle.board_laws.specs.declared.stop_reason.StopReason.{StopReason}
 use Rattle.board_laws.specs.declared.stop_reason.StopReason.TheVariants.{Limit}
-use Rattle.board_laws.specs.Next.{GoesByRules, HasEnded, IsAtLimit, IsAct, IsEventOf, IsLeast, next_by_rules, next_ended}
+use Rattle.board_laws.specs.Next.{GoesByRules, HasEnded, IsAct, IsEventOf, IsLeast, next_by_rules, next_ended}
 use Rattle.board_laws.specs.Drawing.{drawn}
 use Rattle.board_laws.specs.Stopping.{answer_by}
 use Rattle.log_states.specs.Clients.{numbers_from}

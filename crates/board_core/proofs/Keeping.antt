@@ -9,7 +9,7 @@ use Rattle.node_trees.specs.Rests.{Work}
 use Rattle.candidate_verdicts.specs.Shows.{Show}
 use Rattle.node_trees.specs.Shapes.{Held, Shape, AllWait, IsNodeOf, IsRight, IsWorkFor, IsWorkOf, posted}
 use Rattle.candidate_verdicts.specs.Views.{IsStep}
-use Rattle.candidate_composites.specs.Tables.{windows_in}
+use Rattle.offer_index.specs.Tables.{windows_in}
 use Rattle.candidate_verdicts.specs.declared.pieces.Piece.{Piece}
 use Rattle.candidate_verdicts.specs.Known.{Pieces}
 use Rattle.candidate_verdicts.specs.Laws.{IsPieceOf}

@@ -22,7 +22,7 @@ use Rattle.decision_order.specs.Searches.{settled_of, waiting_of}
 use Rattle.log_states.specs.Views.{pending_of}
 use Rattle.node_trees.specs.Origins.{source_of}
 use Rattle.node_trees.specs.Shapes.{Held, IsNodeOf, Lives, Shape, shape_of}
-use Rattle.candidate_composites.specs.Tables.{windows_in}
+use Rattle.offer_index.specs.Tables.{windows_in}
 use Rattle.candidate_verdicts.specs.declared.pieces.Pieces.{Pieces}
 use Rattle.candidate_verdicts.specs.Same.{same_rules}
 use Rattle.candidate_verdicts.specs.Stored.{stored}

@@ -12,4 +12,4 @@ pub mod Quiet
 pub mod Tables
 pub use Rattle.board_offers.proofs.AllWait
 pub use Rattle.board_offers.proofs.Members
-pub use Rattle.candidate_composites.proofs.Lists
+pub use Rattle.offer_index.proofs.Lists

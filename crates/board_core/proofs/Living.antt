@@ -1,5 +1,5 @@
 -- What is known of nodes, and which jobs are out, speaks of nodes that live.
-use Rattle.std.proofs.Common.{ℕ, ◌≡◌, ◌==◌, ◌||◌, ◌∙◌, ◌⊎◌, inl, inr, refl, sym, ap, subst, List, [], ◌∷◌, ◌++◌, filter, not, cond, map, Option, Some, None}
+use Rattle.std.proofs.Common.{ℕ, ◌≡◌, ◌==◌, ◌||◌, ◌∙◌, ◌⊎◌, inl, inr, refl, sym, ap, subst, List, [], ◌∷◌, ◌++◌, filter, not, cond, Some, None}
 use Rattle.std.proofs.Common.{Bool, true, false, if◌then◌else◌, option_map}
 use Rattle.std.proofs.lemmas.Bool.Decides.{Decides-eqb}
 use Rattle.std.proofs.lemmas.Bool.{true≢false}
@@ -10,7 +10,7 @@ use Rattle.node_trees.specs.declared.origin.Gen.{Gen}
 use Rattle.node_trees.specs.Differences.{IsDifference}
 use Rattle.node_trees.specs.Posting.{is_there}
 use Rattle.node_trees.specs.Rests.{Work}
-use Rattle.node_trees.specs.Shapes.{Held, Shape, leaf, ended, over, between, Above, under, first_of, second_of, Stands, Lives, node_at, with_work, posted}
+use Rattle.node_trees.specs.Shapes.{Held, Shape, leaf, over, between, Above, under, first_of, second_of, Stands, Lives, node_at, with_work, posted}
 use Rattle.node_trees.proofs.Posts.{is_there_lives, not_there}
 use Rattle.candidate_verdicts.specs.Models.{show_of}
 use Rattle.candidate_verdicts.specs.declared.pieces.Piece.{Piece}

@@ -6,7 +6,7 @@ use Rattle.spec_core.specs.Code.{Program}
 use Rattle.rule_model.specs.Derivations.{Derivation}
 use Rattle.rule_model.specs.Legal.{AllWait}
 use Rattle.rule_model.specs.States.{PendingOffer, State}
-use Rattle.candidate_composites.specs.Windows.{Windows}
+use Rattle.offer_index.specs.Windows.{Windows}
 use Rattle.board_laws.specs.Lazy.{first}
 use Rattle.board_laws.specs.Rules.{Next, any, any_beyond, nothing, if_there, next_of}
 use Rattle.board_laws.specs.Asked.{TreeQuery}

@@ -5,7 +5,7 @@ use Rattle.spec_core.specs.declared.settings.Settings.{Settings}
 use Rattle.spec_core.specs.declared.window.Window.{Window}
 use Rattle.spec_core.specs.Code.{Program}
 use Rattle.sort_windows.specs.Found.{AreBySorts}
-use Rattle.candidate_composites.specs.Tables.{windows_in, values_of, complete_of}
+use Rattle.offer_index.specs.Tables.{windows_in, values_of, complete_of}
 use Rattle.board_laws.proofs.Top.{table_windows}
 use Rattle.board_laws.specs.Next.{AreSessionWindows}
 

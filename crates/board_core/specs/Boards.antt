@@ -1,9 +1,9 @@
 -- What holds of a board.
-use Rattle.std.specs.Prelude.{ℕ, ◌≡◌, List, None, length, map}
+use Rattle.std.specs.Prelude.{ℕ, ◌≡◌, List, Option, None, IfSome, false, length, map}
 use Rattle.spec_core.specs.declared.window.Window.{Window}
 use Rattle.spec_core.specs.Code.{Program}
 use Rattle.spec_core.specs.Lists.{Each}
-use Rattle.candidate_composites.specs.Windows.{Windows}
+use Rattle.offer_index.specs.Windows.{Windows}
 use Rattle.rule_model.specs.Derivations.{Derivation}
 use Rattle.candidates.specs.Jobs.{NodeJob}
 use Rattle.candidates.specs.Models.{job_of}
@@ -13,7 +13,9 @@ use Rattle.sort_windows.specs.Found.{AreBySorts}
 use Rattle.node_trees.specs.Origins.{Source, meaning}
 use Rattle.node_trees.specs.Rests.{Work, IsWayOf}
 use Rattle.node_trees.specs.Shapes.{Shape, IsRight, Lives}
-use Rattle.candidate_composites.specs.Tables.{windows_in}
+use Rattle.offer_index.specs.Index.{IndexView, IsIndexOf}
+use Rattle.offer_index.specs.Kept.{some_waits}
+use Rattle.offer_index.specs.Tables.{windows_in}
 use Rattle.candidate_verdicts.specs.Known.{Pieces}
 use Rattle.candidate_verdicts.specs.Laws.{ArePiecesOf, NoneFrom}
 use Rattle.board_laws.specs.Complete.{AreComplete, AreExpansions, IsComplete}
@@ -41,6 +43,13 @@ abbrev pub IsBoard : BoardView → Type 0
 IsBoard v =
     IsKnown (views.program v) v.settings.values v.windows (views.tree v) (views.pieces v) v.session.tree.next ×
     AreOfLiving (views.tree v) (views.pieces v) (map job_of v.out)
+
+-- an index, where there is one, is of this tree, and none of its nodes waits
+pub record IsIndexed (program : Program) (rows : List Window) (t : Shape) (index : Option IndexView) : Type 0 where
+  pub of_tree : IfSome index (λ i. (some_waits t ≡ false) × IsIndexOf program (windows_in rows) t i)
+
+abbrev pub IsIndexedBoard : BoardView → Option IndexView → Type 0
+IsIndexedBoard v index = IsBoard v × IsIndexed (views.program v) v.windows (views.tree v) index
 
 -- the work is what the origin can do: it has the plans of its composites, its ways to act, and ways for the trees of its plans
 pub record IsWorkAt (program : Program) (w : Windows) (o : Source) (work : Work) : Type 0 where

@@ -7,8 +7,8 @@ use Rattle.candidate_verdicts.specs.Views as trees
 use Rattle.rule_model.specs.Derivations.{Derivation}
 use Rattle.rule_model.specs.Events.{Event}
 use Rattle.rule_model.specs.States.{PendingOffer, State}
-use Rattle.candidate_composites.specs.Windows.{Windows}
-use Rattle.candidate_composites.specs.Tables.{windows_in}
+use Rattle.offer_index.specs.Windows.{Windows}
+use Rattle.offer_index.specs.Tables.{windows_in}
 use Rattle.board_laws.specs.Rules.{Next}
 use Rattle.board_laws.specs.Asked.{TreeQuery}
 use Rattle.node_trees.specs.Shapes.{Shape}

@@ -206,6 +206,7 @@ impl Board {
         ensures stop { self.new.stop ≡ self.old.stop }
     {
         self.record.act(rules, by);
+        self.index = None;
         let gone = self.record.tree().gone();
         self.pieces.drop_gone(gone);
         self.out.retain(|job| !is_gone(gone, generation_of(job)));
@@ -486,6 +487,7 @@ impl Board {
         if self.awaits_clients() {
             return Ok(false);
         }
+        self.list_composites(alloc)?;
         self.decided_is_due();
         let settled = self.next(alloc)?;
         self.append(alloc, settled)

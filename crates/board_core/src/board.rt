@@ -27,6 +27,7 @@ use board_record::{Answered, LeaveFault, PendFault};
 use candidate_verdicts::pieces::Pieces;
 use candidates::job::NodeJob;
 use log_states::state::SessionState;
+use offer_index::index::OfferIndex;
 use rule_model::log::{Entry, Log};
 use rule_model::offer::Offer;
 use sort_windows::windows;
@@ -49,6 +50,8 @@ pub struct Board {
     pub(crate) pieces: Pieces,
     pub(crate) out: Vec<NodeJob>,
     pub(crate) stop: Option<StopReason>,
+    // The composites of the tree, once a look asked for them while none of its nodes waited. What changes the tree drops it.
+    pub(crate) index: Option<OfferIndex>,
 }
 
 impl Model for Board {
@@ -59,7 +62,7 @@ impl Model for Board {
     ghost use Rattle.spec_core.specs.contracts.settings.Settings as s;
     ghost use Rattle.spec_core.specs.contracts.window.Window as w;
     ghost use Rattle.board_laws.specs.contracts.stop_reason.StopReason as t;
-    ghost use Rattle.board_core.specs.Boards.{IsBoard};
+    ghost use Rattle.board_core.specs.Boards.{IsIndexedBoard};
     ghost use Rattle.board_core.specs.Views.{BoardView};
 
     ghost Value = { BoardView };
@@ -75,14 +78,14 @@ impl Model for Board {
       stop = v.stop;
     } };
 
-    ghost invariant = { λ v. IsBoard (record {
+    ghost invariant = { λ v. IsIndexedBoard (record {
       session = v.record;
       settings = v.settings;
       windows = v.windows.items;
       pieces = v.pieces;
       out = v.out.items;
       stop = v.stop;
-    }) };
+    }) v.index };
 }
 
 impl Board {
@@ -113,6 +116,7 @@ impl Board {
             pieces: Pieces::new(alloc),
             out: Vec::new(alloc),
             stop: None,
+            index: None,
         })
     }
 

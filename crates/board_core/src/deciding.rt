@@ -1,30 +1,72 @@
 // What comes next, as far as what is known decides it.
 
-ghost use Rattle.std.specs.Prelude.{◌≡◌, ◌↔◌, IfOk, IsTrue, Some, map, option_map};
+ghost use Rattle.std.specs.Prelude.{◌≡◌, ◌↔◌, IfOk, IfSome, IsTrue, Some, map, option_map};
 ghost use Rattle.spec_core.specs.Lists.{IsOneOf};
 ghost use Rattle.rule_model.specs.Derivations.{derivation_of};
 ghost use Rattle.log_states.specs.Views.{pending_of};
+ghost use Rattle.candidates.specs.Composites.{AreAllOf};
 ghost use Rattle.candidates.specs.KnownTrees.{HasItsParts};
 ghost use Rattle.candidates.specs.Jobs.{is_out};
 ghost use Rattle.candidates.specs.Models.{job_of};
 ghost use Rattle.decision_order.specs.Jobs.{first_not_out};
 ghost use Rattle.node_trees.specs.Shapes.{shape_of};
 ghost use Rattle.board_core.specs.Entries.{entry_of};
-ghost use Rattle.board_core.specs.Views.{state, tree, decided_at, needed_at};
+ghost use Rattle.board_core.specs.Views.{program, state, tree, decided_at, needed_at};
 ghost use Rattle.board_core.specs.Working.{IsNeeded};
 
 use crate::board::Board;
 use crate::copying::is_same;
+use board_laws::OFFERS_LIMIT;
 use board_offers::waiting::offers_by_number;
 use candidates::entry::{next_entry, next_job};
 use candidates::job::NodeJob;
 use candidates::known_tree::KnownTree;
 use decision_order::settle::Settled;
+use offer_index::index::OfferIndex;
+use offer_index::{OpenComposite, some_waits};
 use rule_model::rules::Rules;
 use spec_core::memory::Memory;
 use std::alloc::Global;
 
 impl Board {
+    // Lists the composites of the tree, unless some node waits: there is a gap for each way up from such a node, and these may be more than
+    // all composites. Contracts see nothing of the list.
+    pub(crate) fn list_composites(&mut self, alloc: Global) -> Result<(), Memory>
+        ensures same { self.new ≡ self.old }
+    {
+        if self.index.is_some() {
+            return Ok(());
+        }
+        if some_waits(self.record.tree().root()) {
+            return Ok(());
+        }
+        self.record.log_is_a_derivation();
+        let index = OfferIndex::new(
+            alloc,
+            self.record.checked(),
+            &self.windows,
+            self.record.tree().root(),
+        )?;
+        self.index = Some(index);
+        Ok(())
+    }
+
+    // The composites of the tree, where they are listed.
+    fn composites(&self) -> Option<&[OpenComposite]>
+        ensures { IfSome result (λ all. AreAllOf (program self.now).theory (tree self.now) all.now) }
+    {
+        match &self.index {
+            None => None,
+            Some(index) => {
+                if index.total() > OFFERS_LIMIT {
+                    None
+                } else {
+                    Some(index.composites())
+                }
+            }
+        }
+    }
+
     // The tree with what is known of it, while these jobs are out.
     fn known_besides<'a>(
         &'a self,
@@ -44,6 +86,7 @@ impl Board {
             &self.record.checked().algebra,
             &self.windows,
             self.record.tree().root(),
+            self.composites(),
             &self.pieces,
             self.record.state().pending(),
             out,

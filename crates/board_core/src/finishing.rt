@@ -90,6 +90,7 @@ impl Board {
             pieces: _,
             out: _,
             stop,
+            index: _,
         } = self;
         let log = record.copy_log(alloc)?;
         match stop {

@@ -28,11 +28,11 @@ use crate::job::{Job, Post};
 use crate::sources::is_same_origin;
 use board_laws::stop_reason::StopReason;
 use board_laws::{OFFERS_LIMIT, count_offers};
-use candidate_composites::known::known_composites;
 use candidate_verdicts::pieces::Piece;
 use candidates::job::NodeJob;
 use node_trees::expansion::Expansion;
 use node_trees::origin::{Gen, Origin};
+use offer_index::known_composites;
 use rule_model::reply::LimitKind;
 use spec_core::memory::Memory;
 use spec_core::window::Window;
@@ -96,6 +96,9 @@ impl Board {
     fn offers(&self, alloc: Global) -> Result<u64, Memory>
         ensures { IfOk result (λ n. n ≡ limited (offers_of_tree (program self.now) (windows self.now) (tree self.now))) }
     {
+        if let Some(index) = &self.index {
+            return Ok(index.total());
+        }
         self.log_is_a_derivation();
         let tree = self.record.tree().root();
         let parts = known_composites(alloc, &self.record.checked().algebra, tree)?;
@@ -238,6 +241,7 @@ impl Board {
             return Post::Stale;
         }
         self.record.post(generation, work);
+        self.index = None;
         self.give_back(&NodeJob::Expand(generation));
         Post::Posted
     }

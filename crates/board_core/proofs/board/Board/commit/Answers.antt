@@ -2,7 +2,7 @@ use Rattle.std.proofs.Common.{◌≡◌, ◌∙◌, List, ap, map, not, refl, ru
 use Rattle.std.proofs.lemmas.Fn.{filter_same}
 use Rattle.candidate_verdicts.specs.Views.{TreeView}
 use Rattle.candidates.specs.Models.{job_of}
-use Rattle.candidate_verdicts.specs.Stored.{is_gone, stored, without}
+use Rattle.candidate_verdicts.specs.Stored.{is_gone, without}
 use Rattle.board_laws.specs.Needed.{generation_of}
 use Rattle.rule_model.specs.Derivations.{derivation_of}
 use Rattle.spec_core.specs.Code.{program_of}
@@ -28,15 +28,18 @@ invariant_of-self c =
     (filter_same _ (λ job. not (is_gone c.gone-gone.result.now (generation_of (job_of job)))) _ (λ x b f' k. search rules) _ _
     c.retain.ensures.filtered)
     ∙ kept_over (λ job. not (is_gone c.gone-gone.result.now (generation_of job))) v.out) in (
-      stays (program v) (program u) v.settings.values v.settings.values v.windows v.windows (tree u) (tree u) (pieces u) (pieces u)
-          u.session.tree.next u.session.tree.next (ap program_of c.act.ensures.setting.0) refl refl refl refl refl
-          (steps (program v) v.settings.values v.windows (tree v) (tree u) v.session.tree.next u.session.tree.next
-          (derivation_of c.args.rules.now) gone c.act.new.self.tree.came (pieces v) (pieces u) c.act.ensures.step
-          (λ g e. c.drop_gone.ensures.gone g e ∙ ap (λ (l : List Gen). without l (pieces v) g e) same)
-          c.self.invariant.0),
-      subst (AreOfLiving (tree u) (pieces u)) (sym left)
-          (stepped_living (tree v) (tree u) gone c.act.ensures.step.ended (pieces v) (pieces u) (map job_of v.out)
-          (λ g e. c.drop_gone.ensures.gone g e ∙ ap (λ (l : List Gen). without l (pieces v) g e) same) c.self.invariant.1),
+      (
+        stays (program v) (program u) v.settings.values v.settings.values v.windows v.windows (tree u) (tree u) (pieces u) (pieces u)
+            u.session.tree.next u.session.tree.next (ap program_of c.act.ensures.setting.0) refl refl refl refl refl
+            (steps (program v) v.settings.values v.windows (tree v) (tree u) v.session.tree.next u.session.tree.next
+            (derivation_of c.args.rules.now) gone c.act.new.self.tree.came (pieces v) (pieces u) c.act.ensures.step
+            (λ g e. c.drop_gone.ensures.gone g e ∙ ap (λ (l : List Gen). without l (pieces v) g e) same)
+            c.self.invariant.0.0),
+        subst (AreOfLiving (tree u) (pieces u)) (sym left)
+            (stepped_living (tree v) (tree u) gone c.act.ensures.step.ended (pieces v) (pieces u) (map job_of v.out)
+            (λ g e. c.drop_gone.ensures.gone g e ∙ ap (λ (l : List Gen). without l (pieces v) g e) same) c.self.invariant.0.1),
+      ),
+      record { of_tree = tt },
     )
 
 pub returns-clause-out : goal.returns-clause-out
