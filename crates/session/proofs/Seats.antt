@@ -1,6 +1,6 @@
 -- What seats know after their turns.
 use Rattle.std.proofs.Common.{ℕ, ◌+◌, ◌-◌, ◌≤◌, ◌≡◌, ◌∙◌, refl, sym, ap, subst, arith, List, [], ◌∷◌, ◌++◌, length, map}
-use Rattle.std.proofs.Common.{append_assoc, append-nil, length-append, false, Contains, Some, Result, Ok, Err, OnErr}
+use Rattle.std.proofs.Common.{append_assoc, append-nil, length-append, Bool, true, false, Contains, Some, Result, Ok, Err, OnErr}
 use Rattle.std.proofs.lemmas.List.Elements.{Contains-append_left, Contains-append_right}
 use Rattle.spec_core.proofs.Members.{contains_first, contains_none}
 use Rattle.turn_lock.specs.Entries.{Begins, Continues, made_by}
@@ -44,6 +44,17 @@ pub is_halted : (v : SharedView) → IsMarked v → HasHalted (lines v)
 is_halted v marked =
     subst (λ b. Contains (lines_of v.board.session.entries b) Halted) (sym marked)
     (Contains-append_right (map Happened v.board.session.entries) (Halted ∷ []) Halted (contains_first Halted []))
+
+pub is_marked : (v : SharedView) → HasHalted (lines v) → IsMarked v
+is_marked v h = by_mark v.halted refl
+  where
+    by_mark : (b : Bool) → v.halted ≡ b → IsMarked v
+    by_mark true e = e
+    by_mark false e = absurd (isnt_halted v e h)
+
+-- where a seat has seen the mark, the list that it was given has it
+pub halted_by : (seat : SeatModel Line) (v : SharedView) → seat.seen ≡ lines v → HasHalted seat.seen → IsMarked v
+halted_by seat v seen h = is_marked v (subst HasHalted seen h)
 
 pub stays_halted : (xs ys : List Line) → Begins xs ys → HasHalted xs → HasHalted ys
 stays_halted xs ys begins h = subst (λ l. Contains l Halted) (sym begins.1) (Contains-append_left xs begins.0 Halted h)

@@ -65,7 +65,7 @@ impl Session {
         ensures none { OnErr result (HasSeenMore seat.old seat.new) }
         ensures may { OnOk result (MayCallBy self.now client seat.old.own offer.now) }
         ensures fault { IfErr result (ExplainsCallBy self.now client seat.old.own seat.new.seen offer.now) }
-        ensures halted { HasHalted seat.old.seen → IsErrOf result CallFault.Memory }
+        ensures halted { HasHalted seat.new.seen → IsErrOf result CallFault.Memory }
     {
         let mut held = self.turns.take(rt, seat);
         if held.value.is_halted() {
@@ -98,6 +98,7 @@ impl Session {
         ensures none { HasSeenMore seat.old seat.new }
         ensures spot { IfOk result (λ r. IsSpot seat.new.seen r.0 × (spot.lines ≤ r.0.lines)) }
         ensures found { IfOk result (λ r. ComesOfLook seat.new.seen name r.0 r.1) }
+        ensures running { OnOk result (HasHalted seat.new.seen → ⊥) }
         ensures marked { OnErr result (HasHalted seat.new.seen) }
     {
         let mut held = self.turns.take(rt, seat);
@@ -119,8 +120,10 @@ impl Session {
         ensures stays { StaysSeat seat.old seat.new }
         ensures own { HasItsLines seat.new }
         ensures none { HasSeenMore seat.old seat.new }
-        ensures running { OnOk result (HasHalted seat.old.seen → ⊥) }
+        ensures running { OnOk result (HasHalted seat.new.seen → ⊥) }
+        ensures wanting { OnErr outcome (HasHalted seat.new.seen) }
         ensures marked { OnErr result (HasHalted seat.new.seen) }
+        ensures still { HasHalted seat.old.seen → HasHalted seat.new.seen }
     {
         let TakenJob { number: _, job } = taken;
         let mut held = self.turns.take(rt, seat);
@@ -207,6 +210,7 @@ impl Session {
         ensures none { HasSeenMore seat.old seat.new }
         ensures spot { IfOk result (λ r. IsSpot seat.new.seen r.0 × (spot.lines ≤ r.0.lines)) }
         ensures answered { IfOk result (λ r. IfSome r.1 (λ reply. ComesOfLook seat.new.seen name r.0 (Answered reply))) }
+        ensures running { IfOk result (λ r. IfSome r.1 (λ _. HasHalted seat.new.seen → ⊥)) }
         ensures marked { OnErr result (HasHalted seat.new.seen) }
     {
         let (place, look) = self.look(rt, seat, name, spot)?;
@@ -229,6 +233,7 @@ impl Session {
         ensures none { HasSeenMore seat.old seat.new }
         ensures spot { IfOk result (λ r. IsSpot seat.new.seen r.0 × (from.lines ≤ r.0.lines)) }
         ensures answered { IfOk result (λ r. ComesOfLook seat.new.seen name r.0 (Answered r.1)) }
+        ensures running { OnOk result (HasHalted seat.new.seen → ⊥) }
         ensures marked { OnErr result (HasHalted seat.new.seen) }
     {
         let backoff = Backoff::new();
@@ -259,7 +264,7 @@ impl Session {
         ensures keeps { OnErr result (knows pass.new ≡ knows pass.old) }
         ensures none { IfErr result (MakesNone pass.old pass.new) }
         ensures fault { IfErr result (ExplainsCall self.now pass.old pass.new offer.now) }
-        ensures halted { HasHalted pass.old.seen → IsErrOf result CallFault.Memory }
+        ensures halted { HasHalted pass.new.seen → IsErrOf result CallFault.Memory }
     {
         let client = pass.client;
         let (number, from) = self.post(rt, &mut pass.seat, client, offer, ask, pass.spot)?;
@@ -283,7 +288,7 @@ impl Session {
         ensures keeps { OnErr result (knows pass.new ≡ knows pass.old) }
         ensures none { IfErr result (MakesNone pass.old pass.new) }
         ensures fault { IfErr result (ExplainsCall self.now pass.old pass.new offer.now) }
-        ensures halted { HasHalted pass.old.seen → IsErrOf result CallFault.Memory }
+        ensures halted { HasHalted pass.new.seen → IsErrOf result CallFault.Memory }
     {
         self.call(rt, pass, offer, false)
     }
@@ -298,7 +303,7 @@ impl Session {
         ensures keeps { OnErr result (knows pass.new ≡ knows pass.old) }
         ensures none { IfErr result (MakesNone pass.old pass.new) }
         ensures fault { IfErr result (ExplainsCall self.now pass.old pass.new offer.now) }
-        ensures halted { HasHalted pass.old.seen → IsErrOf result CallFault.Memory }
+        ensures halted { HasHalted pass.new.seen → IsErrOf result CallFault.Memory }
     {
         self.call(rt, pass, offer, true)
     }
@@ -325,7 +330,7 @@ impl Session {
         ensures none { OnErr result (HasSeenMore seat.old seat.new) }
         ensures may { OnOk result (HasLeftBy client seat.old.own → ⊥) }
         ensures fault { IfErr result (ExplainsLeavingBy client seat.old.own seat.new.seen) }
-        ensures halted { HasHalted seat.old.seen → IsErrOf result CallFault.Memory }
+        ensures halted { HasHalted seat.new.seen → IsErrOf result CallFault.Memory }
     {
         let mut held = self.turns.take(rt, seat);
         if held.value.is_halted() {
@@ -352,7 +357,7 @@ impl Session {
         ensures keeps { OnErr result (knows pass.new ≡ knows pass.old) }
         ensures none { OnErr result (pass.new.own ≡ pass.old.own) }
         ensures fault { IfErr result (ExplainsLeaving pass.old pass.new) }
-        ensures halted { HasHalted pass.old.seen → IsErrOf result CallFault.Memory }
+        ensures halted { HasHalted pass.new.seen → IsErrOf result CallFault.Memory }
     {
         let client = pass.client;
         let spot = self.post_leave(rt, &mut pass.seat, client, pass.spot)?;

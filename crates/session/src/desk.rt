@@ -37,8 +37,9 @@ impl Session {
         requires rests { IsAtRest self.now.lock.id seat.old }
         ensures stays { StaysSeat seat.old seat.new }
         ensures none { HasSeenMore seat.old seat.new }
-        ensures running { OnOk result (HasHalted seat.old.seen → ⊥) }
+        ensures running { OnOk result (HasHalted seat.new.seen → ⊥) }
         ensures marked { OnErr result (HasHalted seat.new.seen) }
+        ensures still { HasHalted seat.old.seen → HasHalted seat.new.seen }
         ensures work { IfOk result (ComesOfSeat self.now.lock.fixed.clients seat.old.seen seat.new.seen) }
     {
         let mut held = self.turns.take(rt, seat);
@@ -60,7 +61,7 @@ impl Session {
         ensures own { pass.new.own ≡ pass.old.own }
         ensures jobs { SameJobs pass.old pass.new ⊎ OneJobMore pass.old pass.new }
         ensures did { IfOk result (ComesOfDoing pass.old pass.new) }
-        ensures running { OnOk result (HasHalted pass.old.seen → ⊥) }
+        ensures running { OnOk result (HasHalted pass.new.seen → ⊥) }
         ensures marked { OnErr result (HasHalted pass.new.seen) }
     {
         match self.work_turn(rt, &mut pass.seat)? {
@@ -98,6 +99,8 @@ impl Desk for Session {
     ghost idle = { IsOpen };
 
     ghost over = { IsOver };
+
+    ghost halted = { λ pass. HasHalted pass.seen };
 
     ghost taken = { λ pass. pass.taken };
 
@@ -139,6 +142,10 @@ impl Desk for Session {
         requires given { IsGiven self.now job }
         requires fits { IfOk done (λ done. FitsJob self.now job done) }
         ensures who { who_of seat.new ≡ who_of seat.old }
+        ensures running { OnOk result (HasHalted seat.new.seen → ⊥) }
+        ensures halted { OnErr result (HasHalted seat.new.seen) }
+        ensures still { HasHalted seat.old.seen → HasHalted seat.new.seen }
+        ensures wanting { OnErr done (HasHalted seat.new.seen) }
         ensures taken { seat.new.taken ≡ seat.old.taken }
         ensures handed { seat.new.handed ≡ raised_by 1 seat.old.handed }
     {

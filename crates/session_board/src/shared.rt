@@ -1,6 +1,6 @@
 // What is behind the lock of a session.
 
-ghost use Rattle.std.specs.Prelude.{◌≡◌, ◌≤◌, [], IfErr, IfNone, IfOk, IfSome, None, OnErr, OnOk, false, length, map};
+ghost use Rattle.std.specs.Prelude.{◌≡◌, ◌≤◌, [], IfErr, IfNone, IfOk, IfSome, IsErrOf, None, OnErr, OnOk, false, length, map};
 ghost use Rattle.rule_model.specs.Events.{left, pended};
 ghost use Rattle.board_core.specs.Origins.{source_of};
 ghost use Rattle.candidates.specs.Models.{job_of};
@@ -155,6 +155,7 @@ impl SharedBoard {
         ensures none { OnErr result (GrowsByNone self.old self.new) }
         ensures may { OnOk result (MayBeMade self.old client offer.now) }
         ensures fault { IfErr result (ExplainsNoOffer self.old self.new client offer.now) }
+        ensures unmarked { IsMarked self.new → IsErrOf result PendFault.Memory }
         ensures fixed { fixed_part self.new ≡ fixed_part self.old }
     {
         self.is_idle = false;
@@ -181,6 +182,7 @@ impl SharedBoard {
         ensures none { OnErr result (GrowsByNone self.old self.new) }
         ensures may { OnOk result (HasntLeft self.old client) }
         ensures fault { IfErr result (ExplainsNoLeave self.old self.new client) }
+        ensures unmarked { IsMarked self.new → IsErrOf result LeaveFault.Memory }
         ensures fixed { fixed_part self.new ≡ fixed_part self.old }
     {
         self.is_idle = false;
@@ -285,6 +287,7 @@ impl SharedBoard {
     fn look_on(&mut self, alloc: Global) -> Result<Look, Memory>
         requires running { self.old.halted ≡ false }
         ensures step { IfOk result (IsStepOfLook self.old.board self.new.board) }
+        ensures unmarked { OnOk result (self.new.halted ≡ false) }
         ensures marked { OnErr result (IsMarked self.new) }
         ensures none { GrowsByNone self.old self.new }
         ensures fixed { fixed_part self.new ≡ fixed_part self.old }
@@ -313,6 +316,7 @@ impl SharedBoard {
         ensures found { IfOk result (λ r. ComesOfLook (lines self.new) name r.0 r.1) }
         ensures step { IfOk result (λ r. LooksOn self.old self.new name spot r.1) }
         ensures running { OnOk result (self.old.halted ≡ false) }
+        ensures unmarked { OnOk result (self.new.halted ≡ false) }
         ensures marked { OnErr result (IsMarked self.new) }
         ensures none { GrowsByNone self.old self.new }
         ensures fixed { fixed_part self.new ≡ fixed_part self.old }
@@ -337,6 +341,7 @@ impl SharedBoard {
     pub fn work(&mut self, alloc: Global) -> Result<Work, Memory>
         ensures work { IfOk result (ComesOfWork self.old self.new) }
         ensures running { OnOk result (self.old.halted ≡ false) }
+        ensures unmarked { OnOk result (self.new.halted ≡ false) }
         ensures marked { OnErr result (IsMarked self.new) }
         ensures none { GrowsByNone self.old self.new }
         ensures fixed { fixed_part self.new ≡ fixed_part self.old }
@@ -364,6 +369,7 @@ impl SharedBoard {
         ensures late { (IsInTime (tree self.old.board) (source_of job.origin) (job_of job.task) → ⊥) →
             ChangesNothing self.old.board self.new.board }
         ensures out { OnOk result (map job_of self.new.board.out ≡ left_out (job_of job.task) (map job_of self.old.board.out)) }
+        ensures unmarked { OnOk result (self.new.halted ≡ false) }
         ensures marked { OnErr result (IsMarked self.new) }
         ensures none { GrowsByNone self.old self.new }
         ensures fixed { fixed_part self.new ≡ fixed_part self.old }
@@ -393,6 +399,7 @@ impl SharedBoard {
             ChangesNothing self.old.board self.new.board }
         ensures out { OnOk result (map job_of self.new.board.out ≡ left_out (job_of job.task) (map job_of self.old.board.out)) }
         ensures running { OnOk result (self.old.halted ≡ false) }
+        ensures unmarked { OnOk result (self.new.halted ≡ false) }
         ensures wanting { OnErr outcome (IsMarked self.new) }
         ensures marked { OnErr result (IsMarked self.new) }
         ensures none { GrowsByNone self.old self.new }

@@ -1,6 +1,6 @@
 // Drives over a desk in memory.
 
-ghost use Rattle.std.specs.Prelude.{◌≡◌, ℕ, ◌*◌, true, IfOk};
+ghost use Rattle.std.specs.Prelude.{◌≡◌, ℕ, ◌*◌, true, IfOk, OnErr, OnOk};
 ghost use Rattle.worker_drive.specs.Counts.{raised_by};
 
 use spec_core::memory::Memory;
@@ -32,13 +32,14 @@ struct ListedDesk {
     fails_at: u64,
 }
 
-/// Who has looked so often, and what came of the jobs.
+/// Who has looked so often, what came of the jobs, and whether one met want of memory.
 #[derive(Drop)]
 struct Worker {
     looks: usize,
     taken: u64,
     handed: u64,
     is_over: bool,
+    is_halted: bool,
     squares: Vec<u64>,
 }
 
@@ -63,6 +64,8 @@ impl Desk for ListedDesk {
 
     ghost over = { λ seat. seat.is_over ≡ true };
 
+    ghost halted = { λ seat. seat.is_halted ≡ true };
+
     ghost taken = { λ seat. seat.taken };
 
     ghost handed = { λ seat. seat.handed };
@@ -70,6 +73,9 @@ impl Desk for ListedDesk {
     ghost fits = { λ desk job done. done ≡ job.value * job.value };
 
     fn take<R: Wait>(&self, _rt: &R, seat: &mut Worker) -> Result<Offered<Square>, Memory> {
+        if seat.is_halted {
+            return Err(Memory);
+        }
         if seat.looks >= self.looks.len() {
             seat.is_over = true;
             return Ok(Offered::Over);
@@ -106,11 +112,20 @@ impl Desk for ListedDesk {
         done: Result<u64, Memory>,
     ) -> Result<(), Memory>
         requires fits { IfOk done (λ square. square ≡ job.value * job.value) }
+        ensures running { OnOk result (seat.new.is_halted ≡ true → ⊥) }
+        ensures halted { OnErr result (seat.new.is_halted ≡ true) }
+        ensures still { seat.old.is_halted ≡ true → seat.new.is_halted ≡ true }
+        ensures wanting { OnErr done (seat.new.is_halted ≡ true) }
         ensures taken { seat.new.taken ≡ seat.old.taken }
         ensures handed { seat.new.handed ≡ raised_by 1 seat.old.handed }
     {
         seat.handed = seat.handed.saturating_add(1);
+        if seat.is_halted {
+            return Err(Memory);
+        }
+        seat.is_halted = true;
         seat.squares.push(done?)?;
+        seat.is_halted = false;
         Ok(())
     }
 }
@@ -142,6 +157,7 @@ fn new_worker(alloc: Global) -> Worker {
         taken: 0,
         handed: 0,
         is_over: false,
+        is_halted: false,
         squares: Vec::new(alloc),
     }
 }
@@ -172,4 +188,9 @@ fn a_job_that_meets_want_of_memory_is_put_and_ends_the_drive(rt: HostRuntime) {
     assert_eq!(rt; worker.squares.as_slice(), [9].as_slice());
     assert_eq!(rt; (worker.taken, worker.handed), (2, 2));
     assert!(rt; !worker.is_over);
+    assert!(rt;
+        drive(&rt, &desk, &mut worker, &probe).is_err(),
+        "the desk has halted"
+    );
+    assert_eq!(rt; (worker.taken, worker.handed), (2, 2));
 }

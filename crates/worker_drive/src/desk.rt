@@ -1,6 +1,6 @@
 // Where jobs are taken and put.
 
-ghost use Rattle.std.specs.Prelude.{◌≡◌, ℕ, IfOk};
+ghost use Rattle.std.specs.Prelude.{◌≡◌, ℕ, IfOk, OnErr, OnOk};
 ghost use Rattle.worker_drive.specs.Counts.{raised_by};
 ghost use Rattle.worker_drive.specs.Offers.{IfJob, OnIdle, OnOver, jobs_in};
 
@@ -52,6 +52,9 @@ pub trait Desk {
     /// The seat has been told that the desk is over.
     ghost over: { Self.Seat → Type 0 };
 
+    /// The seat has seen that want of memory was met at the desk. From then on each call at it answers that.
+    ghost halted: { Self.Seat → Type 0 };
+
     /// How many jobs the seat took, at most 2^64 - 1.
     ghost taken: { Self.Seat → ℕ };
 
@@ -68,6 +71,9 @@ pub trait Desk {
         ensures given { IfJob result (λ job. given self.now job) }
         ensures idle { OnIdle result (idle seat.new) }
         ensures over { OnOver result (over seat.new) }
+        ensures running { OnOk result (halted seat.new → ⊥) }
+        ensures halted { OnErr result (halted seat.new) }
+        ensures still { halted seat.old → halted seat.new }
         ensures taken { taken seat.new ≡ raised_by (jobs_in result) (taken seat.old) }
         ensures handed { handed seat.new ≡ handed seat.old };
 
@@ -91,6 +97,10 @@ pub trait Desk {
         requires given { given self.now job }
         requires fits { IfOk done (λ done. fits self.now job done) }
         ensures who { who seat.new ≡ who seat.old }
+        ensures running { OnOk result (halted seat.new → ⊥) }
+        ensures halted { OnErr result (halted seat.new) }
+        ensures still { halted seat.old → halted seat.new }
+        ensures wanting { OnErr done (halted seat.new) }
         ensures taken { taken seat.new ≡ taken seat.old }
         ensures handed { handed seat.new ≡ raised_by 1 (handed seat.old) };
 }

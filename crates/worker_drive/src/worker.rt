@@ -1,6 +1,6 @@
 // A worker at its desk.
 
-ghost use Rattle.std.specs.Prelude.{◌≡◌, IfOk, OnOk};
+ghost use Rattle.std.specs.Prelude.{◌≡◌, IfOk, OnErr, OnOk};
 ghost use Rattle.worker_drive.specs.Counts.{raised_by};
 
 use crate::desk::{Desk, Offered, Probe};
@@ -20,6 +20,9 @@ pub fn drive<R: Wait, D: Desk, P: Probe>(
     requires ours { D.ours desk.now (D.who seat.old) }
     ensures who { D.who seat.new ≡ D.who seat.old }
     ensures over { OnOk result (D.over seat.new) }
+    ensures running { OnOk result (D.halted seat.new → ⊥) }
+    ensures halted { OnErr result (D.halted seat.new) }
+    ensures still { D.halted seat.old → D.halted seat.new }
     ensures taken { IfOk result (λ jobs. D.taken seat.new ≡ raised_by jobs (D.taken seat.old)) }
     ensures handed { IfOk result (λ jobs. D.handed seat.new ≡ raised_by jobs (D.handed seat.old)) }
 {

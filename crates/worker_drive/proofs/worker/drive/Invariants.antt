@@ -6,4 +6,4 @@ abbrev pub invariant-loop : goal.invariant-loop
 invariant-loop g l =
     let D = g.D.Desk in
     (D.who l.seat ≡ D.who l.fn.seat) × (D.taken l.seat ≡ raised_by l.jobs (D.taken l.fn.seat)) ×
-    (D.handed l.seat ≡ raised_by l.jobs (D.handed l.fn.seat))
+    (D.handed l.seat ≡ raised_by l.jobs (D.handed l.fn.seat)) × (D.halted l.fn.seat → D.halted l.seat)

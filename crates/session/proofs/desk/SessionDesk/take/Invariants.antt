@@ -1,4 +1,5 @@
 use Rattle.std.proofs.Common.{◌≡◌, false}
+use Rattle.session.specs.Passes.{HasHalted}
 use Rattle.session.proofs.desk.SessionDesk.take.Given as goal
 
 abbrev pub invariant-loop : goal.invariant-loop
@@ -9,4 +10,5 @@ invariant-loop g l = record {
   clients : l.seat-inside.clients ≡ l.fn.seat.clients;
   taken : l.seat-inside.taken ≡ l.fn.seat.taken;
   handed : l.seat-inside.handed ≡ l.fn.seat.handed;
+  still : HasHalted l.fn.seat.seen → HasHalted l.seat-inside.seat.seen;
 }

@@ -5,7 +5,7 @@ use Rattle.rule_model.specs.Events.{pended}
 use Rattle.session.specs.Calls.{ExplainsCall}
 use Rattle.session.specs.Passes.{HasHalted, KnowsAnswer, PassView}
 use Rattle.session.proofs.Passing.{HasCalled, idle_seat, knows_answer, pass_answered, pass_stays, pass_view}
-use Rattle.session.proofs.Seats.{begins_on, made_begins, not_memory}
+use Rattle.session.proofs.Seats.{begins_on, made_begins, not_memory, stays_halted}
 use Rattle.session.proofs.session.Session.call.Goals as goal
 
 pub post-requires-clause-idle : goal.post-requires-clause-idle
@@ -45,7 +45,10 @@ returns-in-Ok-clause-answered g c =
     let event = pended client c.in_ok-number.number c.args.offer.now c.args.ask in
     let called : HasCalled old made new client event c.pass.inside.spot c.in-Ok.spot = record {
       pass = c.pass.invariant;
-      running = not_memory _ (HasHalted old.seen) c.in_ok-number.ensures.halted;
+      running =
+          not_memory _ (HasHalted old.seen)
+          (λ h. c.in_ok-number.ensures.halted
+          (stays_halted old.seen made.seen (made_begins old made event c.in_ok-number.ensures.made) h));
       first = c.post.ensures.stays;
       makes = c.in_ok-number.ensures.made;
       owns = c.post.ensures.own;

@@ -4,7 +4,7 @@ use Rattle.rule_model.specs.Events.{left}
 use Rattle.session.specs.Calls.{ExplainsLeaving}
 use Rattle.session.specs.Passes.{HasHalted, KnowsLeave, PassView}
 use Rattle.session.proofs.Passing.{HasCalled, idle_seat, knows_leave, pass_stays, pass_view}
-use Rattle.session.proofs.Seats.{made_begins, not_memory, sees_itself, stays_itself}
+use Rattle.session.proofs.Seats.{made_begins, not_memory, sees_itself, stays_halted, stays_itself}
 use Rattle.session.proofs.session.Session.leave.Goals as goal
 
 pub post_leave-requires-clause-idle : goal.post_leave-requires-clause-idle
@@ -38,7 +38,10 @@ returns-clause-left g c =
     let last = c.in_ok-spot.ensures.spot.1 in
     let called : HasCalled old new new client (left client) c.pass.inside.spot c.in_ok-spot.spot = record {
       pass = c.pass.invariant;
-      running = not_memory _ (HasHalted old.seen) c.in_ok-spot.ensures.halted;
+      running =
+          not_memory _ (HasHalted old.seen)
+          (λ h. c.in_ok-spot.ensures.halted
+          (stays_halted old.seen new.seen (made_begins old new (left client) c.in_ok-spot.ensures.made) h));
       first = c.post_leave.ensures.stays;
       makes = c.in_ok-spot.ensures.made;
       owns = c.post_leave.ensures.own;

@@ -1,9 +1,10 @@
-use Rattle.std.proofs.Common.{rules, ◌≡◌}
+use Rattle.std.proofs.Common.{rules, ◌≡◌, subst}
+use Rattle.std.proofs.lemmas.Result.{on_ok_weaker}
 use Rattle.turn_lock.specs.Entries.{made_by}
 use Rattle.session_board.specs.Lines.{maker_of}
 use Rattle.session_board.specs.Shared.{IsMarked, lines}
 use Rattle.session.specs.Passes.{HasHalted}
-use Rattle.session.proofs.Seats.{err_more, halts, has_seen_more}
+use Rattle.session.proofs.Seats.{err_more, halts, has_seen_more, isnt_halted}
 use Rattle.session.proofs.session.Session.look.Goals as goal
 
 pub returns-clause-none : goal.returns-clause-none
@@ -15,6 +16,12 @@ returns-clause-none g c =
     let seen : new.seen ≡ lines w = search rules in
     let own : new.own ≡ made_by maker_of old.number (lines w) = search rules in
     has_seen_more old new v w c.take-held.ensures.list seen own c.look-look.ensures.none
+
+pub returns-clause-running : goal.returns-clause-running
+returns-clause-running g c =
+    let w = c.look-look.new.self in
+    let seen : c.give.new.seat.seen ≡ lines w = search rules in
+    on_ok_weaker c.look-look.result (λ unmarked halted. isnt_halted w unmarked (subst HasHalted seen halted)) c.look-look.ensures.unmarked
 
 pub returns-clause-marked : goal.returns-clause-marked
 returns-clause-marked g c =

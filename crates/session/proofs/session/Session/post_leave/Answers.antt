@@ -1,4 +1,4 @@
-use Rattle.std.proofs.Common.{rules, ◌≡◌, ◌∙◌, ◌+◌, refl, sym, ap, subst, false, true, Err, IfErr, OnErr}
+use Rattle.std.proofs.Common.{rules, ◌≡◌, ◌∙◌, ◌+◌, refl, sym, ap, subst, false, true, Ok, Err, IfErr, OnErr}
 use Rattle.turn_lock.specs.Entries.{Continues, made_by}
 use Rattle.rule_model.specs.Events.{left}
 use Rattle.board_record.specs.declared.faults.LeaveFault.TheVariants.{NotOpen, Pending, Memory}
@@ -9,7 +9,7 @@ use Rattle.session_board.specs.Shared.{lines}
 use Rattle.session_board.proofs.Growing.{stays_grown}
 use Rattle.session.specs.Passes.{HasHalted}
 use Rattle.session.proofs.Posting.{gives_either, left_already, may_leave}
-use Rattle.session.proofs.Seats.{gives_none, halts, has_its_answers, has_made, has_seen_more, is_halted, isnt_halted, stays_halted}
+use Rattle.session.proofs.Seats.{gives_none, halted_by, halts, has_its_answers, has_made, has_seen_more, is_halted}
 use Rattle.session.proofs.session.Session.post_leave.Goals as goal
 
 pub give-requires-clause-list : goal.give-requires-clause-list
@@ -62,9 +62,11 @@ returns-in-Ok-clause-may g c gone =
 
 pub returns-in-Ok-clause-halted : goal.returns-in-Ok-clause-halted
 returns-in-Ok-clause-halted g c halted =
-    let v = c.take-held.result.value in
-    let running : v.halted ≡ false = search rules in
-    absurd (isnt_halted v running (stays_halted c.args.seat.now.seen (lines v) c.take-held.ensures.list.0 halted))
+    let w = c.leave-left.new.self in
+    let seen : c.give-2.new.seat.seen ≡ lines w = search rules in
+    let is : c.leave-left.result ≡ Ok c.in-Ok.spot = search rules in
+    let e = c.leave-left.ensures.unmarked (halted_by c.give-2.new.seat w seen halted) in
+    let never : ⊥ = cc in absurd never
 
 pub returns-in-Err-NotOpen-clause-none : goal.returns-in-Err-NotOpen-clause-none
 returns-in-Err-NotOpen-clause-none g c =
@@ -88,9 +90,11 @@ returns-in-Err-NotOpen-clause-fault g c =
 
 pub returns-in-Err-NotOpen-clause-halted : goal.returns-in-Err-NotOpen-clause-halted
 returns-in-Err-NotOpen-clause-halted g c halted =
-    let v = c.take-held.result.value in
-    let running : v.halted ≡ false = search rules in
-    absurd (isnt_halted v running (stays_halted c.args.seat.now.seen (lines v) c.take-held.ensures.list.0 halted))
+    let w = c.leave-left.new.self in
+    let seen : c.give-2.new.seat.seen ≡ lines w = search rules in
+    let is : c.leave-left.result ≡ Err NotOpen = search rules in
+    let e = c.leave-left.ensures.unmarked (halted_by c.give-2.new.seat w seen halted) in
+    let never : ⊥ = cc in absurd never
 
 pub returns-in-Err-Memory-clause-none : goal.returns-in-Err-Memory-clause-none
 returns-in-Err-Memory-clause-none g c =

@@ -1,9 +1,10 @@
-use Rattle.std.proofs.Common.{rules, ◌≡◌}
+use Rattle.std.proofs.Common.{rules, ◌≡◌, subst}
 use Rattle.std.proofs.lemmas.Result.{IfOk-weaker, on_err_weaker, on_ok_weaker}
 use Rattle.turn_lock.specs.Entries.{made_by}
 use Rattle.session_board.specs.Lines.{maker_of}
 use Rattle.session_board.specs.Looks.{ComesOfWork}
 use Rattle.session_board.specs.Shared.{lines}
+use Rattle.session.specs.Passes.{HasHalted}
 use Rattle.session.specs.Working.{ComesOfSeat}
 use Rattle.session.proofs.Seats.{halts, has_seen_more, isnt_halted, stays_halted}
 use Rattle.session.proofs.Working.{comes_of_seat}
@@ -20,10 +21,9 @@ returns-clause-none g c =
 
 pub returns-clause-running : goal.returns-clause-running
 returns-clause-running g c =
-    let old = c.args.seat.now in
-    let v = c.take-held.result.value in
-    on_ok_weaker c.work-work.result (λ running halted. isnt_halted v running (stays_halted old.seen (lines v) c.take-held.ensures.list.0 halted))
-    c.work-work.ensures.running
+    let w = c.work-work.new.self in
+    let seen : c.give.new.seat.seen ≡ lines w = search rules in
+    on_ok_weaker c.work-work.result (λ unmarked halted. isnt_halted w unmarked (subst HasHalted seen halted)) c.work-work.ensures.unmarked
 
 pub returns-clause-marked : goal.returns-clause-marked
 returns-clause-marked g c =
@@ -33,6 +33,9 @@ returns-clause-marked g c =
     let seen : new.seen ≡ lines w = search rules in
     let own : new.own ≡ made_by maker_of old.number (lines w) = search rules in
     on_err_weaker c.work-work.result (halts old new c.take-held.result.value w c.take-held.ensures.list seen own) c.work-work.ensures.marked
+
+pub returns-clause-still : goal.returns-clause-still
+returns-clause-still g c = stays_halted c.args.seat.now.seen c.give.new.seat.seen (returns-clause-none g c).0
 
 pub returns-clause-work : goal.returns-clause-work
 returns-clause-work g c =
