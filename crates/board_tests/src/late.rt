@@ -1,6 +1,6 @@
 // What is handed in for a node that is gone.
 
-use crate::working::work_of;
+use crate::working::{expanded_by, work_of};
 use board_core::Piece;
 use board_core::board::Board;
 use board_core::job::{Job, Post};
@@ -47,16 +47,16 @@ fn fail_late(board: &mut Board, generation: Gen) -> Option<Post> {
     Some(board.fail(&NodeJob::Expand(generation), reason))
 }
 
-/// Hands in for a node that is gone a reason to stop, what a job there could do, and that it shows nothing; whether each of them is stale.
-pub fn all_is_stale(
-    alloc: Global,
-    board: &mut Board,
-    job: &Job,
-    generation: Gen,
-) -> Result<bool, Memory> {
+/// Hands in for the node that a job expands a reason to stop, what a job there could do, and that it shows nothing; whether the node is gone
+/// and each of them is stale.
+pub fn all_is_stale(alloc: Global, board: &mut Board, job: &Job) -> Result<bool, Memory> {
+    let Some(node) = expanded_by(&job.task) else {
+        return Ok(false);
+    };
     let Some(work) = work_of(alloc, board, &job.origin)? else {
         return Ok(false);
     };
+    let generation = Gen(node);
     let failed = fail_late(board, generation);
     let posted = post_late(board, generation, work);
     let judged = judge_late(alloc, board, generation)?;

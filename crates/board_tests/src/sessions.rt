@@ -110,6 +110,26 @@ const LATE_WORK_IS_STALE: Session = Session {
     end: None,
 };
 
+// The nodes of both alternatives are out, and the action of one is done. What is handed in for the other then is stale, as often as it is, and
+// changes nothing.
+const AN_ALTERNATIVE_THAT_IS_GONE_IS_STALE: Session = Session {
+    behaviour: "a; stop [] b; stop",
+    clients: 1,
+    steps: &[
+        Step::Offers(1, A, Ok(1)),
+        Step::TakesJob(0),
+        Step::TakesAnother(1),
+        Step::DoesJob,
+        Step::Commits(true),
+        Step::Counts(2, 0, 1, 1),
+        Step::AllIsStale,
+        Step::AllIsStale,
+        Step::Counts(2, 0, 1, 1),
+        Step::Answered(1, 1, 0, "taken"),
+    ],
+    end: None,
+};
+
 // What is made ready alone changes nothing: the offer waits as before, and is taken afterwards as if nothing had been made ready.
 const WHAT_STANDS_READY_CHANGES_NOTHING: Session = Session {
     behaviour: "a; b; stop",
@@ -152,12 +172,13 @@ const WHAT_STANDS_READY_IS_DONE: Session = Session {
     end: Some((5, "deadlock")),
 };
 
-const SESSIONS: [Session; 7] = [
+const SESSIONS: [Session; 8] = [
     A_JOB_IS_HANDED_OUT_ONCE,
     CLIENTS_OFFER_AT_ONCE,
     OFFERS_ARE_REFUSED,
     LEAVES_ARE_REFUSED,
     LATE_WORK_IS_STALE,
+    AN_ALTERNATIVE_THAT_IS_GONE_IS_STALE,
     WHAT_STANDS_READY_CHANGES_NOTHING,
     WHAT_STANDS_READY_IS_DONE,
 ];

@@ -8,6 +8,7 @@ use board_core::board::Board;
 use board_core::job::Job;
 use board_record::{LeaveFault, PendFault};
 use board_work::Gen;
+use board_work::working::work;
 use spec_core::memory::Memory;
 use std::alloc::Global;
 
@@ -26,6 +27,8 @@ pub enum Step {
     WorksAndSettles(Option<u64>),
     /// A job is taken and kept, which expands the node of this generation.
     TakesJob(u128),
+    /// Another such job is taken and kept, while the one that was kept is out; then that one is done.
+    TakesAnother(u128),
     /// No job is free.
     NoJobIsFree,
     /// The job that is kept is given back.
@@ -45,7 +48,7 @@ pub enum Step {
     Counts(usize, usize, u64, usize),
     /// Whether the first node is there.
     FirstNodeLives(bool),
-    /// The first node is gone, and what is handed in for it is stale, as the work of the job that is kept.
+    /// The node of the job that is kept is gone, and what is handed in for it is stale.
     AllIsStale,
 }
 
@@ -76,6 +79,21 @@ fn takes_job(
     Ok(expanded == Some(node))
 }
 
+// Takes another job and keeps it in the place of one that was kept, which is done then; whether it expands this node.
+fn takes_another(
+    alloc: Global,
+    board: &mut Board,
+    kept: &mut Option<Job>,
+    node: u128,
+) -> Result<bool, Memory> {
+    let Some(before) = kept.take() else {
+        return Ok(false);
+    };
+    let expands = takes_job(alloc, board, kept, node)?;
+    work(alloc, board, before)?;
+    Ok(expands)
+}
+
 fn counts(board: &Board, entries: usize, pending: usize, actions: u64, open: usize) -> bool {
     !board.stopped()
         && board.log().len() == entries
@@ -99,7 +117,7 @@ fn holds_with_job(
             board.give_back(&job.task);
             Ok(true)
         }
-        _ => all_is_stale(alloc, board, job, Gen(0)),
+        _ => all_is_stale(alloc, board, job),
     }
 }
 
@@ -117,6 +135,7 @@ pub fn holds(
         Step::Settles(due) => Ok(board.settle(alloc)? == due),
         Step::WorksAndSettles(due) => Ok(work_and_settle(alloc, board)? == due),
         Step::TakesJob(node) => takes_job(alloc, board, kept, node),
+        Step::TakesAnother(node) => takes_another(alloc, board, kept, node),
         Step::NoJobIsFree => Ok(board.take_job(alloc)?.is_none()),
         Step::GivesBack | Step::AllIsStale => holds_with_job(alloc, board, kept, step),
         Step::GivesAllBack => {
