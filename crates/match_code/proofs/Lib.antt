@@ -1,2 +1,3 @@
+pub mod Postfix
 pub mod Runs
 pub mod States

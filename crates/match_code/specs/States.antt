@@ -13,7 +13,6 @@ use Rattle.rewriter.specs.declared.fault.Eval.TheVariants.{Spent, TooLarge}
 use Rattle.rewriter.specs.declared.step.Step.{Step}
 use Rattle.rewriter.specs.Answers.{MeetsTooLarge}
 use Rattle.rewriter.specs.Calls.{HasRoom}
-use Rattle.rewriter.specs.Index.{IsIndex}
 use Rattle.rewriter.specs.Runs.{IsReady}
 use Rattle.rewriter.specs.Steps.{task_of, IsStep}
 use Rattle.match_code.specs.declared.frames.Frame.{Frame}
@@ -22,6 +21,7 @@ use Rattle.match_code.specs.declared.state.Runs.{Runs}
 use Rattle.match_code.specs.declared.engine.Engine.{Engine}
 use Rattle.match_code.specs.Entries.{IsEntry}
 use Rattle.match_code.specs.Frames.{Waiting, Holds}
+use Rattle.match_code.specs.Rights.{AreForms}
 
 -- what a frame's numbers stand for
 abbrev pub waiting_of : Theory → List Node → Frame → Waiting
@@ -48,17 +48,22 @@ pub record IsState (theory : Theory) (t : TermTree) (budget : ℕ) (rows : List 
   pub holds : Holds theory t (map (waiting_of theory rows) running) (map (task_of theory rows) todo) (map (tree_at rows) there) uses
   pub within : uses ≤ budget
 
--- the same of the program's runs over a table of nodes
-abbrev pub Stands : Theory → TermTree → ℕ → List Node → Runs → Type 0
-Stands theory t budget rows runs = IsState theory t budget rows runs.frames runs.todo runs.values runs.uses
-
--- the same with one more step to be done first
-abbrev pub StandsAt : Theory → TermTree → ℕ → List Node → Runs → Step → Type 0
-StandsAt theory t budget rows runs step = IsState theory t budget rows runs.frames (step ∷ runs.todo) runs.values runs.uses
-
 -- all that is remembered is so
 abbrev pub Remembers : Theory → Store → Type 0
 Remembers theory store = Each (IsEntry theory store.nodes) store.memo.entries.items
+
+-- the same of the program's runs over what is kept, with these steps left of the innermost one
+pub record StandsBefore (theory : Theory) (t : TermTree) (budget : ℕ) (store : Store) (runs : Runs) (todo : List Step) : Type 0 where
+  pub state : IsState theory t budget store.nodes runs.frames todo runs.values runs.uses
+  pub remembers : Remembers theory store
+
+-- the same with its own steps
+abbrev pub Stands : Theory → TermTree → ℕ → Store → Runs → Type 0
+Stands theory t budget store runs = StandsBefore theory t budget store runs runs.todo
+
+-- the same with one more step to be done first
+abbrev pub StandsAt : Theory → TermTree → ℕ → Store → Runs → Step → Type 0
+StandsAt theory t budget store runs step = StandsBefore theory t budget store runs (step ∷ runs.todo)
 
 -- why an evaluation of the term gave no value
 pub record IsCause (theory : Theory) (t : TermTree) (budget : ℕ) (cause : Eval) : Type 0 where
@@ -74,7 +79,7 @@ pub record IsStore (theory : Theory) (store : Store) : Type 0 where
 -- an engine of executable data
 pub record IsEngine (engine : Engine) : Type 0 where
   pub executable : IsExecutable (theory_of engine.algebra.now)
-  pub indexed : IsIndex (theory_of engine.algebra.now) engine.heads
+  pub forms : AreForms (theory_of engine.algebra.now) engine.forms
   pub room : HasRoom (theory_of engine.algebra.now) (length engine.bound.items)
   pub store : IsStore (theory_of engine.algebra.now) engine.store
 

@@ -9,13 +9,13 @@ ghost use Rattle.spec_core.specs.Terms.{term_of};
 ghost use Rattle.spec_core.specs.Theories.{Theory, theory_of};
 ghost use Rattle.rewriter.specs.Answers.{SpellsValue, MeetsTooLarge, IsWithin, AreWithin, at_side};
 ghost use Rattle.rewriter.specs.Calls.{HasRoom};
-ghost use Rattle.rewriter.specs.Index.{IsIndex};
+ghost use Rattle.match_code.specs.Rights.{AreForms};
 ghost use Rattle.match_code.specs.States.{IsCause, IsEngine, IsStore};
 
+use crate::rights::Forms;
 use crate::run::run;
 use crate::state::{Runs, Store};
 use rewriter::equations::most_variables;
-use rewriter::heads::FirstEquations;
 use rewriter::step::push_instance;
 use rewriter::{Eval, Side, SideFault};
 use spec_core::equation::DataSpec;
@@ -31,34 +31,35 @@ use value_nodes::spelling::spell;
 pub struct Engine<'a> {
     /// The data.
     pub algebra: &'a DataSpec,
-    heads: FirstEquations,
+    forms: Forms,
     bound: Vec<u32>,
     store: Store,
 }
 
-// What was kept; or nothing, where it is full.
-fn unless_full(alloc: Global, store: Store) -> Store
+// What the next evaluation begins with: what was kept, and no operation is given up; or nothing, where it is full.
+fn next_store(alloc: Global, store: Store) -> Store
     ensures store { (theory : Theory) → IsStore theory store → IsStore theory result }
 {
     if store.is_full() {
-        Store::new(alloc)
-    } else {
-        store
+        return Store::new(alloc);
     }
+    let mut kept = store;
+    kept.memo.calm();
+    kept
 }
 
 // Evaluates a term from its steps to its value.
 fn evaluate(
     alloc: Global,
     algebra: &DataSpec,
-    heads: &FirstEquations,
+    forms: &Forms,
     store: &mut Store,
     bound: &mut [u32],
     term: &Term,
     budget: u64,
 ) -> Result<Value, Eval>
     requires executable { IsExecutable (theory_of algebra.now) }
-    requires indexed { IsIndex (theory_of algebra.now) heads.now }
+    requires forms { AreForms (theory_of algebra.now) forms.now }
     requires room { HasRoom (theory_of algebra.now) (length bound.old) }
     requires store { IsStore (theory_of algebra.now) store.old }
     requires fits { FitsGround (theory_of algebra.now) (term_of term.now) }
@@ -69,7 +70,7 @@ fn evaluate(
 {
     let mut runs = Runs::new(alloc);
     push_instance(&mut runs.todo, bound, term)?;
-    let node = run(alloc, algebra, heads, store, &mut runs, bound, term, budget)?;
+    let node = run(alloc, algebra, forms, store, &mut runs, bound, term, budget)?;
     let value = spell(alloc, &store.nodes, node)?;
     Ok(value)
 }
@@ -81,11 +82,11 @@ impl<'a> Engine<'a> {
         ensures engine { IfOk result IsEngine }
         ensures algebra { IfOk result (λ e. e.algebra.now ≡ algebra.now) }
     {
-        let heads = FirstEquations::new(alloc, algebra)?;
+        let forms = Forms::new(alloc, algebra)?;
         let bound = Vec::from_elem(alloc, 0u32, most_variables(algebra))?;
         Ok(Engine {
             algebra,
-            heads,
+            forms,
             bound,
             store: Store::new(alloc),
         })
@@ -107,11 +108,11 @@ impl<'a> Engine<'a> {
         ensures complete { IsWithin (theory_of self.old.algebra.now) (term_of term.now) budget → IfErr result (λ e. e ≡ Eval.Memory) }
     {
         let before = mem::replace(&mut self.store, Store::new(alloc));
-        let mut store = unless_full(alloc, before);
+        let mut store = next_store(alloc, before);
         let value = evaluate(
             alloc,
             self.algebra,
-            &self.heads,
+            &self.forms,
             &mut store,
             &mut self.bound,
             term,

@@ -5,10 +5,13 @@ mod engine;
 mod frames;
 mod hints;
 mod interned;
+mod matching;
 mod memo;
 mod moves;
+mod rights;
 mod run;
 mod state;
 mod tidying;
+mod uses;
 
 pub use engine::Engine;

@@ -15,7 +15,7 @@ use std::alloc::{AllocError, Global};
 /// The most calls that are remembered.
 pub const MOST_ENTRIES: u32 = 65_536;
 
-/// How many calls of an operation in a row may be looked for in vain before it is given up.
+/// How many calls of an operation may be looked for in vain in an evaluation before it is given up.
 const PATIENCE: u32 = 4_096;
 
 /// How many more may be for each one that is found.
@@ -120,6 +120,13 @@ impl Memo {
     fn may_pay(&self, op: Op) -> bool {
         let place = op.0 as usize;
         place >= self.patience.len() || self.patience[place] > 0
+    }
+
+    /// Gives each operation as much patience as at first. It takes no memory.
+    pub fn calm(&mut self)
+        ensures same { self.new.entries ≡ self.old.entries }
+    {
+        self.patience.clear();
     }
 
     // A call of the operation was found.

@@ -1,23 +1,25 @@
 // The moves of a machine that remembers calls.
 
-ghost use Rattle.std.specs.Prelude.{ℕ, ◌≡◌, ◌≤◌, ◌<◌, ◌+◌, ◌-◌, ◌∷◌, ◌++◌, [], List, IfErr, OnOk, length, take, drop};
+ghost use Rattle.std.specs.Prelude.{ℕ, ◌≡◌, ◌≤◌, ◌<◌, ◌+◌, ◌-◌, ◌∷◌, ◌++◌, [], IfErr, OnOk, length, take, drop};
 ghost use Rattle.spec_core.specs.Executable.{IsExecutable};
 ghost use Rattle.spec_core.specs.Terms.{TermTree, term_of};
 ghost use Rattle.spec_core.specs.Theories.{Theory, Heads, theory_of};
-ghost use Rattle.value_nodes.specs.declared.node.Node.{Node};
 ghost use Rattle.rewriter.specs.Calls.{HasRoom};
-ghost use Rattle.rewriter.specs.Index.{IsIndex};
 ghost use Rattle.rewriter.specs.Steps.{equation_at};
 ghost use Rattle.rewriter.specs.declared.step.Step.TheVariants.{Call};
-ghost use Rattle.match_code.specs.States.{Stands, StandsAt, Remembers, IsCause};
+ghost use Rattle.match_code.specs.declared.state.Store.{Store};
+ghost use Rattle.match_code.specs.Rights.{AreForms};
+ghost use Rattle.match_code.specs.States.{Stands, StandsAt, IsCause};
 
 use crate::frames::Frame;
 use crate::hints::{Hints, mark_of};
 use crate::interned::interned;
+use crate::matching::rule_for;
 use crate::memo::{Entry, Known, Memo};
+use crate::rights::Forms;
 use crate::state::{MOST_TERMS, Runs, Store};
+use crate::uses::use_right;
 use rewriter::Eval;
-use rewriter::heads::FirstEquations;
 use rewriter::run::perform;
 use rewriter::step::{Step, Todo};
 use rewriter::values::Values;
@@ -32,7 +34,7 @@ use std::mem;
 fn plainly(
     alloc: Global,
     algebra: &DataSpec,
-    heads: &FirstEquations,
+    forms: &Forms,
     store: &mut Store,
     runs: &mut Runs,
     bound: &mut [u32],
@@ -41,19 +43,17 @@ fn plainly(
     budget: u64,
 ) -> Result<(), Eval>
     requires executable { IsExecutable (theory_of algebra.now) }
-    requires indexed { IsIndex (theory_of algebra.now) heads.now }
+    requires forms { AreForms (theory_of algebra.now) forms.now }
     requires room { HasRoom (theory_of algebra.now) (length bound.old) }
-    requires stands { StandsAt (theory_of algebra.now) (term_of term.now) budget store.old.nodes runs.old step }
-    requires remembers { Remembers (theory_of algebra.now) store.old }
+    requires stands { StandsAt (theory_of algebra.now) (term_of term.now) budget store.old runs.old step }
     ensures room { length bound.new ≡ length bound.old }
-    ensures stands { OnOk result (Stands (theory_of algebra.now) (term_of term.now) budget store.new.nodes runs.new) }
-    ensures remembers { OnOk result (Remembers (theory_of algebra.now) store.new) }
+    ensures stands { OnOk result (Stands (theory_of algebra.now) (term_of term.now) budget store.new runs.new) }
     ensures cause { IfErr result (IsCause (theory_of algebra.now) (term_of term.now) budget) }
 {
     runs.uses = perform(
         alloc,
         algebra,
-        heads,
+        &forms.heads,
         &mut store.nodes,
         &mut runs.todo,
         &mut runs.values,
@@ -96,8 +96,8 @@ fn use_known(runs: &mut Runs, known: Known, count: usize, budget: u64) -> Result
 fn open(alloc: Global, runs: &mut Runs, op: Op, count: usize) -> Result<(), AllocError>
     requires enough { count ≤ length runs.old.values }
     ensures stands { OnOk result
-        ((theory : Theory) (t : TermTree) (budget : ℕ) (rows : List Node) → IsExecutable theory →
-        StandsAt theory t budget rows runs.old (Call op count) → StandsAt theory t budget rows runs.new (Call op count)) }
+        ((theory : Theory) (t : TermTree) (budget : ℕ) (store : Store) → IsExecutable theory →
+        StandsAt theory t budget store runs.old (Call op count) → StandsAt theory t budget store runs.new (Call op count)) }
 {
     let args = runs.values.copy_top(alloc, count)?;
     let inner = runs.values.copy_top(alloc, count)?;
@@ -124,8 +124,8 @@ fn begin(
 ) -> Result<(), AllocError>
     ensures entries { OnOk result (memo.new.entries ≡ memo.old.entries) }
     ensures stands { OnOk result
-        ((theory : Theory) (t : TermTree) (budget : ℕ) (rows : List Node) → IsExecutable theory →
-        StandsAt theory t budget rows runs.old (Call op count) → StandsAt theory t budget rows runs.new (Call op count)) }
+        ((theory : Theory) (t : TermTree) (budget : ℕ) (store : Store) → IsExecutable theory →
+        StandsAt theory t budget store runs.old (Call op count) → StandsAt theory t budget store runs.new (Call op count)) }
 {
     if count <= runs.values.len() && memo.takes_up(op)? {
         open(alloc, runs, op, count)
@@ -134,11 +134,12 @@ fn begin(
     }
 }
 
-// Performs a call of an operation that heads equations.
-fn take_up(
+// Performs a call of an operation that heads equations: by a right side in postfix order where none of them has a premise, and else as a
+// machine does that remembers nothing.
+fn rewrite(
     alloc: Global,
     algebra: &DataSpec,
-    heads: &FirstEquations,
+    forms: &Forms,
     store: &mut Store,
     runs: &mut Runs,
     bound: &mut [u32],
@@ -148,13 +149,51 @@ fn take_up(
     budget: u64,
 ) -> Result<(), Eval>
     requires executable { IsExecutable (theory_of algebra.now) }
-    requires indexed { IsIndex (theory_of algebra.now) heads.now }
+    requires forms { AreForms (theory_of algebra.now) forms.now }
     requires room { HasRoom (theory_of algebra.now) (length bound.old) }
-    requires stands { StandsAt (theory_of algebra.now) (term_of term.now) budget store.old.nodes runs.old (Call op count) }
-    requires remembers { Remembers (theory_of algebra.now) store.old }
+    requires stands { StandsAt (theory_of algebra.now) (term_of term.now) budget store.old runs.old (Call op count) }
     ensures room { length bound.new ≡ length bound.old }
-    ensures stands { OnOk result (Stands (theory_of algebra.now) (term_of term.now) budget store.new.nodes runs.new) }
-    ensures remembers { OnOk result (Remembers (theory_of algebra.now) store.new) }
+    ensures stands { OnOk result (Stands (theory_of algebra.now) (term_of term.now) budget store.new runs.new) }
+    ensures cause { IfErr result (IsCause (theory_of algebra.now) (term_of term.now) budget) }
+{
+    match rule_for(algebra, forms, &store.nodes, &runs.values, bound, op, count) {
+        Some(right) => {
+            use_right(runs, bound, right, count, budget)?;
+            Ok(())
+        }
+        None => plainly(
+            alloc,
+            algebra,
+            forms,
+            store,
+            runs,
+            bound,
+            term,
+            Step::Call(op, count),
+            budget,
+        ),
+    }
+}
+
+// Takes up a call of an operation that heads equations: it is remembered, or performed.
+fn take_up(
+    alloc: Global,
+    algebra: &DataSpec,
+    forms: &Forms,
+    store: &mut Store,
+    runs: &mut Runs,
+    bound: &mut [u32],
+    term: &Term,
+    op: Op,
+    count: usize,
+    budget: u64,
+) -> Result<(), Eval>
+    requires executable { IsExecutable (theory_of algebra.now) }
+    requires forms { AreForms (theory_of algebra.now) forms.now }
+    requires room { HasRoom (theory_of algebra.now) (length bound.old) }
+    requires stands { StandsAt (theory_of algebra.now) (term_of term.now) budget store.old runs.old (Call op count) }
+    ensures room { length bound.new ≡ length bound.old }
+    ensures stands { OnOk result (Stands (theory_of algebra.now) (term_of term.now) budget store.new runs.new) }
     ensures cause { IfErr result (IsCause (theory_of algebra.now) (term_of term.now) budget) }
 {
     match store.memo.find(op, runs.values.top(count)) {
@@ -164,16 +203,8 @@ fn take_up(
         }
         None => {
             begin(alloc, &mut store.memo, runs, op, count)?;
-            plainly(
-                alloc,
-                algebra,
-                heads,
-                store,
-                runs,
-                bound,
-                term,
-                Step::Call(op, count),
-                budget,
+            rewrite(
+                alloc, algebra, forms, store, runs, bound, term, op, count, budget,
             )
         }
     }
@@ -200,7 +231,7 @@ fn note_last(
 fn build(
     alloc: Global,
     algebra: &DataSpec,
-    heads: &FirstEquations,
+    forms: &Forms,
     store: &mut Store,
     runs: &mut Runs,
     bound: &mut [u32],
@@ -210,14 +241,12 @@ fn build(
     budget: u64,
 ) -> Result<(), Eval>
     requires executable { IsExecutable (theory_of algebra.now) }
-    requires indexed { IsIndex (theory_of algebra.now) heads.now }
+    requires forms { AreForms (theory_of algebra.now) forms.now }
     requires constructor { (j : ℕ) → j < length (theory_of algebra.now).equations → Heads op.0 (equation_at (theory_of algebra.now) j) → ⊥ }
     requires room { HasRoom (theory_of algebra.now) (length bound.old) }
-    requires stands { StandsAt (theory_of algebra.now) (term_of term.now) budget store.old.nodes runs.old (Call op count) }
-    requires remembers { Remembers (theory_of algebra.now) store.old }
+    requires stands { StandsAt (theory_of algebra.now) (term_of term.now) budget store.old runs.old (Call op count) }
     ensures room { length bound.new ≡ length bound.old }
-    ensures stands { OnOk result (Stands (theory_of algebra.now) (term_of term.now) budget store.new.nodes runs.new) }
-    ensures remembers { OnOk result (Remembers (theory_of algebra.now) store.new) }
+    ensures stands { OnOk result (Stands (theory_of algebra.now) (term_of term.now) budget store.new runs.new) }
     ensures cause { IfErr result (IsCause (theory_of algebra.now) (term_of term.now) budget) }
 {
     let mark = mark_of(op, runs.values.top(count));
@@ -230,7 +259,7 @@ fn build(
             plainly(
                 alloc,
                 algebra,
-                heads,
+                forms,
                 store,
                 runs,
                 bound,
@@ -254,7 +283,7 @@ fn build(
 pub fn take_step(
     alloc: Global,
     algebra: &DataSpec,
-    heads: &FirstEquations,
+    forms: &Forms,
     store: &mut Store,
     runs: &mut Runs,
     bound: &mut [u32],
@@ -263,30 +292,28 @@ pub fn take_step(
     budget: u64,
 ) -> Result<(), Eval>
     requires executable { IsExecutable (theory_of algebra.now) }
-    requires indexed { IsIndex (theory_of algebra.now) heads.now }
+    requires forms { AreForms (theory_of algebra.now) forms.now }
     requires room { HasRoom (theory_of algebra.now) (length bound.old) }
-    requires stands { StandsAt (theory_of algebra.now) (term_of term.now) budget store.old.nodes runs.old step }
-    requires remembers { Remembers (theory_of algebra.now) store.old }
+    requires stands { StandsAt (theory_of algebra.now) (term_of term.now) budget store.old runs.old step }
     ensures room { length bound.new ≡ length bound.old }
-    ensures stands { OnOk result (Stands (theory_of algebra.now) (term_of term.now) budget store.new.nodes runs.new) }
-    ensures remembers { OnOk result (Remembers (theory_of algebra.now) store.new) }
+    ensures stands { OnOk result (Stands (theory_of algebra.now) (term_of term.now) budget store.new runs.new) }
     ensures cause { IfErr result (IsCause (theory_of algebra.now) (term_of term.now) budget) }
 {
     match step {
         Step::Put(_) => plainly(
-            alloc, algebra, heads, store, runs, bound, term, step, budget,
+            alloc, algebra, forms, store, runs, bound, term, step, budget,
         ),
         Step::Decide(..) => plainly(
-            alloc, algebra, heads, store, runs, bound, term, step, budget,
+            alloc, algebra, forms, store, runs, bound, term, step, budget,
         ),
         Step::Call(op, count) => {
-            if heads.first(algebra, op) < algebra.equations.len() {
+            if forms.heads.first(algebra, op) < algebra.equations.len() {
                 take_up(
-                    alloc, algebra, heads, store, runs, bound, term, op, count, budget,
+                    alloc, algebra, forms, store, runs, bound, term, op, count, budget,
                 )
             } else {
                 build(
-                    alloc, algebra, heads, store, runs, bound, term, op, count, budget,
+                    alloc, algebra, forms, store, runs, bound, term, op, count, budget,
                 )
             }
         }

@@ -5,15 +5,15 @@ ghost use Rattle.spec_core.specs.Executable.{IsExecutable};
 ghost use Rattle.spec_core.specs.Terms.{term_of};
 ghost use Rattle.spec_core.specs.Theories.{theory_of};
 ghost use Rattle.rewriter.specs.Calls.{HasRoom};
-ghost use Rattle.rewriter.specs.Index.{IsIndex};
-ghost use Rattle.match_code.specs.States.{Stands, Remembers, IsCause, IsStore, IsEnd};
+ghost use Rattle.match_code.specs.Rights.{AreForms};
+ghost use Rattle.match_code.specs.States.{Stands, IsCause, IsStore, IsEnd};
 
 use crate::moves::{close, take_step};
+use crate::rights::Forms;
 use crate::state::{Runs, Store};
 use crate::tidying::tidy;
 use rewriter::Eval;
 use rewriter::compaction::FEWEST;
-use rewriter::heads::FirstEquations;
 use rewriter::run::the_value;
 use spec_core::equation::DataSpec;
 use spec_core::term::Term;
@@ -29,10 +29,9 @@ fn leave(
     budget: u64,
 ) -> Result<Option<u32>, Eval>
     requires executable { IsExecutable (theory_of algebra.now) }
-    requires stands { Stands (theory_of algebra.now) (term_of term.now) budget store.old.nodes runs.old }
+    requires stands { Stands (theory_of algebra.now) (term_of term.now) budget store.old runs.old }
     requires done { runs.old.todo ≡ [] }
-    requires remembers { Remembers (theory_of algebra.now) store.old }
-    ensures stands { IfOk result (λ r. IfNone r (Stands (theory_of algebra.now) (term_of term.now) budget store.new.nodes runs.new)) }
+    ensures stands { IfOk result (λ r. IfNone r (Stands (theory_of algebra.now) (term_of term.now) budget store.new runs.new)) }
     ensures ended { IfOk result (λ r. IfSome r (IsEnd (theory_of algebra.now) (term_of term.now) budget store.new.nodes)) }
     ensures store { IfOk result (λ r. IsStore (theory_of algebra.now) store.new) }
     ensures cause { IfErr result (IsCause (theory_of algebra.now) (term_of term.now) budget) }
@@ -51,7 +50,7 @@ fn leave(
 fn turn(
     alloc: Global,
     algebra: &DataSpec,
-    heads: &FirstEquations,
+    forms: &Forms,
     store: &mut Store,
     runs: &mut Runs,
     bound: &mut [u32],
@@ -59,12 +58,11 @@ fn turn(
     budget: u64,
 ) -> Result<Option<u32>, Eval>
     requires executable { IsExecutable (theory_of algebra.now) }
-    requires indexed { IsIndex (theory_of algebra.now) heads.now }
+    requires forms { AreForms (theory_of algebra.now) forms.now }
     requires room { HasRoom (theory_of algebra.now) (length bound.old) }
-    requires stands { Stands (theory_of algebra.now) (term_of term.now) budget store.old.nodes runs.old }
-    requires remembers { Remembers (theory_of algebra.now) store.old }
+    requires stands { Stands (theory_of algebra.now) (term_of term.now) budget store.old runs.old }
     ensures room { length bound.new ≡ length bound.old }
-    ensures stands { IfOk result (λ r. IfNone r (Stands (theory_of algebra.now) (term_of term.now) budget store.new.nodes runs.new)) }
+    ensures stands { IfOk result (λ r. IfNone r (Stands (theory_of algebra.now) (term_of term.now) budget store.new runs.new)) }
     ensures ended { IfOk result (λ r. IfSome r (IsEnd (theory_of algebra.now) (term_of term.now) budget store.new.nodes)) }
     ensures store { IfOk result (λ r. IsStore (theory_of algebra.now) store.new) }
     ensures cause { IfErr result (IsCause (theory_of algebra.now) (term_of term.now) budget) }
@@ -72,7 +70,7 @@ fn turn(
     match runs.todo.pop() {
         Some(step) => {
             take_step(
-                alloc, algebra, heads, store, runs, bound, term, step, budget,
+                alloc, algebra, forms, store, runs, bound, term, step, budget,
             )?;
             Ok(None)
         }
@@ -84,7 +82,7 @@ fn turn(
 pub fn run(
     alloc: Global,
     algebra: &DataSpec,
-    heads: &FirstEquations,
+    forms: &Forms,
     store: &mut Store,
     runs: &mut Runs,
     bound: &mut [u32],
@@ -92,10 +90,9 @@ pub fn run(
     budget: u64,
 ) -> Result<u32, Eval>
     requires executable { IsExecutable (theory_of algebra.now) }
-    requires indexed { IsIndex (theory_of algebra.now) heads.now }
+    requires forms { AreForms (theory_of algebra.now) forms.now }
     requires room { HasRoom (theory_of algebra.now) (length bound.old) }
-    requires stands { Stands (theory_of algebra.now) (term_of term.now) budget store.old.nodes runs.old }
-    requires remembers { Remembers (theory_of algebra.now) store.old }
+    requires stands { Stands (theory_of algebra.now) (term_of term.now) budget store.old runs.old }
     ensures room { length bound.new ≡ length bound.old }
     ensures ended { IfOk result (IsEnd (theory_of algebra.now) (term_of term.now) budget store.new.nodes) }
     ensures store { IfOk result (λ n. IsStore (theory_of algebra.now) store.new) }
@@ -103,7 +100,7 @@ pub fn run(
 {
     let mut limit = FEWEST;
     for _turn in 0..u64::MAX {
-        match turn(alloc, algebra, heads, store, runs, bound, term, budget)? {
+        match turn(alloc, algebra, forms, store, runs, bound, term, budget)? {
             Some(node) => return Ok(node),
             None => {
                 limit = tidy(alloc, algebra, store, runs, term, budget, limit)?;

@@ -6,7 +6,7 @@ ghost use Rattle.spec_core.specs.Terms.{term_of};
 ghost use Rattle.spec_core.specs.Theories.{theory_of};
 ghost use Rattle.value_nodes.specs.Copies.{AreCopies};
 ghost use Rattle.value_nodes.specs.Nodes.{IsLonger};
-ghost use Rattle.match_code.specs.States.{IsFrame, Stands, Remembers, waiting_of};
+ghost use Rattle.match_code.specs.States.{IsFrame, Stands, waiting_of};
 
 use crate::frames::{Frame, Frames};
 use crate::hints::Hints;
@@ -114,9 +114,8 @@ fn compact(
     term: &Term,
     budget: u64,
 ) -> Result<(), Memory>
-    requires stands { Stands (theory_of algebra.now) (term_of term.now) budget store.old.nodes runs.old }
-    ensures stands { OnOk result (Stands (theory_of algebra.now) (term_of term.now) budget store.new.nodes runs.new) }
-    ensures remembers { OnOk result (Remembers (theory_of algebra.now) store.new) }
+    requires stands { Stands (theory_of algebra.now) (term_of term.now) budget store.old runs.old }
+    ensures stands { OnOk result (Stands (theory_of algebra.now) (term_of term.now) budget store.new runs.new) }
 {
     let mut kept = Nodes::new(alloc);
     let mut copies = Copies::new(alloc, &store.nodes)?;
@@ -145,10 +144,8 @@ pub fn tidy(
     budget: u64,
     limit: usize,
 ) -> Result<usize, Memory>
-    requires stands { Stands (theory_of algebra.now) (term_of term.now) budget store.old.nodes runs.old }
-    requires remembers { Remembers (theory_of algebra.now) store.old }
-    ensures stands { IfOk result (λ l. Stands (theory_of algebra.now) (term_of term.now) budget store.new.nodes runs.new) }
-    ensures remembers { IfOk result (λ l. Remembers (theory_of algebra.now) store.new) }
+    requires stands { Stands (theory_of algebra.now) (term_of term.now) budget store.old runs.old }
+    ensures stands { IfOk result (λ l. Stands (theory_of algebra.now) (term_of term.now) budget store.new runs.new) }
 {
     if store.nodes.len() < limit {
         return Ok(limit);

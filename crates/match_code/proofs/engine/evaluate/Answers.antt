@@ -29,9 +29,12 @@ run-requires-clause-stands c =
     let p = c.in_ok-push_instance.ensures.planned t rows ∙ ap (λ steps. plan s term (map (task_of t rows) steps)) none.todo in
     let steps = c.in_ok-push_instance.ensures.steps t rows (λ x o. absurd (no_variable term g x o))
     (subst (Each (IsStep t rows)) (sym none.todo) tt) in
-    at_equal t term c.args.budget rows [] _ todo todo [] _ 0 _
-    (state_begun t c.requires.executable term c.args.budget rows todo s c.requires.store.values c.requires.store.small g p steps)
-    none.frames refl none.values none.uses
+    record {
+      state = at_equal t term c.args.budget rows [] _ todo todo [] _ 0 _
+          (state_begun t c.requires.executable term c.args.budget rows todo s c.requires.store.values c.requires.store.small g p steps)
+          none.frames refl none.values none.uses;
+      remembers = c.requires.store.remembers;
+    }
 
 pub returns-clause-value : goal.returns-clause-value
 returns-clause-value c =

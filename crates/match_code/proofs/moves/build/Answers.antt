@@ -14,7 +14,10 @@ returns-in_ok-put_value-in-Some-clause-stands c =
     let n = c.in-Some.node in
     let is = subst (λ args. tree_at rows n ≡ apply c.args.op.0 (terms (map (tree_at rows) args))) c.top-2.ensures.seen
     c.in-Some.ensures.tree in
-    at_equal theory t c.args.budget rows runs.frames runs.frames runs.todo runs.todo _ c.put_value.new.values runs.uses runs.uses
-    (state_found theory c.requires.executable t c.args.budget rows runs.frames c.args.op c.args.count runs.todo runs.values runs.uses
-    c.requires.stands n c.requires.constructor c.in-Some.ensures.there is)
-    refl refl c.in_ok-put_value-in-Some.ensures.put refl
+    record {
+      state = at_equal theory t c.args.budget rows runs.frames runs.frames runs.todo runs.todo _ c.put_value.new.values runs.uses runs.uses
+          (state_found theory c.requires.executable t c.args.budget rows runs.frames c.args.op c.args.count runs.todo runs.values runs.uses
+          c.requires.stands.state n c.requires.constructor c.in-Some.ensures.there is)
+          refl refl c.in_ok-put_value-in-Some.ensures.put refl;
+      remembers = c.requires.stands.remembers;
+    }

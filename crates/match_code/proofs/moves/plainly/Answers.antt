@@ -13,19 +13,20 @@ returns-in_err-runs-clause-cause c =
     rw (p.1, p.2)
     (record {
       spent = λ e. state_spent t c.requires.executable (term_of c.args.term.now) c.args.budget c.args.store.now.nodes c.args.runs.now.frames
-          todo c.args.runs.now.values c.args.runs.now.uses c.requires.stands (c.in_err-runs.ensures.spent e);
+          todo c.args.runs.now.values c.args.runs.now.uses c.requires.stands.state (c.in_err-runs.ensures.spent e);
       large = λ e. state_large t c.requires.executable (term_of c.args.term.now) c.args.budget c.args.store.now.nodes c.args.runs.now.frames
-          todo c.args.runs.now.values c.args.runs.now.uses c.requires.stands (c.in_err-runs.ensures.large e);
+          todo c.args.runs.now.values c.args.runs.now.uses c.requires.stands.state (c.in_err-runs.ensures.large e);
     })
 
 pub returns-clause-stands : goal.returns-clause-stands
 returns-clause-stands c =
+    let t = theory_of c.args.algebra.now in
+    let rows = c.args.store.now.nodes in
+    let runs = c.args.runs.now in
     let made = c.in_ok-runs.ensures in
-    state_stepped (theory_of c.args.algebra.now) c.requires.executable (term_of c.args.term.now) c.args.budget c.args.store.now.nodes
-    c.args.runs.now.frames c.perform.new.nodes (c.args.step ∷ c.args.runs.now.todo) c.perform.new.todo c.args.runs.now.values
-    c.perform.new.values c.args.runs.now.uses c.in_ok-runs.field-0 c.requires.stands made.longer made.ready made.within made.kept
-
-pub returns-clause-remembers : goal.returns-clause-remembers
-returns-clause-remembers c =
-    still_entries (theory_of c.args.algebra.now) c.args.store.now.nodes c.perform.new.nodes c.in_ok-runs.ensures.longer
-    c.args.store.now.memo.entries.items c.requires.remembers
+    record {
+      state = state_stepped t c.requires.executable (term_of c.args.term.now) c.args.budget rows runs.frames c.perform.new.nodes
+          (c.args.step ∷ runs.todo) c.perform.new.todo runs.values c.perform.new.values runs.uses c.in_ok-runs.field-0
+          c.requires.stands.state made.longer made.ready made.within made.kept;
+      remembers = still_entries t rows c.perform.new.nodes made.longer c.args.store.now.memo.entries.items c.requires.stands.remembers;
+    }

@@ -7,12 +7,12 @@ use Rattle.match_code.proofs.moves.take_step.Goals as goal
 
 pub take_up-requires-clause-stands : goal.take_up-requires-clause-stands
 take_up-requires-clause-stands c =
-    subst (StandsAt (theory_of c.args.algebra.now) (term_of c.args.term.now) c.args.budget c.args.store.now.nodes c.args.runs.now)
+    subst (StandsAt (theory_of c.args.algebra.now) (term_of c.args.term.now) c.args.budget c.args.store.now c.args.runs.now)
     c.in-Call.is c.requires.stands
 
 pub build-requires-clause-stands : goal.build-requires-clause-stands
 build-requires-clause-stands c =
-    subst (StandsAt (theory_of c.args.algebra.now) (term_of c.args.term.now) c.args.budget c.args.store.now.nodes c.args.runs.now)
+    subst (StandsAt (theory_of c.args.algebra.now) (term_of c.args.term.now) c.args.budget c.args.store.now c.args.runs.now)
     c.in-Call.is c.requires.stands
 
 pub build-requires-clause-constructor : goal.build-requires-clause-constructor

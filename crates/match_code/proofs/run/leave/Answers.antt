@@ -16,7 +16,7 @@ returns-in_err-node-clause-cause c =
     let t = term_of c.args.term.now in
     let runs = c.args.runs.now in
     let s = subst (λ todo. IsState theory t c.args.budget c.args.store.now.nodes runs.frames todo runs.values runs.uses) c.requires.done
-    c.requires.stands in
+    c.requires.stands.state in
     let p = err_from_is_err_and c.from_residual.result c.from_residual.ensures.1 in
     rw (p.1, p.2)
     (record {
@@ -33,7 +33,7 @@ close-requires c =
     let rows = c.args.store.now.nodes in
     let n = c.in_ok-node.node in
     let s = at_equal theory t c.args.budget rows runs.frames (c.in-Some.frame ∷ c.pop.new.self) runs.todo [] runs.values (n ∷ []) runs.uses
-    runs.uses c.requires.stands (sym c.in-Some.ensures.popped) (sym c.requires.done) (sym c.in_ok-node.ensures.one) refl in
+    runs.uses c.requires.stands.state (sym c.in-Some.ensures.popped) (sym c.requires.done) (sym c.in_ok-node.ensures.one) refl in
     record { later = (state_closed theory c.requires.executable t c.args.budget rows c.in-Some.frame c.pop.new.self n runs.uses s).0 }
 
 pub returns-in-None-clause-ended : goal.returns-in-None-clause-ended
@@ -43,7 +43,7 @@ returns-in-None-clause-ended c =
     let runs = c.args.runs.now in
     let rows = c.args.store.now.nodes in
     let n = c.in_ok-node.node in
-    let s = at_equal theory t c.args.budget rows runs.frames [] runs.todo [] runs.values (n ∷ []) runs.uses runs.uses c.requires.stands
+    let s = at_equal theory t c.args.budget rows runs.frames [] runs.todo [] runs.values (n ∷ []) runs.uses runs.uses c.requires.stands.state
     (sym c.in-None.ensures.popped.0) (sym c.requires.done) (sym c.in_ok-node.ensures.one) refl in
     state_ended theory c.requires.executable t c.args.budget rows n runs.uses s
 
@@ -56,11 +56,16 @@ returns-in_ok-close-in-Some-clause-stands c =
     let n = c.in_ok-node.node in
     let frame = c.in-Some.frame in
     let s = at_equal theory t c.args.budget rows runs.frames (frame ∷ c.pop.new.self) runs.todo [] runs.values (n ∷ []) runs.uses
-    runs.uses c.requires.stands (sym c.in-Some.ensures.popped) (sym c.requires.done) (sym c.in_ok-node.ensures.one) refl in
+    runs.uses c.requires.stands.state (sym c.in-Some.ensures.popped) (sym c.requires.done) (sym c.in_ok-node.ensures.one) refl in
     let k = state_closed theory c.requires.executable t c.args.budget rows frame c.pop.new.self n runs.uses s in
     let made = c.in_ok-close-in-Some.ensures in
-    at_equal theory t c.args.budget rows c.pop.new.self c.close.new.runs.frames frame.todo c.close.new.runs.todo (n ∷ frame.values)
-    c.close.new.runs.values runs.uses c.close.new.runs.uses k.2 made.frames made.todo made.values made.uses
+    let entry : Entry = record { op = frame.op; args = frame.args; value = n; uses = runs.uses - frame.start } in
+    record {
+      state = at_equal theory t c.args.budget rows c.pop.new.self c.close.new.runs.frames frame.todo c.close.new.runs.todo
+          (n ∷ frame.values) c.close.new.runs.values runs.uses c.close.new.runs.uses k.2 made.frames made.todo made.values made.uses;
+      remembers = subst (Each (IsEntry theory rows)) (sym made.remembered)
+          (each_push (IsEntry theory rows) c.args.store.now.memo.entries.items entry c.requires.stands.remembers k.1);
+    }
 
 pub returns-in_ok-close-in-Some-clause-store : goal.returns-in_ok-close-in-Some-clause-store
 returns-in_ok-close-in-Some-clause-store c =
@@ -71,12 +76,12 @@ returns-in_ok-close-in-Some-clause-store c =
     let n = c.in_ok-node.node in
     let frame = c.in-Some.frame in
     let s = at_equal theory t c.args.budget rows runs.frames (frame ∷ c.pop.new.self) runs.todo [] runs.values (n ∷ []) runs.uses
-    runs.uses c.requires.stands (sym c.in-Some.ensures.popped) (sym c.requires.done) (sym c.in_ok-node.ensures.one) refl in
+    runs.uses c.requires.stands.state (sym c.in-Some.ensures.popped) (sym c.requires.done) (sym c.in_ok-node.ensures.one) refl in
     let k = state_closed theory c.requires.executable t c.args.budget rows frame c.pop.new.self n runs.uses s in
     let entry : Entry = record { op = frame.op; args = frame.args; value = n; uses = runs.uses - frame.start } in
     record {
       values = s.ready.constructed;
       small = s.ready.small;
       remembers = subst (Each (IsEntry theory rows)) (sym c.in_ok-close-in-Some.ensures.remembered)
-          (each_push (IsEntry theory rows) c.args.store.now.memo.entries.items entry c.requires.remembers k.1);
+          (each_push (IsEntry theory rows) c.args.store.now.memo.entries.items entry c.requires.stands.remembers k.1);
     }

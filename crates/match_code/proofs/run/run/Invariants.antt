@@ -1,12 +1,11 @@
 use Rattle.std.proofs.Common.{◌≡◌, length}
 use Rattle.spec_core.specs.Terms.{term_of}
 use Rattle.spec_core.specs.Theories.{theory_of}
-use Rattle.match_code.specs.States.{Stands, Remembers}
+use Rattle.match_code.specs.States.{Stands}
 use Rattle.match_code.proofs.run.run.Given as goal
 
 abbrev pub invariant-loop-turn : goal.invariant-loop-turn
 invariant-loop-turn l = record {
   room : length l.bound ≡ length l.fn.bound;
-  stands : Stands (theory_of l.algebra) (term_of l.term) l.budget l.store.nodes l.runs;
-  remembers : Remembers (theory_of l.algebra) l.store;
+  stands : Stands (theory_of l.algebra) (term_of l.term) l.budget l.store l.runs;
 }

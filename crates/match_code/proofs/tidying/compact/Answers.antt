@@ -1,17 +1,19 @@
-use Rattle.std.proofs.Common.{map, ap, ◌∙◌}
+use Rattle.std.proofs.Common.{map, sym, ap, subst, ◌∙◌}
+use Rattle.spec_core.specs.Lists.{Each}
 use Rattle.spec_core.specs.Terms.{term_of}
 use Rattle.spec_core.specs.Theories.{theory_of}
 use Rattle.value_nodes.proofs.Nodes.{longer_on, same_trees, still_nodes}
 use Rattle.rewriter.proofs.Calls.{same_tasks, still_steps}
 use Rattle.rewriter.proofs.Following.{all_held, copied_small, copied_values}
+use Rattle.match_code.specs.Entries.{IsEntry}
 use Rattle.match_code.specs.States.{waiting_of}
 use Rattle.match_code.proofs.States.{at_copies}
 use Rattle.match_code.proofs.tidying.compact.Goals as goal
 
-pub returns-clause-stands : goal.returns-clause-stands
-returns-clause-stands c =
+pub returns : goal.returns
+returns c =
     let t = theory_of c.args.algebra.now in
-    let s = c.requires.stands in
+    let s = c.requires.stands.state in
     let rows = c.args.store.now.nodes in
     let runs = c.args.runs.now in
     let one = c.follow.new.into in
@@ -24,15 +26,20 @@ returns-clause-stands c =
     let last = c.in_ok-runs.ensures in
     let longer = longer_on one two new later.longer last.longer in
     let steps = later.steps t s.ready.steps in
-    at_copies t (term_of c.args.term.now) c.args.budget rows new runs.frames c.in_ok-runs.field-0 runs.todo todo runs.values values
-    runs.uses s
-    (record {
-      steps = still_steps t two new last.longer todo steps;
-      values = still_nodes one new longer values here.there;
-      constructed = copied_values t rows new last.copies.no_other s.ready.constructed;
-      small = copied_small rows new last.copies.no_other s.ready.small;
-    })
-    last.frames
-    (last.same ∙ ap (map (waiting_of t rows)) c.replace-frames.ensures.value)
-    (same_tasks t two new last.longer todo (all_held t two todo steps) ∙ later.same t)
-    (same_trees one new longer values here.there ∙ here.same)
+    record {
+      stands = record {
+        state = at_copies t (term_of c.args.term.now) c.args.budget rows new runs.frames c.in_ok-runs.field-0 runs.todo todo runs.values values
+            runs.uses s
+            (record {
+              steps = still_steps t two new last.longer todo steps;
+              values = still_nodes one new longer values here.there;
+              constructed = copied_values t rows new last.copies.no_other s.ready.constructed;
+              small = copied_small rows new last.copies.no_other s.ready.small;
+            })
+            last.frames
+            (last.same ∙ ap (map (waiting_of t rows)) c.replace-frames.ensures.value)
+            (same_tasks t two new last.longer todo (all_held t two todo steps) ∙ later.same t)
+            (same_trees one new longer values here.there ∙ here.same);
+        remembers = subst (Each (IsEntry t new)) (sym c.closed.ensures.none) tt;
+      };
+    }

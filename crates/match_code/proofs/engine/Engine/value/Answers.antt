@@ -9,7 +9,7 @@ use Rattle.match_code.proofs.engine.Engine.value.Goals as goal
 pub evaluate-requires-clause-store : goal.evaluate-requires-clause-store
 evaluate-requires-clause-store c =
     let t = theory_of c.args.self.now.algebra.now in
-    c.unless_full-store.ensures.store t (subst (IsStore t) (sym c.replace-before.ensures.value) c.requires.engine.store)
+    c.next_store-store.ensures.store t (subst (IsStore t) (sym c.replace-before.ensures.value) c.requires.engine.store)
 
 pub returns-in_err-value-clause-engine : goal.returns-in_err-value-clause-engine
 returns-in_err-value-clause-engine c =
@@ -21,7 +21,7 @@ returns-in_err-value-clause-engine c =
     let kept : length after ≡ length before.items = c.in_err-value.ensures.room ∙ ap length lent in
     record {
       executable = c.requires.engine.executable;
-      indexed = c.requires.engine.indexed;
+      forms = c.requires.engine.forms;
       room = subst (HasRoom t) (sym kept ∙ ap length (sym (written after before.items before.len (sym kept) long))) c.requires.engine.room;
       store = subst (IsStore t) (sym c.replace-before.ensures.after)
           (none_kept t c.new.result c.new.ensures.nodes c.new.ensures.entries);

@@ -1,0 +1,6 @@
+use Rattle.std.proofs.Common.{◌≡◌, ◌++◌, map, take, reverse}
+use Rattle.rewriter.specs.Steps.{bound_at}
+use Rattle.match_code.proofs.uses.put_variables.Given as goal
+
+abbrev pub invariant-loop-x : goal.invariant-loop-x
+invariant-loop-x l = l.values ≡ reverse (map (bound_at l.bound) (take l.x-index l.first)) ++ l.fn.values
