@@ -13,10 +13,10 @@ use static_readings::site::Site;
 use std::alloc::Global;
 
 // Adds the call of a process of this name, if there is one.
-fn add_call(site: &Site<'_>, name: &Token, all: &mut Vec<Call>) -> Result<(), Memory>
+fn add_call(alloc: Global, site: &Site<'_>, name: &Token, all: &mut Vec<Call>) -> Result<(), Memory>
     ensures { OnOk result (all.new.items ≡ all.old.items ++ call_of name.now.place (process_named site.now name.now)) }
 {
-    match site.process(name) {
+    match site.process(alloc, name)? {
         None => Ok(()),
         Some(process) => {
             all.push(Call {
@@ -29,7 +29,12 @@ fn add_call(site: &Site<'_>, name: &Token, all: &mut Vec<Call>) -> Result<(), Me
 }
 
 // Adds the calls that a construct makes at once.
-fn add_calls(site: &Site<'_>, construct: &Construct<'_>, all: &mut Vec<Call>) -> Result<(), Memory>
+fn add_calls(
+    alloc: Global,
+    site: &Site<'_>,
+    construct: &Construct<'_>,
+    all: &mut Vec<Call>,
+) -> Result<(), Memory>
     ensures { OnOk result (all.new.items ≡ all.old.items ++ calls_at_once site.now (construct_of construct.now)) }
 {
     match construct {
@@ -52,8 +57,8 @@ fn add_calls(site: &Site<'_>, construct: &Construct<'_>, all: &mut Vec<Call>) ->
             left,
             right,
         } => {
-            add_calls(site, left, all)?;
-            add_calls(site, right, all)
+            add_calls(alloc, site, left, all)?;
+            add_calls(alloc, site, right, all)
         }
         Construct::Parallel {
             place: _,
@@ -61,37 +66,37 @@ fn add_calls(site: &Site<'_>, construct: &Construct<'_>, all: &mut Vec<Call>) ->
             left,
             right,
         } => {
-            add_calls(site, left, all)?;
-            add_calls(site, right, all)
+            add_calls(alloc, site, left, all)?;
+            add_calls(alloc, site, right, all)
         }
         Construct::Guard {
             condition: _,
             inner,
-        } => add_calls(site, inner, all),
-        Construct::Let { bindings: _, inner } => add_calls(site, inner, all),
+        } => add_calls(alloc, site, inner, all),
+        Construct::Let { bindings: _, inner } => add_calls(alloc, site, inner, all),
         Construct::Values {
             declarations: _,
             inner,
-        } => add_calls(site, inner, all),
-        Construct::Gates { choices: _, inner } => add_calls(site, inner, all),
-        Construct::Hide { gates: _, inner } => add_calls(site, inner, all),
+        } => add_calls(alloc, site, inner, all),
+        Construct::Gates { choices: _, inner } => add_calls(alloc, site, inner, all),
+        Construct::Hide { gates: _, inner } => add_calls(alloc, site, inner, all),
         Construct::Par {
             gate: _,
             gates: _,
             operator: _,
             inner,
-        } => add_calls(site, inner, all),
+        } => add_calls(alloc, site, inner, all),
         Construct::Enable {
             place: _,
             left,
             accepts: _,
             right: _,
-        } => add_calls(site, left, all),
+        } => add_calls(alloc, site, left, all),
         Construct::Call {
             name,
             gates: _,
             values: _,
-        } => add_call(site, name, all),
+        } => add_call(alloc, site, name, all),
     }
 }
 
@@ -104,6 +109,6 @@ pub fn calls_at_once(
     ensures { IfOk result (λ all. all.items ≡ calls_at_once site.now (construct_of construct.now)) }
 {
     let mut all = Vec::new(alloc);
-    add_calls(site, construct, &mut all)?;
+    add_calls(alloc, site, construct, &mut all)?;
     Ok(all)
 }

@@ -57,7 +57,7 @@ pub struct Bodies {
 // The node of a process whose body stands in this site, and has this node as its last.
 fn process_node(
     alloc: Global,
-    setting: &Setting<'_>,
+    setting: &Setting<'_, '_>,
     entry: &Entry<'_>,
     site: &Site<'_>,
     body: Part,
@@ -75,7 +75,7 @@ fn process_node(
 // The same, where the body is read.
 fn process_node_if(
     alloc: Global,
-    setting: &Setting<'_>,
+    setting: &Setting<'_, '_>,
     entry: &Entry<'_>,
     site: &Site<'_>,
     found: &Option<Functionality>,
@@ -160,7 +160,7 @@ fn add_body_ending(
 // The body of the process of this number.
 fn read_body<'a>(
     alloc: Global,
-    setting: &Setting<'a>,
+    setting: &Setting<'a, '_>,
     number: usize,
     entry: &Entry<'a>,
     site: &mut Site<'a>,
@@ -189,7 +189,7 @@ fn read_body<'a>(
 /// The bodies of all processes, one after another.
 pub fn read_bodies<'a>(
     alloc: Global,
-    setting: &Setting<'a>,
+    setting: &Setting<'a, '_>,
     site: &mut Site<'a>,
     out: &mut Output,
 ) -> Result<Bodies, Memory>

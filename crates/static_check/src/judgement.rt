@@ -27,9 +27,9 @@ use static_call_cycles::call::Call;
 use static_call_cycles::unguarded::add_unguarded;
 use static_processes::entry::Entry;
 use static_processes::heading::{declared, gates_in, headings};
+use static_processes::named_parts::NamedParts;
 use static_processes::refusals::{add_opening_refusals, add_table_refusals};
 use static_processes::table::processes;
-use static_processes::where_parts::WhereParts;
 use static_readings::output::Output;
 use static_readings::site::Site;
 use std::alloc::Global;
@@ -130,9 +130,9 @@ pub fn judge(alloc: Global, spec: &Spec, algebra: &DataSpec) -> Result<Judged, M
     ensures { IfOk result (λ j. IsJudged (theory_of algebra.now) spec.now (option_map program_of j.program) j.refusals.items) }
 {
     let table = processes(alloc, spec)?;
-    let parts = WhereParts::of(alloc, &table)?;
     let scope = data_scope(alloc, algebra)?;
     let headings = headings(alloc, &scope, &table)?;
+    let parts = NamedParts::of(alloc, &table, &headings)?;
     let mut out = opened(alloc, &scope, spec, &table)?;
     let declared = declared(alloc, &scope, &spec.functionality)?;
     let mut site = data_site(alloc, scope)?;

@@ -25,7 +25,7 @@ use std::alloc::Global;
 #[tactic(auto, using(crate::proofs::Sites::start_entered))]
 fn enter<'a>(
     alloc: Global,
-    setting: &Setting<'a>,
+    setting: &Setting<'a, '_>,
     spec: &'a Spec,
     site: &mut Site<'a>,
 ) -> Result<(), Memory>
@@ -33,7 +33,7 @@ fn enter<'a>(
     ensures { OnOk result (site.new ≡ start_site (setting_of site.old.context setting.now) spec.now) }
 {
     let all = setting.parts.visible(alloc, &[])?;
-    site.go(0, setting.headings, all);
+    site.go(0, all);
     site.put_gates(gates_in(&spec.gates))
 }
 
@@ -51,7 +51,7 @@ fn last_if(found: &Option<Functionality>, out: &Output) -> Result<Option<Part>, 
 /// The behaviour of the specification, which is declared to end in this way, if that is known.
 pub fn read_start<'a>(
     alloc: Global,
-    setting: &Setting<'a>,
+    setting: &Setting<'a, '_>,
     spec: &'a Spec,
     declared: &Option<Functionality>,
     site: &mut Site<'a>,

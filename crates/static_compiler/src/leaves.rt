@@ -192,7 +192,7 @@ pub fn read_call(
     ensures { IfOk result (λ found. HasRead (λ at. IsRead site.now at (calls name.now gates.now from.now))
         (output_of out.old) (output_of out.new) (option_map functionality_of found)) }
 {
-    match site.process(name) {
+    match site.process(alloc, name)? {
         None => {
             out.refuse(alloc, RefusalKind::UnknownProcess, name.place)?;
             Ok(None)

@@ -1,3 +1,4 @@
+mod HeadingsAt
 pub mod Numbered
 pub mod Sorts
 mod Standing

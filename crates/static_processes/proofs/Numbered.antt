@@ -41,17 +41,20 @@ pub items_all : (base now : List processes.Entry) (ts : List WhereItem) (i : ℕ
     → now ≡ base ++ one_after_another (map item_entries ts) (length base) around
 items_all base now ts i around past h = h ∙ ap (λ us. base ++ one_after_another (map item_entries us) (length base) around) (take_all i ts past)
 
-pub standing_next : (within : Option ℕ) (table : List Entry) (i : ℕ) (e : Entry) (all more whole : List ℕ) → i < length table → e ≡ get_or table i e
-    → all ++ standing_from within i (map entry_of (drop i table)) ≡ whole
-    → more ≡ all ++ (if stands_in within (entry_of e) then i ∷ [] else [])
-    → more ++ standing_from within (i + 1) (map entry_of (drop (i + 1) table)) ≡ whole
-standing_next within table i e all more whole w at before put =
+-- what a loop puts of those that stand in a part, for one more process
+
+pub standing_next : {A : Type 0} (f : List ℕ → List A) → ((ns ms : List ℕ) → f (ns ++ ms) ≡ f ns ++ f ms)
+    → (within : Option ℕ) (table : List Entry) (i : ℕ) (e : Entry) (all more whole : List A) → i < length table → e ≡ get_or table i e
+    → all ++ f (standing_from within i (map entry_of (drop i table))) ≡ whole
+    → more ≡ all ++ f (if stands_in within (entry_of e) then i ∷ [] else [])
+    → more ++ f (standing_from within (i + 1) (map entry_of (drop (i + 1) table))) ≡ whole
+standing_next f both within table i e all more whole w at before put =
     let here = if stands_in within (entry_of e) then i ∷ [] else [] in
     let rest = standing_from within (i + 1) (map entry_of (drop (i + 1) table)) in
-    ap (λ z. z ++ rest) put ∙ append_assoc all here rest
-    ∙ ap (λ es. all ++ standing_from within i (map entry_of es)) (sym (dropped-next table i e w at)) ∙ before
+    ap (λ z. z ++ f rest) put ∙ append_assoc all (f here) (f rest) ∙ ap (λ z. all ++ z) (sym (both here rest))
+    ∙ ap (λ es. all ++ f (standing_from within i (map entry_of es))) (sym (dropped-next table i e w at)) ∙ before
 
-pub standing_all : (within : Option ℕ) (table : List Entry) (i : ℕ) (all whole : List ℕ) → length table ≤ i
-    → all ++ standing_from within i (map entry_of (drop i table)) ≡ whole → all ≡ whole
-standing_all within table i all whole past h =
-    sym (append-nil all) ∙ ap (λ es. all ++ standing_from within i (map entry_of es)) (sym (drop_all i table past)) ∙ h
+pub standing_all : {A : Type 0} (f : List ℕ → List A) → f [] ≡ [] → (within : Option ℕ) (table : List Entry) (i : ℕ) (all whole : List A) → length table ≤ i
+    → all ++ f (standing_from within i (map entry_of (drop i table))) ≡ whole → all ≡ whole
+standing_all f none within table i all whole past h =
+    sym (append-nil all) ∙ ap (λ z. all ++ z) (sym none) ∙ ap (λ es. all ++ f (standing_from within i (map entry_of es))) (sym (drop_all i table past)) ∙ h

@@ -1,10 +1,9 @@
 -- Those that stand in one `where` part.
-use Rattle.std.proofs.Common.{ℕ, ◌≡◌, ◌∙◌, refl, sym, ap, ◌+◌, arith, List, [], ◌∷◌, ◌++◌, length, Bool, true, false, Option, Some, append_assoc, if◌then◌else◌, None}
+use Rattle.std.proofs.Common.{ℕ, ◌≡◌, ◌∙◌, refl, sym, ap, ◌+◌, arith, List, [], ◌∷◌, ◌++◌, length, Bool, true, false, Option, Some, append_assoc, if◌then◌else◌}
 use Rattle.std.specs.List.{slice_get}
 use Rattle.std.proofs.lemmas.Grind.{flat_map-append}
-use Rattle.static_processes.specs.Processes.{Entry, stands_in, standing_from, standing_in, visible_in, names_in}
-use Rattle.static_processes.specs.WhereParts.{name_of, names_at, visible_numbers, ArePartsOf}
-use Rattle.static_processes.specs.declared.where_parts.WhereParts.{WhereParts}
+use Rattle.static_processes.specs.Processes.{Entry, stands_in, standing_from, standing_in, names_in}
+use Rattle.static_processes.specs.WhereParts.{name_of, names_at}
 
 stands : (pre : List Entry) (e : Entry) (es : List Entry) → slice_get (pre ++ e ∷ es) (length pre) ≡ Some e
 stands [] e es = refl
@@ -31,7 +30,3 @@ names_from within pre (e ∷ es) =
 
 pub names_standing : (within : Option ℕ) (table : List Entry) → names_at table (standing_in table within) ≡ names_in table within
 names_standing within table = names_from within [] table
-
-pub visible_by : (parts : WhereParts) (table : List Entry) (around : List ℕ) → ArePartsOf parts table → visible_numbers parts around ≡ visible_in table around
-visible_by parts table [] are = are None
-visible_by parts table (p ∷ around) are = ap (λ ns. ns ++ visible_numbers parts around) (are (Some p)) ∙ ap (λ ns. standing_in table (Some p) ++ ns) (visible_by parts table around are)

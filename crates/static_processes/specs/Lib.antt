@@ -1,4 +1,5 @@
 pub mod Headings
+pub mod NamedParts
 pub mod Processes
 pub mod Views
 pub mod WhereParts

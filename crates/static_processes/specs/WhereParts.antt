@@ -1,5 +1,5 @@
 -- Processes by the `where` parts in which they stand, as the code keeps them.
-use Rattle.std.specs.Prelude.{ℕ, ◌≡◌, List, [], ◌∷◌, ◌++◌, Option, Some, None, Vec, nat_eq}
+use Rattle.std.specs.Prelude.{ℕ, ◌≡◌, List, [], ◌∷◌, Option, Some, None, Vec, nat_eq}
 use Rattle.std.specs.List.{flat_map, slice_get}
 use Rattle.std.specs.Option.{option_map_or}
 use Rattle.std.specs.declared.alloc.Global.{Global}
@@ -16,11 +16,6 @@ inner_at parts p = option_map_or (λ (numbers : Vec ℕ Global). numbers.items) 
 abbrev pub numbers_at : WhereParts → Option ℕ → List ℕ
 numbers_at parts None = parts.outer.items
 numbers_at parts (Some p) = inner_at parts p
-
--- the numbers of those that can be called within these, those of the innermost part first
-abbrev pub visible_numbers : WhereParts → List ℕ → List ℕ
-visible_numbers parts [] = numbers_at parts None
-visible_numbers parts (p ∷ around) = numbers_at parts (Some p) ++ visible_numbers parts around
 
 -- the parts are those of these processes
 abbrev pub ArePartsOf : WhereParts → List Entry → Type 0

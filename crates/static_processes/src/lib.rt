@@ -3,6 +3,7 @@
 
 pub mod entry;
 pub mod heading;
+pub mod named_parts;
 pub mod refusals;
 pub mod table;
 pub mod where_parts;

@@ -1,10 +1,9 @@
 // Processes by the `where` parts in which they stand.
 
-ghost use Rattle.std.specs.Prelude.{◌≡◌, List, ◌++◌, ◌∷◌, ◌==◌, [], ℕ, Option, IfOk, OnOk, map, if◌then◌else◌};
-ghost use Rattle.static_processes.specs.Processes as processes;
-ghost use Rattle.static_processes.specs.Processes.{is_innermost, visible_in};
+ghost use Rattle.std.specs.Prelude.{◌≡◌, ◌++◌, ◌∷◌, ◌==◌, [], ℕ, Option, IfOk, OnOk, map, if◌then◌else◌};
+ghost use Rattle.static_processes.specs.Processes.{is_innermost};
 ghost use Rattle.static_processes.specs.Views.{entry_of};
-ghost use Rattle.static_processes.specs.WhereParts.{inner_at, numbers_at, visible_numbers, ArePartsOf};
+ghost use Rattle.static_processes.specs.WhereParts.{inner_at, numbers_at, ArePartsOf};
 
 use crate::entry::Entry;
 use indexmap::IndexMap;
@@ -18,22 +17,6 @@ pub struct WhereParts {
     outer: Vec<usize>,
     // those of the part of a process, by its number
     inner: IndexMap<usize, Vec<usize>>,
-}
-
-// Adds the numbers of those that can be called within these.
-fn add_visible(parts: &WhereParts, around: &[usize], all: &mut Vec<usize>) -> Result<(), Memory>
-    ensures { OnOk result (all.new.items ≡ all.old.items ++ visible_numbers parts.now around.now) }
-{
-    match around {
-        [] => {
-            all.extend_from_slice(parts.standing(None))?;
-            Ok(())
-        }
-        [process, others @ ..] => {
-            all.extend_from_slice(parts.standing(Some(*process)))?;
-            add_visible(parts, others, all)
-        }
-    }
 }
 
 impl WhereParts {
@@ -87,15 +70,5 @@ impl WhereParts {
                 Some(numbers) => numbers,
             },
         }
-    }
-
-    /// The numbers of the processes that can be called within these: those of the innermost `where` part stand first, those of the
-    /// specification's last.
-    pub fn visible(&self, alloc: Global, around: &[usize]) -> Result<Vec<usize>, Memory>
-        ensures { IfOk result (λ all. (table : List processes.Entry) → ArePartsOf self.now table → all.items ≡ visible_in table around.now) }
-    {
-        let mut all = Vec::new(alloc);
-        add_visible(self, around, &mut all)?;
-        Ok(all)
     }
 }

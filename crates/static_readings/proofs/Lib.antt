@@ -1,4 +1,4 @@
-pub mod Headings
+mod Named
 pub mod Known
 pub mod Numbered
 pub mod Offered

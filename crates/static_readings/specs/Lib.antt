@@ -1,6 +1,7 @@
 pub mod Calls
 pub mod Declarations
 pub mod Joins
+pub mod Named
 pub mod Offers
 pub mod Outputs
 pub mod Readings

@@ -1,6 +1,5 @@
 -- What the definitions see of the values of the code.
 use Rattle.std.specs.Prelude.{Option, ℕ, List, map, option_map, Vec}
-use Rattle.std.specs.List.{slice_get, filter_map}
 use Rattle.std.specs.declared.alloc.Global.{Global}
 use Rattle.spec_core.specs.Numbers.{sort_number}
 use Rattle.spec_core.specs.Functionality as core
@@ -31,10 +30,6 @@ heading_of h = record {
 
 abbrev pub output_of : Output → outputs.Output
 output_of o = record { code = map node_of o.code.items; refusals = o.refusals.items }
-
--- the processes of these numbers
-abbrev pub headings_at : List Heading → List ℕ → List sites.Heading
-headings_at headings numbers = filter_map (λ n. option_map heading_of (slice_get headings n)) numbers
 
 -- a value with which a behaviour ends, and its sort
 abbrev pub exit_value_at : ExitField × Sort → code.ExitValue × ℕ

@@ -5,6 +5,7 @@ pub mod declarations;
 pub mod fields;
 pub mod functionality;
 pub mod heading;
+pub mod named_processes;
 pub mod output;
 pub mod site;
 pub mod values;

@@ -19,10 +19,12 @@ ghost use Rattle.static_equations.specs.Premisses.{IsPremissJudged};
 ghost use Rattle.static_equations.specs.Variables.{sort_named};
 ghost use Rattle.static_readings.specs.Declarations.{of_one_sort, numbered_from};
 ghost use Rattle.static_readings.specs.Offers.{IsExpressionRead};
+ghost use Rattle.static_readings.specs.Named.{has_small_name, one_behind_other};
 ghost use Rattle.static_readings.specs.Sites as sites;
-ghost use Rattle.static_readings.specs.Views.{heading_of, headings_at};
+ghost use Rattle.static_readings.specs.Views.{heading_of};
 
 use crate::heading::Heading;
+use crate::named_processes::NamedProcesses;
 use lotos_ast::expression::{Expr, Premiss};
 use lotos_ast::refusal::Refusal;
 use lotos_ast::token::Token;
@@ -51,10 +53,8 @@ pub struct Site<'a> {
     gates: Vec<&'a Token>,
     /// The number of the first gate.
     first_gate: u32,
-    /// All processes.
-    headings: &'a [Heading],
-    /// The numbers of those that can be called, of which an earlier one hides a later one.
-    visible: Vec<usize>,
+    /// The processes that can be called, of which an earlier one hides a later one.
+    visible: Vec<&'a NamedProcesses<'a>>,
 }
 
 impl<'a> Model for Site<'a> {
@@ -62,8 +62,8 @@ impl<'a> Model for Site<'a> {
     ghost use Rattle.sort_overloads.specs.Indexes.{IsIndexOf};
     ghost use Rattle.sort_overloads.specs.Views.{context_of};
     ghost use Rattle.spec_core.specs.Theories.{operations_of};
+    ghost use Rattle.static_readings.specs.Named.{one_behind_other};
     ghost use Rattle.static_readings.specs.Sites as sites;
-    ghost use Rattle.static_readings.specs.Views.{heading_of, headings_at};
 
     ghost Value = { sites.Site };
 
@@ -71,7 +71,7 @@ impl<'a> Model for Site<'a> {
       context = context_of s.scope;
       gates = map (λ t. t.now.text) s.gates.items;
       first_gate = s.first_gate;
-      processes = headings_at s.headings.now s.visible.items;
+      processes = one_behind_other s.visible.items;
     } };
 
     ghost invariant = { λ s. (vec_len s.scope.signature.ops < 2 ^ 32) × (vec_len s.scope.signature.sorts < 2 ^ 32 - 1)
@@ -102,35 +102,17 @@ fn last_named(gates: &[&Token], first: u32, name: &Token) -> Option<u32>
     found
 }
 
-// Whether a process has this name.
-fn is_named(heading: &Heading, name: &Token) -> bool
-    ensures { result ≡ is_same_name (heading_of heading.now).name name.now.text }
+// The first of these processes of a name that is given in small letters.
+fn process_named<'h>(visible: &[&'h NamedProcesses<'h>], name: &str) -> Option<&'h Heading>
+    ensures { option_map (λ h. heading_of h.now) result ≡ find (has_small_name name.now) (one_behind_other visible.now) }
 {
-    heading
-        .name
-        .as_str()
-        .eq_ignore_ascii_case(name.text.as_str())
-}
-
-// The first of these processes of this name.
-#[tactic(auto, using(crate::proofs::Headings::named_next, crate::proofs::Headings::unnamed_next, crate::proofs::Headings::past_next))]
-fn process_named<'h>(
-    headings: &'h [Heading],
-    visible: &[usize],
-    name: &Token,
-) -> Option<&'h Heading>
-    ensures { option_map (λ h. heading_of h.now) result
-        ≡ find (λ p. is_same_name p.name name.now.text) (headings_at headings.now visible.now) }
-{
-    for number in visible {
-        if *number < headings.len() {
-            let heading = &headings[*number];
-            if is_named(heading, name) {
-                return Some(heading);
-            }
-        }
+    match visible {
+        [] => None,
+        [first, others @ ..] => match first.first_of(name) {
+            None => process_named(others, name),
+            Some(heading) => Some(heading),
+        },
     }
-    None
 }
 
 // The variables from this place on, as code has them.
@@ -160,20 +142,18 @@ impl<'a> Site<'a> {
             index,
             gates: Vec::new(alloc),
             first_gate: 0,
-            headings: &[],
             visible: Vec::new(alloc),
         }
     }
 
-    /// Goes to where no variable and no gate is in scope: the next gate has this number, and the processes of these numbers can be called.
-    /// It takes no memory.
-    pub fn go(&mut self, first_gate: u32, headings: &'a [Heading], visible: Vec<usize>)
-        ensures { self.new ≡ sites.bare self.old.context first_gate (headings_at headings.now visible.items) }
+    /// Goes to where no variable and no gate is in scope: the next gate has this number, and these processes can be called. It takes no
+    /// memory.
+    pub fn go(&mut self, first_gate: u32, visible: Vec<&'a NamedProcesses<'a>>)
+        ensures { self.new ≡ sites.bare self.old.context first_gate (one_behind_other visible.entry.items) }
     {
         self.scope.vars.truncate(0);
         self.gates.truncate(0);
         self.first_gate = first_gate;
-        self.headings = headings;
         self.visible = visible;
     }
 
@@ -184,11 +164,12 @@ impl<'a> Site<'a> {
         last_named(&self.gates, self.first_gate, name)
     }
 
-    /// The process of a name, if it is in scope. It takes no memory.
-    pub fn process(&self, name: &Token) -> Option<&'a Heading>
-        ensures { option_map (λ h. heading_of h.now) result ≡ sites.process_named self.now name.now }
+    /// The process of a name, if it is in scope.
+    pub fn process(&self, alloc: Global, name: &Token) -> Result<Option<&'a Heading>, Memory>
+        ensures { IfOk result (λ found. option_map (λ h. heading_of h.now) found ≡ sites.process_named self.now name.now) }
     {
-        process_named(self.headings, &self.visible, name)
+        let name = name.text.as_str().to_ascii_lowercase(alloc)?;
+        Ok(process_named(&self.visible, name.as_str()))
     }
 
     /// The sort of a name, if it is known. It takes no memory.

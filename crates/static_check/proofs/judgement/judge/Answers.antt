@@ -15,8 +15,8 @@ use Rattle.static_check.proofs.judgement.judge.Goals as goal
 pub returns : goal.returns
 returns c =
     let context = context_of c.in_ok-scope.scope in
-    let table = c.deref-4.result.now in
-    let again = c.deref-3.ensures.value ∙ sym c.deref-4.ensures.value in
+    let table = c.deref-5.result.now in
+    let again = c.deref-4.ensures.value ∙ sym c.deref-5.ensures.value in
     let sites = c.in_ok-site.ensures ∙ ap data_of c.in_ok-scope.ensures.context in
     judged_by (theory_of c.args.algebra.now) c.args.spec.now context (data_of c.in_ok-site.site.context) (data_of c.read_bodies.new.site.context) c.in_ok-counted.field-0
     (map entry_of table) (output_of c.in_ok-out.out) (output_of c.read_bodies.new.out) (output_of c.read_start.new.out)
@@ -24,13 +24,13 @@ returns c =
     (option_map program_of c.in_ok-program.program) c.add_cycles.new.refusals.items (option_map functionality_of c.in_ok-declared.declared)
     (map (λ calls. calls.items) c.in_ok-bodies.bodies.calls.items)
     c.in_ok-scope.ensures.context sites (c.in_ok-bodies.ensures.site ∙ sites) (c.in_ok-counted.ensures ∙ ap length c.gates_in.ensures)
-    (ap (map entry_of) c.deref-4.ensures.value ∙ c.in_ok-table.ensures)
+    (ap (map entry_of) c.deref-5.ensures.value ∙ c.in_ok-table.ensures)
     (c.in_ok-out.ensures.code ∙ ap (λ t. length (map entry_of t)) again)
     (c.in_ok-out.ensures.refusals ∙ ap (λ t. opening_refusals context c.args.spec.now ++ table_refusals context (map entry_of t)) again)
     c.in_ok-bodies.ensures.read c.in_ok-declared.ensures c.in_ok-start.ensures c.in_ok-bodies.ensures.calls
     (c.in_ok-add_cycles.ensures
-    ∙ ap (λ t. c.read_start.new.out.refusals.items ++ unguarded_refusals (map (λ e. e.process.name.text) (map entry_of t)) (map (λ calls. calls.items) c.deref-7.result.now))
-    (c.deref-6.ensures.value ∙ sym c.deref-4.ensures.value)
+    ∙ ap (λ t. c.read_start.new.out.refusals.items ++ unguarded_refusals (map (λ e. e.process.name.text) (map entry_of t)) (map (λ calls. calls.items) c.deref-8.result.now))
+    (c.deref-7.ensures.value ∙ sym c.deref-5.ensures.value)
     ∙ ap (λ calls. c.read_start.new.out.refusals.items ++ unguarded_refusals (map (λ e. e.process.name.text) (map entry_of table)) (map (λ calls. calls.items) calls))
-    c.deref-7.ensures.value)
-    (c.in_ok-processes.ensures ∙ c.len.ensures ∙ sym c.deref-4.ensures.len ∙ sym (length-map table entry_of)) c.in_ok-program.ensures
+    c.deref-8.ensures.value)
+    (c.in_ok-processes.ensures ∙ c.len.ensures ∙ sym c.deref-5.ensures.len ∙ sym (length-map table entry_of)) c.in_ok-program.ensures
