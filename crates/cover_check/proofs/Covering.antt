@@ -1,5 +1,5 @@
 -- A search that finds nothing shows that an operation is covered, and a pattern that it isn't.
-use Rattle.std.proofs.Common.{ℕ, zero, suc, ◌≡◌, ◌<◌, length, map, get_or, arith, List, [], ◌∷◌, ◌++◌, Option, Some, None, Result, Ok, Err, IfOk, MatchOption, option_map, refl, sym, ap, subst, ◌∙◌, inl, inr}
+use Rattle.std.proofs.Common.{ℕ, ◌≡◌, Bool, true, false, if◌then◌else◌, List, [], ◌∷◌, ◌++◌, Option, Some, None, Result, Ok, Err, IfOk, MatchOption, option_map, refl, sym, ap, subst, ◌∙◌, inl, inr}
 use Rattle.std.specs.List.{slice_get}
 use Rattle.std.proofs.lemmas.Option.{same_Some}
 use Rattle.spec_core.specs.Lists.{Each, OneOf, IsOneOf}
@@ -13,9 +13,11 @@ use Rattle.spec_core.proofs.Instances.{bound_sort}
 use Rattle.equation_shapes.specs.Shapes.{AreOfShape}
 use Rattle.equation_shapes.proofs.Linear.{Tells, occurs, filled, are_of_shape}
 use Rattle.cover_search.proofs.Options.{on_some}
+use Rattle.cover_search.specs.Heads.{headed, is_headed}
 use Rattle.cover_search.specs.Sorts.{IsInhabited}
 use Rattle.cover_search.specs.Search.{variables, Finds, arguments_of}
 use Rattle.cover_search.specs.declared.arguments.Arguments.{Arguments}
+use Rattle.cover_search.proofs.Heading.{not_headed}
 use Rattle.cover_search.proofs.Searching.{variables_sorts, variables_made, variables_shape, all_covered, some_uncovered}
 use Rattle.cover_groups.specs.Groups.{HasFullGroup}
 use Rattle.cover_groups.proofs.Fullness.{full_over, one_sort}
@@ -41,16 +43,6 @@ each_one P Q [] h o = absurd o
 each_one P Q (x ∷ xs) h (inl q) = (x, h.0, q, inl refl)
 each_one P Q (x ∷ xs) h (inr o) = let r = each_one P Q xs h.1 o in (r.0, r.1, r.2, inr r.3)
 
--- an element that a loop has come to is one of the list's
-pub one_of_at : {A B : Type 0} (g : A → B) (xs ys : List A) (i : ℕ) (x : A) → ys ≡ xs → i < length ys → x ≡ get_or ys i x →
-    IsOneOf (g x) (map g xs)
-one_of_at {A = A} g xs ys i x same w a = subst (λ zs. IsOneOf (g x) (map g zs)) same (go ys i w a)
-  where
-    go : (zs : List A) (i : ℕ) → i < length zs → x ≡ get_or zs i x → IsOneOf (g x) (map g zs)
-    go [] i w a = absurd (omega arith)
-    go (z ∷ zs) zero w a = inl (ap g a)
-    go (z ∷ zs) (suc i) w a = inr (go zs i (omega arith) a)
-
 module _ (theory : Theory) (f : ℕ) where
   rows_from : (all es : List ConditionalEquation) (rows : List TermTrees) → ((e : ConditionalEquation) → IsOneOf e es → IsOneOf e all) →
       AreRows theory f es rows →
@@ -72,6 +64,17 @@ module _ (theory : Theory) (f : ℕ) where
   among r e (d ∷ es) rows (inl h) (inr o) l g = subst (OneOf (λ q. q ≡ r)) (sym h.3.1) (inr (among r e es h.3.0 h.3.2 o l g))
   among r e (d ∷ es) rows (inr h) (inl k) l g = absurd (h.0 r (sym (ap (λ x. x.left) k) ∙ l) (subst (HasFullGroup theory) k g))
   among r e (d ∷ es) rows (inr h) (inr o) l g = among r e es rows h.1 o l g
+
+  -- the rows of the equations of an operation are those of all equations
+  pub rows_all : (es : List ConditionalEquation) (rows : List TermTrees) → AreRows theory f (headed f es) rows → AreRows theory f es rows
+  rows_all [] rows h = h
+  rows_all (e ∷ es) rows h = chosen (is_headed f e) refl (rows_all es) h
+    where
+      chosen : (b : Bool) → is_headed f e ≡ b → ((rest : List TermTrees) → AreRows theory f (headed f es) rest → AreRows theory f es rest) →
+          AreRows theory f (if b then e ∷ headed f es else headed f es) rows → AreRows theory f (e ∷ es) rows
+      chosen true is others (inl k) = inl (k.0, k.1, k.2, (k.3.0, k.3.1, others k.3.0 k.3.2))
+      chosen true is others (inr k) = inr (k.0, others rows k.1)
+      chosen false is others k = inr ((λ r left full. not_headed f e is (r, left)), others rows k)
 
   -- one more row
   pub rows_more : (es : List ConditionalEquation) (e : ConditionalEquation) (rows new : List TermTrees) → AreRows theory f es rows →

@@ -3,7 +3,7 @@
 ghost use Rattle.std.specs.Prelude.{◌≡◌, IfOk, OnOk, Some};
 ghost use Rattle.std.specs.List.{slice_get};
 ghost use Rattle.cover_check.specs.Refused.{IsAdded, IsFirstRefusal, refusal_naming};
-ghost use Rattle.cover_search.specs.Sorts.{AreInhabited};
+ghost use Rattle.cover_search.specs.Indexes.{IsIndexOf};
 ghost use Rattle.lotos_ast.specs.Refusals.{IfRefused};
 ghost use Rattle.cover_search.specs.Search.{arguments_of};
 ghost use Rattle.spec_core.specs.Cover.{IsCovered};
@@ -13,8 +13,7 @@ ghost use Rattle.spec_core.specs.Theories.{operation_of, theory_of};
 
 use crate::pattern_text::pattern_text;
 use crate::uncovered::uncovered_case;
-use cover_search::{Arguments, inhabited_sorts};
-use equation_sets::set::NumberSet;
+use cover_search::{Arguments, DataIndex};
 use lotos_ast::first_refusal::first_refusal;
 use lotos_ast::names::Names;
 use lotos_ast::place::Place;
@@ -35,11 +34,11 @@ pub fn check_cover(alloc: Global, algebra: &DataSpec) -> Result<(), FrontFault>
     ensures refused { IfRefused result (IsFirstRefusal (theory_of algebra.now)) }
     ensures not_covered { IfRefused result (λ _. IsCovered (theory_of algebra.now) → ⊥) }
 {
-    let inhabited = inhabited_sorts(alloc, algebra)?;
+    let index = DataIndex::of(alloc, algebra)?;
     let mut refusals = Vec::new(alloc);
     for (i, declaration) in algebra.signature.ops.iter().enumerate() {
         let op = Op(i as u32);
-        add_refusal(alloc, algebra, &inhabited, op, declaration, &mut refusals)?;
+        add_refusal(alloc, algebra, &index, op, declaration, &mut refusals)?;
     }
     match first_refusal(refusals) {
         Some(refusal) => Err(FrontFault::Refused(refusal)),
@@ -51,18 +50,18 @@ pub fn check_cover(alloc: Global, algebra: &DataSpec) -> Result<(), FrontFault>
 fn add_refusal(
     alloc: Global,
     algebra: &DataSpec,
-    inhabited: &NumberSet,
+    index: &DataIndex<'_>,
     op: Op,
     declaration: &OpDecl,
     refusals: &mut Vec<Refusal>,
 ) -> Result<(), Memory>
     requires fits { FitsData (theory_of algebra.now) }
     requires orthogonal { IsOrthogonal (theory_of algebra.now) }
-    requires exact { AreInhabited (theory_of algebra.now) inhabited.now }
+    requires index { IsIndexOf index.now (theory_of algebra.now) }
     requires declared { slice_get (theory_of algebra.now).operations op.0 ≡ Some (operation_of declaration.now) }
     ensures { OnOk result (IsAdded (theory_of algebra.now) op.0 (operation_of declaration.now) refusals.old.items refusals.new.items) }
 {
-    match uncovered_case(alloc, algebra, inhabited, op, declaration)? {
+    match uncovered_case(alloc, algebra, index, op, declaration)? {
         None => Ok(()),
         Some(pattern) => {
             refusals.push(not_covered(alloc, algebra, op, declaration, &pattern)?)?;

@@ -3,7 +3,7 @@
 ghost use Rattle.std.specs.Prelude.{◌≡◌, IfOk, MatchOption, Some, map};
 ghost use Rattle.std.specs.List.{slice_get};
 ghost use Rattle.cover_check.specs.Cases.{IsCoveredOperation, IsUncoveredBy};
-ghost use Rattle.cover_search.specs.Sorts.{AreInhabited};
+ghost use Rattle.cover_search.specs.Indexes.{IsIndexOf};
 ghost use Rattle.cover_search.specs.Search.{variables, arguments_of};
 ghost use Rattle.spec_core.specs.Numbers.{sort_number};
 ghost use Rattle.spec_core.specs.Orthogonality.{IsOrthogonal};
@@ -11,9 +11,7 @@ ghost use Rattle.spec_core.specs.Sorts.{FitsData};
 ghost use Rattle.spec_core.specs.Theories.{operation_of, theory_of};
 
 use crate::rows::rows_of;
-use cover_search::{Arguments, are_in, uncovered_pattern};
-use equation_sets::set::NumberSet;
-use spec_core::constructors::is_constructor;
+use cover_search::{Arguments, DataIndex, are_in, uncovered_pattern};
 use spec_core::equation::DataSpec;
 use spec_core::items::{Op, Sort};
 use spec_core::memory::Memory;
@@ -37,26 +35,26 @@ fn variables_of(alloc: Global, sorts: &[Sort]) -> Result<Arguments, Memory>
 pub fn uncovered_case(
     alloc: Global,
     algebra: &DataSpec,
-    inhabited: &NumberSet,
+    index: &DataIndex<'_>,
     op: Op,
     declaration: &OpDecl,
 ) -> Result<Option<Arguments>, Memory>
     requires fits { FitsData (theory_of algebra.now) }
     requires orthogonal { IsOrthogonal (theory_of algebra.now) }
-    requires exact { AreInhabited (theory_of algebra.now) inhabited.now }
+    requires index { IsIndexOf index.now (theory_of algebra.now) }
     requires declared { slice_get (theory_of algebra.now).operations op.0 ≡ Some (operation_of declaration.now) }
     ensures covered { IfOk result (λ found. MatchOption found
         (IsCoveredOperation (theory_of algebra.now) op.0 (operation_of declaration.now)) (λ _. Unit {0})) }
     ensures uncovered { IfOk result (λ found. MatchOption found (Unit {0})
         (λ pattern. IsUncoveredBy (theory_of algebra.now) op.0 (operation_of declaration.now) (arguments_of pattern))) }
 {
-    if is_constructor(algebra, op) {
+    if index.heads.is_constructor(algebra, op) {
         return Ok(None);
     }
-    if !are_in(&declaration.args, inhabited) {
+    if !are_in(&declaration.args, &index.inhabited) {
         return Ok(None);
     }
-    let rows = rows_of(alloc, algebra, op)?;
+    let rows = rows_of(alloc, algebra, index, op)?;
     let start = variables_of(alloc, &declaration.args)?;
-    uncovered_pattern(alloc, algebra, inhabited, &rows, start)
+    uncovered_pattern(alloc, algebra, index, &rows, start)
 }

@@ -121,10 +121,10 @@ at_one_of P x [] o h = absurd o
 at_one_of P x (y ∷ ys) (inl e) h = inl (subst P e h)
 at_one_of P x (y ∷ ys) (inr o) h = inr (at_one_of P x ys o h)
 
-pub from_more : (theory : Theory) (l : TermTree) (e : ConditionalEquation) (old new : List (List Premise)) → IsOneOf e theory.equations →
-    IsListAdded l e old new → AllFrom theory l old → AllFrom theory l new
-from_more theory l e old new o (inl a) h = subst (AllFrom theory l) (sym a.2) (each_push (λ ps. OneOf (IsOfGroup l ps) theory.equations) old a.0 h (at_one_of (IsOfGroup l a.0) e theory.equations o a.1))
-from_more theory l e old new o (inr a) h = subst (AllFrom theory l) (sym a.1) h
+pub from_more : (es : List ConditionalEquation) (l : TermTree) (e : ConditionalEquation) (old new : List (List Premise)) → IsOneOf e es →
+    IsListAdded l e old new → AllFrom es l old → AllFrom es l new
+from_more es l e old new o (inl a) h = subst (AllFrom es l) (sym a.2) (each_push (λ ps. OneOf (IsOfGroup l ps) es) old a.0 h (at_one_of (IsOfGroup l a.0) e es o a.1))
+from_more es l e old new o (inr a) h = subst (AllFrom es l) (sym a.1) h
 
 pub give_more : (l : TermTree) (e : ConditionalEquation) (old new : List (List Premise)) (es : List ConditionalEquation) →
     IsListAdded l e old new → AllGive l old es → AllGive l new (es ++ e ∷ [])

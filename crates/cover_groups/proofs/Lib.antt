@@ -1,3 +1,5 @@
+pub mod ConstantSorts
 pub mod Fitting
 pub mod Fullness
 pub mod Grouping
+pub mod Heading

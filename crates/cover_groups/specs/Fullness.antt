@@ -1,12 +1,12 @@
 -- Full sets of lists of premises, as they are decided.
 use Rattle.std.specs.Prelude.{ℕ, ◌≡◌, List, [], ◌∷◌, Option, length, ◌≤◌}
-use Rattle.spec_core.specs.Constructors.{IsConstructor}
+use Rattle.std.specs.List.{slice_get}
 use Rattle.spec_core.specs.Cover.{IsConstant, HasConstants, BeginWithConstants, IsAfter, IsFull}
 use Rattle.spec_core.specs.Lists.{Each}
 use Rattle.spec_core.specs.Orthogonality.{Gives}
-use Rattle.spec_core.specs.Sorts.{HasSort, PremiseFits}
+use Rattle.spec_core.specs.Sorts.{OnSome, HasSort, PremiseFits}
 use Rattle.spec_core.specs.Terms.{TermTree}
-use Rattle.spec_core.specs.Theories.{Operation, Premise, Theory}
+use Rattle.spec_core.specs.Theories.{Premise, Theory}
 
 -- all lists begin by giving this term a constant, all constructors of its sort are constants, and for each of these the lists after it
 -- are full
@@ -31,9 +31,9 @@ abbrev pub BeginsWith : Theory → TermTree → ℕ → List Premise → List Pr
 BeginsWith theory t c [] rest = ⊥
 BeginsWith theory t c (p ∷ ps) rest = Gives theory p t c × (ps ≡ rest)
 
--- the operation, declared as d, is a constant if it is a constructor of the sort
-abbrev pub IsAllowed : Theory → ℕ → ℕ → Operation → Type 0
-IsAllowed theory sort c d = IsConstructor theory c → d.result ≡ sort → d.args ≡ []
+-- the operation is declared, without arguments
+abbrev pub TakesNothing : Theory → ℕ → Type 0
+TakesNothing theory c = OnSome (slice_get theory.operations c) (λ d. d.args ≡ [])
 
 -- the premises of all lists are of terms over these variables
 abbrev pub AllFit : Theory → (ℕ → Option ℕ) → List (List Premise) → Type 0

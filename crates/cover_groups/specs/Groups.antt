@@ -26,9 +26,9 @@ premises_of list = map premise_of list.items.items
 abbrev pub AllGive : TermTree → List (List Premise) → List ConditionalEquation → Type 0
 AllGive l lists es = Each (λ e. (r : ℕ → ℕ) → instance (λ x. variable (r x)) e.left ≡ l → OneOf (λ ps. IsOfGroup l ps e) lists) es
 
--- each list belongs to an equation of the theory that is of the group
-abbrev pub AllFrom : Theory → TermTree → List (List Premise) → Type 0
-AllFrom theory l lists = Each (λ ps. OneOf (IsOfGroup l ps) theory.equations) lists
+-- each list belongs to one of these equations that is of the group
+abbrev pub AllFrom : List ConditionalEquation → TermTree → List (List Premise) → Type 0
+AllFrom es l lists = Each (λ ps. OneOf (IsOfGroup l ps) es) lists
 
 -- the premise with s x in place of each variable x
 abbrev pub premise_instance : (ℕ → TermTree) → Premise → Premise

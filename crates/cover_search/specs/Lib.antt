@@ -1,3 +1,6 @@
+pub mod Constructors
+pub mod Heads
+pub mod Indexes
 pub mod Makers
 pub mod Search
 pub mod Sorts

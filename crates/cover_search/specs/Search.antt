@@ -1,11 +1,12 @@
 -- The search for a case that no left side covers. In a pattern here each variable is one of its own, and its number is its sort.
-use Rattle.std.specs.Prelude.{ℕ, suc, ◌≡◌, ◌⊎◌, List, [], ◌∷◌, ◌++◌, drop, map, Option, Some, None}
+use Rattle.std.specs.Prelude.{ℕ, suc, ◌≡◌, ◌⊎◌, Bool, List, [], ◌∷◌, ◌++◌, drop, map, Option, Some, None}
 use Rattle.spec_core.specs.Lists.{Each, OneOf}
 use Rattle.cover_search.specs.declared.arguments.Arguments.{Arguments}
 use Rattle.spec_core.specs.Terms.{TermTree, TermTrees, variable, apply, no_terms, and_term, terms, term_of}
 use Rattle.spec_core.specs.Theories.{Operation, Theory}
 use Rattle.equation_shapes.specs.Shapes.{AreOfShape, MeetAll}
 use Rattle.cover_search.specs.Makers.{IsMaker}
+use Rattle.cover_search.specs.Sorts.{AreIn}
 
 -- a variable of each sort
 abbrev pub variables : List ℕ → TermTrees
@@ -92,6 +93,11 @@ stack_of todo = stack_onto todo []
 abbrev pub IsAlternative : Theory → ℕ → TermTrees → TermTrees → ℕ → Operation → List TermTrees → List TermTrees → Type 0
 IsAlternative theory s row ps c d old new =
     IsMaker theory s c d × (new ≡ opened_any (apply c (variables d.args)) row ps ∷ old) ⊎ (IsMaker theory s c d → ⊥) × (new ≡ old)
+
+-- the same, if all its argument sorts are in the set
+abbrev pub IsOpened : List Bool → TermTrees → TermTrees → ℕ → Operation → List TermTrees → List TermTrees → Type 0
+IsOpened set row ps c d old new =
+    AreIn set d.args × (new ≡ opened_any (apply c (variables d.args)) row ps ∷ old) ⊎ (AreIn set d.args → ⊥) × (new ≡ old)
 
 -- before the stack stand the patterns opened by the operations from c on
 abbrev pub AreAlternatives : Theory → ℕ → TermTrees → TermTrees → ℕ → List TermTrees → List TermTrees → Type 0

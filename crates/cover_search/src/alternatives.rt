@@ -1,9 +1,8 @@
 // What stands for a variable of a pattern: the constructors of its sort.
 
-ghost use Rattle.std.specs.Prelude.{◌≡◌, ◌↔◌, IfOk, OnOk, IsTrue, map};
-ghost use Rattle.cover_search.specs.Sorts.{AreInhabited};
-ghost use Rattle.cover_search.specs.Makers.{IsMaker};
-ghost use Rattle.cover_search.specs.Search.{variables, stack_of, IsAlternative, AreAlternatives};
+ghost use Rattle.std.specs.Prelude.{◌≡◌, IfOk, OnOk, map};
+ghost use Rattle.cover_search.specs.Indexes.{IsIndexOf};
+ghost use Rattle.cover_search.specs.Search.{variables, stack_of, IsOpened, AreAlternatives};
 ghost use Rattle.spec_core.specs.Numbers.{sort_number};
 ghost use Rattle.spec_core.specs.Sorts.{FitsData};
 ghost use Rattle.spec_core.specs.Terms.{apply, term_of, terms};
@@ -11,9 +10,9 @@ ghost use Rattle.spec_core.specs.Theories.{theory_of, operation_of};
 
 use crate::are_in;
 use crate::arguments::Arguments;
+use crate::index::DataIndex;
 use crate::opening::opened_any;
 use equation_sets::set::NumberSet;
-use spec_core::constructors::is_constructor;
 use spec_core::equation::DataSpec;
 use spec_core::items::{Op, Sort};
 use spec_core::memory::Memory;
@@ -32,43 +31,20 @@ fn constructor_over(alloc: Global, op: Op, args: &[Sort]) -> Result<Term, Memory
     Ok(Term::App(op, all))
 }
 
-// Whether an operation is a constructor of the sort that has values.
-fn is_maker(
-    algebra: &DataSpec,
-    inhabited: &NumberSet,
-    op: Op,
-    declaration: &OpDecl,
-    sort: u32,
-) -> bool
-    requires exact { AreInhabited (theory_of algebra.now) inhabited.now }
-    ensures decides { IsTrue result ↔ IsMaker (theory_of algebra.now) sort op.0 (operation_of declaration.now) }
-{
-    if declaration.result.0 != sort {
-        return false;
-    }
-    if !are_in(&declaration.args, inhabited) {
-        return false;
-    }
-    is_constructor(algebra, op)
-}
-
-// Puts the pattern opened by an operation on the stack, if that is a constructor of the sort that has values.
+// Puts the pattern opened by an operation on the stack, if all its argument sorts have values.
 fn push_alternative(
     alloc: Global,
-    algebra: &DataSpec,
     inhabited: &NumberSet,
     op: Op,
     declaration: &OpDecl,
-    sort: u32,
     row: &[Term],
     pattern: &[Term],
     todo: &mut Vec<Arguments>,
 ) -> Result<(), Memory>
-    requires exact { AreInhabited (theory_of algebra.now) inhabited.now }
-    ensures { OnOk result (IsAlternative (theory_of algebra.now) sort (terms (map term_of row.now)) (terms (map term_of pattern.now)) op.0
+    ensures { OnOk result (IsOpened inhabited.now (terms (map term_of row.now)) (terms (map term_of pattern.now)) op.0
         (operation_of declaration.now) (stack_of todo.old.items) (stack_of todo.new.items)) }
 {
-    if !is_maker(algebra, inhabited, op, declaration, sort) {
+    if !are_in(&declaration.args, inhabited) {
         return Ok(());
     }
     let made = constructor_over(alloc, op, &declaration.args)?;
@@ -81,32 +57,24 @@ fn push_alternative(
 pub fn push_alternatives(
     alloc: Global,
     algebra: &DataSpec,
-    inhabited: &NumberSet,
+    index: &DataIndex<'_>,
     sort: u32,
     row: &[Term],
     pattern: &[Term],
     todo: &mut Vec<Arguments>,
 ) -> Result<(), Memory>
     requires fits { FitsData (theory_of algebra.now) }
-    requires exact { AreInhabited (theory_of algebra.now) inhabited.now }
+    requires index { IsIndexOf index.now (theory_of algebra.now) }
     ensures { OnOk result (AreAlternatives (theory_of algebra.now) sort (terms (map term_of row.now)) (terms (map term_of pattern.now)) 0
         (stack_of todo.old.items) (stack_of todo.new.items)) }
 {
-    let mut place = algebra.signature.ops.len();
+    let constructors = index.constructors.of_sort(sort);
+    let mut place = constructors.len();
     while place > 0 {
         place -= 1;
-        let declaration = &algebra.signature.ops[place];
-        push_alternative(
-            alloc,
-            algebra,
-            inhabited,
-            Op(place as u32),
-            declaration,
-            sort,
-            row,
-            pattern,
-            todo,
-        )?;
+        let op = constructors[place];
+        let declaration = &algebra.signature.ops[op.0 as usize];
+        push_alternative(alloc, &index.inhabited, op, declaration, row, pattern, todo)?;
     }
     Ok(())
 }

@@ -1,7 +1,7 @@
 // The search for an uncovered pattern.
 
 ghost use Rattle.std.specs.Prelude.{◌≡◌, ◌<◌, ◌↔◌, ◌∷◌, Ok, IfOk, IfSome, IfNone, IsTrue, true, false, map, option_map};
-ghost use Rattle.cover_search.specs.Sorts.{AreInhabited};
+ghost use Rattle.cover_search.specs.Indexes.{IsIndexOf};
 ghost use Rattle.cover_search.specs.Search.{arguments_of, rows_of, stack_of, IsFirstMeeting, LeadsBack, Finds};
 ghost use Rattle.cover_search.specs.Turns.{turns_left};
 ghost use Rattle.spec_core.specs.Lists.{Each, OneOf};
@@ -12,8 +12,8 @@ ghost use Rattle.equation_shapes.specs.Shapes.{AreOfShape, MeetAll};
 
 use crate::alternatives::push_alternatives;
 use crate::arguments::Arguments;
+use crate::index::DataIndex;
 use crate::opening::faced_any;
-use equation_sets::set::NumberSet;
 use equation_shapes::shape::{are_of_shape, meet_all};
 use spec_core::equation::DataSpec;
 use spec_core::memory::Memory;
@@ -49,13 +49,13 @@ fn first_meeting<'a>(rows: &'a [Arguments], pattern: &[Term]) -> Option<&'a Argu
 fn step(
     alloc: Global,
     algebra: &DataSpec,
-    inhabited: &NumberSet,
+    index: &DataIndex<'_>,
     rows: &[Arguments],
     pattern: &[Term],
     todo: &mut Vec<Arguments>,
 ) -> Result<bool, Memory>
     requires fits { FitsData (theory_of algebra.now) }
-    requires exact { AreInhabited (theory_of algebra.now) inhabited.now }
+    requires index { IsIndexOf index.now (theory_of algebra.now) }
     ensures found { result ≡ Ok true → Each (λ r. MeetAll r (terms (map term_of pattern.now)) → ⊥) (rows_of rows.now) }
     ensures left { result ≡ Ok false → LeadsBack (theory_of algebra.now) (rows_of rows.now)
         (terms (map term_of pattern.now) ∷ stack_of todo.old.items) (stack_of todo.new.items) }
@@ -74,7 +74,7 @@ fn step(
             match facing {
                 None => Ok(false),
                 Some(sort) => {
-                    push_alternatives(alloc, algebra, inhabited, sort, cells, pattern, todo)?;
+                    push_alternatives(alloc, algebra, index, sort, cells, pattern, todo)?;
                     Ok(false)
                 }
             }
@@ -90,19 +90,19 @@ fn step(
 pub fn uncovered_pattern(
     alloc: Global,
     algebra: &DataSpec,
-    inhabited: &NumberSet,
+    index: &DataIndex<'_>,
     rows: &[Arguments],
     start: Arguments,
 ) -> Result<Option<Arguments>, Memory>
     requires fits { FitsData (theory_of algebra.now) }
-    requires exact { AreInhabited (theory_of algebra.now) inhabited.now }
+    requires index { IsIndexOf index.now (theory_of algebra.now) }
     ensures finds { IfOk result (λ found.
         Finds (theory_of algebra.now) (rows_of rows.now) (arguments_of start) (option_map arguments_of found)) }
 {
     let mut todo = Vec::new(alloc);
     todo.push(start)?;
     while let Some(pattern) = todo.pop() {
-        let uncovered = step(alloc, algebra, inhabited, rows, &pattern.items, &mut todo)?;
+        let uncovered = step(alloc, algebra, index, rows, &pattern.items, &mut todo)?;
         if uncovered {
             return Ok(Some(pattern));
         }

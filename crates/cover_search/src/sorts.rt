@@ -1,14 +1,15 @@
 // Which sorts have a ground constructor term.
 
 ghost use Rattle.std.specs.Prelude.{ℕ, ◌≡◌, ◌↔◌, IfOk, IsTrue, false, map};
+ghost use Rattle.cover_search.specs.Heads.{IsHeadIndexOf};
 ghost use Rattle.cover_search.specs.Sorts.{AreIn, AllInhabited, AreInhabited, IsClosedAt, IsDeclaredAt};
 ghost use Rattle.equation_sets.specs.Members.{IsIn};
 ghost use Rattle.spec_core.specs.Numbers.{sort_number};
 ghost use Rattle.spec_core.specs.Sorts.{FitsData};
 ghost use Rattle.spec_core.specs.Theories.{theory_of};
 
+use crate::heads::HeadIndex;
 use equation_sets::set::NumberSet;
-use spec_core::constructors::is_constructor;
 use spec_core::equation::DataSpec;
 use spec_core::items::{Op, Sort};
 use spec_core::memory::Memory;
@@ -25,7 +26,15 @@ pub fn are_in(sorts: &[Sort], set: &NumberSet) -> bool
 }
 
 // Puts the result sort of an operation into the set, if it is a constructor over sorts of the set; whether it was not there.
-fn visit(algebra: &DataSpec, op: Op, args: &[Sort], sort: Sort, set: &mut NumberSet) -> bool
+fn visit(
+    algebra: &DataSpec,
+    heads: &HeadIndex<'_>,
+    op: Op,
+    args: &[Sort],
+    sort: Sort,
+    set: &mut NumberSet,
+) -> bool
+    requires heads { IsHeadIndexOf heads.now (theory_of algebra.now).equations }
     requires declared { IsDeclaredAt (theory_of algebra.now) op.0 (map sort_number args.now) sort.0 }
     ensures kept { (s : ℕ) → IsIn s set.old → IsIn s set.new }
     ensures sound { AllInhabited (theory_of algebra.now) set.old → AllInhabited (theory_of algebra.now) set.new }
@@ -35,7 +44,7 @@ fn visit(algebra: &DataSpec, op: Op, args: &[Sort], sort: Sort, set: &mut Number
     if set.has(sort.0) {
         return false;
     }
-    if !is_constructor(algebra, op) {
+    if !heads.is_constructor(algebra, op) {
         return false;
     }
     if !are_in(args, set) {
@@ -46,8 +55,9 @@ fn visit(algebra: &DataSpec, op: Op, args: &[Sort], sort: Sort, set: &mut Number
 }
 
 // Puts in the result sorts of all constructors over sorts of the set; whether there was a new one.
-fn spread(algebra: &DataSpec, set: &mut NumberSet) -> bool
+fn spread(algebra: &DataSpec, heads: &HeadIndex<'_>, set: &mut NumberSet) -> bool
     requires fits { FitsData (theory_of algebra.now) }
+    requires heads { IsHeadIndexOf heads.now (theory_of algebra.now).equations }
     ensures kept { (s : ℕ) → IsIn s set.old → IsIn s set.new }
     ensures sound { AllInhabited (theory_of algebra.now) set.old → AllInhabited (theory_of algebra.now) set.new }
     ensures closed { result ≡ false → (c : ℕ) → IsClosedAt (theory_of algebra.now) set.new c }
@@ -55,7 +65,14 @@ fn spread(algebra: &DataSpec, set: &mut NumberSet) -> bool
     let mut changed = false;
     for (i, declaration) in algebra.signature.ops.iter().enumerate() {
         let op = Op(i as u32);
-        if visit(algebra, op, &declaration.args, declaration.result, set) {
+        if visit(
+            algebra,
+            heads,
+            op,
+            &declaration.args,
+            declaration.result,
+            set,
+        ) {
             changed = true;
         }
     }
@@ -63,13 +80,18 @@ fn spread(algebra: &DataSpec, set: &mut NumberSet) -> bool
 }
 
 /// The sorts that have a ground constructor term.
-pub fn inhabited_sorts(alloc: Global, algebra: &DataSpec) -> Result<NumberSet, Memory>
+pub fn inhabited_sorts(
+    alloc: Global,
+    algebra: &DataSpec,
+    heads: &HeadIndex<'_>,
+) -> Result<NumberSet, Memory>
     requires fits { FitsData (theory_of algebra.now) }
+    requires heads { IsHeadIndexOf heads.now (theory_of algebra.now).equations }
     ensures exact { IfOk result (AreInhabited (theory_of algebra.now)) }
 {
     let mut set = NumberSet::new(alloc, algebra.signature.sorts.len())?;
     for _round in 0..u64::MAX {
-        if !spread(algebra, &mut set) {
+        if !spread(algebra, heads, &mut set) {
             return Ok(set);
         }
     }

@@ -1,8 +1,9 @@
-use Rattle.std.proofs.Common.{ℕ, List, ◌<◌, ◌+◌, ◌*◌, map}
+use Rattle.std.proofs.Common.{ℕ, List, ◌<◌, ◌+◌, ◌*◌, map, take}
 use Rattle.std.specs.List.{slice_get}
 use Rattle.equation_overlaps.specs.Given.{candidate}
-use Rattle.spec_core.specs.Cover.{IsConstant, IsAfter, IsFull}
-use Rattle.spec_core.specs.Numbers.{sort_number}
+use Rattle.spec_core.specs.Cover.{IsAfter, IsFull}
+use Rattle.spec_core.specs.Lists.{Each}
+use Rattle.spec_core.specs.Numbers.{op_number, sort_number}
 use Rattle.spec_core.specs.Terms.{term_of}
 use Rattle.spec_core.specs.Theories.{Premise, premise_of, theory_of}
 use Rattle.cover_groups.specs.Fullness.{IsFullBy}
@@ -19,7 +20,6 @@ abbrev pub invariant-is_full-loop-number : goal.invariant-is_full-loop-number
 invariant-is_full-loop-number l = (n : ℕ) → n < l.number →
     IsFullBy (theory_of l.algebra) (slice_get (map sort_number l.vars)) (map premises_at l.lists) (candidate (premise_of l.premise) n) → ⊥
 
-abbrev pub invariant-is_full_by-loop-i : goal.invariant-is_full_by-loop-i
-invariant-is_full_by-loop-i l = (c : ℕ) → c < l.i → IsConstant (theory_of l.algebra) l.sort.0 c → (rest : List (List Premise)) →
-    IsAfter (theory_of l.algebra) (term_of l.term) c (map premises_at l.lists) rest →
-    IsFull (theory_of l.algebra) (slice_get (map sort_number l.vars)) rest
+abbrev pub invariant-is_full_by-loop-op : goal.invariant-is_full_by-loop-op
+invariant-is_full_by-loop-op l = Each (λ c. (rest : List (List Premise)) → IsAfter (theory_of l.algebra) (term_of l.term) c (map premises_at l.lists) rest →
+    IsFull (theory_of l.algebra) (slice_get (map sort_number l.vars)) rest) (map op_number (take l.op-index l.constructors))

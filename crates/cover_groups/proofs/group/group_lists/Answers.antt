@@ -1,39 +1,34 @@
-use Rattle.std.proofs.Common.{◌≡◌, map, take, refl, sym, subst, ◌∙◌}
-use Rattle.std.proofs.lemmas.List.{take_all}
+use Rattle.std.proofs.Common.{[], sym, subst, map}
+use Rattle.spec_core.specs.Cover.{IsGroup}
+use Rattle.spec_core.specs.Lists.{Each}
 use Rattle.spec_core.specs.Orthogonality.{HasNoLooseVariables}
 use Rattle.spec_core.specs.Terms.{term_of}
-use Rattle.spec_core.specs.Theories.{equation_of, theory_of}
-use Rattle.spec_core.proofs.Lists.{each-at, map_next}
-use Rattle.spec_core.proofs.Members.{some_image}
-use Rattle.cover_groups.specs.Groups.{AllGive, premises_of}
-use Rattle.cover_groups.proofs.Grouping.{from_more, give_more}
+use Rattle.spec_core.specs.Theories.{theory_of}
+use Rattle.spec_core.proofs.Lists.{each_filter}
+use Rattle.cover_search.specs.Heads.{equations_at, is_headed}
+use Rattle.cover_groups.specs.Groups.{premises_of}
+use Rattle.cover_groups.proofs.Heading.{operation_in, group_if_ok, group_of}
 use Rattle.cover_groups.proofs.group.group_lists.Goals as goal
 
-pub add_list-requires-clause-closed : goal.add_list-requires-clause-closed
-add_list-requires-clause-closed c =
-    each-at HasNoLooseVariables equation_of _ _ _ c.equation-item.result c.deref-equation-items.ensures.value
-    c.loop-equation-test.true c.equation-item.is c.requires.closed
+pub lists_among-requires-clause-closed : goal.lists_among-requires-clause-closed
+lists_among-requires-clause-closed c =
+    let es = (theory_of c.args.algebra.now).equations in
+    let k = operation_in (term_of c.args.left.now) c.requires.applied in
+    subst (Each HasNoLooseVariables) (sym (c.in-Some.ensures es k.0 k.1 c.requires.heads k.2))
+    (each_filter HasNoLooseVariables (is_headed k.0) es c.requires.closed)
 
-pub loop-equation-preserved : goal.loop-equation-preserved
-loop-equation-preserved c =
+pub returns-in-None : goal.returns-in-None
+returns-in-None c =
     let theory = theory_of c.args.algebra.now in
     let l = term_of c.args.left.now in
-    let e = equation_of c.equation-item.result in
-    let old = map premises_of c.loop-equation.lists.items in
-    let new = map premises_of c.add_list.new.lists.items in
-    record {
-      from = from_more theory l e old new
-          (some_image (λ y. e ≡ y) equation_of c.args.algebra.now.equations.items c.deref-equation-items.result.now c.loop-equation.equation-index
-          c.equation-item.result c.deref-equation-items.ensures.value c.loop-equation-test.true c.equation-item.is refl)
-          c.in_ok-add_list.ensures c.loop-equation.invariant.from;
-      give = subst (AllGive l new) (sym (map_next equation_of c.deref-equation-items.result.now c.loop-equation.equation-index c.equation-item.result c.loop-equation-test.true c.equation-item.is))
-          (give_more l e old new (map equation_of (take c.loop-equation.equation-index c.deref-equation-items.result.now)) c.in_ok-add_list.ensures c.loop-equation.invariant.give);
-    }
+    let k = operation_in l c.requires.applied in
+    subst (λ xs. IsGroup theory l (map premises_of xs)) (sym c.new.ensures.items)
+    (group_of theory l k.0 k.1 [] [] k.2 (c.in-None.ensures theory.equations k.0 k.1 c.requires.heads k.2) tt tt)
 
-pub returns : goal.returns
-returns c = record {
-  from_equations = c.loop-equation.invariant.from;
-  all_equations = subst (λ xs. AllGive (term_of c.args.left.now) (map premises_of c.loop-equation.lists.items) (map equation_of xs))
-      (take_all c.loop-equation.equation-index c.deref-equation-items.result.now c.loop-equation-test.false ∙ c.deref-equation-items.ensures.value)
-      c.loop-equation.invariant.give;
-}
+pub returns-in-Some : goal.returns-in-Some
+returns-in-Some c =
+    let theory = theory_of c.args.algebra.now in
+    let l = term_of c.args.left.now in
+    let k = operation_in l c.requires.applied in
+    group_if_ok theory l k.0 k.1 (equations_at c.in-Some.headed.now) (λ lists. map premises_of lists.items) c.lists_among.result k.2
+    (c.in-Some.ensures theory.equations k.0 k.1 c.requires.heads k.2) c.lists_among.ensures.from c.lists_among.ensures.give

@@ -1,9 +1,15 @@
-use Rattle.std.proofs.Common.{◌∙◌, ◌∷◌, map, ap, inl}
+use Rattle.std.proofs.Common.{◌∙◌, ◌∷◌, map, ap, subst, sym, refl, inl, inr}
 use Rattle.spec_core.specs.Numbers.{sort_number}
 use Rattle.spec_core.specs.Terms.{apply, term_of, terms}
+use Rattle.spec_core.proofs.Lists.{untrue}
 use Rattle.cover_search.specs.Search.{variables, opened_any, stack_of}
+use Rattle.cover_search.specs.Sorts.{AreIn}
 use Rattle.cover_search.proofs.Stacking.{popped}
 use Rattle.cover_search.proofs.alternatives.push_alternative.Goals as goal
+
+pub returns-then-not-are_in : goal.returns-then-not-are_in
+returns-then-not-are_in c =
+    inr ((λ i. untrue (c.if-not-are_in.ensures.decides.1 (subst (λ xs. AreIn c.args.inhabited.now (map sort_number xs)) (sym c.deref.ensures.value) i))), refl)
 
 pub returns : goal.returns
 returns c =
@@ -11,9 +17,9 @@ returns c =
     let ps = terms (map term_of c.args.pattern.now) in
     let old = stack_of c.args.todo.now.items in
     inl (
-      c.is_maker.ensures.decides.0 c.if-not-is_maker.false,
+      subst (λ xs. AreIn c.args.inhabited.now (map sort_number xs)) c.deref.ensures.value (c.are_in.ensures.decides.0 c.if-not-are_in.false),
       popped c.push.new.self.items c.args.todo.now.items _ c.in_ok-push.ensures.items
           ∙ ap (λ x. x ∷ old) c.in_ok-items.ensures
           ∙ ap (λ t. opened_any t row ps ∷ old) c.in_ok-made.ensures
-          ∙ ap (λ xs. opened_any (apply c.args.op.0 (variables (map sort_number xs))) row ps ∷ old) c.deref.ensures.value,
+          ∙ ap (λ xs. opened_any (apply c.args.op.0 (variables (map sort_number xs))) row ps ∷ old) c.deref-2.ensures.value,
     )
