@@ -1,3 +1,4 @@
 pub mod Choosing
 pub mod Grouping
+pub mod Indexing
 pub mod Refusing

@@ -1,11 +1,11 @@
 // The check that data are orthogonal.
 
 ghost use Rattle.std.specs.Prelude.{ℕ, ◌≡◌, ◌++◌, ◌∷◌, ◌<◌, ◌^◌, [], IfOk, OnOk, List, map, length, vec_len};
-ghost use Rattle.equation_check.specs.Groups.{AreGroups};
+ghost use Rattle.equation_check.specs.Groups.{AreGroups, IsIndexed};
 ghost use Rattle.equation_check.specs.Shape.{IsAnswerOf, IsFirstRefusal, listed, overlap_of};
 ghost use Rattle.equation_faults.specs.Faults.{AreHeads};
 ghost use Rattle.lotos_ast.specs.Refusals.{IfRefused};
-ghost use Rattle.spec_core.specs.Lists.{IsOneOf};
+ghost use Rattle.spec_core.specs.Lists.{Each, IsOneOf};
 ghost use Rattle.spec_core.specs.Orthogonality.{IsOrthogonal};
 ghost use Rattle.spec_core.specs.Theories.{ConditionalEquation, theory_of, equation_of};
 
@@ -67,6 +67,8 @@ fn refusal_of<'a>(
     requires listed { IsOneOf (equation_of equation.now) (theory_of algebra.now).equations }
     requires sized { vec_len groups.now ≡ length heads.now }
     requires grouped { (before : List ConditionalEquation) × AreGroups (theory_of algebra.now) before groups.now.items }
+    requires indexed { Each IsIndexed groups.old.items }
+    ensures indexed { OnOk result (Each IsIndexed groups.new.items) }
     ensures sized { OnOk result (vec_len groups.new ≡ vec_len groups.old) }
     ensures grouped { OnOk result ((before : List ConditionalEquation) →
         AreGroups (theory_of algebra.now) before groups.old.items →
@@ -82,7 +84,7 @@ fn refusal_of<'a>(
         Term::Var(_) => Ok(None),
         Term::App(op, _) => {
             let place = op.0 as usize;
-            let found = first_overlapped(alloc, algebra, &groups[place].equations, equation)?;
+            let found = first_overlapped(alloc, algebra, &groups[place], equation)?;
             add_to_group(groups, place, equation)?;
             match found {
                 None => Ok(None),

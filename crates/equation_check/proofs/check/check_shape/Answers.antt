@@ -12,6 +12,7 @@ use Rattle.equation_check.proofs.check.check_shape.Goals as goal
 pub loop-equation-init : goal.loop-equation-init
 loop-equation-init c = record {
   sized = c.in_ok-groups.ensures.sized;
+  indexed = c.in_ok-groups.ensures.indexed;
   grouped = no_group (theory_of c.args.algebra.now) c.in_ok-groups.groups.items c.in_ok-groups.ensures.empty;
   refusals = no_refusals (theory_of c.args.algebra.now) c.new-refusals.result.items c.new-refusals.ensures.items;
 }
@@ -36,6 +37,7 @@ loop-equation-preserved c =
     map_next equation_of items i c.equation-item.result c.loop-equation-test.true c.equation-item.is in
     record {
       sized = c.in_ok-answer.ensures.sized ∙ c.loop-equation.invariant.sized;
+      indexed = c.in_ok-answer.ensures.indexed;
       grouped = subst (λ es. AreGroups theory es c.refusal_of.new.groups.items) (sym more)
           (c.in_ok-answer.ensures.grouped before c.loop-equation.invariant.grouped);
       refusals = subst (λ es. AreRefusals theory es c.add.new.refusals.items) (sym more)

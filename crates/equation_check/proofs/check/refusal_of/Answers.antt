@@ -1,4 +1,4 @@
-use Rattle.std.proofs.Common.{◌≡◌, ◌∙◌, ◌<◌, IfNone, IfSome, length, vec_len, map, rules, sym, subst, ap, arith}
+use Rattle.std.proofs.Common.{◌≡◌, ◌<◌, IfNone, IfSome, length, vec_len, map, rules, sym, subst, arith}
 use Rattle.spec_core.specs.declared.term.Term.TheFolds.{the_lemmas}
 use Rattle.spec_core.specs.Lists.{Each}
 use Rattle.spec_core.specs.Orthogonality.{AreApart}
@@ -6,9 +6,10 @@ use Rattle.spec_core.specs.Terms.{apply, terms, term_of}
 use Rattle.spec_core.specs.Theories.{theory_of, equation_of}
 use Rattle.equation_faults.specs.Faults.{IsFaultOf, IsWellFormed}
 use Rattle.equation_faults.specs.Firsts.{IsFirstOf}
-use Rattle.equation_check.specs.Groups.{group_of, seen}
+use Rattle.equation_check.specs.Groups.{group_of, seen, IsIndexed}
 use Rattle.equation_check.specs.Shape.{IsRefusalOf, fault}
 use Rattle.equation_check.proofs.Grouping.{head_below, not_grouped, grouped, accepted, overlapped, formed_group, group_at}
+use Rattle.equation_check.proofs.Indexing.{group_of_place}
 use Rattle.equation_check.proofs.Refusing.{fault_refuses}
 use Rattle.equation_check.proofs.check.refusal_of.Goals as goal
 
@@ -39,7 +40,7 @@ add_to_group-requires c =
     let k : term_of c.args.equation.now.left ≡ apply c.in-App.op.0 ps = search (rules, the_lemmas) in
     let below = head_below (theory_of c.args.algebra.now) c.args.heads.now (equation_of c.args.equation.now) c.in-App.op.0 c.requires.heads
     c.requires.listed (ps, k) in
-    record { within = omega (arith, below, c.requires.sized) }
+    record { within = omega (arith, below, c.requires.sized); indexed = c.requires.indexed }
 
 pub first_overlapped-requires-clause-group : goal.first_overlapped-requires-clause-group
 first_overlapped-requires-clause-group c =
@@ -51,9 +52,19 @@ first_overlapped-requires-clause-group c =
     let below = head_below theory c.args.heads.now (equation_of c.args.equation.now) g c.requires.heads c.requires.listed (ps, k) in
     let v : g < vec_len c.args.groups.now = omega (arith, below, c.requires.sized) in
     let w : g < length groups = search rules in
-    let same : group_of groups g ≡ map seen c.deref.result.now =
-    group_at groups g c.index.result.now w c.index.ensures ∙ ap (map seen) (sym c.deref.ensures.value) in
+    let same : group_of groups g ≡ map seen c.index.result.now.equations.items = group_at groups g c.index.result.now w c.index.ensures in
     subst (Each (IsWellFormed theory)) same (formed_group theory c.requires.grouped.0 groups g c.requires.grouped.1)
+
+pub first_overlapped-requires-clause-indexed : goal.first_overlapped-requires-clause-indexed
+first_overlapped-requires-clause-indexed c =
+    let groups = c.args.groups.now.items in
+    let ps = terms (map term_of c.in-App.field-1.items) in
+    let k : term_of c.args.equation.now.left ≡ apply c.in-App.op.0 ps = search (rules, the_lemmas) in
+    let below = head_below (theory_of c.args.algebra.now) c.args.heads.now (equation_of c.args.equation.now) c.in-App.op.0 c.requires.heads
+    c.requires.listed (ps, k) in
+    let v : c.in-App.op.0 < vec_len c.args.groups.now = omega (arith, below, c.requires.sized) in
+    let w : c.in-App.op.0 < length groups = search rules in
+    group_of_place IsIndexed groups c.in-App.op.0 c.index.result.now w c.index.ensures c.requires.indexed
 
 pub returns-in-None-clause-grouped : goal.returns-in-None-clause-grouped
 returns-in-None-clause-grouped c before are =
@@ -87,9 +98,8 @@ returns-in-None-clause-answer c before are =
     let below = head_below theory c.args.heads.now e g c.requires.heads c.requires.listed (ps, k) in
     let v : g < vec_len c.args.groups.now = omega (arith, below, c.requires.sized) in
     let w : g < length groups = search rules in
-    let same : group_of groups g ≡ map seen c.deref.result.now =
-    group_at groups g c.index.result.now w c.index.ensures ∙ ap (map seen) (sym c.deref.ensures.value) in
-    let apart = subst (λ o. IfNone o (Each (λ d. AreApart theory d e) (map seen c.deref.result.now))) c.in-None.is c.in_ok-found-in-App.ensures.none in
+    let same : group_of groups g ≡ map seen c.index.result.now.equations.items = group_at groups g c.index.result.now w c.index.ensures in
+    let apart = subst (λ o. IfNone o (Each (λ d. AreApart theory d e) (map seen c.index.result.now.equations.items))) c.in-None.is c.in_ok-found-in-App.ensures.none in
     accepted theory before e groups g formed (ps, k) are (subst (Each (λ d. AreApart theory d e)) (sym same) apart)
 
 pub returns-in_ok-overlap-in-Some-found-clause-answer : goal.returns-in_ok-overlap-in-Some-found-clause-answer
@@ -105,10 +115,9 @@ returns-in_ok-overlap-in-Some-found-clause-answer c before are =
     let below = head_below theory c.args.heads.now e g c.requires.heads c.requires.listed (ps, k) in
     let v : g < vec_len c.args.groups.now = omega (arith, below, c.requires.sized) in
     let w : g < length groups = search rules in
-    let same : group_of groups g ≡ map seen c.deref.result.now =
-    group_at groups g c.index.result.now w c.index.ensures ∙ ap (map seen) (sym c.deref.ensures.value) in
-    let first : IsFirstOf (λ x. AreApart theory x e → ⊥) (map seen c.deref.result.now) d =
-    subst (λ o. IfSome o (λ x. IsFirstOf (λ y. AreApart theory y e → ⊥) (map seen c.deref.result.now) (seen x))) c.in-Some-found.is
+    let same : group_of groups g ≡ map seen c.index.result.now.equations.items = group_at groups g c.index.result.now w c.index.ensures in
+    let first : IsFirstOf (λ x. AreApart theory x e → ⊥) (map seen c.index.result.now.equations.items) d =
+    subst (λ o. IfSome o (λ x. IsFirstOf (λ y. AreApart theory y e → ⊥) (map seen c.index.result.now.equations.items) (seen x))) c.in-Some-found.is
     c.in_ok-found-in-App.ensures.first in
     subst (IsRefusalOf theory before e) (sym c.in_ok-overlap-in-Some-found.ensures)
     (overlapped theory before e d groups g formed (ps, k) are (subst (λ es. IsFirstOf (λ x. AreApart theory x e → ⊥) es d) (sym same) first))

@@ -1,44 +1,58 @@
-use Rattle.std.proofs.Common.{◌+◌, IsTrue, map, take, drop, refl, sym, subst}
-use Rattle.spec_core.proofs.Lists.{each-at, untrue, each_push, each_implied, map_next}
+use Rattle.std.proofs.Common.{◌≡◌, ◌<◌, ◌∙◌, Some, None, length, map, get_or, ap, arith, sym, subst}
 use Rattle.spec_core.specs.Lists.{Each}
-use Rattle.spec_core.specs.Orthogonality.{AreApart}
 use Rattle.spec_core.specs.Theories.{theory_of, equation_of}
-use Rattle.equation_check.specs.Groups.{seen}
-use Rattle.equation_check.proofs.Grouping.{seen_parted}
-use Rattle.equation_faults.specs.Faults.{IsWellFormed}
+use Rattle.equation_check.specs.Groups.{argument, places_at, seen, IsLeast}
+use Rattle.equation_check.proofs.Indexing.{both_searched, first_found, none_found}
 use Rattle.equation_check.proofs.groups.first_overlapped.Goals as goal
 
-pub are_apart-requires-clause-earlier_linear : goal.are_apart-requires-clause-earlier_linear
-are_apart-requires-clause-earlier_linear c =
-    (each-at (IsWellFormed (theory_of c.args.algebra.now)) seen c.args.group.now c.args.group.now c.loop-earlier.earlier-index c.earlier-item.result
-    refl c.loop-earlier-test.true c.earlier-item.is c.requires.group).linear
+pub least_overlapped-requires-clause-within : goal.least_overlapped-requires-clause-within
+least_overlapped-requires-clause-within c =
+    subst (Each (λ place. place < length c.deref-equations.result.now)) (sym c.places-places.ensures)
+    (subst (λ xs. Each (λ place. place < length xs) (places_at c.args.group.now (Some c.in-Some.op))) (sym c.deref-equations.ensures.value)
+    (c.requires.indexed.within (Some c.in-Some.op)))
 
-pub are_apart-requires-clause-closed : goal.are_apart-requires-clause-closed
-are_apart-requires-clause-closed c =
-    (each-at (IsWellFormed (theory_of c.args.algebra.now)) seen c.args.group.now c.args.group.now c.loop-earlier.earlier-index c.earlier-item.result
-    refl c.loop-earlier-test.true c.earlier-item.is c.requires.group).closed
+pub least_overlapped-requires-in-Some-clause-within : goal.least_overlapped-requires-in-Some-clause-within
+least_overlapped-requires-in-Some-clause-within c =
+    subst (Each (λ place. place < length c.deref-equations.result.now)) (sym c.deref.ensures.value)
+    (subst (λ xs. Each (λ place. place < length xs) c.args.group.now.others.items) (sym c.deref-equations.ensures.value)
+    (c.requires.indexed.within None))
 
-pub returns-then-not-branch-clause-first : goal.returns-then-not-branch-clause-first
-returns-then-not-branch-clause-first c =
+pub returns-then-least-equations-clause-first : goal.returns-then-least-equations-clause-first
+returns-then-least-equations-clause-first c =
     let theory = theory_of c.args.algebra.now in
-    let e = equation_of c.args.later.now in
     let group = c.args.group.now in
-    let i = c.loop-earlier.earlier-index in
-    record {
-      before = map seen (take i group);
-      behind = map seen (drop (i + 1) group);
-      parts = seen_parted group i c.earlier-item.result c.loop-earlier-test.true c.earlier-item.is;
-      holds = λ a. untrue (subst IsTrue c.if-not-branch.true (c.in_ok-are_apart.ensures.decides.1 a));
-      none_before = each_implied (λ d. AreApart theory d e) (λ d. (AreApart theory d e → ⊥) → ⊥) (map seen (take i group)) (λ d a k. k a)
-          c.loop-earlier.invariant;
-    }
+    let items = group.equations.items in
+    let later = equation_of c.args.later.now in
+    let same = c.deref-equations.ensures.value in
+    let near = c.in_ok-near-in-Some.near in
+    let least = c.in_ok-least-in-Some.least in
+    let x = c.index-equations-least.result in
+    let has : argument later.left ≡ Some c.in-Some.op = sym c.argument.ensures ∙ c.in-Some.is in
+    let one : IsLeast theory (map seen items) later (places_at group (Some c.in-Some.op)) (length items) near =
+    subst (λ ps. IsLeast theory (map seen items) later ps (length items) near) c.places-places.ensures
+    (subst (λ xs. IsLeast theory (map seen xs) later c.places-places.result.now (length xs) near) same c.in_ok-near-in-Some.ensures) in
+    let other : IsLeast theory (map seen items) later group.others.items near least =
+    subst (λ ps. IsLeast theory (map seen items) later ps near least) c.deref.ensures.value
+    (subst (λ xs. IsLeast theory (map seen xs) later c.deref.result.now near least) same c.in_ok-least-in-Some.ensures) in
+    let found = both_searched theory group later c.in-Some.op near least c.requires.indexed has one other in
+    let w : least < length items = subst (λ xs. least < length xs) same c.if-least-equations.true in
+    first_found theory items later least x w (subst (λ xs. x ≡ get_or xs least x) same c.index-equations-least.is) (found.0 w) found.1
 
-pub loop-earlier-preserved : goal.loop-earlier-preserved
-loop-earlier-preserved c =
+pub returns-else-least-equations-clause-none : goal.returns-else-least-equations-clause-none
+returns-else-least-equations-clause-none c =
     let theory = theory_of c.args.algebra.now in
-    let e = equation_of c.args.later.now in
     let group = c.args.group.now in
-    let i = c.loop-earlier.earlier-index in
-    let apart : AreApart theory (seen c.earlier-item.result) e = c.in_ok-are_apart.ensures.decides.0 (subst IsTrue (sym c.if-not-branch.false) refl) in
-    subst (Each (λ d. AreApart theory d e)) (sym (map_next seen group i c.earlier-item.result c.loop-earlier-test.true c.earlier-item.is))
-    (each_push (λ d. AreApart theory d e) (map seen (take i group)) (seen c.earlier-item.result) c.loop-earlier.invariant apart)
+    let items = group.equations.items in
+    let later = equation_of c.args.later.now in
+    let same = c.deref-equations.ensures.value in
+    let near = c.in_ok-near-in-Some.near in
+    let least = c.in_ok-least-in-Some.least in
+    let has : argument later.left ≡ Some c.in-Some.op = sym c.argument.ensures ∙ c.in-Some.is in
+    let one : IsLeast theory (map seen items) later (places_at group (Some c.in-Some.op)) (length items) near =
+    subst (λ ps. IsLeast theory (map seen items) later ps (length items) near) c.places-places.ensures
+    (subst (λ xs. IsLeast theory (map seen xs) later c.places-places.result.now (length xs) near) same c.in_ok-near-in-Some.ensures) in
+    let other : IsLeast theory (map seen items) later group.others.items near least =
+    subst (λ ps. IsLeast theory (map seen items) later ps near least) c.deref.ensures.value
+    (subst (λ xs. IsLeast theory (map seen xs) later c.deref.result.now near least) same c.in_ok-least-in-Some.ensures) in
+    let found = both_searched theory group later c.in-Some.op near least c.requires.indexed has one other in
+    none_found theory group later least (omega (arith, c.if-least-equations.false, ap length same)) found.1
