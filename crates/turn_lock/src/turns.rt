@@ -31,6 +31,9 @@ const LENGTH: usize = 2;
 // The slot of the value.
 const VALUE: usize = 0;
 
+// A thread sleeps while the low bits of a word, so many, are as it saw them.
+const WORD: u64 = 4_294_967_296;
+
 type Top<T> = Shared<
     Option<T>,
     View<<T as Standing>::Entry, <T as Standing>::Fixed>,
@@ -89,7 +92,7 @@ fn draw<T: Standing, R: Wait>(rt: &R, top: &Top<T>, place: &mut Place<T>) -> u64
     unreachable!()
 }
 
-// Looks until the ticket is served, and then has the slot.
+// Looks until the ticket is served, and then has the slot. After a few looks the thread sleeps until the turn is passed on.
 fn wait<T: Standing, J: MadeWith<T::Fixed>, R: Wait>(
     rt: &R,
     top: &Top<T>,
@@ -106,10 +109,15 @@ fn wait<T: Standing, J: MadeWith<T::Fixed>, R: Wait>(
 {
     let backoff = Backoff::new();
     for _ in rt.forever() {
+        let served = top.peek(SERVING);
         if top.load::<Look<T, J>>(place, SERVING) == ticket {
             return;
         }
-        backoff.snooze();
+        if backoff.is_completed() {
+            top.park(rt, SERVING, (served % WORD) as u32);
+        } else {
+            backoff.snooze();
+        }
     }
     unreachable!()
 }
@@ -234,6 +242,7 @@ impl<T: Standing> Turns<T> {
         let left = top.exchange(&mut seat.place, VALUE, Some(value));
         let None = left else { unreachable!() };
         top.fetch_add::<Pass>(&mut seat.place, SERVING, 1);
+        top.wake_all(SERVING);
     }
 
     /// Takes the value out, where all seats that `new` gave are handed back and none holds the turn. It takes no memory.
