@@ -1,5 +1,5 @@
 -- The plans of the composites of a tree of nodes, of which not all are expanded. (This profile.)
-use Rattle.std.specs.Prelude.{ℕ, ◌++◌, List, [], ◌∷◌, map, flat_map, Option, Some, None, if◌then◌else◌}
+use Rattle.std.specs.Prelude.{ℕ, ◌++◌, List, [], ◌∷◌, map, flat_map, Option, Some, None, Bool, true, false, if◌then◌else◌}
 use Rattle.spec_core.specs.Theories.{Theory}
 use Rattle.spec_core.specs.Code.{Synchronised, synchronised_of}
 use Rattle.decision_trees.specs.Gaps.{OrGap, element, gap, in_its_place}
@@ -39,6 +39,12 @@ pub data PlacedPlan : Type 0 where
 abbrev pub plan_or_gap : PlacedPlan → PlanOrGap
 plan_or_gap (made p) = element p
 plan_or_gap (awaited g steps) = gap g
+
+-- there is a plan among them
+abbrev pub has_made : List PlacedPlan → Bool
+has_made [] = false
+has_made (made p ∷ ps) = true
+has_made (awaited g steps ∷ ps) = has_made ps
 
 -- those of whose actions some kind is sought at the whole
 abbrev pub plans_sought : sought.Sought → PlacedPlan → List PlanOrGap

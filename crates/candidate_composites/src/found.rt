@@ -2,7 +2,7 @@
 
 ghost use Rattle.std.specs.Prelude.{◌≡◌, IfOk, map};
 ghost use Rattle.symbolic_plans.specs.OpenPlans.{kind_in, open_plan_of, under_row};
-ghost use Rattle.candidate_composites.specs.Known.{found_of, own_or_made, placed_of};
+ghost use Rattle.candidate_composites.specs.Known.{found_of, has_made, own_or_made, placed_of};
 
 use crate::part::Part;
 use crate::step::Step;
@@ -79,6 +79,18 @@ impl<'a> Given<'a> {
             Given::Made(composite) => Ok(composite),
         }
     }
+}
+
+/// Whether there is a composite among them. It takes no memory.
+pub fn has_composite(those: &[Found<'_>]) -> bool
+    ensures { result ≡ has_made (map found_of those.now) }
+{
+    for found in those {
+        if let Found::Composite(_) = found {
+            return true;
+        }
+    }
+    false
 }
 
 // The same as a part of the whole.

@@ -3,13 +3,12 @@
 ghost use Rattle.std.specs.Prelude.{◌≡◌, map};
 ghost use Rattle.spec_core.specs.Code.{synchronised_of};
 ghost use Rattle.symbolic_plans.specs.OpenPlans.{kind_in};
-ghost use Rattle.node_trees.specs.Shapes.{binary_of};
+ghost use Rattle.node_trees.specs.Shapes.{beside};
 ghost use Rattle.candidate_composites.specs.Joining as joining;
 ghost use Rattle.candidate_composites.specs.Joining.{joining_of, right_of};
 ghost use Rattle.candidate_composites.specs.Known.{found_of};
 
 use crate::found::Found;
-use node_trees::branch::Double;
 use spec_core::code::GateSet;
 use symbolic_plans::composite::ActionKind;
 use symbolic_plans::kind::{is_alone, same_kind};
@@ -17,9 +16,9 @@ use symbolic_plans::kind::{is_alone, same_kind};
 /// Actions of whatever kind; or, on the right side of a parallel composition with these gates, those that it does alone, and those that its
 /// left side, which has these composites and gaps, may do as well.
 #[derive(Clone, Copy)]
-pub enum Joining<'a> {
+pub enum Joining<'a, 'b> {
     Free,
-    Beside(&'a GateSet, &'a [Found<'a>]),
+    Beside(&'a GateSet, &'b [Found<'a>]),
 }
 
 // Whether it is of this kind, or a gap, from which something of this kind may come.
@@ -44,7 +43,7 @@ fn is_offered(those: &[Found<'_>], kind: ActionKind) -> bool
     false
 }
 
-impl<'a> Joining<'a> {
+impl<'a, 'b> Joining<'a, 'b> {
     /// Whether actions of the kind may come up. It takes no memory.
     pub fn lets(self, kind: ActionKind) -> bool
         ensures { result ≡ joining.lets (joining_of self.entry) (kind_in kind) }
@@ -56,22 +55,19 @@ impl<'a> Joining<'a> {
     }
 }
 
-/// Which actions of the right side of an operator may come up, where its left side has these composites and gaps. It takes no memory.
-pub fn right_of<'a>(
+/// Which actions of the right side of a parallel composition may come up, where its left side has these composites and gaps. It takes no
+/// memory.
+pub fn right_of<'a, 'b>(
     prunes: bool,
-    operator: &'a Double,
-    left: &'a [Found<'a>],
-    above: Joining<'a>,
-) -> Joining<'a>
-    ensures { joining_of result ≡ right_of prunes (binary_of operator.now) (map found_of left.now) (joining_of above.entry) }
+    gates: &'a GateSet,
+    left: &'b [Found<'a>],
+    above: Joining<'a, 'b>,
+) -> Joining<'a, 'b>
+    ensures { joining_of result ≡ right_of prunes (beside (synchronised_of gates.now)) (map found_of left.now) (joining_of above.entry) }
 {
-    match operator {
-        Double::Choice => above,
-        Double::Par(gates) => if prunes {
-            Joining::Beside(gates, left)
-        } else {
-            above
-        },
-        Double::Disable => above,
+    if prunes {
+        Joining::Beside(gates, left)
+    } else {
+        above
     }
 }

@@ -1,26 +1,27 @@
 // The composites of a tree of nodes, as far as they are known.
 
-ghost use Rattle.std.specs.Prelude.{◌≡◌, IfOk, map, filter, flat_map};
+ghost use Rattle.std.specs.Prelude.{◌≡◌, ◌++◌, ◌||◌, IfOk, map, filter, flat_map};
 ghost use Rattle.spec_core.specs.Theories.{theory_of};
 ghost use Rattle.symbolic_plans.specs.OpenPlans.{open_plan_of};
 ghost use Rattle.node_trees.specs.Shapes.{shape_of, held_of};
 ghost use Rattle.candidate_composites.specs.Known.{part_of, known_plans, made, found_of, placed_of, placed_plans, sought_in, plans_sought};
-ghost use Rattle.candidate_composites.specs.Known.{sought_plans};
+ghost use Rattle.candidate_composites.specs.Known.{has_made, sought_plans};
 ghost use Rattle.candidate_composites.specs.Joining.{free, joining_of};
 ghost use Rattle.candidate_composites.specs.Kept.{is_kept, kept_at, kept_plans, node_waits, prunes_for, some_waits};
 
-use crate::found::{Found, Given, parts};
+use crate::found::{Found, Given, has_composite, parts};
 use crate::joining::{Joining, right_of};
-use crate::operators::{over_parts, over_sides};
+use crate::operators::{beside, put_others, put_over, turn_below, turn_disabled};
 use crate::part::Part;
 use crate::sought::{Sought, sought_below};
 use crate::step::Step;
-use node_trees::branch::Branch;
+use node_trees::branch::{Branch, Double};
 use node_trees::node::Node;
 use spec_core::equation::DataSpec;
 use spec_core::memory::Memory;
 use std::alloc::Global;
 use symbolic_plans::composite::OpenComposite;
+use symbolic_plans::scheme::Row;
 
 // Whether a node waits for its expansion.
 fn node_waits(node: &Node) -> bool
@@ -54,73 +55,136 @@ fn prunes_for(branch: &Branch, sought: &Sought) -> bool
     }
 }
 
-// Those of a node's own composites whose actions are sought, and may come up.
-fn own<'a>(
-    alloc: Global,
-    composites: &'a [OpenComposite],
-    sought: &Sought,
-    joining: Joining<'_>,
-) -> Result<Vec<Found<'a>>, Memory>
-    ensures { IfOk result (λ all. map found_of all.items ≡ map made
+// Whether one of the two holds.
+fn either(first: bool, second: bool) -> bool
+    ensures { result ≡ first || second }
+{
+    first || second
+}
+
+// Whether some of a node's own composites is of an action that is sought, and may come up.
+fn is_some_kept(composites: &[OpenComposite], sought: &Sought, joining: Joining<'_, '_>) -> bool
+    ensures { result ≡ has_made (map made
         (filter (λ p. is_kept (sought_in sought.now) (joining_of joining.entry) p.kind) (map open_plan_of composites.now))) }
 {
-    let mut all = Vec::new(alloc);
+    for composite in composites {
+        if joining.lets(composite.kind) && sought.seeks(composite.kind) {
+            return true;
+        }
+    }
+    false
+}
+
+// Appends those of a node's own composites whose actions are sought, and may come up.
+fn put_own<'a>(
+    composites: &'a [OpenComposite],
+    sought: &Sought,
+    joining: Joining<'a, '_>,
+    all: &mut Vec<Found<'a>>,
+) -> Result<(), Memory>
+    ensures { IfOk result (λ _. map found_of all.new.items ≡ map found_of all.old.items ++ map made
+        (filter (λ p. is_kept (sought_in sought.now) (joining_of joining.entry) p.kind) (map open_plan_of composites.now))) }
+{
     for composite in composites {
         if joining.lets(composite.kind) && sought.seeks(composite.kind) {
             all.push(Found::Composite(Given::Own(composite)))?;
         }
     }
-    Ok(all)
+    Ok(())
 }
 
-// Those composites of a node whose actions are sought, and may come up, or a gap.
+// Appends those composites of a node whose actions are sought, and may come up, or a gap; and whether there is a composite among them.
 #[inline(never)]
-fn at_node<'a>(
+fn put_at_node<'a>(
     alloc: Global,
     node: &'a Node,
     sought: &Sought,
-    joining: Joining<'_>,
-) -> Result<Vec<Found<'a>>, Memory>
-    ensures { IfOk result (λ all. map found_of all.items ≡
+    joining: Joining<'a, '_>,
+    all: &mut Vec<Found<'a>>,
+) -> Result<bool, Memory>
+    ensures kept { IfOk result (λ _. map found_of all.new.items ≡ map found_of all.old.items ++
         kept_at (sought_in sought.now) (joining_of joining.entry) (held_of node.now).generation (held_of node.now).work) }
+    ensures some { IfOk result (λ some. some ≡
+        has_made (kept_at (sought_in sought.now) (joining_of joining.entry) (held_of node.now).generation (held_of node.now).work)) }
 {
     match &node.work {
         None => {
-            let mut all = Vec::new(alloc);
             all.push(Found::Gap(node.generation, Vec::new(alloc)))?;
-            Ok(all)
+            Ok(false)
         }
-        Some(expansion) => own(alloc, &expansion.composites, sought, joining),
+        Some(expansion) => {
+            put_own(&expansion.composites, sought, joining, all)?;
+            Ok(is_some_kept(&expansion.composites, sought, joining))
+        }
     }
 }
 
-// The composites of a tree that are made of those of its nodes whose actions are sought at the whole, and the gaps with the steps from them
-// up to the whole. Where it prunes, what a right side could do only together with a left side that can't is left out.
-fn kept_composites<'a>(
+// Appends the composites of a tree that are made of those of its nodes whose actions are sought at the whole, and the gaps with the steps from
+// them up to the whole; and whether there is a composite among them. Where it prunes, what a right side could do only together with a left side
+// that can't is left out. A choice or a disabling takes time with the composites below it, and none with the gaps.
+fn put_kept<'a>(
     alloc: Global,
     algebra: &DataSpec,
     branch: &'a Branch,
     prunes: bool,
     sought: &Sought,
-    joining: Joining<'_>,
-) -> Result<Vec<Found<'a>>, Memory>
-    ensures { IfOk result (λ all. map found_of all.items ≡
+    joining: Joining<'a, '_>,
+    all: &mut Vec<Found<'a>>,
+) -> Result<bool, Memory>
+    ensures kept { IfOk result (λ _. map found_of all.new.items ≡ map found_of all.old.items ++
         kept_plans (theory_of algebra.now) prunes (shape_of branch.now) (sought_in sought.now) (joining_of joining.entry)) }
+    ensures some { IfOk result (λ some. some ≡ has_made
+        (kept_plans (theory_of algebra.now) prunes (shape_of branch.now) (sought_in sought.now) (joining_of joining.entry))) }
 {
     match branch {
-        Branch::Leaf(node) => at_node(alloc, node, sought, joining),
-        Branch::Ended => Ok(Vec::new(alloc)),
+        Branch::Leaf(node) => put_at_node(alloc, node, sought, joining, all),
+        Branch::Ended => Ok(false),
         Branch::Over(operator, part) => {
             let below = sought_below(alloc, &Step::Under(operator), sought)?;
-            let parts = kept_composites(alloc, algebra, part, prunes, &below, Joining::Free)?;
-            over_parts(alloc, operator, parts)
+            let mut parts = Vec::new(alloc);
+            let some = put_kept(
+                alloc,
+                algebra,
+                part,
+                prunes,
+                &below,
+                Joining::Free,
+                &mut parts,
+            )?;
+            put_over(alloc, operator, parts, all)?;
+            Ok(some)
         }
-        Branch::Between(operator, left, right) => {
-            let first = kept_composites(alloc, algebra, left, prunes, sought, joining)?;
-            let beside = right_of(prunes, operator, &first, joining);
-            let second = kept_composites(alloc, algebra, right, prunes, sought, beside)?;
-            over_sides(alloc, algebra, operator, first, second)
-        }
+        Branch::Between(operator, left, right) => match operator {
+            Double::Choice => {
+                let start = all.len();
+                let first = put_kept(alloc, algebra, left, prunes, sought, joining, all)?;
+                turn_below(alloc, first, start, &Row::Chl, all)?;
+                let middle = all.len();
+                let second = put_kept(alloc, algebra, right, prunes, sought, joining, all)?;
+                turn_below(alloc, second, middle, &Row::Chr, all)?;
+                Ok(either(first, second))
+            }
+            Double::Disable => {
+                let start = all.len();
+                let first = put_kept(alloc, algebra, left, prunes, sought, joining, all)?;
+                turn_disabled(alloc, first, start, all)?;
+                let middle = all.len();
+                let second = put_kept(alloc, algebra, right, prunes, sought, joining, all)?;
+                turn_below(alloc, second, middle, &Row::Distake, all)?;
+                Ok(either(first, second))
+            }
+            Double::Par(gates) => {
+                let mut first = Vec::new(alloc);
+                put_kept(alloc, algebra, left, prunes, sought, joining, &mut first)?;
+                let above = right_of(prunes, gates, &first, joining);
+                let mut second = Vec::new(alloc);
+                put_kept(alloc, algebra, right, prunes, sought, above, &mut second)?;
+                let both = beside(alloc, algebra, gates, first, second)?;
+                let some = has_composite(&both);
+                put_others(both, all)?;
+                Ok(some)
+            }
+        },
     }
 }
 
@@ -135,7 +199,16 @@ fn kept_parts<'a>(
         (prunes_for (sought_in sought.now) (shape_of branch.now)) (shape_of branch.now) (sought_in sought.now) free) }
 {
     let prunes = prunes_for(branch, sought);
-    let all = kept_composites(alloc, algebra, branch, prunes, sought, Joining::Free)?;
+    let mut all = Vec::new(alloc);
+    put_kept(
+        alloc,
+        algebra,
+        branch,
+        prunes,
+        sought,
+        Joining::Free,
+        &mut all,
+    )?;
     parts(alloc, all)
 }
 

@@ -1,19 +1,19 @@
 // What operators make of the composites of their parts, as far as these are known.
 
-ghost use Rattle.std.specs.Prelude.{◌≡◌, ◌∷◌, [], ◌++◌, IfOk, map, flat_map, option_map};
+ghost use Rattle.std.specs.Prelude.{◌≡◌, ◌∷◌, [], ◌++◌, IfOk, map, flat_map, option_map, take, drop};
 ghost use Rattle.spec_core.specs.Code.{synchronised_of};
 ghost use Rattle.spec_core.specs.Theories.{theory_of};
 ghost use Rattle.symbolic_plans.specs.OpenPlans.{open_plan_of, under_row, plans_alone, plans_joint, plan_by_disabling};
 ghost use Rattle.symbolic_composites.specs.Composites.{from_option};
 ghost use Rattle.node_trees.specs.Shapes as nodes;
-ghost use Rattle.node_trees.specs.Shapes.{unary_of, binary_of};
+ghost use Rattle.node_trees.specs.Shapes.{unary_of};
 ghost use Rattle.candidate_laws.specs.Sought.{by_itself, with_another, as_another};
 ghost use Rattle.candidate_composites.specs.Known.{made, awaited, step_of, found_of, own_or_made, over_one, stepped, turned_there};
-ghost use Rattle.candidate_composites.specs.Known.{placed_over_one, placed_alone, placed_partners, placed_over_two};
+ghost use Rattle.candidate_composites.specs.Known.{has_made, placed_over_one, placed_alone, placed_partners, placed_over_two};
 
 use crate::found::{Found, Given, copied_below};
 use crate::step::Step;
-use node_trees::branch::{Double, Single};
+use node_trees::branch::Single;
 use node_trees::origin::Gen;
 use spec_core::code::GateSet;
 use spec_core::equation::DataSpec;
@@ -67,20 +67,21 @@ fn over_part<'a>(alloc: Global, operator: &'a Single, part: Found<'a>) -> Result
     }
 }
 
-/// What an operator over one part makes of the composites of the part.
-pub fn over_parts<'a>(
+/// Appends what an operator over one part makes of the composites of the part.
+pub fn put_over<'a>(
     alloc: Global,
     operator: &'a Single,
     parts: Vec<Found<'a>>,
-) -> Result<Vec<Found<'a>>, Memory>
-    ensures over { IfOk result (λ all.
-        map found_of all.items ≡ map (placed_over_one (unary_of operator.now)) (map found_of parts.entry.items)) }
+    all: &mut Vec<Found<'a>>,
+) -> Result<(), Memory>
+    ensures over { IfOk result (λ _.
+        map found_of all.new.items ≡
+        map found_of all.old.items ++ map (placed_over_one (unary_of operator.now)) (map found_of parts.entry.items)) }
 {
-    let mut all = Vec::new(alloc);
     for part in parts {
         all.push(over_part(alloc, operator, part)?)?;
     }
-    Ok(all)
+    Ok(())
 }
 
 // A part under a rule.
@@ -123,15 +124,59 @@ fn disabled_part<'a>(alloc: Global, part: Found<'a>) -> Result<Found<'a>, Memory
     }
 }
 
-// The parts of the left side of a disabling.
-fn disabled_parts<'a>(alloc: Global, parts: Vec<Found<'a>>) -> Result<Vec<Found<'a>>, Memory>
-    ensures { IfOk result (λ all. map found_of all.items ≡ map (turned_there plan_by_disabling) (map found_of parts.entry.items)) }
+// Appends each part of the left side of a disabling.
+fn put_disabled<'a>(
+    alloc: Global,
+    parts: Vec<Found<'a>>,
+    all: &mut Vec<Found<'a>>,
+) -> Result<(), Memory>
+    ensures { IfOk result (λ _.
+        map found_of all.new.items ≡
+        map found_of all.old.items ++ map (turned_there plan_by_disabling) (map found_of parts.entry.items)) }
 {
-    let mut all = Vec::new(alloc);
     for part in parts {
         all.push(disabled_part(alloc, part)?)?;
     }
-    Ok(all)
+    Ok(())
+}
+
+/// Puts those from a place on under a rule, where there are composites among them; gaps stay as they are.
+pub fn turn_below<'a>(
+    alloc: Global,
+    some: bool,
+    place: usize,
+    row: &Row,
+    all: &mut Vec<Found<'a>>,
+) -> Result<(), Memory>
+    requires some { some ≡ has_made (map found_of (drop place all.old.items)) }
+    ensures below { IfOk result (λ _.
+        map found_of all.new.items ≡
+        map found_of (take place all.old.items) ++ map (turned_there (under_row row.now)) (map found_of (drop place all.old.items))) }
+{
+    if some {
+        let those = all.split_off(place)?;
+        put_below(alloc, row, those, all)?;
+    }
+    Ok(())
+}
+
+/// Makes of those from a place on what a disabling makes of its left side, where there are composites among them; gaps stay as they are.
+pub fn turn_disabled<'a>(
+    alloc: Global,
+    some: bool,
+    place: usize,
+    all: &mut Vec<Found<'a>>,
+) -> Result<(), Memory>
+    requires some { some ≡ has_made (map found_of (drop place all.old.items)) }
+    ensures disabled { IfOk result (λ _.
+        map found_of all.new.items ≡
+        map found_of (take place all.old.items) ++ map (turned_there plan_by_disabling) (map found_of (drop place all.old.items))) }
+{
+    if some {
+        let those = all.split_off(place)?;
+        put_disabled(alloc, those, all)?;
+    }
+    Ok(())
 }
 
 // Appends a composite, if there is one, as it is given.
@@ -444,8 +489,8 @@ fn all_together<'a>(
     Ok(all)
 }
 
-// Appends others.
-fn put_others<'a>(others: Vec<Found<'a>>, all: &mut Vec<Found<'a>>) -> Result<(), Memory>
+/// Appends others.
+pub fn put_others<'a>(others: Vec<Found<'a>>, all: &mut Vec<Found<'a>>) -> Result<(), Memory>
     ensures { IfOk result (λ _.
         map found_of all.new.items ≡ map found_of all.old.items ++ map found_of others.entry.items) }
 {
@@ -454,9 +499,9 @@ fn put_others<'a>(others: Vec<Found<'a>>, all: &mut Vec<Found<'a>>) -> Result<()
     Ok(())
 }
 
-// What a parallel composition makes of the composites of its sides. What both do together is made first, so that what one side does alone
-// is made of its composites themselves and not of copies.
-fn beside<'a>(
+/// What a parallel composition makes of the composites of its sides. What both do together is made first, so that what one side does alone is
+/// made of its composites themselves and not of copies.
+pub fn beside<'a>(
     alloc: Global,
     algebra: &DataSpec,
     gates: &'a GateSet,
@@ -474,57 +519,4 @@ fn beside<'a>(
     put_all_alone(alloc, gates, &Row::Parr, right, &mut all)?;
     put_others(together, &mut all)?;
     Ok(all)
-}
-
-// What a choice makes of the composites of its sides.
-fn choice<'a>(
-    alloc: Global,
-    left: Vec<Found<'a>>,
-    right: Vec<Found<'a>>,
-) -> Result<Vec<Found<'a>>, Memory>
-    ensures { IfOk result (λ all.
-        map found_of all.items ≡
-        map (turned_there (under_row Row.Chl)) (map found_of left.entry.items) ++
-        map (turned_there (under_row Row.Chr)) (map found_of right.entry.items)) }
-{
-    let mut all = Vec::new(alloc);
-    put_below(alloc, &Row::Chl, left, &mut all)?;
-    put_below(alloc, &Row::Chr, right, &mut all)?;
-    Ok(all)
-}
-
-// What a disabling makes of the composites of its sides.
-fn disable<'a>(
-    alloc: Global,
-    left: Vec<Found<'a>>,
-    right: Vec<Found<'a>>,
-) -> Result<Vec<Found<'a>>, Memory>
-    ensures { IfOk result (λ all.
-        map found_of all.items ≡
-        map (turned_there plan_by_disabling) (map found_of left.entry.items) ++
-        map (turned_there (under_row Row.Distake)) (map found_of right.entry.items)) }
-{
-    let mut all = disabled_parts(alloc, left)?;
-    put_below(alloc, &Row::Distake, right, &mut all)?;
-    Ok(all)
-}
-
-/// What an operator over two parts makes of their composites.
-pub fn over_sides<'a>(
-    alloc: Global,
-    algebra: &DataSpec,
-    operator: &'a Double,
-    left: Vec<Found<'a>>,
-    right: Vec<Found<'a>>,
-) -> Result<Vec<Found<'a>>, Memory>
-    ensures over { IfOk result (λ all.
-        map found_of all.items ≡
-        placed_over_two (theory_of algebra.now) (binary_of operator.now) (map found_of left.entry.items)
-        (map found_of right.entry.items)) }
-{
-    match operator {
-        Double::Choice => choice(alloc, left, right),
-        Double::Par(gates) => beside(alloc, algebra, gates, left, right),
-        Double::Disable => disable(alloc, left, right),
-    }
 }
