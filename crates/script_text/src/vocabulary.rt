@@ -22,6 +22,7 @@ use sort_overloads::name_index::NameIndex;
 use sort_overloads::resolution::{TypedTerm, resolve_with_index};
 use sort_overloads::scope::Scope;
 use sort_overloads::unknowns::add_unknowns;
+use sort_overloads::variables::Variables;
 use spec_core::equation::DataSpec;
 use spec_core::memory::Memory;
 use std::alloc::Global;
@@ -34,7 +35,7 @@ pub struct Vocabulary {
     index: NameIndex,
     ghost few: { vec_len scope.signature.ops < 2 ^ 32 },
     ghost indexed: { IsIndexOf index (operations_of scope.signature) },
-    ghost no_variables: { scope.vars.items ≡ [] },
+    ghost no_variables: { scope.vars ≡ [] },
 }
 
 // Whether a refusal is of a sort that isn't known.
@@ -61,7 +62,7 @@ impl Vocabulary {
         let index = NameIndex::new(alloc, &signature.ops)?;
         let scope = Scope {
             signature,
-            vars: Vec::new(alloc),
+            vars: Variables::new(alloc),
         };
         Ok(Vocabulary { scope, index })
     }

@@ -3,6 +3,7 @@ pub mod ByExpressions
 pub mod ByOperations
 pub mod Decided
 pub mod InOrder
+mod InScope
 pub mod Judgements
 pub mod Law
 pub mod Loops

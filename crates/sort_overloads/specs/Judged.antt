@@ -1,9 +1,9 @@
 -- All that is to be said of an expression at its place: its one reading, or every refusal of it.
-use Rattle.std.specs.Prelude.{ℕ, ◌≡◌, List, [], ◌∷◌, ◌++◌, Option, Some, None}
+use Rattle.std.specs.Prelude.{◌≡◌, List, [], ◌∷◌, ◌++◌, Option, Some, None}
 use Rattle.lotos_ast.specs.declared.place.Place.{Place}
 use Rattle.lotos_ast.specs.declared.refusal.Refusal.{Refusal}
 use Rattle.spec_core.specs.declared.items.Sort.{Sort}
-use Rattle.spec_core.specs.Terms.{TermTree, term_of}
+use Rattle.spec_core.specs.Terms.{term_of}
 use Rattle.sort_overloads.specs.declared.resolution.TypedTerm.{TypedTerm}
 use Rattle.sort_overloads.specs.Expressions.{Expression}
 use Rattle.sort_overloads.specs.Listed.{Typed}

@@ -7,4 +7,5 @@ pub mod Picks
 pub mod Readings
 pub mod Tables
 pub mod Refused
+pub mod Variables
 pub mod Views

@@ -1,6 +1,6 @@
 -- Tables of readings. A table keeps the first two readings of each sort, and beside them the tables of the arguments: a reading says of
 -- each argument which reading of its table is meant. So no term is copied while the readings of an expression are found.
-use Rattle.std.specs.Prelude.{ℕ, List, [], ◌∷◌, ◌++◌, map, slice_index_or, Option, Some, None, Vec}
+use Rattle.std.specs.Prelude.{ℕ, List, [], ◌∷◌, ◌++◌, map, slice_index_or, Option, None, Some, option_map, Vec}
 use Rattle.std.specs.declared.alloc.Global.{Global}
 use Rattle.spec_core.specs.Terms.{TermTree, variable, apply, terms}
 use Rattle.spec_core.specs.declared.items.Sort.{Sort}
@@ -64,9 +64,11 @@ abbrev pub with_last : List TermTree → TermTree → List TermTree
 with_last l t = l ++ (t ∷ [])
 
 -- the reading that a variable's number and sort make
+abbrev pub typed_variable : ℕ × Sort → Typed
+typed_variable x = record { term = variable x.0; sort = x.1.0 }
+
 abbrev pub found_of : Option (ℕ × Sort) → Option Typed
-found_of None = None
-found_of (Some x) = Some (record { term = variable x.0; sort = x.1.0 })
+found_of = option_map typed_variable
 
 -- the sort of this number is wanted
 abbrev pub fits : Wanted → ℕ → Bool

@@ -30,7 +30,6 @@ pub fn judge(
 ) -> Result<Option<TypedTerm>, Memory>
     requires few { vec_len scope.now.signature.ops < 2 ^ 32 }
     requires index { IsIndexOf index.now (operations_of scope.now.signature) }
-    requires few_variables { vec_len scope.now.vars < 2 ^ 32 }
     ensures judged { IfOk result (λ found.
         Adds (IsJudged (context_of scope.now) (expression (expr_tree expr.now)) wanted (tree_place (expr_tree expr.now))
         (typed_if_read found)) refusals.old.items refusals.new.items) }

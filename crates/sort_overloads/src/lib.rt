@@ -4,6 +4,7 @@
 mod combine;
 pub mod judging;
 pub mod name_index;
+mod named_variables;
 mod names;
 mod operations;
 mod readings;
@@ -12,3 +13,4 @@ pub mod scope;
 mod selection;
 mod table;
 pub mod unknowns;
+pub mod variables;

@@ -65,8 +65,8 @@ impl NameIndex {
     }
 }
 
-// A text in small letters.
-fn in_small_letters(alloc: Global, text: &str) -> Result<String, Memory>
+/// A text in small letters.
+pub(crate) fn in_small_letters(alloc: Global, text: &str) -> Result<String, Memory>
     ensures { IfOk result (λ small. string_bytes small ≡ map to_ascii_lowercase text.now) }
 {
     Ok(text.to_ascii_lowercase(alloc)?)

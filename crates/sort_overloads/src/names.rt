@@ -1,15 +1,14 @@
 // What a name alone stands for.
 
-ghost use Rattle.std.specs.Prelude.{◌≡◌, ◌<◌, ◌^◌, ◌∷◌, [], None, Some, IfOk, map, length, vec_len, if◌then◌else◌};
+ghost use Rattle.std.specs.Prelude.{◌≡◌, ◌<◌, ◌^◌, [], None, Some, IfOk, map, vec_len};
 ghost use Rattle.spec_core.specs.Theories.{operations_of};
 ghost use Rattle.sort_overloads.specs.Indexes.{IsIndexOf};
 ghost use Rattle.sort_overloads.specs.Listed.{StandsFor, is_same_name, last_variable, name_readings, of_operations};
 ghost use Rattle.sort_overloads.specs.Tables.{reading_of, found_of};
-ghost use Rattle.sort_overloads.specs.Views.{declared_of};
 
 use crate::name_index::NameIndex;
 use crate::operations::operation_readings;
-use crate::scope::{Scope, Variable};
+use crate::scope::Scope;
 use crate::table::{Reading, Root};
 use spec_core::items::Sort;
 use spec_core::memory::Memory;
@@ -25,13 +24,12 @@ pub fn named_readings(
 ) -> Result<Vec<Reading>, Memory>
     requires few { vec_len scope.now.signature.ops < 2 ^ 32 }
     requires index { IsIndexOf index.now (operations_of scope.now.signature) }
-    requires few_variables { vec_len scope.now.vars < 2 ^ 32 }
     ensures stands { IfOk result (λ all. StandsFor
-        (name_readings (last_variable name.now None 0 (map declared_of scope.now.vars.items))
+        (name_readings (last_variable name.now None 0 scope.now.vars)
         (of_operations name.now [] 0 (operations_of scope.now.signature)))
         (map (reading_of []) all.items)) }
 {
-    match find_variable(&scope.vars, name) {
+    match scope.vars.last_named(alloc, name)? {
         None => operation_readings(alloc, &scope.signature, index, name, &[]),
         Some((variable, sort)) => only_variable(alloc, variable, sort),
     }
@@ -47,35 +45,6 @@ fn only_variable(alloc: Global, variable: u32, sort: Sort) -> Result<Vec<Reading
         sort,
     })?;
     Ok(all)
-}
-
-// The last variable of this name.
-fn find_variable(variables: &[Variable], name: &str) -> Option<(u32, Sort)>
-    requires few { length variables.now < 2 ^ 32 }
-    ensures { found_of result ≡ last_variable name.now None 0 (map declared_of variables.now) }
-{
-    let mut found = None;
-    for (i, variable) in variables.iter().enumerate() {
-        found = later_of(found, i as u32, variable, name);
-    }
-    found
-}
-
-// This variable where it has the name, and else what was found before.
-fn later_of(
-    found: Option<(u32, Sort)>,
-    number: u32,
-    variable: &Variable,
-    name: &str,
-) -> Option<(u32, Sort)>
-    ensures { found_of result
-        ≡ (if is_same_name variable.now.name name.now then found_of (Some (number, variable.now.sort)) else found_of found) }
-{
-    if has_name(&variable.name, name) {
-        Some((number, variable.sort))
-    } else {
-        found
-    }
 }
 
 /// Whether a name is this one, letters of ASCII without case.

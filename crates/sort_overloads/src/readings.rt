@@ -8,7 +8,7 @@ ghost use Rattle.sort_overloads.specs.Indexes.{IsIndexOf};
 ghost use Rattle.sort_overloads.specs.Readings.{spelling};
 ghost use Rattle.sort_overloads.specs.Listed.{StandsFor, readings, is_name_of, those, last_variable, name_readings, of_operations};
 ghost use Rattle.sort_overloads.specs.Tables.{table_of};
-ghost use Rattle.sort_overloads.specs.Views.{context_of, declared_of};
+ghost use Rattle.sort_overloads.specs.Views.{context_of};
 ghost use Rattle.std.specs.List.{slice_get};
 
 use crate::name_index::NameIndex;
@@ -32,7 +32,6 @@ pub fn expression_readings(
 ) -> Result<Table, Memory>
     requires few { vec_len scope.now.signature.ops < 2 ^ 32 }
     requires index { IsIndexOf index.now (operations_of scope.now.signature) }
-    requires few_variables { vec_len scope.now.vars < 2 ^ 32 }
     ensures stands { IfOk result (λ all. StandsFor (readings (context_of scope.now) (expression (expr_tree expr.now))) (table_of all)) }
 {
     let mut all = simple_readings(alloc, scope, index, &expr.first)?;
@@ -53,7 +52,6 @@ fn infix_readings(
 ) -> Result<Table, Memory>
     requires few { vec_len scope.now.signature.ops < 2 ^ 32 }
     requires index { IsIndexOf index.now (operations_of scope.now.signature) }
-    requires few_variables { vec_len scope.now.vars < 2 ^ 32 }
     ensures stands { IfOk result (λ all. (e : Expression) → StandsFor (readings (context_of scope.now) e) (table_of left) →
         StandsFor
         (readings (context_of scope.now) (infix_application operation.now.name e (simple_expression (simple_tree operation.now.right))))
@@ -75,7 +73,6 @@ fn simple_readings(
 ) -> Result<Table, Memory>
     requires few { vec_len scope.now.signature.ops < 2 ^ 32 }
     requires index { IsIndexOf index.now (operations_of scope.now.signature) }
-    requires few_variables { vec_len scope.now.vars < 2 ^ 32 }
     ensures stands { IfOk result (λ all.
         StandsFor (readings (context_of scope.now) (simple_expression (simple_tree simple.now))) (table_of all)) }
 {
@@ -96,7 +93,6 @@ fn head_readings(
 ) -> Result<Table, Memory>
     requires few { vec_len scope.now.signature.ops < 2 ^ 32 }
     requires index { IsIndexOf index.now (operations_of scope.now.signature) }
-    requires few_variables { vec_len scope.now.vars < 2 ^ 32 }
     ensures stands { IfOk result (λ all.
         StandsFor (readings (context_of scope.now) (head_expression (head_tree head.now))) (table_of all)) }
 {
@@ -123,9 +119,8 @@ fn head_readings(
 fn named(alloc: Global, scope: &Scope, index: &NameIndex, name: &str) -> Result<Table, Memory>
     requires few { vec_len scope.now.signature.ops < 2 ^ 32 }
     requires index { IsIndexOf index.now (operations_of scope.now.signature) }
-    requires few_variables { vec_len scope.now.vars < 2 ^ 32 }
     ensures stands { IfOk result (λ all. StandsFor
-        (name_readings (last_variable name.now None 0 (map declared_of scope.now.vars.items))
+        (name_readings (last_variable name.now None 0 scope.now.vars)
         (of_operations name.now [] 0 (operations_of scope.now.signature)))
         (table_of all)) }
 {

@@ -18,10 +18,11 @@ ghost use Rattle.sort_overloads.specs.Views.{context_of};
 
 use crate::name_index::NameIndex;
 use crate::readings::expression_readings;
-use crate::scope::{Scope, Variable};
+use crate::scope::Scope;
 use crate::selection::{Wanted, selected};
 use crate::table::Table;
 use crate::unknowns::add_unknowns;
+use crate::variables::Variable;
 use lotos_ast::expression::Expr;
 use lotos_ast::first_refusal::first_refusal;
 use lotos_ast::names::Names;
@@ -52,7 +53,6 @@ pub fn resolve(
     wanted: Option<Sort>,
 ) -> Result<Term, FrontFault>
     requires few { vec_len scope.now.signature.ops < 2 ^ 32 }
-    requires few_variables { vec_len scope.now.vars < 2 ^ 32 }
     ensures known { IfOk result (λ t. unknowns (context_of scope.now) (expression (expr_tree expr.now)) ≡ []) }
     ensures read { IfOk result (λ t.
         (sort : ℕ) × IsOnlyReading (context_of scope.now) (expression (expr_tree expr.now)) wanted (term_of t) sort) }
@@ -73,7 +73,6 @@ pub fn resolve_with_sort(
     wanted: Option<Sort>,
 ) -> Result<TypedTerm, FrontFault>
     requires few { vec_len scope.now.signature.ops < 2 ^ 32 }
-    requires few_variables { vec_len scope.now.vars < 2 ^ 32 }
     ensures known { IfOk result (λ t. unknowns (context_of scope.now) (expression (expr_tree expr.now)) ≡ []) }
     ensures read { IfOk result (λ t.
         IsOnlyReading (context_of scope.now) (expression (expr_tree expr.now)) wanted (term_of t.term) t.sort.0) }
@@ -94,7 +93,6 @@ pub fn resolve_with_index(
 ) -> Result<TypedTerm, FrontFault>
     requires few { vec_len scope.now.signature.ops < 2 ^ 32 }
     requires index { IsIndexOf index.now (operations_of scope.now.signature) }
-    requires few_variables { vec_len scope.now.vars < 2 ^ 32 }
     ensures known { IfOk result (λ t. unknowns (context_of scope.now) (expression (expr_tree expr.now)) ≡ []) }
     ensures read { IfOk result (λ t.
         IsOnlyReading (context_of scope.now) (expression (expr_tree expr.now)) wanted (term_of t.term) t.sort.0) }
@@ -119,7 +117,6 @@ pub fn resolve_known(
 ) -> Result<TypedTerm, FrontFault>
     requires few { vec_len scope.now.signature.ops < 2 ^ 32 }
     requires index { IsIndexOf index.now (operations_of scope.now.signature) }
-    requires few_variables { vec_len scope.now.vars < 2 ^ 32 }
     ensures read { IfOk result (λ t.
         IsOnlyReading (context_of scope.now) (expression (expr_tree expr.now)) wanted (term_of t.term) t.sort.0) }
     ensures refused { IfRefused result (λ r.
@@ -211,7 +208,7 @@ fn reading_text(alloc: Global, scope: &Scope, table: &Table, number: usize) -> R
         ≡ text_in (context_of scope.now) (slice_index_or (table_of table.now) number no_reading_there).term) }
 {
     let term = table.term(alloc, number)?;
-    let names = variable_names(alloc, &scope.vars)?;
+    let names = variable_names(alloc, scope.vars.as_slice())?;
     Ok(Name::new(term_text(alloc, &scope.signature, &term, &names)?))
 }
 

@@ -1,6 +1,6 @@
 // The names and sorts of an expression that aren't known.
 
-ghost use Rattle.std.specs.Prelude.{◌≡◌, ◌++◌, ◌∷◌, [], List, IfOk, OnOk, map, Bool, if◌then◌else◌, ◌||◌};
+ghost use Rattle.std.specs.Prelude.{◌≡◌, ◌++◌, ◌∷◌, [], List, IfOk, OnOk, if◌then◌else◌, ◌||◌};
 ghost use Rattle.std.specs.List.{list_any};
 ghost use Rattle.lotos_ast.specs.ExpressionTrees.{expr_tree, simple_tree, head_tree};
 ghost use Rattle.spec_core.specs.Theories.{Operation, operations_of};
@@ -9,12 +9,12 @@ ghost use Rattle.sort_overloads.specs.Indexes.{IsIndexOf};
 ghost use Rattle.sort_overloads.specs.Listed.{is_same_name};
 ghost use Rattle.sort_overloads.specs.Readings.{spelling};
 ghost use Rattle.sort_overloads.specs.Refused.{is_called, is_known, is_sort_known, unknown_name, unknown_sort, unknowns, refused};
-ghost use Rattle.sort_overloads.specs.Views.{context_of, declared_of};
+ghost use Rattle.sort_overloads.specs.Views.{context_of};
 
 use crate::name_index::NameIndex;
 use crate::names::has_name;
 use crate::readings::infix_spelling;
-use crate::scope::{Scope, Variable};
+use crate::scope::Scope;
 use lotos_ast::expression::{Expr, Head, Simple};
 use lotos_ast::names::Names;
 use lotos_ast::place::Place;
@@ -154,7 +154,8 @@ fn is_known(alloc: Global, scope: &Scope, index: &NameIndex, name: &str) -> Resu
     ensures { IfOk result (λ known. known ≡ is_known (context_of scope.now) name.now) }
 {
     let operation = has_operation(alloc, index, name)?;
-    Ok(has_variable(&scope.vars, name) || operation)
+    let variable = scope.vars.has(alloc, name)?;
+    Ok(variable || operation)
 }
 
 // Whether an operation has the name, before its arguments or between two.
@@ -166,18 +167,6 @@ fn has_operation(alloc: Global, index: &NameIndex, name: &str) -> Result<bool, M
     let before = index.has(alloc, name)?;
     let between = index.has(alloc, spelled.as_str())?;
     Ok(before || between)
-}
-
-// Whether a variable has the name.
-fn has_variable(variables: &[Variable], name: &str) -> bool
-    ensures { result ≡ list_any (λ v. is_same_name v.name name.now) (map declared_of variables.now) }
-{
-    for variable in variables {
-        if has_name(&variable.name, name) {
-            return true;
-        }
-    }
-    false
 }
 
 // Whether a sort has the name.

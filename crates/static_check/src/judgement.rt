@@ -19,6 +19,7 @@ use lotos_ast::refusal::Refusal;
 use lotos_ast::spec::Spec;
 use sort_overloads::name_index::NameIndex;
 use sort_overloads::scope::Scope;
+use sort_overloads::variables::Variables;
 use spec_core::code::Checked;
 use spec_core::equation::DataSpec;
 use spec_core::memory::Memory;
@@ -48,7 +49,6 @@ fn data_scope(alloc: Global, algebra: &DataSpec) -> Result<Scope, Memory>
     ensures context { IfOk result (λ scope. context_of scope ≡ data_context (theory_of algebra.now)) }
     ensures few_operations { IfOk result (λ scope. vec_len scope.signature.ops < 2 ^ 32) }
     ensures few_sorts { IfOk result (λ scope. vec_len scope.signature.sorts < 2 ^ 32 - 1) }
-    ensures few_variables { IfOk result (λ scope. vec_len scope.vars < 2 ^ 32) }
 {
     let signature = algebra.signature.copy(alloc)?;
     if signature.ops.len() >= 4_294_967_296 {
@@ -59,7 +59,7 @@ fn data_scope(alloc: Global, algebra: &DataSpec) -> Result<Scope, Memory>
     }
     Ok(Scope {
         signature,
-        vars: Vec::new(alloc),
+        vars: Variables::new(alloc),
     })
 }
 
@@ -67,7 +67,6 @@ fn data_scope(alloc: Global, algebra: &DataSpec) -> Result<Scope, Memory>
 fn data_site<'a>(alloc: Global, scope: Scope) -> Result<Site<'a>, Memory>
     requires few_operations { vec_len scope.signature.ops < 2 ^ 32 }
     requires few_sorts { vec_len scope.signature.sorts < 2 ^ 32 - 1 }
-    requires few_variables { vec_len scope.vars < 2 ^ 32 }
     ensures { IfOk result (λ site. data_of site.context ≡ data_of (context_of scope)) }
 {
     let index = NameIndex::new(alloc, &scope.signature.ops)?;

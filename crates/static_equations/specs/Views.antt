@@ -4,7 +4,7 @@ use Rattle.std.proofs.Common.{Bor}
 use Rattle.spec_core.specs.declared.equation.Equation.{Equation}
 use Rattle.spec_core.specs.Terms.{constant}
 use Rattle.spec_core.specs.Theories.{ConditionalEquation, equation_of}
-use Rattle.sort_overloads.specs.declared.scope.Variable.{Variable}
+use Rattle.sort_overloads.specs.declared.variables.Variable.{Variable}
 use Rattle.sort_overloads.specs.Listed.{Typed}
 use Rattle.sort_overloads.specs.Readings.{Declared}
 use Rattle.sort_overloads.specs.Views.{declared_of}

@@ -34,7 +34,6 @@ fn add_equation(
 ) -> Result<(), Memory>
     requires few { vec_len scope.now.signature.ops < 2 ^ 32 }
     requires index { IsIndexOf index.now (operations_of scope.now.signature) }
-    requires few_variables { vec_len scope.now.vars < 2 ^ 32 }
     ensures judged { OnOk result (AddsBoth (IfRead (IsEquationJudged (context_of scope.now) sort equation.now))
         (map equation_of all.old.items) (map equation_of all.new.items) refusals.old.items refusals.new.items) }
 {
@@ -60,7 +59,6 @@ fn add_equations(
 ) -> Result<(), Memory>
     requires few { vec_len scope.now.signature.ops < 2 ^ 32 }
     requires index { IsIndexOf index.now (operations_of scope.now.signature) }
-    requires few_variables { vec_len scope.now.vars < 2 ^ 32 }
     ensures judged { OnOk result (AddsBoth (AreEquationsJudged (context_of scope.now) sort equations.now)
         (map equation_of all.old.items) (map equation_of all.new.items) refusals.old.items refusals.new.items) }
 {

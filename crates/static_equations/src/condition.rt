@@ -39,7 +39,6 @@ pub fn judge_premiss(
 ) -> Result<Option<(Term, Term)>, Memory>
     requires few { vec_len scope.now.signature.ops < 2 ^ 32 }
     requires index { IsIndexOf index.now (operations_of scope.now.signature) }
-    requires few_variables { vec_len scope.now.vars < 2 ^ 32 }
     ensures judged { IfOk result (λ found. Adds (IsPremissJudged (context_of scope.now) premiss.now (premise_if_read found))
         refusals.old.items refusals.new.items) }
 {
@@ -59,7 +58,6 @@ fn judge_truth(
 ) -> Result<Option<(Term, Term)>, Memory>
     requires few { vec_len scope.now.signature.ops < 2 ^ 32 }
     requires index { IsIndexOf index.now (operations_of scope.now.signature) }
-    requires few_variables { vec_len scope.now.vars < 2 ^ 32 }
     ensures judged { IfOk result (λ found. Adds (IsTruthJudged (context_of scope.now) (expression (expr_tree expr.now))
         (tree_place (expr_tree expr.now)) (premise_if_read found)) refusals.old.items refusals.new.items) }
 {

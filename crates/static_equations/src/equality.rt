@@ -32,7 +32,6 @@ pub fn judge_equality(
 ) -> Result<Option<(Term, Term)>, Memory>
     requires few { vec_len scope.now.signature.ops < 2 ^ 32 }
     requires index { IsIndexOf index.now (operations_of scope.now.signature) }
-    requires few_variables { vec_len scope.now.vars < 2 ^ 32 }
     ensures judged { IfOk result (λ found.
         Adds (IsEqualityJudged (context_of scope.now) (sides_of (expr_tree left.now) (expr_tree right.now)) (premise_if_read found))
         refusals.old.items refusals.new.items) }

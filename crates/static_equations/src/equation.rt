@@ -36,7 +36,6 @@ fn add_premiss(
 ) -> Result<(), Memory>
     requires few { vec_len scope.now.signature.ops < 2 ^ 32 }
     requires index { IsIndexOf index.now (operations_of scope.now.signature) }
-    requires few_variables { vec_len scope.now.vars < 2 ^ 32 }
     ensures judged { OnOk result (AddsBoth (IfRead (IsPremissJudged (context_of scope.now) premiss.now))
         (map premise_of all.old.items) (map premise_of all.new.items) refusals.old.items refusals.new.items) }
 {
@@ -60,7 +59,6 @@ fn judge_premisses(
 ) -> Result<Vec<(Term, Term)>, Memory>
     requires few { vec_len scope.now.signature.ops < 2 ^ 32 }
     requires index { IsIndexOf index.now (operations_of scope.now.signature) }
-    requires few_variables { vec_len scope.now.vars < 2 ^ 32 }
     ensures judged { IfOk result (λ all. Adds (ArePremissesJudged (context_of scope.now) premisses.now (map premise_of all.items))
         refusals.old.items refusals.new.items) }
 {
@@ -93,7 +91,6 @@ pub fn judge_equation(
 ) -> Result<Option<Equation>, Memory>
     requires few { vec_len scope.now.signature.ops < 2 ^ 32 }
     requires index { IsIndexOf index.now (operations_of scope.now.signature) }
-    requires few_variables { vec_len scope.now.vars < 2 ^ 32 }
     ensures judged { IfOk result (λ found. Adds (IsEquationJudged (context_of scope.now) sort equation.now (equation_if_read found))
         refusals.old.items refusals.new.items) }
 {
@@ -109,7 +106,7 @@ pub fn judge_equation(
         (Some(left), Some(right)) => {
             let equation = equation_of_terms(
                 alloc,
-                &scope.vars,
+                scope.vars.as_slice(),
                 equation.place,
                 &premises,
                 &left.term,

@@ -10,7 +10,7 @@ ghost use Rattle.static_equations.specs.Numbered as numbered;
 ghost use Rattle.static_equations.specs.Views.{declared_at};
 
 use lotos_ast::place::Place;
-use sort_overloads::scope::Variable;
+use sort_overloads::variables::Variable;
 use spec_core::equation::Equation;
 use spec_core::items::Sort;
 use spec_core::memory::Memory;

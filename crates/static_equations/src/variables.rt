@@ -3,7 +3,7 @@
 ghost use Rattle.std.specs.Prelude.{◌≡◌, ◌++◌, ◌<◌, ◌≤◌, ◌-◌, ◌^◌, OnOk, IfOk, map, length, vec_len};
 ghost use Rattle.std.specs.List.{flat_map};
 ghost use Rattle.sort_overloads.specs.Refused.{unknown_sort};
-ghost use Rattle.sort_overloads.specs.Views.{context_of, declared_of};
+ghost use Rattle.sort_overloads.specs.Views.{context_of};
 ghost use Rattle.static_equations.specs.Variables as variables;
 
 use crate::names::{has_sort, sort_named};
@@ -12,7 +12,8 @@ use lotos_ast::names::Names;
 use lotos_ast::refusal::{Refusal, RefusalKind};
 use lotos_ast::token::Token;
 use lotos_ast::types::ForAll;
-use sort_overloads::scope::{Scope, Variable};
+use sort_overloads::scope::Scope;
+use sort_overloads::variables::Variables;
 use spec_core::items::Sort;
 use spec_core::memory::Memory;
 use spec_core::name::Name;
@@ -96,18 +97,15 @@ fn add_variables_of(
     alloc: Global,
     sorts: &[Name],
     declaration: &Declaration,
-    vars: &mut Vec<Variable>,
+    vars: &mut Variables,
 ) -> Result<(), Memory>
     requires few { length sorts.now < 2 ^ 32 - 1 }
-    ensures added { OnOk result (map declared_of vars.new.items ≡ map declared_of vars.old.items
+    ensures added { OnOk result (vars.new ≡ vars.old
         ++ variables.variables_of sorts.now declaration.now) }
 {
     let sort = Sort(sort_named(sorts, declaration.sort.text.as_str()) as u32);
     for name in &declaration.names {
-        vars.push(Variable {
-            name: name.text.copy(alloc)?,
-            sort,
-        })?;
+        vars.push(alloc, name.text.copy(alloc)?, sort)?;
     }
     Ok(())
 }
@@ -117,10 +115,10 @@ fn add_variables(
     alloc: Global,
     sorts: &[Name],
     declarations: &[&Declaration],
-    vars: &mut Vec<Variable>,
+    vars: &mut Variables,
 ) -> Result<(), Memory>
     requires few { length sorts.now < 2 ^ 32 - 1 }
-    ensures added { OnOk result (map declared_of vars.new.items ≡ map declared_of vars.old.items
+    ensures added { OnOk result (vars.new ≡ vars.old
         ++ variables.all_variables sorts.now (map (λ d. d.now) declarations.now)) }
 {
     for declaration in declarations {
@@ -134,12 +132,7 @@ pub fn put_variables(alloc: Global, lists: &[ForAll], scope: &mut Scope) -> Resu
     requires few { vec_len scope.old.signature.sorts < 2 ^ 32 - 1 }
     ensures signature { OnOk result (scope.new.signature ≡ scope.old.signature) }
     ensures context { OnOk result (context_of scope.new ≡ variables.under (context_of scope.old) lists.now) }
-    ensures few { OnOk result (vec_len scope.new.vars < 2 ^ 32) }
 {
     let all = declarations(alloc, lists)?;
-    add_variables(alloc, &scope.signature.sorts, &all, &mut scope.vars)?;
-    if scope.vars.len() >= 4_294_967_296 {
-        return Err(Memory);
-    }
-    Ok(())
+    add_variables(alloc, &scope.signature.sorts, &all, &mut scope.vars)
 }

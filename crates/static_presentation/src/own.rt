@@ -27,6 +27,7 @@ use lotos_ast::refusal::{FrontFault, Refusal};
 use lotos_ast::types::{EquationBody, TypeDef};
 use sort_overloads::name_index::NameIndex;
 use sort_overloads::scope::Scope;
+use sort_overloads::variables::Variables;
 use spec_core::equation::Equation;
 use spec_core::memory::Memory;
 use spec_core::signature::Signature;
@@ -56,7 +57,7 @@ fn scope_at(
             sorts: names_of(alloc, &sorts)?,
             ops: operations_over(alloc, &sorts, &operations)?,
         },
-        vars: Vec::new(alloc),
+        vars: Variables::new(alloc),
     })
 }
 

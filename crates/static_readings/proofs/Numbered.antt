@@ -2,7 +2,7 @@
 use Rattle.std.proofs.Common.{ℕ, ◌≡◌, ◌∙◌, ◌<◌, ◌≤◌, ◌+◌, sym, ap, add-one, List, [], ◌∷◌, ◌++◌, length, get_or, drop, map, append_assoc, append-nil}
 use Rattle.std.proofs.lemmas.List.{drop_all}
 use Rattle.spec_core.specs.Code as code
-use Rattle.sort_overloads.specs.declared.scope.Variable.{Variable}
+use Rattle.sort_overloads.specs.declared.variables.Variable.{Variable}
 use Rattle.sort_overloads.specs.Views.{declared_of}
 use Rattle.sort_overloads.proofs.Loops.{dropped-next}
 use Rattle.static_readings.specs.Declarations.{numbered_from}

@@ -51,14 +51,13 @@ pub variables_all : (s now : Site) (ts : List Token) (i : ℕ) (sort : Token) �
 variables_all s now ts i sort past h = h ∙ ap (λ us. with_variables s (of_one_sort s.context.sorts us sort)) (take_all i ts past)
 
 -- the first variables and gates, as the program has them
-pub first_left : {V G : Type 0} (f : V → Declared) (g : G → List ℕ) (sorts : List (List ℕ)) (operations : List Operation) (first : ℕ) (processes : List Heading)
-    (vs ws : List V) (gs hs : List G) (i j : ℕ) → ws ≡ take i vs → hs ≡ take j gs
-    → record { context = record { sorts = sorts; operations = operations; variables = map f ws }; gates = map g hs; first_gate = first; processes = processes }
-    ≡ with_first (record { context = record { sorts = sorts; operations = operations; variables = map f vs }; gates = map g gs; first_gate = first; processes = processes }) i j
-first_left f g sorts operations first processes vs ws gs hs i j a b =
-    ap (λ xs. record { context = record { sorts = sorts; operations = operations; variables = xs }; gates = map g hs; first_gate = first; processes = processes })
-    (ap (map f) a ∙ sym (take-map f i vs))
-    ∙ ap (λ ys. record { context = record { sorts = sorts; operations = operations; variables = take i (map f vs) }; gates = ys; first_gate = first; processes = processes })
+pub first_left : {G : Type 0} (g : G → List ℕ) (sorts : List (List ℕ)) (operations : List Operation) (first : ℕ) (processes : List Heading)
+    (vs ws : List Declared) (gs hs : List G) (i j : ℕ) → ws ≡ take i vs → hs ≡ take j gs
+    → record { context = record { sorts = sorts; operations = operations; variables = ws }; gates = map g hs; first_gate = first; processes = processes }
+    ≡ with_first (record { context = record { sorts = sorts; operations = operations; variables = vs }; gates = map g gs; first_gate = first; processes = processes }) i j
+first_left g sorts operations first processes vs ws gs hs i j a b =
+    ap (λ xs. record { context = record { sorts = sorts; operations = operations; variables = xs }; gates = map g hs; first_gate = first; processes = processes }) a
+    ∙ ap (λ ys. record { context = record { sorts = sorts; operations = operations; variables = take i vs }; gates = ys; first_gate = first; processes = processes })
     (ap (map g) b ∙ sym (take-map g j gs))
 
 -- one more of some variables that are put into scope, where they go by sorts and operations alone

@@ -31,8 +31,9 @@ use lotos_ast::token::Token;
 use sort_overloads::judging::judge;
 use sort_overloads::name_index::NameIndex;
 use sort_overloads::resolution::TypedTerm;
-use sort_overloads::scope::{Scope, Variable};
+use sort_overloads::scope::Scope;
 use sort_overloads::unknowns::add_unknowns;
+use sort_overloads::variables::Variable;
 use spec_core::items::Sort;
 use spec_core::memory::Memory;
 use spec_core::term::Term;
@@ -75,7 +76,7 @@ impl<'a> Model for Site<'a> {
     } };
 
     ghost invariant = { λ s. (vec_len s.scope.signature.ops < 2 ^ 32) × (vec_len s.scope.signature.sorts < 2 ^ 32 - 1)
-        × (vec_len s.scope.vars < 2 ^ 32) × (s.first_gate + vec_len s.gates < 2 ^ 32)
+        × (s.first_gate + vec_len s.gates < 2 ^ 32)
         × IsIndexOf s.index (operations_of s.scope.signature) };
 }
 
@@ -133,7 +134,6 @@ impl<'a> Site<'a> {
     pub fn new(alloc: Global, scope: Scope, index: NameIndex) -> Site<'a>
         requires few_operations { vec_len scope.signature.ops < 2 ^ 32 }
         requires few_sorts { vec_len scope.signature.sorts < 2 ^ 32 - 1 }
-        requires few_variables { vec_len scope.vars < 2 ^ 32 }
         requires index { IsIndexOf index (operations_of scope.signature) }
         ensures { result ≡ record { context = context_of scope; gates = []; first_gate = 0; processes = [] } }
     {
@@ -260,7 +260,7 @@ impl<'a> Site<'a> {
     pub fn variables_from(&self, alloc: Global, first: usize) -> Result<Vec<(u32, Sort)>, Memory>
         ensures { IfOk result (λ all. map variable_of all.items ≡ numbered_from first (drop first self.now.context.variables)) }
     {
-        numbered(alloc, &self.scope.vars, first)
+        numbered(alloc, self.scope.vars.as_slice(), first)
     }
 
     /// How many gates are in scope. It takes no memory.
@@ -307,12 +307,8 @@ impl<'a> Site<'a> {
     fn push_variable(&mut self, alloc: Global, name: &Token, sort: Sort) -> Result<(), Memory>
         ensures { OnOk result (self.new ≡ sites.with_variables self.old (record { name = name.now.text; sort = sort.0 } ∷ [])) }
     {
-        if self.scope.vars.len() >= 4_294_967_295 {
-            return Err(Memory);
-        }
         let name = name.text.copy(alloc)?;
-        self.scope.vars.push(Variable { name, sort })?;
-        Ok(())
+        self.scope.vars.push(alloc, name, sort)
     }
 
     /// Puts gates into scope, behind those that are there.

@@ -9,8 +9,7 @@ use Rattle.sort_overloads.proofs.resolution.reading_text.Goals as goal
 
 pub returns : goal.returns
 returns c =
-    let variables = c.args.scope.now.vars.items in
-    let names = c.deref-2.ensures.value ∙ c.in_ok-names.ensures ∙ ap (map (λ v. v.name)) c.deref.ensures.value ∙ sym (map-through (λ v. v.name) declared_of variables) in
+    let names = c.deref.ensures.value ∙ c.in_ok-names.ensures ∙ sym (map-through (λ v. v.name) declared_of c.as_slice.result.now) ∙ ap (map (λ v. v.name)) c.as_slice.ensures.all in
     c.new.ensures ∙ c.in_ok-term_text.ensures.spelled
     ∙ ap (λ n. term_text c.args.scope.now.signature.sorts.items (operations_of c.args.scope.now.signature) n (term_of c.in_ok-term.term)) names
     ∙ ap (text_in (context_of c.args.scope.now)) c.in_ok-term.ensures

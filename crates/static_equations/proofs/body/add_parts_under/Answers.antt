@@ -1,4 +1,4 @@
-use Rattle.std.proofs.Common.{◌≡◌, ◌∙◌, length, arith}
+use Rattle.std.proofs.Common.{◌∙◌}
 use Rattle.sort_overloads.specs.Views.{context_of}
 use Rattle.static_equations.specs.Variables.{all_variables, declarations}
 use Rattle.static_equations.proofs.Scopes.{restored}
@@ -7,6 +7,5 @@ use Rattle.static_equations.proofs.body.add_parts_under.Goals as goal
 pub returns-clause-context : goal.returns-clause-context
 returns-clause-context c =
     let old = c.args.scope.now in
-    let n : c.len-outer.result ≡ length old.vars.items = grind arith in
-    restored old c.add_parts.new.scope c.truncate.new.self.items (all_variables (context_of old).sorts (declarations c.deref.result.now)) c.len-outer.result
-    (c.in_ok-add_parts.ensures.context ∙ c.in_ok-put_variables.ensures.context) n c.truncate.ensures.items
+    restored old c.add_parts.new.scope c.truncate.new.self (all_variables (context_of old).sorts (declarations c.deref.result.now)) c.len-outer.result
+    (c.in_ok-add_parts.ensures.context ∙ c.in_ok-put_variables.ensures.context) c.len-outer.ensures.count c.truncate.ensures

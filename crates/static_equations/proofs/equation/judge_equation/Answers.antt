@@ -1,7 +1,7 @@
 use Rattle.std.proofs.Common.{◌<◌, ◌≤◌, length, map, ap, ◌∙◌, subst, arith}
 use Rattle.spec_core.specs.Theories.{premise_of, equation_of}
 use Rattle.sort_overloads.specs.Judged.{typed_if_read, typed_term, Adds}
-use Rattle.sort_overloads.specs.Views.{context_of, declared_of}
+use Rattle.sort_overloads.specs.Views.{context_of}
 use Rattle.static_equations.specs.Numbered.{equation_of_terms}
 use Rattle.static_equations.specs.Equations.{ArePremissesJudged}
 use Rattle.static_equations.proofs.Parts.{some-refused, all-read}
@@ -31,6 +31,6 @@ returns-in-Some-Some c =
           c.in_ok-left.ensures.judged c.in_ok-right.ensures.judged
           left right (equation_of c.in_ok-equation-in-Some-Some.equation) (ap typed_if_read c.in-Some-Some.is-0) (ap typed_if_read c.in-Some-Some.is-1) no_longer
           ((c.in_ok-equation-in-Some-Some).ensures
-          ∙ ap (λ vs. equation_of_terms (map declared_of vs) place (map premise_of c.deref-in-Some-Some.result.now) left.term right.term) c.deref.ensures.value
-          ∙ ap (λ ps. equation_of_terms context.variables place (map premise_of ps) left.term right.term) (c.deref-in-Some-Some).ensures.value);
+          ∙ ap (λ vs. equation_of_terms vs place (map premise_of c.deref.result.now) left.term right.term) c.as_slice.ensures.all
+          ∙ ap (λ ps. equation_of_terms context.variables place (map premise_of ps) left.term right.term) c.deref.ensures.value);
     }

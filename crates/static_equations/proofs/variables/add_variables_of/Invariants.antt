@@ -1,7 +1,6 @@
 use Rattle.std.proofs.Common.{◌≡◌, ◌++◌, map, take}
-use Rattle.sort_overloads.specs.Views.{declared_of}
 use Rattle.static_equations.proofs.variables.add_variables_of.Given as goal
 
 abbrev pub invariant-loop-name : goal.invariant-loop-name
-invariant-loop-name l = map declared_of l.vars.items ≡ map declared_of l.fn.vars.items
+invariant-loop-name l = l.vars ≡ l.fn.vars
     ++ map (λ name. record { name = name.text; sort = l.sort.0 }) (take l.name-index l.name-items)
