@@ -18,14 +18,17 @@ board_send =
         (
           search simple depth 60 fits 20000,
           (
-            search (rules_send, simple) depth 60 fits 20000,
+            search simple depth 60 fits 20000,
             (
               search (rules_send, simple) depth 60 fits 20000,
               (
-                search (term_send, simple) depth 60 fits 20000,
+                search (rules_send, simple) depth 60 fits 20000,
                 (
-                  search (index_send, simple) depth 60 fits 20000,
-                  tt,
+                  search (term_send, simple) depth 60 fits 20000,
+                  (
+                    search (index_send, simple) depth 60 fits 20000,
+                    tt,
+                  ),
                 ),
               ),
             ),

@@ -3,7 +3,6 @@
 ghost use Rattle.std.specs.Prelude.{ℕ, ◌≡◌, ◌≤◌, ◌∷◌, ◌++◌, [], IfOk, IfErr, IfSome, IfNone, OnOk, OnErr, is_some, None, map, option_map, length};
 ghost use Rattle.spec_core.specs.Code.{program_of};
 ghost use Rattle.spec_core.specs.Ready.{IsReady};
-ghost use Rattle.spec_core.specs.Theories.{theory_of};
 ghost use Rattle.candidates.specs.Models.{job_of};
 ghost use Rattle.rule_model.specs.Answers.{answer_of};
 ghost use Rattle.rule_model.specs.Derivations.{Derivation, derivation_of};
@@ -22,6 +21,7 @@ ghost use Rattle.board_core.specs.Views as views;
 ghost use Rattle.board_core.specs.Views.{program, events, pieces, state, tree, HasOneMore, SameSetting, SameLog, SameNodes};
 
 use board_laws::stop_reason::StopReason;
+use board_laws::{Evaluator, Forms, Prepared};
 use board_record::record::Record;
 use board_record::{Answered, LeaveFault, PendFault};
 use candidate_verdicts::pieces::Pieces;
@@ -45,6 +45,7 @@ use std::marker::Model;
 #[derive(Drop)]
 pub struct Board {
     pub(crate) record: Record,
+    pub(crate) forms: Forms,
     pub(crate) settings: Settings,
     pub(crate) windows: Vec<Window>,
     pub(crate) pieces: Pieces,
@@ -62,6 +63,8 @@ impl Model for Board {
     ghost use Rattle.spec_core.specs.contracts.settings.Settings as s;
     ghost use Rattle.spec_core.specs.contracts.window.Window as w;
     ghost use Rattle.board_laws.specs.contracts.stop_reason.StopReason as t;
+    ghost use Rattle.board_laws.specs.Rights.{AreForms};
+    ghost use Rattle.spec_core.specs.Theories.{theory_of};
     ghost use Rattle.board_core.specs.Boards.{IsIndexedBoard};
     ghost use Rattle.board_core.specs.Views.{BoardView};
 
@@ -85,7 +88,7 @@ impl Model for Board {
       pieces = v.pieces;
       out = v.out.items;
       stop = v.stop;
-    }) v.index };
+    }) v.index × AreForms (theory_of v.record.checked.algebra) v.forms };
 }
 
 impl Board {
@@ -108,9 +111,11 @@ impl Board {
         ensures stop { IfOk result (λ b. b.stop ≡ None) }
     {
         let windows = windows(alloc, &checked.algebra, settings.values)?;
+        let forms = Forms::new(alloc, &checked.algebra)?;
         let record = Record::new(alloc, checked, clients)?;
         Ok(Board {
             record,
+            forms,
             settings,
             windows,
             pieces: Pieces::new(alloc),
@@ -144,6 +149,17 @@ impl Board {
         ensures { result.now ≡ self.now.session.checked }
     {
         self.record.checked()
+    }
+
+    /// The specification, with what evaluates its terms. It takes no memory.
+    pub fn prepared(&self) -> Prepared<'_>
+        ensures checked { result.checked.now ≡ self.now.session.checked }
+    {
+        let checked = self.record.checked();
+        Prepared {
+            checked,
+            evaluator: Evaluator::new(&checked.algebra, &self.forms),
+        }
     }
 
     /// The session's settings. It takes no memory.

@@ -85,6 +85,7 @@ impl Board {
         let end = self.end_after(alloc)?;
         let Board {
             record,
+            forms: _,
             settings: _,
             windows: _,
             pieces: _,

@@ -12,4 +12,5 @@ mod looking;
 mod sources;
 
 pub use appending::has_ended;
+pub use board_laws::{Evaluator, Forms, Prepared};
 pub use candidate_verdicts::pieces::Piece;

@@ -9,3 +9,4 @@ pub mod stop_reason;
 pub mod stopping;
 
 pub use candidate_count::counting::{OFFERS_LIMIT, count_offers};
+pub use node_values::{Evaluator, Forms, Prepared};

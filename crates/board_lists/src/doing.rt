@@ -137,7 +137,7 @@ fn do_job(alloc: Global, board: &mut Board, job: &Job) -> Result<(), Memory>
     }
     board.log_is_a_derivation();
     let budget = board.settings().budget;
-    let outcome = perform(alloc, board.checked(), board.windows(), job, budget)?;
+    let outcome = perform(alloc, &board.prepared(), board.windows(), job, budget)?;
     take_in(alloc, board, job, outcome)
 }
 

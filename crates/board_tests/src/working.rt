@@ -25,7 +25,7 @@ pub fn expanded_by(task: &NodeJob) -> Option<u128> {
 /// What an origin can do; None where that stops.
 pub fn work_of(alloc: Global, board: &Board, origin: &Origin) -> Result<Option<Expansion>, Memory> {
     board.log_is_a_derivation();
-    match expand_node(alloc, board.checked(), board.windows(), origin, BUDGET) {
+    match expand_node(alloc, &board.prepared(), board.windows(), origin, BUDGET) {
         Ok(work) => Ok(Some(work)),
         Err(Stop::Memory) => Err(Memory),
         Err(_) => Ok(None),

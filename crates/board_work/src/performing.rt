@@ -2,7 +2,6 @@
 
 ghost use Rattle.std.specs.Prelude.{ℕ, ◌≡◌, IfOk, Some};
 ghost use Rattle.board_laws.specs.declared.stop_reason.StopReason.{StopReason};
-ghost use Rattle.spec_core.specs.Code.{program_of};
 ghost use Rattle.spec_core.specs.Ready.{IsReady};
 ghost use Rattle.board_core.specs.Found.{AreBySorts};
 ghost use Rattle.board_laws.specs.Given.{reason_of};
@@ -11,6 +10,7 @@ ghost use Rattle.candidates.specs.Jobs.{to_expand, to_judge};
 ghost use Rattle.candidate_verdicts.specs.Known.{node_part};
 ghost use Rattle.rule_model.specs.Derivations.{derivation_of};
 ghost use Rattle.node_trees.specs.Origins.{source_of};
+ghost use Rattle.node_values.specs.Prepared.{program_in};
 ghost use Rattle.board_work.specs.declared.outcome.Outcome.TheVariants.{Stopped};
 ghost use Rattle.board_work.specs.Outcomes.{ComesOf, IsOutcome};
 
@@ -19,11 +19,11 @@ use board_core::job::Job;
 use board_laws::reasons::reason_for;
 use candidates::job::NodeJob;
 use node_trees::origin::Origin;
+use node_values::Prepared;
 use node_values::stop::Stop;
 use node_verdict::origins::shown_by;
 use node_work::node::expand_node;
 use rule_model::rules::Rules;
-use spec_core::code::Checked;
 use spec_core::memory::Memory;
 use spec_core::window::Window;
 use std::alloc::Global;
@@ -41,17 +41,17 @@ fn unanswered(stop: Stop) -> Result<Outcome, Memory>
 // A node is expanded.
 fn expand(
     alloc: Global,
-    checked: &Checked,
+    prepared: &Prepared,
     windows: &[Window],
     origin: &Origin,
     budget: u64,
 ) -> Result<Outcome, Memory>
-    requires ready { IsReady (program_of checked.now) }
-    requires rows { (k : ℕ) × AreBySorts (program_of checked.now).theory k windows.now }
-    ensures { IfOk result (λ outcome. (g : ℕ) → ComesOf (program_of checked.now) (windows_in windows.now) budget (source_of origin.now)
+    requires ready { IsReady (program_in prepared.now) }
+    requires rows { (k : ℕ) × AreBySorts (program_in prepared.now).theory k windows.now }
+    ensures { IfOk result (λ outcome. (g : ℕ) → ComesOf (program_in prepared.now) (windows_in windows.now) budget (source_of origin.now)
         (to_expand g) outcome) }
 {
-    match expand_node(alloc, checked, windows, origin, budget) {
+    match expand_node(alloc, prepared, windows, origin, budget) {
         Ok(work) => Ok(Outcome::Expanded(work)),
         Err(stop) => unanswered(stop),
     }
@@ -60,17 +60,17 @@ fn expand(
 // It is found what a node shows by a tree of rules.
 fn judge(
     alloc: Global,
-    checked: &Checked,
+    prepared: &Prepared,
     windows: &[Window],
     origin: &Origin,
     rules: &Rules,
     budget: u64,
 ) -> Result<Outcome, Memory>
-    requires ready { IsReady (program_of checked.now) }
-    ensures { IfOk result (λ outcome. (g : ℕ) → ComesOf (program_of checked.now) (windows_in windows.now) budget (source_of origin.now)
+    requires ready { IsReady (program_in prepared.now) }
+    ensures { IfOk result (λ outcome. (g : ℕ) → ComesOf (program_in prepared.now) (windows_in windows.now) budget (source_of origin.now)
         (to_judge (node_part g (derivation_of rules.now))) outcome) }
 {
-    match shown_by(alloc, checked, windows, origin, rules, budget) {
+    match shown_by(alloc, prepared, windows, origin, rules, budget) {
         Ok(shown) => Ok(Outcome::Judged(shown)),
         Err(stop) => unanswered(stop),
     }
@@ -80,17 +80,17 @@ fn judge(
 /// `budget` uses of equations for each value. It takes no lock. It recurs as deep as constructs, calls, terms and trees of rules nest.
 pub fn perform(
     alloc: Global,
-    checked: &Checked,
+    prepared: &Prepared,
     windows: &[Window],
     job: &Job,
     budget: u64,
 ) -> Result<Outcome, Memory>
-    requires ready { IsReady (program_of checked.now) }
-    requires rows { (k : ℕ) × AreBySorts (program_of checked.now).theory k windows.now }
-    ensures outcome { IfOk result (IsOutcome (program_of checked.now) (windows_in windows.now) budget job.now) }
+    requires ready { IsReady (program_in prepared.now) }
+    requires rows { (k : ℕ) × AreBySorts (program_in prepared.now).theory k windows.now }
+    ensures outcome { IfOk result (IsOutcome (program_in prepared.now) (windows_in windows.now) budget job.now) }
 {
     match &job.task {
-        NodeJob::Expand(_) => expand(alloc, checked, windows, &job.origin, budget),
-        NodeJob::Judge(_, rules) => judge(alloc, checked, windows, &job.origin, rules, budget),
+        NodeJob::Expand(_) => expand(alloc, prepared, windows, &job.origin, budget),
+        NodeJob::Judge(_, rules) => judge(alloc, prepared, windows, &job.origin, rules, budget),
     }
 }

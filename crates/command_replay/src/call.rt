@@ -9,6 +9,7 @@ ghost use Rattle.command_replay.specs.declared.answer.Answer.TheVariants.{NotADe
 
 use crate::answer::Answer;
 use log_check::{CheckFault, check};
+use match_code::{Evaluator, Forms, Prepared};
 use rule_model::log::Log;
 use spec_core::code::Checked;
 use spec_core::memory::Memory;
@@ -30,7 +31,12 @@ fn judged(alloc: Global, checked: &Checked, log: &Log, budget: u64) -> Result<An
     requires ready { IsReady (program_of checked.now) }
     ensures { IfOk result (LogComes (program_of checked.now) (events_of log.now) budget) }
 {
-    match check(alloc, checked, log, budget) {
+    let forms = Forms::new(alloc, &checked.algebra)?;
+    let prepared = Prepared {
+        checked,
+        evaluator: Evaluator::new(&checked.algebra, &forms),
+    };
+    match check(alloc, &prepared, log, budget) {
         Ok(actions) => Ok(Answer::Derivation(actions)),
         Err(CheckFault::NotPossible { entry }) => not_a_derivation(entry),
         Err(CheckFault::Spent { term }) => Ok(Answer::Spent(term)),

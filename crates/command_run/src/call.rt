@@ -17,7 +17,7 @@ use client_laws::laws::client_runs_answer_each;
 use client_runs::run::client_run;
 use rule_model::log::{End, Log};
 use rule_model::wish::ClientWish;
-use script_offers::{WishFault, offers_of_script};
+use script_offers::{Evaluator, Forms, Prepared, WishFault, offers_of_script};
 use script_text::fault::ScriptFault;
 use script_text::read_script;
 use script_text::wish::Script;
@@ -93,7 +93,12 @@ fn run_script<R: Threads + Wait + Sync, P: Probe + Sync>(
     requires workers { workers ≤ 64 }
     ensures { IfOk result (WishesCome (program_of checked.now) settings (script_of script.now)) }
 {
-    match offers_of_script(alloc, checked, script, settings.budget) {
+    let forms = Forms::new(alloc, &checked.algebra)?;
+    let prepared = Prepared {
+        checked,
+        evaluator: Evaluator::new(&checked.algebra, &forms),
+    };
+    match offers_of_script(alloc, &prepared, script, settings.budget) {
         Err(WishFault::Spent(term)) => Ok(Answer::Spent(term)),
         Err(WishFault::TooLarge(term)) => Ok(Answer::TooLarge(term)),
         Err(WishFault::Memory) => Err(Memory),

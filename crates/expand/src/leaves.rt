@@ -1,11 +1,12 @@
 // Expansions of actions and exits.
 
 ghost use Rattle.std.specs.Prelude.{ℕ, Option, ◌≡◌, ◌∷◌, [], IfOk, map};
-ghost use Rattle.spec_core.specs.Code.{action_field_of, exit_value_of, program_of};
+ghost use Rattle.spec_core.specs.Code.{action_field_of, exit_value_of};
 ghost use Rattle.spec_core.specs.Executable.{IsExecutable};
 ghost use Rattle.rule_model.specs.Behaviours.{Behaviour, exit, action};
 ghost use Rattle.symbolic_rules.specs.Windows.{Windows};
 ghost use Rattle.node_values.specs.Scopes.{marks_of};
+ghost use Rattle.node_values.specs.Prepared.{program_in};
 ghost use Rattle.expand.specs.Outcomes.{Outcome};
 ghost use Rattle.spec_core.specs.Theories.{Premise};
 ghost use Rattle.rule_model.specs.Actions.{inside};
@@ -15,10 +16,11 @@ ghost use Rattle.symbolic_plans.specs.OwnPlans.{takes_value, takes_any};
 
 use crate::joining::{nothing, single};
 use crate::outcome::Expanded;
+use node_values::Prepared;
 use node_values::fields::{open_exit, open_fields};
 use node_values::scope::Given;
 use node_values::stop::Stop;
-use spec_core::code::{ActField, Checked, ExitField};
+use spec_core::code::{ActField, ExitField};
 use spec_core::items::Gate;
 use spec_core::memory::Memory;
 use std::alloc::Global;
@@ -70,18 +72,18 @@ fn taking_any(alloc: Global, fields: &[ExitField]) -> Result<Vec<bool>, Memory>
 /// The expansion of an action.
 pub fn action_at(
     alloc: Global,
-    checked: &Checked,
+    prepared: &Prepared,
     scope: &[(u32, Given)],
     gate: Gate,
     fields: &[ActField],
     budget: u64,
 ) -> Result<Expanded, Stop>
-    requires executable { IsExecutable (program_of checked.now).theory }
+    requires executable { IsExecutable (program_in prepared.now).theory }
     ensures comes { (w : Windows) (n : ℕ) (p : Option Premise) (b : Behaviour) →
-        Outcome (program_of checked.now) w n budget (marks_of (program_of checked.now).theory scope.now)
+        Outcome (program_in prepared.now) w n budget (marks_of (program_in prepared.now).theory scope.now)
         (action gate.0 (map action_field_of fields.now) p b) result }
 {
-    match open_fields(alloc, checked, scope, fields, budget) {
+    match open_fields(alloc, prepared, scope, fields, budget) {
         Err(stop) => Err(stop),
         Ok(None) => nothing(alloc, true),
         Ok(Some(columns)) => match taking(alloc, fields) {
@@ -105,17 +107,17 @@ pub fn action_at(
 /// The expansion of an exit.
 pub fn exit_at(
     alloc: Global,
-    checked: &Checked,
+    prepared: &Prepared,
     scope: &[(u32, Given)],
     fields: &[ExitField],
     budget: u64,
 ) -> Result<Expanded, Stop>
-    requires executable { IsExecutable (program_of checked.now).theory }
+    requires executable { IsExecutable (program_in prepared.now).theory }
     ensures comes { (w : Windows) (n : ℕ) →
-        Outcome (program_of checked.now) w n budget (marks_of (program_of checked.now).theory scope.now)
+        Outcome (program_in prepared.now) w n budget (marks_of (program_in prepared.now).theory scope.now)
         (exit (map exit_value_of fields.now)) result }
 {
-    match open_exit(alloc, checked, scope, fields, budget) {
+    match open_exit(alloc, prepared, scope, fields, budget) {
         Err(stop) => Err(stop),
         Ok(None) => nothing(alloc, true),
         Ok(Some(columns)) => match taking_any(alloc, fields) {

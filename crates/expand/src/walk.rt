@@ -2,7 +2,7 @@
 
 ghost use Rattle.std.specs.Prelude.{ℕ, List, ◌≡◌, ◌<◌, ◌∷◌, IfSome, IfNone, Some, map, IfOk, Contains};
 ghost use Rattle.std.specs.List.{slice_get};
-ghost use Rattle.spec_core.specs.Code.{Variable, process, program_of, variable_of, binding_of, node_of};
+ghost use Rattle.spec_core.specs.Code.{Variable, process, variable_of, binding_of, node_of};
 ghost use Rattle.spec_core.specs.Numbers.{gate_number};
 ghost use Rattle.spec_core.specs.Lists.{Each};
 ghost use Rattle.spec_core.specs.Ready.{IsReady, IsProcess, parts_of};
@@ -13,6 +13,7 @@ ghost use Rattle.rule_model.specs.Behaviours.{call, value_choice, gate_choice, g
 ghost use Rattle.rule_origins.specs.Parts.{behaviour_at, over_parts};
 ghost use Rattle.symbolic_plans.specs.OpenPlans.{open_plan_of};
 ghost use Rattle.node_values.specs.Scopes.{marks_of, marked_of};
+ghost use Rattle.node_values.specs.Prepared.{program_in};
 ghost use Rattle.expand.specs.Choosing.{AddsChoice, IsChoice};
 ghost use Rattle.expand.specs.Outcomes.{Outcome, BelowOutcome};
 ghost use Rattle.symbolic_rules.specs.Tables.{windows_in};
@@ -22,6 +23,7 @@ use crate::joining;
 use crate::joining::{nothing, under_rule};
 use crate::leaves::{action_at, exit_at, inner_at};
 use crate::outcome::Expanded;
+use node_values::Prepared;
 use node_values::fields::{bind, bind_arguments};
 use node_values::scope::{Given, copy_scope, with};
 use node_values::stop::Stop;
@@ -30,7 +32,7 @@ use rule_model::rules::Slot;
 use rule_origins::code::construct_at;
 use rule_origins::views::definition_at;
 use rule_substitution::relabelling::pairs;
-use spec_core::code::{Checked, CodeNode};
+use spec_core::code::CodeNode;
 use spec_core::items::{Gate, Sort};
 use spec_core::memory::Memory;
 use spec_core::term::Term;
@@ -57,22 +59,22 @@ fn extended(
 #[cycle(walk)]
 fn enter(
     alloc: Global,
-    checked: &Checked,
+    prepared: &Prepared,
     windows: &[Window],
     scope: &[(u32, Given)],
     body: u32,
     calls: usize,
     budget: u64,
 ) -> Result<Expanded, Stop>
-    requires ready { IsReady (program_of checked.now) }
-    requires rows { (k : ℕ) × AreBySorts (program_of checked.now).theory k windows.now }
-    ensures comes { BelowOutcome (program_of checked.now) (windows_in windows.now) calls budget
-        (marks_of (program_of checked.now).theory scope.now) (behaviour_at (program_of checked.now) body) result }
+    requires ready { IsReady (program_in prepared.now) }
+    requires rows { (k : ℕ) × AreBySorts (program_in prepared.now).theory k windows.now }
+    ensures comes { BelowOutcome (program_in prepared.now) (windows_in windows.now) calls budget
+        (marks_of (program_in prepared.now).theory scope.now) (behaviour_at (program_in prepared.now) body) result }
 {
     if calls == 0 {
         nothing(alloc, false)
     } else {
-        expand_at(alloc, checked, windows, scope, body, calls - 1, budget)
+        expand_at(alloc, prepared, windows, scope, body, calls - 1, budget)
     }
 }
 
@@ -80,7 +82,7 @@ fn enter(
 #[cycle(walk)]
 pub fn call_at(
     alloc: Global,
-    checked: &Checked,
+    prepared: &Prepared,
     windows: &[Window],
     scope: &[(u32, Given)],
     number: u32,
@@ -89,21 +91,29 @@ pub fn call_at(
     calls: usize,
     budget: u64,
 ) -> Result<Expanded, Stop>
-    requires ready { IsReady (program_of checked.now) }
-    requires rows { (k : ℕ) × AreBySorts (program_of checked.now).theory k windows.now }
-    ensures comes { Outcome (program_of checked.now) (windows_in windows.now) calls budget
-        (marks_of (program_of checked.now).theory scope.now) (call number (map gate_number gates.now) (map term_of values.now)) result }
+    requires ready { IsReady (program_in prepared.now) }
+    requires rows { (k : ℕ) × AreBySorts (program_in prepared.now).theory k windows.now }
+    ensures comes { Outcome (program_in prepared.now) (windows_in windows.now) calls budget
+        (marks_of (program_in prepared.now).theory scope.now) (call number (map gate_number gates.now) (map term_of values.now)) result }
 {
-    match definition_at(checked, number) {
+    match definition_at(prepared.checked, number) {
         None => nothing(alloc, true),
         Some((formal, vars, body)) => {
-            match bind_arguments(alloc, checked, scope, Vec::new(alloc), vars, values, budget) {
+            match bind_arguments(
+                alloc,
+                prepared,
+                scope,
+                Vec::new(alloc),
+                vars,
+                values,
+                budget,
+            ) {
                 Err(stop) => Err(stop),
                 Ok(None) => nothing(alloc, true),
                 Ok(Some(inner)) => match pairs(alloc, formal, gates) {
                     Err(_) => Err(Stop::Memory),
                     Ok(renamed) => {
-                        let part = enter(alloc, checked, windows, &inner, body, calls, budget);
+                        let part = enter(alloc, prepared, windows, &inner, body, calls, budget);
                         let relabelled = joining::relabel(alloc, &renamed, part);
                         under_rule(alloc, &Row::Call, relabelled)
                     }
@@ -117,7 +127,7 @@ pub fn call_at(
 #[cycle(walk)]
 fn add_choice(
     alloc: Global,
-    checked: &Checked,
+    prepared: &Prepared,
     windows: &[Window],
     scope: &[(u32, Given)],
     x: u32,
@@ -129,18 +139,18 @@ fn add_choice(
     budget: u64,
     all: Expanded,
 ) -> Result<Expanded, Stop>
-    requires ready { IsReady (program_of checked.now) }
-    requires rows { (k : ℕ) × AreBySorts (program_of checked.now).theory k windows.now }
-    requires choice { IsChoice (program_of checked.now).theory (windows_in windows.now) sort.0 slot
-        (marked_of (program_of checked.now).theory x given) }
-    ensures added { AddsChoice (program_of checked.now) (windows_in windows.now) calls budget
-        (marks_of (program_of checked.now).theory scope.now) (record { number = x; sort = sort.0 })
-        (behaviour_at (program_of checked.now) body) (map open_plan_of all.composites.items) all.spread slot result }
+    requires ready { IsReady (program_in prepared.now) }
+    requires rows { (k : ℕ) × AreBySorts (program_in prepared.now).theory k windows.now }
+    requires choice { IsChoice (program_in prepared.now).theory (windows_in windows.now) sort.0 slot
+        (marked_of (program_in prepared.now).theory x given) }
+    ensures added { AddsChoice (program_in prepared.now) (windows_in windows.now) calls budget
+        (marks_of (program_in prepared.now).theory scope.now) (record { number = x; sort = sort.0 })
+        (behaviour_at (program_in prepared.now) body) (map open_plan_of all.composites.items) all.spread slot result }
 {
     match extended(alloc, scope, x, given) {
         Err(_) => Err(Stop::Memory),
         Ok(inner) => {
-            let part = expand_at(alloc, checked, windows, &inner, body, calls, budget);
+            let part = expand_at(alloc, prepared, windows, &inner, body, calls, budget);
             joining::beside(alloc, slot, all, part)
         }
     }
@@ -150,7 +160,7 @@ fn add_choice(
 #[cycle(walk)]
 fn add_value(
     alloc: Global,
-    checked: &Checked,
+    prepared: &Prepared,
     windows: &[Window],
     scope: &[(u32, Given)],
     x: u32,
@@ -161,12 +171,12 @@ fn add_value(
     budget: u64,
     all: Expanded,
 ) -> Result<Expanded, Stop>
-    requires ready { IsReady (program_of checked.now) }
-    requires rows { (k : ℕ) × AreBySorts (program_of checked.now).theory k windows.now }
+    requires ready { IsReady (program_in prepared.now) }
+    requires rows { (k : ℕ) × AreBySorts (program_in prepared.now).theory k windows.now }
     requires listed { Contains ((windows_in windows.now).values sort.0) value.now }
-    ensures added { AddsChoice (program_of checked.now) (windows_in windows.now) calls budget
-        (marks_of (program_of checked.now).theory scope.now) (record { number = x; sort = sort.0 })
-        (behaviour_at (program_of checked.now) body) (map open_plan_of all.composites.items) all.spread (Of value.now) result }
+    ensures added { AddsChoice (program_in prepared.now) (windows_in windows.now) calls budget
+        (marks_of (program_in prepared.now).theory scope.now) (record { number = x; sort = sort.0 })
+        (behaviour_at (program_in prepared.now) body) (map open_plan_of all.composites.items) all.spread (Of value.now) result }
 {
     match value.copy(alloc) {
         Err(_) => Err(Stop::Memory),
@@ -176,7 +186,7 @@ fn add_value(
                 let slot = Slot::Of(first);
                 let given = Given::Value(second);
                 add_choice(
-                    alloc, checked, windows, scope, x, sort, slot, given, body, calls, budget, all,
+                    alloc, prepared, windows, scope, x, sort, slot, given, body, calls, budget, all,
                 )
             }
         },
@@ -187,7 +197,7 @@ fn add_value(
 #[cycle(walk)]
 fn value_choice_at(
     alloc: Global,
-    checked: &Checked,
+    prepared: &Prepared,
     windows: &[Window],
     scope: &[(u32, Given)],
     x: u32,
@@ -196,11 +206,11 @@ fn value_choice_at(
     calls: usize,
     budget: u64,
 ) -> Result<Expanded, Stop>
-    requires ready { IsReady (program_of checked.now) }
-    requires rows { (k : ℕ) × AreBySorts (program_of checked.now).theory k windows.now }
-    ensures comes { Outcome (program_of checked.now) (windows_in windows.now) calls budget
-        (marks_of (program_of checked.now).theory scope.now)
-        (value_choice (record { number = x; sort = sort.0 }) (behaviour_at (program_of checked.now) body)) result }
+    requires ready { IsReady (program_in prepared.now) }
+    requires rows { (k : ℕ) × AreBySorts (program_in prepared.now).theory k windows.now }
+    ensures comes { Outcome (program_in prepared.now) (windows_in windows.now) calls budget
+        (marks_of (program_in prepared.now).theory scope.now)
+        (value_choice (record { number = x; sort = sort.0 }) (behaviour_at (program_in prepared.now) body)) result }
 {
     let mut all = match nothing(alloc, true) {
         Err(stop) => return Err(stop),
@@ -209,7 +219,7 @@ fn value_choice_at(
     let values = values_at(windows, sort);
     for value in values {
         match add_value(
-            alloc, checked, windows, scope, x, sort, value, body, calls, budget, all,
+            alloc, prepared, windows, scope, x, sort, value, body, calls, budget, all,
         ) {
             Err(stop) => return Err(stop),
             Ok(more) => all = more,
@@ -221,7 +231,7 @@ fn value_choice_at(
     let given = Given::Mark(sort);
     add_choice(
         alloc,
-        checked,
+        prepared,
         windows,
         scope,
         x,
@@ -239,7 +249,7 @@ fn value_choice_at(
 #[cycle(walk)]
 fn guard_at(
     alloc: Global,
-    checked: &Checked,
+    prepared: &Prepared,
     windows: &[Window],
     scope: &[(u32, Given)],
     left: &Term,
@@ -248,16 +258,16 @@ fn guard_at(
     calls: usize,
     budget: u64,
 ) -> Result<Expanded, Stop>
-    requires ready { IsReady (program_of checked.now) }
-    requires rows { (k : ℕ) × AreBySorts (program_of checked.now).theory k windows.now }
-    ensures comes { Outcome (program_of checked.now) (windows_in windows.now) calls budget
-        (marks_of (program_of checked.now).theory scope.now)
-        (guarded (premise (term_of left.now) (term_of right.now)) (behaviour_at (program_of checked.now) body)) result }
+    requires ready { IsReady (program_in prepared.now) }
+    requires rows { (k : ℕ) × AreBySorts (program_in prepared.now).theory k windows.now }
+    ensures comes { Outcome (program_in prepared.now) (windows_in windows.now) calls budget
+        (marks_of (program_in prepared.now).theory scope.now)
+        (guarded (premise (term_of left.now) (term_of right.now)) (behaviour_at (program_in prepared.now) body)) result }
 {
-    match may_hold(alloc, checked, scope, left, right, budget) {
+    match may_hold(alloc, prepared, scope, left, right, budget) {
         Err(stop) => Err(stop),
         Ok(holds) => if holds {
-            let part = expand_at(alloc, checked, windows, scope, body, calls, budget);
+            let part = expand_at(alloc, prepared, windows, scope, body, calls, budget);
             under_rule(alloc, &Row::Guard, part)
         } else {
             nothing(alloc, true)
@@ -269,7 +279,7 @@ fn guard_at(
 #[cycle(walk)]
 fn bound_at(
     alloc: Global,
-    checked: &Checked,
+    prepared: &Prepared,
     windows: &[Window],
     scope: &[(u32, Given)],
     bindings: &[(u32, Sort, Term)],
@@ -277,19 +287,19 @@ fn bound_at(
     calls: usize,
     budget: u64,
 ) -> Result<Expanded, Stop>
-    requires ready { IsReady (program_of checked.now) }
-    requires rows { (k : ℕ) × AreBySorts (program_of checked.now).theory k windows.now }
-    ensures comes { Outcome (program_of checked.now) (windows_in windows.now) calls budget
-        (marks_of (program_of checked.now).theory scope.now)
-        (bound (map binding_of bindings.now) (behaviour_at (program_of checked.now) body)) result }
+    requires ready { IsReady (program_in prepared.now) }
+    requires rows { (k : ℕ) × AreBySorts (program_in prepared.now).theory k windows.now }
+    ensures comes { Outcome (program_in prepared.now) (windows_in windows.now) calls budget
+        (marks_of (program_in prepared.now).theory scope.now)
+        (bound (map binding_of bindings.now) (behaviour_at (program_in prepared.now) body)) result }
 {
     match copy_scope(alloc, scope) {
         Err(_) => Err(Stop::Memory),
-        Ok(copied) => match bind(alloc, checked, scope, copied, bindings, budget) {
+        Ok(copied) => match bind(alloc, prepared, scope, copied, bindings, budget) {
             Err(stop) => Err(stop),
             Ok(None) => nothing(alloc, true),
             Ok(Some(inner)) => {
-                let part = expand_at(alloc, checked, windows, &inner, body, calls, budget);
+                let part = expand_at(alloc, prepared, windows, &inner, body, calls, budget);
                 under_rule(alloc, &Row::Let, part)
             }
         },
@@ -300,7 +310,7 @@ fn bound_at(
 #[cycle(walk)]
 fn gate_choice_at(
     alloc: Global,
-    checked: &Checked,
+    prepared: &Prepared,
     windows: &[Window],
     scope: &[(u32, Given)],
     gate: Gate,
@@ -309,16 +319,16 @@ fn gate_choice_at(
     calls: usize,
     budget: u64,
 ) -> Result<Expanded, Stop>
-    requires ready { IsReady (program_of checked.now) }
-    requires rows { (k : ℕ) × AreBySorts (program_of checked.now).theory k windows.now }
-    ensures comes { Outcome (program_of checked.now) (windows_in windows.now) calls budget
-        (marks_of (program_of checked.now).theory scope.now)
-        (gate_choice gate.0 (map gate_number gates.now) (behaviour_at (program_of checked.now) body)) result }
+    requires ready { IsReady (program_in prepared.now) }
+    requires rows { (k : ℕ) × AreBySorts (program_in prepared.now).theory k windows.now }
+    ensures comes { Outcome (program_in prepared.now) (windows_in windows.now) calls budget
+        (marks_of (program_in prepared.now).theory scope.now)
+        (gate_choice gate.0 (map gate_number gates.now) (behaviour_at (program_in prepared.now) body)) result }
 {
     match gates {
         [] => nothing(alloc, true),
         [_, ..] => {
-            let part = expand_at(alloc, checked, windows, scope, body, calls, budget);
+            let part = expand_at(alloc, prepared, windows, scope, body, calls, budget);
             joining::gate_choice(alloc, gate, gates, part)
         }
     }
@@ -328,7 +338,7 @@ fn gate_choice_at(
 #[cycle(walk)]
 fn expand_construct(
     alloc: Global,
-    checked: &Checked,
+    prepared: &Prepared,
     windows: &[Window],
     scope: &[(u32, Given)],
     construct: &CodeNode,
@@ -336,57 +346,57 @@ fn expand_construct(
     calls: usize,
     budget: u64,
 ) -> Result<Expanded, Stop>
-    requires ready { IsReady (program_of checked.now) }
-    requires rows { (k : ℕ) × AreBySorts (program_of checked.now).theory k windows.now }
+    requires ready { IsReady (program_in prepared.now) }
+    requires rows { (k : ℕ) × AreBySorts (program_in prepared.now).theory k windows.now }
     requires below { (IsProcess (node_of construct.now) → ⊥) → Each (λ part. part < number) (parts_of (node_of construct.now)) }
-    ensures comes { Outcome (program_of checked.now) (windows_in windows.now) calls budget
-        (marks_of (program_of checked.now).theory scope.now)
-        (over_parts (behaviour_at (program_of checked.now)) (Some (node_of construct.now))) result }
+    ensures comes { Outcome (program_in prepared.now) (windows_in windows.now) calls budget
+        (marks_of (program_in prepared.now).theory scope.now)
+        (over_parts (behaviour_at (program_in prepared.now)) (Some (node_of construct.now))) result }
 {
     match construct {
         CodeNode::Stop => nothing(alloc, false),
         CodeNode::Process { .. } => nothing(alloc, false),
-        CodeNode::Exit(fields) => exit_at(alloc, checked, scope, fields, budget),
+        CodeNode::Exit(fields) => exit_at(alloc, prepared, scope, fields, budget),
         CodeNode::Inner(_) => inner_at(alloc),
         CodeNode::Act {
             gate,
             fields,
             guard: _,
             rest: _,
-        } => action_at(alloc, checked, scope, *gate, fields, budget),
+        } => action_at(alloc, prepared, scope, *gate, fields, budget),
         CodeNode::Choice(left, right) => {
-            let first = expand_at(alloc, checked, windows, scope, left.0, calls, budget);
-            let second = expand_at(alloc, checked, windows, scope, right.0, calls, budget);
+            let first = expand_at(alloc, prepared, windows, scope, left.0, calls, budget);
+            let second = expand_at(alloc, prepared, windows, scope, right.0, calls, budget);
             joining::choice(alloc, first, second)
         }
         CodeNode::Guard(left, right, body) => guard_at(
-            alloc, checked, windows, scope, left, right, body.0, calls, budget,
+            alloc, prepared, windows, scope, left, right, body.0, calls, budget,
         ),
         CodeNode::Let(bindings, body) => bound_at(
-            alloc, checked, windows, scope, bindings, body.0, calls, budget,
+            alloc, prepared, windows, scope, bindings, body.0, calls, budget,
         ),
         CodeNode::Values(x, sort, body) => value_choice_at(
-            alloc, checked, windows, scope, *x, *sort, body.0, calls, budget,
+            alloc, prepared, windows, scope, *x, *sort, body.0, calls, budget,
         ),
         CodeNode::Gates(gate, gates, body) => gate_choice_at(
-            alloc, checked, windows, scope, *gate, gates, body.0, calls, budget,
+            alloc, prepared, windows, scope, *gate, gates, body.0, calls, budget,
         ),
         CodeNode::Par(gates, left, right) => {
-            let first = expand_at(alloc, checked, windows, scope, left.0, calls, budget);
-            let second = expand_at(alloc, checked, windows, scope, right.0, calls, budget);
-            joining::parallel(alloc, &checked.algebra, gates, first, second)
+            let first = expand_at(alloc, prepared, windows, scope, left.0, calls, budget);
+            let second = expand_at(alloc, prepared, windows, scope, right.0, calls, budget);
+            joining::parallel(alloc, &prepared.checked.algebra, gates, first, second)
         }
         CodeNode::Hide(gates, body) => {
-            let part = expand_at(alloc, checked, windows, scope, body.0, calls, budget);
+            let part = expand_at(alloc, prepared, windows, scope, body.0, calls, budget);
             joining::hide(alloc, gates, part)
         }
         CodeNode::Enable(left, _, _) => {
-            let part = expand_at(alloc, checked, windows, scope, left.0, calls, budget);
+            let part = expand_at(alloc, prepared, windows, scope, left.0, calls, budget);
             joining::enable(alloc, part)
         }
         CodeNode::Disable(left, right) => {
-            let first = expand_at(alloc, checked, windows, scope, left.0, calls, budget);
-            let second = expand_at(alloc, checked, windows, scope, right.0, calls, budget);
+            let first = expand_at(alloc, prepared, windows, scope, left.0, calls, budget);
+            let second = expand_at(alloc, prepared, windows, scope, right.0, calls, budget);
             joining::disable(alloc, first, second)
         }
         CodeNode::Call {
@@ -394,10 +404,10 @@ fn expand_construct(
             gates,
             values,
         } => call_at(
-            alloc, checked, windows, scope, *process, gates, values, calls, budget,
+            alloc, prepared, windows, scope, *process, gates, values, calls, budget,
         ),
         CodeNode::Relabel(pairs, body) => {
-            let part = expand_at(alloc, checked, windows, scope, body.0, calls, budget);
+            let part = expand_at(alloc, prepared, windows, scope, body.0, calls, budget);
             joining::relabel(alloc, pairs, part)
         }
     }
@@ -408,22 +418,22 @@ fn expand_construct(
 #[cycle(walk)]
 pub fn expand_at(
     alloc: Global,
-    checked: &Checked,
+    prepared: &Prepared,
     windows: &[Window],
     scope: &[(u32, Given)],
     node: u32,
     calls: usize,
     budget: u64,
 ) -> Result<Expanded, Stop>
-    requires ready { IsReady (program_of checked.now) }
-    requires rows { (k : ℕ) × AreBySorts (program_of checked.now).theory k windows.now }
-    ensures comes { Outcome (program_of checked.now) (windows_in windows.now) calls budget
-        (marks_of (program_of checked.now).theory scope.now) (behaviour_at (program_of checked.now) node) result }
+    requires ready { IsReady (program_in prepared.now) }
+    requires rows { (k : ℕ) × AreBySorts (program_in prepared.now).theory k windows.now }
+    ensures comes { Outcome (program_in prepared.now) (windows_in windows.now) calls budget
+        (marks_of (program_in prepared.now).theory scope.now) (behaviour_at (program_in prepared.now) node) result }
 {
-    match construct_at(checked, node) {
+    match construct_at(prepared.checked, node) {
         None => nothing(alloc, false),
         Some(construct) => expand_construct(
-            alloc, checked, windows, scope, construct, node, calls, budget,
+            alloc, prepared, windows, scope, construct, node, calls, budget,
         ),
     }
 }

@@ -6,6 +6,7 @@ ghost use Rattle.spec_core.specs.Ready.{IsReady};
 ghost use Rattle.rule_model.specs.Events.{event_of};
 ghost use Rattle.rule_model.specs.Legal.{IsDerivation, IsPossible};
 ghost use Rattle.rule_model.specs.Logs.{events_of};
+ghost use Rattle.match_code.specs.Prepared.{program_in};
 ghost use Rattle.log_check.specs.Checked.{EntriesAreWithin, Explains, FailsFrom, IsDerivationOf, LogTermsAreWithin};
 ghost use Rattle.log_check.specs.Entries.{EntryFails, EntryTermsAreWithin};
 ghost use Rattle.log_check.specs.Starting.{BeginsIn};
@@ -16,6 +17,7 @@ use crate::entry::take;
 use crate::fault::CheckFault;
 use crate::reached::Reached;
 use log_states::state::SessionState;
+use match_code::Prepared;
 use rule_model::log::{Entry, Log};
 use rule_walk::{FireFault, start};
 use spec_core::code::Checked;
@@ -40,18 +42,18 @@ fn begin(alloc: Global, checked: &Checked, entries: &[Entry]) -> Result<Reached,
 // Takes the entry of this number, if it is possible.
 fn go_on(
     alloc: Global,
-    checked: &Checked,
+    prepared: &Prepared,
     state: &mut Reached,
     entry: &Entry,
     place: u64,
     budget: u64,
 ) -> Result<(), CheckFault>
-    requires ready { IsReady (program_of checked.now) }
-    ensures next { OnOk result (IsPossible (program_of checked.now) (state_of state.old) (event_of entry.now) (state_of state.new)) }
-    ensures within { OnOk result (EntryTermsAreWithin (program_of checked.now) (state_of state.old) (event_of entry.now) budget) }
-    ensures fault { IfErr result (EntryFails (program_of checked.now) (state_of state.old) (event_of entry.now) place budget) }
+    requires ready { IsReady (program_in prepared.now) }
+    ensures next { OnOk result (IsPossible (program_in prepared.now) (state_of state.old) (event_of entry.now) (state_of state.new)) }
+    ensures within { OnOk result (EntryTermsAreWithin (program_in prepared.now) (state_of state.old) (event_of entry.now) budget) }
+    ensures fault { IfErr result (EntryFails (program_in prepared.now) (state_of state.old) (event_of entry.now) place budget) }
 {
-    match take(alloc, checked, state, entry, budget) {
+    match take(alloc, prepared, state, entry, budget) {
         Ok(true) => Ok(()),
         Ok(false) => Err(CheckFault::NotPossible { entry: place }),
         Err(FireFault::Unfit { at: _ }) => unreachable!(),
@@ -64,19 +66,19 @@ fn go_on(
 // Takes entries as long as they are possible.
 fn walk(
     alloc: Global,
-    checked: &Checked,
+    prepared: &Prepared,
     state: &mut Reached,
     entries: &[Entry],
     budget: u64,
 ) -> Result<(), CheckFault>
-    requires ready { IsReady (program_of checked.now) }
-    ensures taken { OnOk result (IsDerivation (program_of checked.now) (map event_of entries.now) (state_of state.old)
+    requires ready { IsReady (program_in prepared.now) }
+    ensures taken { OnOk result (IsDerivation (program_in prepared.now) (map event_of entries.now) (state_of state.old)
         (state_of state.new)) }
-    ensures within { OnOk result (EntriesAreWithin (program_of checked.now) (map event_of entries.now) (state_of state.old) budget) }
-    ensures fault { IfErr result (FailsFrom (program_of checked.now) (map event_of entries.now) (state_of state.old) budget) }
+    ensures within { OnOk result (EntriesAreWithin (program_in prepared.now) (map event_of entries.now) (state_of state.old) budget) }
+    ensures fault { IfErr result (FailsFrom (program_in prepared.now) (map event_of entries.now) (state_of state.old) budget) }
 {
     for (place, entry) in entries.iter().enumerate() {
-        match go_on(alloc, checked, state, entry, place as u64, budget) {
+        match go_on(alloc, prepared, state, entry, place as u64, budget) {
             Ok(()) => {}
             Err(fault) => return Err(fault),
         }
@@ -88,15 +90,15 @@ fn walk(
 /// that it names, and each entry is possible in the state that those before it lead to. Or the number of the first entry that isn't, from
 /// 0; or a term that the tree of an entry before that asks, and that has no value with so many uses of equations (1 to 2^32) or meets a
 /// value that is too large. It goes over the log once, and doesn't recur in it.
-pub fn check(alloc: Global, checked: &Checked, log: &Log, budget: u64) -> Result<u64, CheckFault>
-    requires ready { IsReady (program_of checked.now) }
-    ensures derivation { IfOk result (IsDerivationOf (program_of checked.now) (events_of log.now)) }
-    ensures within { OnOk result (LogTermsAreWithin (program_of checked.now) (events_of log.now) budget) }
-    ensures fault { IfErr result (Explains (program_of checked.now) (events_of log.now) budget) }
+pub fn check(alloc: Global, prepared: &Prepared, log: &Log, budget: u64) -> Result<u64, CheckFault>
+    requires ready { IsReady (program_in prepared.now) }
+    ensures derivation { IfOk result (IsDerivationOf (program_in prepared.now) (events_of log.now)) }
+    ensures within { OnOk result (LogTermsAreWithin (program_in prepared.now) (events_of log.now) budget) }
+    ensures fault { IfErr result (Explains (program_in prepared.now) (events_of log.now) budget) }
 {
     let entries = log.as_slice();
-    let mut state = begin(alloc, checked, entries)?;
-    match walk(alloc, checked, &mut state, entries, budget) {
+    let mut state = begin(alloc, prepared.checked, entries)?;
+    match walk(alloc, prepared, &mut state, entries, budget) {
         Ok(()) => Ok(state.session.actions()),
         Err(fault) => Err(fault),
     }

@@ -7,10 +7,12 @@ ghost use Rattle.spec_core.specs.Ready.{IsReady};
 ghost use Rattle.rule_model.specs.Derivations.{derivation_of};
 ghost use Rattle.rule_model.specs.Events.{acted, event_of, left, pended, replied, stalled};
 ghost use Rattle.rule_model.specs.Answers.{answer_of};
+ghost use Rattle.match_code.specs.Prepared.{program_in};
 ghost use Rattle.log_check.specs.Entries.{Becomes, EntryExplains, BoundsEntry, NamesNumber};
 ghost use Rattle.log_check.specs.Views.{state_of};
 
 use crate::reached::Reached;
+use match_code::Prepared;
 use rule_laws::laws::trees_determine_steps;
 use rule_model::action::Action;
 use rule_model::log::Entry;
@@ -122,25 +124,25 @@ fn stall(alloc: Global, checked: &Checked, state: &mut Reached, names: &[(u32, u
 // An action is done by a tree. What the log alone decides is asked before the tree.
 fn act(
     alloc: Global,
-    checked: &Checked,
+    prepared: &Prepared,
     state: &mut Reached,
     action: &Action,
     rules: &Rules,
     by: Option<(u32, u64)>,
     budget: u64,
 ) -> Result<bool, FireFault>
-    requires ready { IsReady (program_of checked.now) }
+    requires ready { IsReady (program_in prepared.now) }
     ensures next { IfOk result
-        (Becomes (program_of checked.now) (state_of state.old) (acted action.now (derivation_of rules.now) by) (state_of state.new)) }
+        (Becomes (program_in prepared.now) (state_of state.old) (acted action.now (derivation_of rules.now) by) (state_of state.new)) }
     ensures within { IfOk result
-        (BoundsEntry (program_of checked.now) (state_of state.old) (acted action.now (derivation_of rules.now) by) budget) }
+        (BoundsEntry (program_in prepared.now) (state_of state.old) (acted action.now (derivation_of rules.now) by) budget) }
     ensures cause { IfErr result
-        (EntryExplains (program_of checked.now) (state_of state.old) (acted action.now (derivation_of rules.now) by) budget) }
+        (EntryExplains (program_in prepared.now) (state_of state.old) (acted action.now (derivation_of rules.now) by) budget) }
 {
-    if !state.session.agrees(checked, action, by) {
+    if !state.session.agrees(prepared.checked, action, by) {
         return Ok(false);
     }
-    match fire(alloc, checked, &state.behaviour, rules, budget) {
+    match fire(alloc, prepared, &state.behaviour, rules, budget) {
         Ok((done, rest)) => {
             trees_determine_steps();
             if done.same(action) {
@@ -162,25 +164,33 @@ fn act(
 /// equations for each term.
 pub fn take(
     alloc: Global,
-    checked: &Checked,
+    prepared: &Prepared,
     state: &mut Reached,
     entry: &Entry,
     budget: u64,
 ) -> Result<bool, FireFault>
-    requires ready { IsReady (program_of checked.now) }
-    ensures next { IfOk result (Becomes (program_of checked.now) (state_of state.old) (event_of entry.now) (state_of state.new)) }
-    ensures within { IfOk result (BoundsEntry (program_of checked.now) (state_of state.old) (event_of entry.now) budget) }
-    ensures cause { IfErr result (EntryExplains (program_of checked.now) (state_of state.old) (event_of entry.now) budget) }
+    requires ready { IsReady (program_in prepared.now) }
+    ensures next { IfOk result (Becomes (program_in prepared.now) (state_of state.old) (event_of entry.now) (state_of state.new)) }
+    ensures within { IfOk result (BoundsEntry (program_in prepared.now) (state_of state.old) (event_of entry.now) budget) }
+    ensures cause { IfErr result (EntryExplains (program_in prepared.now) (state_of state.old) (event_of entry.now) budget) }
 {
     match entry {
         Entry::Pend(client, number, offered, ask) => {
-            offer(alloc, checked, state, *client, *number, offered, *ask)
+            offer(
+                alloc,
+                prepared.checked,
+                state,
+                *client,
+                *number,
+                offered,
+                *ask,
+            )
         }
-        Entry::Act(action, rules, by) => act(alloc, checked, state, action, rules, *by, budget),
+        Entry::Act(action, rules, by) => act(alloc, prepared, state, action, rules, *by, budget),
         Entry::Reply(client, number, reply) => {
-            answer(alloc, checked, state, *client, *number, reply)
+            answer(alloc, prepared.checked, state, *client, *number, reply)
         }
-        Entry::Stall(names) => Ok(stall(alloc, checked, state, names)),
-        Entry::Leave(client) => leave(alloc, checked, state, *client),
+        Entry::Stall(names) => Ok(stall(alloc, prepared.checked, state, names)),
+        Entry::Leave(client) => leave(alloc, prepared.checked, state, *client),
     }
 }

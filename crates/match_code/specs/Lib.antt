@@ -1,4 +1,5 @@
 pub mod Entries
 pub mod Frames
+pub mod Prepared
 pub mod Rights
 pub mod States

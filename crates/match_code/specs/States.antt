@@ -2,7 +2,6 @@
 use Rattle.std.specs.Prelude.{ℕ, ◌≡◌, ◌≤◌, List, ◌∷◌, map, length}
 use Rattle.spec_core.specs.Budgets.{IsBeyond}
 use Rattle.spec_core.specs.Evaluation.{Evaluates}
-use Rattle.spec_core.specs.Executable.{IsExecutable}
 use Rattle.spec_core.specs.Lists.{Each}
 use Rattle.spec_core.specs.Terms.{TermTree}
 use Rattle.spec_core.specs.Theories.{Theory, theory_of}
@@ -78,7 +77,6 @@ pub record IsStore (theory : Theory) (store : Store) : Type 0 where
 
 -- an engine of executable data
 pub record IsEngine (engine : Engine) : Type 0 where
-  pub executable : IsExecutable (theory_of engine.algebra.now)
   pub forms : AreForms (theory_of engine.algebra.now) engine.forms
   pub room : HasRoom (theory_of engine.algebra.now) (length engine.bound.items)
   pub store : IsStore (theory_of engine.algebra.now) engine.store

@@ -15,7 +15,6 @@ ghost use Rattle.match_code.specs.States.{IsCause, IsEngine, IsStore};
 use crate::rights::Forms;
 use crate::run::run;
 use crate::state::{Runs, Store};
-use rewriter::equations::most_variables;
 use rewriter::step::push_instance;
 use rewriter::{Eval, Side, SideFault};
 use spec_core::equation::DataSpec;
@@ -48,8 +47,8 @@ fn next_store(alloc: Global, store: Store) -> Store
     kept
 }
 
-// Evaluates a term from its steps to its value.
-fn evaluate(
+/// Evaluates a term from its steps to its value.
+pub fn evaluate(
     alloc: Global,
     algebra: &DataSpec,
     forms: &Forms,
@@ -58,7 +57,6 @@ fn evaluate(
     term: &Term,
     budget: u64,
 ) -> Result<Value, Eval>
-    requires executable { IsExecutable (theory_of algebra.now) }
     requires forms { AreForms (theory_of algebra.now) forms.now }
     requires room { HasRoom (theory_of algebra.now) (length bound.old) }
     requires store { IsStore (theory_of algebra.now) store.old }
@@ -83,7 +81,7 @@ impl<'a> Engine<'a> {
         ensures algebra { IfOk result (λ e. e.algebra.now ≡ algebra.now) }
     {
         let forms = Forms::new(alloc, algebra)?;
-        let bound = Vec::from_elem(alloc, 0u32, most_variables(algebra))?;
+        let bound = Vec::from_elem(alloc, 0u32, forms.room)?;
         Ok(Engine {
             algebra,
             forms,

@@ -24,6 +24,8 @@ struct Hint {
 pub struct Hints {
     places: Vec<Option<Hint>>,
     filled: usize,
+    /// Whether nothing is noted.
+    closed: bool,
 }
 
 // Numbers that are alike become numbers that aren't.
@@ -47,6 +49,30 @@ impl Hints {
         Hints {
             places: Vec::new(alloc),
             filled: 0,
+            closed: false,
+        }
+    }
+
+    /// No numbers, and none is noted. It takes no memory.
+    pub fn closed(alloc: Global) -> Hints {
+        Hints {
+            places: Vec::new(alloc),
+            filled: 0,
+            closed: true,
+        }
+    }
+
+    /// Whether no number is noted. It takes no memory.
+    pub fn is_closed(&self) -> bool {
+        self.closed
+    }
+
+    /// No numbers, and none is noted where none was. It takes no memory.
+    pub fn emptied(&self, alloc: Global) -> Hints {
+        Hints {
+            places: Vec::new(alloc),
+            filled: 0,
+            closed: self.closed,
         }
     }
 

@@ -2,12 +2,14 @@
 #![tactic(auto)]
 
 mod engine;
+mod evaluator;
 mod frames;
 mod hints;
 mod interned;
 mod matching;
 mod memo;
 mod moves;
+mod prepared;
 mod rights;
 mod run;
 mod state;
@@ -15,3 +17,7 @@ mod tidying;
 mod uses;
 
 pub use engine::Engine;
+pub use evaluator::Evaluator;
+pub use prepared::Prepared;
+pub use rewriter::Eval;
+pub use rights::Forms;

@@ -88,13 +88,18 @@ impl Memo {
         }
     }
 
+    // Whether there are no calls, and no room for one.
+    fn is_closed(&self) -> bool {
+        self.room == 0 && self.entries.is_empty()
+    }
+
     /// What a call comes to, if it is remembered and found, and its operation isn't given up. It takes no memory.
     pub fn find(&mut self, op: Op, args: &[u32]) -> Option<Known>
         ensures same { self.new.entries ≡ self.old.entries }
         ensures known { IfSome result (λ k. (theory : Theory) (rows : List Node) →
             Each (IsEntry theory rows) self.old.entries.items → IsRemembered theory rows op.0 args.now k.value k.uses) }
     {
-        if !self.may_pay(op) {
+        if self.is_closed() || !self.may_pay(op) {
             return None;
         }
         let known = self.found(op, args);
@@ -176,7 +181,7 @@ impl Memo {
     pub fn takes_up(&mut self, op: Op) -> Result<bool, AllocError>
         ensures same { OnOk result (self.new.entries ≡ self.old.entries) }
     {
-        if !self.may_pay(op) {
+        if self.is_closed() || !self.may_pay(op) {
             return Ok(false);
         }
         self.tire(op)?;

@@ -42,7 +42,6 @@ fn plainly(
     step: Step,
     budget: u64,
 ) -> Result<(), Eval>
-    requires executable { IsExecutable (theory_of algebra.now) }
     requires forms { AreForms (theory_of algebra.now) forms.now }
     requires room { HasRoom (theory_of algebra.now) (length bound.old) }
     requires stands { StandsAt (theory_of algebra.now) (term_of term.now) budget store.old runs.old step }
@@ -148,7 +147,6 @@ fn rewrite(
     count: usize,
     budget: u64,
 ) -> Result<(), Eval>
-    requires executable { IsExecutable (theory_of algebra.now) }
     requires forms { AreForms (theory_of algebra.now) forms.now }
     requires room { HasRoom (theory_of algebra.now) (length bound.old) }
     requires stands { StandsAt (theory_of algebra.now) (term_of term.now) budget store.old runs.old (Call op count) }
@@ -188,7 +186,6 @@ fn take_up(
     count: usize,
     budget: u64,
 ) -> Result<(), Eval>
-    requires executable { IsExecutable (theory_of algebra.now) }
     requires forms { AreForms (theory_of algebra.now) forms.now }
     requires room { HasRoom (theory_of algebra.now) (length bound.old) }
     requires stands { StandsAt (theory_of algebra.now) (term_of term.now) budget store.old runs.old (Call op count) }
@@ -240,7 +237,6 @@ fn build(
     count: usize,
     budget: u64,
 ) -> Result<(), Eval>
-    requires executable { IsExecutable (theory_of algebra.now) }
     requires forms { AreForms (theory_of algebra.now) forms.now }
     requires constructor { (j : ℕ) → j < length (theory_of algebra.now).equations → Heads op.0 (equation_at (theory_of algebra.now) j) → ⊥ }
     requires room { HasRoom (theory_of algebra.now) (length bound.old) }
@@ -249,6 +245,19 @@ fn build(
     ensures stands { OnOk result (Stands (theory_of algebra.now) (term_of term.now) budget store.new runs.new) }
     ensures cause { IfErr result (IsCause (theory_of algebra.now) (term_of term.now) budget) }
 {
+    if store.hints.is_closed() {
+        return plainly(
+            alloc,
+            algebra,
+            forms,
+            store,
+            runs,
+            bound,
+            term,
+            Step::Call(op, count),
+            budget,
+        );
+    }
     let mark = mark_of(op, runs.values.top(count));
     match interned(&store.hints, &store.nodes, mark, op, runs.values.top(count)) {
         Some(node) => {
@@ -291,7 +300,6 @@ pub fn take_step(
     step: Step,
     budget: u64,
 ) -> Result<(), Eval>
-    requires executable { IsExecutable (theory_of algebra.now) }
     requires forms { AreForms (theory_of algebra.now) forms.now }
     requires room { HasRoom (theory_of algebra.now) (length bound.old) }
     requires stands { StandsAt (theory_of algebra.now) (term_of term.now) budget store.old runs.old step }

@@ -10,7 +10,7 @@ ghost use Rattle.rewriter.specs.Machine.{plan, plan_all, put};
 ghost use Rattle.rewriter.specs.Steps.{equation_at};
 ghost use Rattle.match_code.specs.Rights.{task_by, OnVariable, IsRight, IsUnconditional, IsNoted, AreUnconditional, AreForms};
 
-use rewriter::equations::{head_of, numbered};
+use rewriter::equations::{head_of, most_variables, numbered};
 use rewriter::heads::FirstEquations;
 use spec_core::equation::DataSpec;
 use spec_core::items::Op;
@@ -52,11 +52,12 @@ pub struct Right {
     pub rest: Postfix,
 }
 
-/// What is made once of the equations: which of them each operation heads, of which operations it is noted that none of their equations
-/// has a premise, and the right sides by the equations' numbers.
+/// What is made once of the equations: which of them each operation heads, the greatest number of variables of one, of which operations
+/// it is noted that none of their equations has a premise, and the right sides by the equations' numbers.
 #[derive(Drop)]
 pub struct Forms {
     pub heads: FirstEquations,
+    pub room: usize,
     pub unconditional: Vec<bool>,
     pub rights: Vec<Right>,
 }
@@ -212,6 +213,7 @@ impl Forms {
         }
         Ok(Forms {
             heads,
+            room: most_variables(algebra),
             unconditional,
             rights,
         })
@@ -227,8 +229,8 @@ impl Forms {
 
     /// The right side of an equation. It takes no memory.
     pub fn right(&self, place: usize) -> Option<&Right>
-        ensures numbered { IfSome result (λ r. r.now.place ≡ place) }
-        ensures right { IfSome result (λ r. (theory : Theory) → AreForms theory self.now → IsRight theory r.now) }
+        ensures { IfSome result (λ r.
+            (r.now.place ≡ place) × ((theory : Theory) → AreForms theory self.now → IsRight theory r.now)) }
     {
         if place < self.rights.len() {
             let right = &self.rights[place];

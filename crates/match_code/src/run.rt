@@ -57,7 +57,6 @@ fn turn(
     term: &Term,
     budget: u64,
 ) -> Result<Option<u32>, Eval>
-    requires executable { IsExecutable (theory_of algebra.now) }
     requires forms { AreForms (theory_of algebra.now) forms.now }
     requires room { HasRoom (theory_of algebra.now) (length bound.old) }
     requires stands { Stands (theory_of algebra.now) (term_of term.now) budget store.old runs.old }
@@ -89,7 +88,6 @@ pub fn run(
     term: &Term,
     budget: u64,
 ) -> Result<u32, Eval>
-    requires executable { IsExecutable (theory_of algebra.now) }
     requires forms { AreForms (theory_of algebra.now) forms.now }
     requires room { HasRoom (theory_of algebra.now) (length bound.old) }
     requires stands { Stands (theory_of algebra.now) (term_of term.now) budget store.old runs.old }

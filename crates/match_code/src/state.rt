@@ -43,6 +43,18 @@ impl Store {
         }
     }
 
+    /// No nodes, where none is found again and no call is remembered. It takes no memory.
+    pub fn closed(alloc: Global) -> Store
+        ensures nodes { result.nodes ≡ [] }
+        ensures entries { result.memo.entries.items ≡ [] }
+    {
+        Store {
+            nodes: Nodes::new(alloc),
+            hints: Hints::closed(alloc),
+            memo: Memo::closed(alloc),
+        }
+    }
+
     /// Whether nothing more is remembered.
     pub fn is_full(&self) -> bool {
         self.memo.is_full() || self.nodes.len() >= MOST_TERMS

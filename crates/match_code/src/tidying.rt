@@ -9,7 +9,6 @@ ghost use Rattle.value_nodes.specs.Nodes.{IsLonger};
 ghost use Rattle.match_code.specs.States.{IsFrame, Stands, waiting_of};
 
 use crate::frames::{Frame, Frames};
-use crate::hints::Hints;
 use crate::memo::Memo;
 use crate::state::{Runs, Store};
 use rewriter::compaction::FEWEST;
@@ -127,7 +126,7 @@ fn compact(
     runs.frames = follow_all(alloc, algebra, &store.nodes, &mut kept, &mut copies, frames)?;
     *store = Store {
         nodes: kept,
-        hints: Hints::new(alloc),
+        hints: store.hints.emptied(alloc),
         memo: Memo::closed(alloc),
     };
     Ok(())

@@ -14,6 +14,7 @@ ghost use Rattle.node_values.specs.Stops.{Stops, Never};
 ghost use Rattle.symbolic_plans.specs.declared.scheme.Row.TheVariants.{Chl, Chr, Val, Gate as GateRow, Guard, Let, Parl, Parr, Pass};
 ghost use Rattle.symbolic_plans.specs.declared.scheme.Row.TheVariants.{Enstep};
 ghost use Rattle.symbolic_plans.specs.declared.scheme.Row.TheVariants.{Disstep, Disend, Distake, Call, Rel};
+ghost use Rattle.node_values.specs.Prepared.{program_in};
 ghost use Rattle.node_steps.specs.declared.turn.Frame.TheVariants.{Same};
 ghost use Rattle.node_steps.specs.declared.turn.Site.TheVariants.{At};
 ghost use Rattle.symbolic_reach.specs.Asking.{RuleAsks};
@@ -24,6 +25,7 @@ ghost use Rattle.node_steps.specs.Turns.{EntersOr, EntersNode, EntersHidden, Ent
 use crate::telling::{bind, bind_arguments, with_last};
 use crate::turn::{Entered, Frame, Site};
 use node_trees::origin::copy_values;
+use node_values::Prepared;
 use node_values::stop::Stop;
 use rule_code::{gate_at, node_at, renaming};
 use rule_model::rules::Slot;
@@ -162,21 +164,21 @@ fn gated_body(
 // The body of a `let`, with the values that it binds.
 fn bound_body(
     alloc: Global,
-    checked: &Checked,
+    prepared: &Prepared,
     construct: &CodeNode,
     values: &[(u32, Value)],
     budget: u64,
 ) -> Result<Option<Entered>, Stop>
-    requires executable { IsExecutable (program_of checked.now).theory }
-    ensures enters { IfOk result (EntersNode (program_of checked.now) Let values.now (node_of construct.now)) }
-    ensures fault { IfErr result (Stops (program_of checked.now).theory budget
-        (RuleAsks Let (assignment (program_of checked.now).theory values.now)
-        (over_parts (behaviour_at (program_of checked.now)) (Some (node_of construct.now)))) Never) }
+    requires executable { IsExecutable (program_in prepared.now).theory }
+    ensures enters { IfOk result (EntersNode (program_in prepared.now) Let values.now (node_of construct.now)) }
+    ensures fault { IfErr result (Stops (program_in prepared.now).theory budget
+        (RuleAsks Let (assignment (program_in prepared.now).theory values.now)
+        (over_parts (behaviour_at (program_in prepared.now)) (Some (node_of construct.now)))) Never) }
 {
     match construct {
         CodeNode::Let(bindings, part) => {
             let inner = copy_values(alloc, values)?;
-            match bind(alloc, checked, values, inner, bindings, budget)? {
+            match bind(alloc, prepared, values, inner, bindings, budget)? {
                 None => Ok(None),
                 Some(more) => {
                     let site = Site::At(part.0);
@@ -355,25 +357,25 @@ fn definition(checked: &Checked, number: u32) -> Option<(&[Gate], &[(u32, Sort)]
 // The body of the process that is called, with the values of the arguments, relabelled to the gates of the call.
 fn called_body(
     alloc: Global,
-    checked: &Checked,
+    prepared: &Prepared,
     called: u32,
     actual: &[Gate],
     terms: &[Term],
     values: &[(u32, Value)],
     budget: u64,
 ) -> Result<Option<Entered>, Stop>
-    requires ready { IsReady (program_of checked.now) }
-    ensures enters { IfOk result (EntersOr (program_of checked.now) Call values.now
+    requires ready { IsReady (program_in prepared.now) }
+    ensures enters { IfOk result (EntersOr (program_in prepared.now) Call values.now
         (call called (map gate_number actual.now) (map term_of terms.now))) }
-    ensures fault { IfErr result (Stops (program_of checked.now).theory budget
-        (RuleAsks Call (assignment (program_of checked.now).theory values.now)
+    ensures fault { IfErr result (Stops (program_in prepared.now).theory budget
+        (RuleAsks Call (assignment (program_in prepared.now).theory values.now)
         (call called (map gate_number actual.now) (map term_of terms.now))) Never) }
 {
-    match definition(checked, called) {
+    match definition(prepared.checked, called) {
         None => Ok(None),
         Some((formal, vars, body)) => {
             let none = Vec::new(alloc);
-            match bind_arguments(alloc, checked, values, none, vars, terms, budget)? {
+            match bind_arguments(alloc, prepared, values, none, vars, terms, budget)? {
                 None => Ok(None),
                 Some(more) => {
                     let site = Site::Renamed(pairs(alloc, formal, actual)?, body);
@@ -392,23 +394,23 @@ fn called_body(
 // The body of a process that a construct calls.
 fn body_of_call(
     alloc: Global,
-    checked: &Checked,
+    prepared: &Prepared,
     construct: &CodeNode,
     values: &[(u32, Value)],
     budget: u64,
 ) -> Result<Option<Entered>, Stop>
-    requires ready { IsReady (program_of checked.now) }
-    ensures enters { IfOk result (EntersNode (program_of checked.now) Call values.now (node_of construct.now)) }
-    ensures fault { IfErr result (Stops (program_of checked.now).theory budget
-        (RuleAsks Call (assignment (program_of checked.now).theory values.now)
-        (over_parts (behaviour_at (program_of checked.now)) (Some (node_of construct.now)))) Never) }
+    requires ready { IsReady (program_in prepared.now) }
+    ensures enters { IfOk result (EntersNode (program_in prepared.now) Call values.now (node_of construct.now)) }
+    ensures fault { IfErr result (Stops (program_in prepared.now).theory budget
+        (RuleAsks Call (assignment (program_in prepared.now).theory values.now)
+        (over_parts (behaviour_at (program_in prepared.now)) (Some (node_of construct.now)))) Never) }
 {
     match construct {
         CodeNode::Call {
             process,
             gates,
             values: terms,
-        } => called_body(alloc, checked, *process, gates, terms, values, budget),
+        } => called_body(alloc, prepared, *process, gates, terms, values, budget),
         _ => Ok(None),
     }
 }
@@ -434,34 +436,34 @@ fn relabelled_body(
 // The part of a construct that a rule is over.
 fn enter_construct(
     alloc: Global,
-    checked: &Checked,
+    prepared: &Prepared,
     construct: &CodeNode,
     values: &[(u32, Value)],
     row: &Row,
     budget: u64,
 ) -> Result<Option<Entered>, Stop>
-    requires ready { IsReady (program_of checked.now) }
-    ensures enters { IfOk result (EntersNode (program_of checked.now) row.now values.now (node_of construct.now)) }
-    ensures fault { IfErr result (Stops (program_of checked.now).theory budget
-        (RuleAsks row.now (assignment (program_of checked.now).theory values.now)
-        (over_parts (behaviour_at (program_of checked.now)) (Some (node_of construct.now)))) Never) }
+    requires ready { IsReady (program_in prepared.now) }
+    ensures enters { IfOk result (EntersNode (program_in prepared.now) row.now values.now (node_of construct.now)) }
+    ensures fault { IfErr result (Stops (program_in prepared.now).theory budget
+        (RuleAsks row.now (assignment (program_in prepared.now).theory values.now)
+        (over_parts (behaviour_at (program_in prepared.now)) (Some (node_of construct.now)))) Never) }
 {
     match row {
-        Row::Chl => Ok(left_of_choice(checked, construct, values)),
-        Row::Chr => Ok(right_of_choice(checked, construct, values)),
-        Row::Val(slot) => Ok(valued_body(alloc, checked, construct, values, slot)?),
-        Row::Gate(place) => Ok(gated_body(alloc, checked, construct, values, *place)?),
-        Row::Guard => Ok(guarded_body(checked, construct, values)),
-        Row::Let => bound_body(alloc, checked, construct, values, budget),
-        Row::Parl => Ok(left_alone(alloc, checked, construct, values)?),
-        Row::Parr => Ok(right_alone(alloc, checked, construct, values)?),
-        Row::Pass => Ok(passing_body(alloc, checked, construct, values)?),
-        Row::Enstep => Ok(enabling_side(alloc, checked, construct, values)?),
-        Row::Disstep => Ok(disabled_side(checked, construct, values)),
-        Row::Disend => Ok(ended_side(checked, construct, values)),
-        Row::Distake => Ok(disabling_side(checked, construct, values)),
-        Row::Call => body_of_call(alloc, checked, construct, values, budget),
-        Row::Rel => Ok(relabelled_body(alloc, checked, construct, values)?),
+        Row::Chl => Ok(left_of_choice(prepared.checked, construct, values)),
+        Row::Chr => Ok(right_of_choice(prepared.checked, construct, values)),
+        Row::Val(slot) => Ok(valued_body(alloc, prepared.checked, construct, values, slot)?),
+        Row::Gate(place) => Ok(gated_body(alloc, prepared.checked, construct, values, *place)?),
+        Row::Guard => Ok(guarded_body(prepared.checked, construct, values)),
+        Row::Let => bound_body(alloc, prepared, construct, values, budget),
+        Row::Parl => Ok(left_alone(alloc, prepared.checked, construct, values)?),
+        Row::Parr => Ok(right_alone(alloc, prepared.checked, construct, values)?),
+        Row::Pass => Ok(passing_body(alloc, prepared.checked, construct, values)?),
+        Row::Enstep => Ok(enabling_side(alloc, prepared.checked, construct, values)?),
+        Row::Disstep => Ok(disabled_side(prepared.checked, construct, values)),
+        Row::Disend => Ok(ended_side(prepared.checked, construct, values)),
+        Row::Distake => Ok(disabling_side(prepared.checked, construct, values)),
+        Row::Call => body_of_call(alloc, prepared, construct, values, budget),
+        Row::Rel => Ok(relabelled_body(alloc, prepared.checked, construct, values)?),
     }
 }
 
@@ -489,7 +491,7 @@ fn enter_renamed(
 // The part of a call that a rule is over: the body of its process.
 fn enter_called(
     alloc: Global,
-    checked: &Checked,
+    prepared: &Prepared,
     called: u32,
     gates: &[Gate],
     terms: &[Term],
@@ -497,15 +499,15 @@ fn enter_called(
     row: &Row,
     budget: u64,
 ) -> Result<Option<Entered>, Stop>
-    requires ready { IsReady (program_of checked.now) }
-    ensures enters { IfOk result (EntersOr (program_of checked.now) row.now values.now
+    requires ready { IsReady (program_in prepared.now) }
+    ensures enters { IfOk result (EntersOr (program_in prepared.now) row.now values.now
         (call called (map gate_number gates.now) (map term_of terms.now))) }
-    ensures fault { IfErr result (Stops (program_of checked.now).theory budget
-        (RuleAsks row.now (assignment (program_of checked.now).theory values.now)
+    ensures fault { IfErr result (Stops (program_in prepared.now).theory budget
+        (RuleAsks row.now (assignment (program_in prepared.now).theory values.now)
         (call called (map gate_number gates.now) (map term_of terms.now))) Never) }
 {
     match row {
-        Row::Call => called_body(alloc, checked, called, gates, terms, values, budget),
+        Row::Call => called_body(alloc, prepared, called, gates, terms, values, budget),
         _ => Ok(None),
     }
 }
@@ -514,27 +516,27 @@ fn enter_called(
 /// fit.
 pub fn enter(
     alloc: Global,
-    checked: &Checked,
+    prepared: &Prepared,
     site: &Site,
     values: &[(u32, Value)],
     row: &Row,
     budget: u64,
 ) -> Result<Option<Entered>, Stop>
-    requires ready { IsReady (program_of checked.now) }
-    ensures enters { IfOk result (EntersOr (program_of checked.now) row.now values.now (standing (program_of checked.now) site.now)) }
-    ensures fault { IfErr result (Stops (program_of checked.now).theory budget
-        (RuleAsks row.now (assignment (program_of checked.now).theory values.now) (standing (program_of checked.now) site.now)) Never) }
+    requires ready { IsReady (program_in prepared.now) }
+    ensures enters { IfOk result (EntersOr (program_in prepared.now) row.now values.now (standing (program_in prepared.now) site.now)) }
+    ensures fault { IfErr result (Stops (program_in prepared.now).theory budget
+        (RuleAsks row.now (assignment (program_in prepared.now).theory values.now) (standing (program_in prepared.now) site.now)) Never) }
 {
     match site {
         Site::Renamed(pairs, part) => {
-            Ok(enter_renamed(alloc, checked, pairs, *part, values, row)?)
+            Ok(enter_renamed(alloc, prepared.checked, pairs, *part, values, row)?)
         }
         Site::Called(called, gates, terms) => enter_called(
-            alloc, checked, *called, gates, terms, values, row, budget,
+            alloc, prepared, *called, gates, terms, values, row, budget,
         ),
-        Site::At(number) => match construct_at(checked, *number) {
+        Site::At(number) => match construct_at(prepared.checked, *number) {
             None => Ok(None),
-            Some(construct) => enter_construct(alloc, checked, construct, values, row, budget),
+            Some(construct) => enter_construct(alloc, prepared, construct, values, row, budget),
         },
     }
 }

@@ -1,7 +1,7 @@
 // Known values of the fields of actions and exits.
 
 ghost use Rattle.std.specs.Prelude.{◌≡◌, ◌∷◌, ◌++◌, ◌+◌, IfOk, IfErr, IfSome, IfNone, map};
-ghost use Rattle.spec_core.specs.Code.{action_field_of, exit_value_of, program_of};
+ghost use Rattle.spec_core.specs.Code.{action_field_of, exit_value_of};
 ghost use Rattle.spec_core.specs.Executable.{IsExecutable};
 ghost use Rattle.spec_core.specs.Lists.{OneOf};
 ghost use Rattle.rule_origins.specs.Values.{assignment};
@@ -9,12 +9,14 @@ ghost use Rattle.node_values.specs.Stops.{Stops, Never};
 ghost use Rattle.node_trees.specs.declared.rest.Known.TheVariants.{Told, Chosen};
 ghost use Rattle.node_trees.specs.Rests.{remainder_of, left_at};
 ghost use Rattle.symbolic_reach.specs.Asking.{field_asks, exit_asks};
+ghost use Rattle.node_values.specs.Prepared.{program_in};
 ghost use Rattle.node_steps.specs.Knowing.{tell, AreFieldsAt, HaveNoFields, AreExitAt, HaveNoExit};
 
 use crate::telling::told;
 use node_trees::rest::{Known, Rest};
+use node_values::Prepared;
 use node_values::stop::Stop;
-use spec_core::code::{ActField, Checked, ExitField};
+use spec_core::code::{ActField, ExitField};
 use spec_core::memory::Memory;
 use spec_core::value::Value;
 use std::alloc::Global;
@@ -118,19 +120,19 @@ fn with_chosen(x: u32, from: u32, others: Fields) -> Result<Fields, Memory>
 /// The known values of an action's fields, where its expressions have values. The values that it chooses stand from this place on.
 pub fn known_fields(
     alloc: Global,
-    checked: &Checked,
+    prepared: &Prepared,
     values: &[(u32, Value)],
     fields: &[ActField],
     from: u32,
     budget: u64,
 ) -> Result<Option<Fields>, Stop>
-    requires executable { IsExecutable (program_of checked.now).theory }
-    ensures some { IfOk result (λ o. IfSome o (λ f. AreFieldsAt (program_of checked.now).theory
-        (assignment (program_of checked.now).theory values.now) from (map action_field_of fields.now) f.known.items f.binders.items)) }
-    ensures none { IfOk result (λ o. IfNone o (HaveNoFields (program_of checked.now).theory
-        (assignment (program_of checked.now).theory values.now) (map action_field_of fields.now))) }
-    ensures fault { IfErr result (Stops (program_of checked.now).theory budget (λ x. OneOf (λ f.
-        field_asks (assignment (program_of checked.now).theory values.now) f x) (map action_field_of fields.now)) Never) }
+    requires executable { IsExecutable (program_in prepared.now).theory }
+    ensures some { IfOk result (λ o. IfSome o (λ f. AreFieldsAt (program_in prepared.now).theory
+        (assignment (program_in prepared.now).theory values.now) from (map action_field_of fields.now) f.known.items f.binders.items)) }
+    ensures none { IfOk result (λ o. IfNone o (HaveNoFields (program_in prepared.now).theory
+        (assignment (program_in prepared.now).theory values.now) (map action_field_of fields.now))) }
+    ensures fault { IfErr result (Stops (program_in prepared.now).theory budget (λ x. OneOf (λ f.
+        field_asks (assignment (program_in prepared.now).theory values.now) f x) (map action_field_of fields.now)) Never) }
 {
     match fields {
         [] => Ok(Some(Fields {
@@ -138,16 +140,16 @@ pub fn known_fields(
             binders: Vec::new(alloc),
         })),
         [first, rest @ ..] => match first {
-            ActField::Give(term) => match told(alloc, checked, values, term, budget)? {
+            ActField::Give(term) => match told(alloc, prepared, values, term, budget)? {
                 None => Ok(None),
-                Some(value) => match known_fields(alloc, checked, values, rest, from, budget)? {
+                Some(value) => match known_fields(alloc, prepared, values, rest, from, budget)? {
                     None => Ok(None),
                     Some(others) => Ok(Some(with_told(value, others)?)),
                 },
             },
             ActField::Take(x, _) => {
                 let next = after(from)?;
-                match known_fields(alloc, checked, values, rest, next, budget)? {
+                match known_fields(alloc, prepared, values, rest, next, budget)? {
                     None => Ok(None),
                     Some(others) => Ok(Some(with_chosen(*x, from, others)?)),
                 }
@@ -159,33 +161,33 @@ pub fn known_fields(
 /// The known values of an exit's fields, where its expressions have values. The values that it chooses stand from this place on.
 pub fn known_exit(
     alloc: Global,
-    checked: &Checked,
+    prepared: &Prepared,
     values: &[(u32, Value)],
     fields: &[ExitField],
     from: u32,
     budget: u64,
 ) -> Result<Option<Vec<Known>>, Stop>
-    requires executable { IsExecutable (program_of checked.now).theory }
-    ensures some { IfOk result (λ o. IfSome o (λ known. AreExitAt (program_of checked.now).theory
-        (assignment (program_of checked.now).theory values.now) from (map exit_value_of fields.now) known.items)) }
-    ensures none { IfOk result (λ o. IfNone o (HaveNoExit (program_of checked.now).theory
-        (assignment (program_of checked.now).theory values.now) (map exit_value_of fields.now))) }
-    ensures fault { IfErr result (Stops (program_of checked.now).theory budget (λ x. OneOf (λ f.
-        exit_asks (assignment (program_of checked.now).theory values.now) f x) (map exit_value_of fields.now)) Never) }
+    requires executable { IsExecutable (program_in prepared.now).theory }
+    ensures some { IfOk result (λ o. IfSome o (λ known. AreExitAt (program_in prepared.now).theory
+        (assignment (program_in prepared.now).theory values.now) from (map exit_value_of fields.now) known.items)) }
+    ensures none { IfOk result (λ o. IfNone o (HaveNoExit (program_in prepared.now).theory
+        (assignment (program_in prepared.now).theory values.now) (map exit_value_of fields.now))) }
+    ensures fault { IfErr result (Stops (program_in prepared.now).theory budget (λ x. OneOf (λ f.
+        exit_asks (assignment (program_in prepared.now).theory values.now) f x) (map exit_value_of fields.now)) Never) }
 {
     match fields {
         [] => Ok(Some(Vec::new(alloc))),
         [first, rest @ ..] => match first {
-            ExitField::Give(term) => match told(alloc, checked, values, term, budget)? {
+            ExitField::Give(term) => match told(alloc, prepared, values, term, budget)? {
                 None => Ok(None),
-                Some(value) => match known_exit(alloc, checked, values, rest, from, budget)? {
+                Some(value) => match known_exit(alloc, prepared, values, rest, from, budget)? {
                     None => Ok(None),
                     Some(others) => Ok(Some(in_front(Known::Told(value), others)?)),
                 },
             },
             ExitField::Any(_) => {
                 let next = after(from)?;
-                match known_exit(alloc, checked, values, rest, next, budget)? {
+                match known_exit(alloc, prepared, values, rest, next, budget)? {
                     None => Ok(None),
                     Some(others) => Ok(Some(in_front(Known::Chosen(from), others)?)),
                 }

@@ -9,12 +9,14 @@ ghost use Rattle.rule_origins.specs.Parts.{over_parts, behaviour_at};
 ghost use Rattle.rule_origins.specs.Values.{assignment};
 ghost use Rattle.node_values.specs.Stops.{Stops, Never};
 ghost use Rattle.symbolic_reach.specs.Asking.{ActionAsks, TerminationAsks};
+ghost use Rattle.node_values.specs.Prepared.{program_in};
 ghost use Rattle.node_steps.specs.Frames.{standing};
 ghost use Rattle.node_steps.specs.Turns.{LeafTurnsOr, InnerTurnsOr};
 
 use crate::fields::{Fields, known_exit, known_fields, stays};
 use crate::turn::{Site, Turn};
 use node_trees::rest::{Deed, Rest};
+use node_values::Prepared;
 use node_values::stop::Stop;
 use rule_origins::code::construct_at;
 use spec_core::code::{Checked, CodeNode};
@@ -25,18 +27,18 @@ use std::alloc::Global;
 // What an action does, and what is left then.
 fn action_acts(
     alloc: Global,
-    checked: &Checked,
+    prepared: &Prepared,
     construct: &CodeNode,
     values: &[(u32, Value)],
     from: u32,
     budget: u64,
 ) -> Result<Option<Turn>, Stop>
-    requires executable { IsExecutable (program_of checked.now).theory }
-    ensures turns { IfOk result (LeafTurnsOr (program_of checked.now) from (assignment (program_of checked.now).theory values.now)
-        (over_parts (behaviour_at (program_of checked.now)) (Some (node_of construct.now))) pre) }
-    ensures fault { IfErr result (Stops (program_of checked.now).theory budget
-        (ActionAsks (assignment (program_of checked.now).theory values.now)
-        (over_parts (behaviour_at (program_of checked.now)) (Some (node_of construct.now)))) Never) }
+    requires executable { IsExecutable (program_in prepared.now).theory }
+    ensures turns { IfOk result (LeafTurnsOr (program_in prepared.now) from (assignment (program_in prepared.now).theory values.now)
+        (over_parts (behaviour_at (program_in prepared.now)) (Some (node_of construct.now))) pre) }
+    ensures fault { IfErr result (Stops (program_in prepared.now).theory budget
+        (ActionAsks (assignment (program_in prepared.now).theory values.now)
+        (over_parts (behaviour_at (program_in prepared.now)) (Some (node_of construct.now)))) Never) }
 {
     match construct {
         CodeNode::Act {
@@ -44,7 +46,7 @@ fn action_acts(
             fields,
             guard: _,
             rest,
-        } => match known_fields(alloc, checked, values, fields, from, budget)? {
+        } => match known_fields(alloc, prepared, values, fields, from, budget)? {
             None => Ok(None),
             Some(found) => {
                 let Fields { known, binders } = found;
@@ -80,21 +82,21 @@ fn inner_acts(
 // What an exit does, and what is left then.
 fn exit_terminates(
     alloc: Global,
-    checked: &Checked,
+    prepared: &Prepared,
     construct: &CodeNode,
     values: &[(u32, Value)],
     from: u32,
     budget: u64,
 ) -> Result<Option<Turn>, Stop>
-    requires executable { IsExecutable (program_of checked.now).theory }
-    ensures turns { IfOk result (LeafTurnsOr (program_of checked.now) from (assignment (program_of checked.now).theory values.now)
-        (over_parts (behaviour_at (program_of checked.now)) (Some (node_of construct.now))) exiting) }
-    ensures fault { IfErr result (Stops (program_of checked.now).theory budget
-        (TerminationAsks (assignment (program_of checked.now).theory values.now)
-        (over_parts (behaviour_at (program_of checked.now)) (Some (node_of construct.now)))) Never) }
+    requires executable { IsExecutable (program_in prepared.now).theory }
+    ensures turns { IfOk result (LeafTurnsOr (program_in prepared.now) from (assignment (program_in prepared.now).theory values.now)
+        (over_parts (behaviour_at (program_in prepared.now)) (Some (node_of construct.now))) exiting) }
+    ensures fault { IfErr result (Stops (program_in prepared.now).theory budget
+        (TerminationAsks (assignment (program_in prepared.now).theory values.now)
+        (over_parts (behaviour_at (program_in prepared.now)) (Some (node_of construct.now)))) Never) }
 {
     match construct {
-        CodeNode::Exit(fields) => match known_exit(alloc, checked, values, fields, from, budget)? {
+        CodeNode::Exit(fields) => match known_exit(alloc, prepared, values, fields, from, budget)? {
             None => Ok(None),
             Some(known) => {
                 let action = Deed::Exit(known);
@@ -109,23 +111,23 @@ fn exit_terminates(
 /// What an action does, and what is left then; None where the behaviour is none, or does nothing.
 pub fn acts(
     alloc: Global,
-    checked: &Checked,
+    prepared: &Prepared,
     site: &Site,
     values: &[(u32, Value)],
     from: u32,
     budget: u64,
 ) -> Result<Option<Turn>, Stop>
-    requires ready { IsReady (program_of checked.now) }
-    ensures turns { IfOk result (LeafTurnsOr (program_of checked.now) from (assignment (program_of checked.now).theory values.now)
-        (standing (program_of checked.now) site.now) pre) }
-    ensures fault { IfErr result (Stops (program_of checked.now).theory budget
-        (ActionAsks (assignment (program_of checked.now).theory values.now) (standing (program_of checked.now) site.now)) Never) }
+    requires ready { IsReady (program_in prepared.now) }
+    ensures turns { IfOk result (LeafTurnsOr (program_in prepared.now) from (assignment (program_in prepared.now).theory values.now)
+        (standing (program_in prepared.now) site.now) pre) }
+    ensures fault { IfErr result (Stops (program_in prepared.now).theory budget
+        (ActionAsks (assignment (program_in prepared.now).theory values.now) (standing (program_in prepared.now) site.now)) Never) }
 {
     match site {
         Site::Renamed(_, _) | Site::Called(_, _, _) => Ok(None),
-        Site::At(number) => match construct_at(checked, *number) {
+        Site::At(number) => match construct_at(prepared.checked, *number) {
             None => Ok(None),
-            Some(construct) => action_acts(alloc, checked, construct, values, from, budget),
+            Some(construct) => action_acts(alloc, prepared, construct, values, from, budget),
         },
     }
 }
@@ -153,23 +155,23 @@ pub fn acts_inside(
 /// What an exit does, and what is left then; None where the behaviour is none, or does nothing.
 pub fn terminates(
     alloc: Global,
-    checked: &Checked,
+    prepared: &Prepared,
     site: &Site,
     values: &[(u32, Value)],
     from: u32,
     budget: u64,
 ) -> Result<Option<Turn>, Stop>
-    requires ready { IsReady (program_of checked.now) }
-    ensures turns { IfOk result (LeafTurnsOr (program_of checked.now) from (assignment (program_of checked.now).theory values.now)
-        (standing (program_of checked.now) site.now) exiting) }
-    ensures fault { IfErr result (Stops (program_of checked.now).theory budget
-        (TerminationAsks (assignment (program_of checked.now).theory values.now) (standing (program_of checked.now) site.now)) Never) }
+    requires ready { IsReady (program_in prepared.now) }
+    ensures turns { IfOk result (LeafTurnsOr (program_in prepared.now) from (assignment (program_in prepared.now).theory values.now)
+        (standing (program_in prepared.now) site.now) exiting) }
+    ensures fault { IfErr result (Stops (program_in prepared.now).theory budget
+        (TerminationAsks (assignment (program_in prepared.now).theory values.now) (standing (program_in prepared.now) site.now)) Never) }
 {
     match site {
         Site::Renamed(_, _) | Site::Called(_, _, _) => Ok(None),
-        Site::At(number) => match construct_at(checked, *number) {
+        Site::At(number) => match construct_at(prepared.checked, *number) {
             None => Ok(None),
-            Some(construct) => exit_terminates(alloc, checked, construct, values, from, budget),
+            Some(construct) => exit_terminates(alloc, prepared, construct, values, from, budget),
         },
     }
 }

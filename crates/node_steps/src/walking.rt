@@ -13,6 +13,7 @@ ghost use Rattle.symbolic_plans.specs.Plans.{below, together, plan_of};
 ghost use Rattle.node_trees.specs.Origins.{meaning, relabelled_by, source_of};
 ghost use Rattle.node_trees.specs.Rests.{way_of, IsWayOf, does_of, remainder_of, left_beside};
 ghost use Rattle.symbolic_reach.specs.Asking.{PlanAsks};
+ghost use Rattle.node_values.specs.Prepared.{program_in};
 ghost use Rattle.node_steps.specs.Asking.{WithinAsks};
 ghost use Rattle.node_steps.specs.Blanks.{blank_tree, DoesNothingBy};
 ghost use Rattle.node_steps.specs.Parts.{own_or};
@@ -28,6 +29,7 @@ use crate::turn::{Entered, Site, Turn};
 use node_trees::expansion::Alternative;
 use node_trees::origin::Origin;
 use node_trees::rest::Rest;
+use node_values::Prepared;
 use node_values::stop::Stop;
 use rule_origins::code::construct_at;
 use spec_core::code::{Checked, CodeNode, GateSet};
@@ -87,36 +89,36 @@ fn values_within<'a>(
 #[cycle(walk)]
 fn walk(
     alloc: Global,
-    checked: &Checked,
+    prepared: &Prepared,
     site: &Site,
     values: &[(u32, Value)],
     scheme: &Scheme,
     from: u32,
     budget: u64,
 ) -> Result<Option<Turn>, Stop>
-    requires ready { IsReady (program_of checked.now) }
-    ensures turns { IfOk result (TurnsOr (program_of checked.now) from (assignment (program_of checked.now).theory values.now)
-        (standing (program_of checked.now) site.now) (plan_of scheme.now)) }
-    ensures fault { IfErr result (Stops (program_of checked.now).theory budget (PlanAsks (program_of checked.now) (plan_of scheme.now)
-        (assignment (program_of checked.now).theory values.now) (standing (program_of checked.now) site.now)) Never) }
+    requires ready { IsReady (program_in prepared.now) }
+    ensures turns { IfOk result (TurnsOr (program_in prepared.now) from (assignment (program_in prepared.now).theory values.now)
+        (standing (program_in prepared.now) site.now) (plan_of scheme.now)) }
+    ensures fault { IfErr result (Stops (program_in prepared.now).theory budget (PlanAsks (program_in prepared.now) (plan_of scheme.now)
+        (assignment (program_in prepared.now).theory values.now) (standing (program_in prepared.now) site.now)) Never) }
 {
     match scheme {
-        Scheme::Pre(_) => acts(alloc, checked, site, values, from, budget),
-        Scheme::Int => Ok(acts_inside(alloc, checked, site, values)?),
-        Scheme::Exit(_) => terminates(alloc, checked, site, values, from, budget),
+        Scheme::Pre(_) => acts(alloc, prepared, site, values, from, budget),
+        Scheme::Int => Ok(acts_inside(alloc, prepared.checked, site, values)?),
+        Scheme::Exit(_) => terminates(alloc, prepared, site, values, from, budget),
         Scheme::Under(row, part) => walk_under(
-            alloc, checked, site, values, row, part, from, budget,
+            alloc, prepared, site, values, row, part, from, budget,
         ),
         Scheme::Hide(_, part) => {
-            let entered = enter_hidden(alloc, checked, site, values)?;
-            walk_within(alloc, checked, values, entered, part, from, budget)
+            let entered = enter_hidden(alloc, prepared.checked, site, values)?;
+            walk_within(alloc, prepared, values, entered, part, from, budget)
         }
         Scheme::Enend(_, part) => {
-            let entered = enter_ending(alloc, checked, site, values)?;
-            walk_within(alloc, checked, values, entered, part, from, budget)
+            let entered = enter_ending(alloc, prepared.checked, site, values)?;
+            walk_within(alloc, prepared, values, entered, part, from, budget)
         }
         Scheme::Both(left, right) => {
-            walk_both(alloc, checked, site, values, left, right, from, budget)
+            walk_both(alloc, prepared, site, values, left, right, from, budget)
         }
     }
 }
@@ -125,7 +127,7 @@ fn walk(
 #[cycle(walk)]
 fn walk_under(
     alloc: Global,
-    checked: &Checked,
+    prepared: &Prepared,
     site: &Site,
     values: &[(u32, Value)],
     row: &Row,
@@ -133,33 +135,33 @@ fn walk_under(
     from: u32,
     budget: u64,
 ) -> Result<Option<Turn>, Stop>
-    requires ready { IsReady (program_of checked.now) }
-    ensures turns { IfOk result (TurnsOr (program_of checked.now) from (assignment (program_of checked.now).theory values.now)
-        (standing (program_of checked.now) site.now) (below row.now (plan_of part.now))) }
-    ensures fault { IfErr result (Stops (program_of checked.now).theory budget (PlanAsks (program_of checked.now)
-        (below row.now (plan_of part.now)) (assignment (program_of checked.now).theory values.now)
-        (standing (program_of checked.now) site.now)) Never) }
+    requires ready { IsReady (program_in prepared.now) }
+    ensures turns { IfOk result (TurnsOr (program_in prepared.now) from (assignment (program_in prepared.now).theory values.now)
+        (standing (program_in prepared.now) site.now) (below row.now (plan_of part.now))) }
+    ensures fault { IfErr result (Stops (program_in prepared.now).theory budget (PlanAsks (program_in prepared.now)
+        (below row.now (plan_of part.now)) (assignment (program_in prepared.now).theory values.now)
+        (standing (program_in prepared.now) site.now)) Never) }
 {
-    let entered = enter(alloc, checked, site, values, row, budget)?;
+    let entered = enter(alloc, prepared, site, values, row, budget)?;
     let inner = after_row(row, from)?;
-    walk_within(alloc, checked, values, entered, part, inner, budget)
+    walk_within(alloc, prepared, values, entered, part, inner, budget)
 }
 
 // The same of a part, if it was entered, and then of the whole.
 #[cycle(walk)]
 fn walk_within(
     alloc: Global,
-    checked: &Checked,
+    prepared: &Prepared,
     values: &[(u32, Value)],
     entered: Option<Entered>,
     part: &Scheme,
     from: u32,
     budget: u64,
 ) -> Result<Option<Turn>, Stop>
-    requires ready { IsReady (program_of checked.now) }
-    ensures turns { IfOk result (WithinOr (program_of checked.now) from values.now entered (plan_of part.now)) }
-    ensures fault { IfErr result (Stops (program_of checked.now).theory budget
-        (WithinAsks (program_of checked.now) values.now entered (plan_of part.now)) Never) }
+    requires ready { IsReady (program_in prepared.now) }
+    ensures turns { IfOk result (WithinOr (program_in prepared.now) from values.now entered (plan_of part.now)) }
+    ensures fault { IfErr result (Stops (program_in prepared.now).theory budget
+        (WithinAsks (program_in prepared.now) values.now entered (plan_of part.now)) Never) }
 {
     match entered {
         None => Ok(None),
@@ -170,9 +172,9 @@ fn walk_within(
                 frame,
             } = found;
             let inner = values_within(values, &own);
-            match walk(alloc, checked, &site, inner, part, from, budget)? {
+            match walk(alloc, prepared, &site, inner, part, from, budget)? {
                 None => Ok(None),
-                Some(turn) => Ok(leave(alloc, checked, values, frame, turn)?),
+                Some(turn) => Ok(leave(alloc, prepared.checked, values, frame, turn)?),
             }
         }
     }
@@ -182,7 +184,7 @@ fn walk_within(
 #[cycle(walk)]
 fn walk_both(
     alloc: Global,
-    checked: &Checked,
+    prepared: &Prepared,
     site: &Site,
     values: &[(u32, Value)],
     left: &Scheme,
@@ -190,23 +192,23 @@ fn walk_both(
     from: u32,
     budget: u64,
 ) -> Result<Option<Turn>, Stop>
-    requires ready { IsReady (program_of checked.now) }
-    ensures turns { IfOk result (TurnsOr (program_of checked.now) from (assignment (program_of checked.now).theory values.now)
-        (standing (program_of checked.now) site.now) (together (plan_of left.now) (plan_of right.now))) }
-    ensures fault { IfErr result (Stops (program_of checked.now).theory budget (PlanAsks (program_of checked.now)
-        (together (plan_of left.now) (plan_of right.now)) (assignment (program_of checked.now).theory values.now)
-        (standing (program_of checked.now) site.now)) Never) }
+    requires ready { IsReady (program_in prepared.now) }
+    ensures turns { IfOk result (TurnsOr (program_in prepared.now) from (assignment (program_in prepared.now).theory values.now)
+        (standing (program_in prepared.now) site.now) (together (plan_of left.now) (plan_of right.now))) }
+    ensures fault { IfErr result (Stops (program_in prepared.now).theory budget (PlanAsks (program_in prepared.now)
+        (together (plan_of left.now) (plan_of right.now)) (assignment (program_in prepared.now).theory values.now)
+        (standing (program_in prepared.now) site.now)) Never) }
 {
-    match sides(checked, site) {
+    match sides(prepared.checked, site) {
         None => Ok(None),
         Some((gates, one, other)) => {
-            match walk(alloc, checked, &Site::At(one), values, left, from, budget)? {
+            match walk(alloc, prepared, &Site::At(one), values, left, from, budget)? {
                 None => Ok(None),
                 Some(first) => {
                     let next = after_scheme(left, from)?;
                     match walk(
                         alloc,
-                        checked,
+                        prepared,
                         &Site::At(other),
                         values,
                         right,
@@ -228,23 +230,23 @@ fn walk_both(
 /// along the trees. It recurs as deep as the tree, and the terms, are.
 pub fn way_along(
     alloc: Global,
-    checked: &Checked,
+    prepared: &Prepared,
     origin: &Origin,
     scheme: &Scheme,
     budget: u64,
 ) -> Result<Option<Alternative>, Stop>
-    requires ready { IsReady (program_of checked.now) }
+    requires ready { IsReady (program_in prepared.now) }
     ensures way { IfOk result (λ o. IfSome o (λ a.
-        IsWayOf (program_of checked.now) (meaning (program_of checked.now) (source_of origin.now)) (way_of a))) }
+        IsWayOf (program_in prepared.now) (meaning (program_in prepared.now) (source_of origin.now)) (way_of a))) }
     ensures rules { IfOk result (λ o. IfSome o (λ a. derivation_of a.rules ≡ blank_tree (plan_of scheme.now))) }
     ensures none { IfOk result (λ o. IfNone o
-        (DoesNothingBy (program_of checked.now) (meaning (program_of checked.now) (source_of origin.now)) (plan_of scheme.now))) }
-    ensures stop { IfErr result (Stops (program_of checked.now).theory budget (PlanAsks (program_of checked.now) (plan_of scheme.now)
-        (assignment (program_of checked.now).theory origin.now.values.items)
-        (relabelled_by (map relabelling_of origin.now.relabel.items) (behaviour_at (program_of checked.now) origin.now.node))) Never) }
+        (DoesNothingBy (program_in prepared.now) (meaning (program_in prepared.now) (source_of origin.now)) (plan_of scheme.now))) }
+    ensures stop { IfErr result (Stops (program_in prepared.now).theory budget (PlanAsks (program_in prepared.now) (plan_of scheme.now)
+        (assignment (program_in prepared.now).theory origin.now.values.items)
+        (relabelled_by (map relabelling_of origin.now.relabel.items) (behaviour_at (program_in prepared.now) origin.now.node))) Never) }
 {
-    let site = site_of(alloc, checked, origin)?;
-    match walk(alloc, checked, &site, &origin.values, scheme, 0, budget)? {
+    let site = site_of(alloc, prepared.checked, origin)?;
+    match walk(alloc, prepared, &site, &origin.values, scheme, 0, budget)? {
         None => Ok(None),
         Some(turn) => {
             let rules = blank_rules(alloc, scheme)?;

@@ -1,6 +1,8 @@
 pub mod Scopes
 pub mod Stops
 pub mod Found
+pub use Rattle.match_code.specs.Prepared
+pub use Rattle.match_code.specs.Rights
 pub use Rattle.rewriter.specs.Answers
 pub use Rattle.rule_laws.specs.Closing
 pub use Rattle.symbolic_reach.specs.Reached

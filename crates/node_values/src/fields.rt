@@ -1,7 +1,7 @@
 // Open fields of actions and exits, and what bindings and calls make of the scope.
 
 ghost use Rattle.std.specs.Prelude.{◌≡◌, List, IfOk, IfErr, IfSome, IfNone, map};
-ghost use Rattle.spec_core.specs.Code.{action_field_of, exit_value_of, binding_of, variable_of, program_of};
+ghost use Rattle.spec_core.specs.Code.{action_field_of, exit_value_of, binding_of, variable_of};
 ghost use Rattle.spec_core.specs.Executable.{IsExecutable};
 ghost use Rattle.spec_core.specs.Lists.{OneOf};
 ghost use Rattle.spec_core.specs.Terms.{term_of};
@@ -10,6 +10,7 @@ ghost use Rattle.symbolic_rules.specs.MarkedFields.{BindingsMayHave, ArgumentsMa
 ghost use Rattle.symbolic_composites.specs.OpenFields.{OpenField};
 ghost use Rattle.symbolic_plans.specs.Plans.{field_of};
 ghost use Rattle.symbolic_reach.specs.Reached.{FieldAsks, ExitAsks, BindingAsks, ArgumentAsks};
+ghost use Rattle.match_code.specs.Prepared.{program_in};
 ghost use Rattle.node_values.specs.Found.{FieldsOpen, ExitOpen, field_by};
 ghost use Rattle.node_values.specs.Scopes.{marks_of};
 ghost use Rattle.node_values.specs.Stops.{Stops, Never};
@@ -17,7 +18,8 @@ ghost use Rattle.node_values.specs.Stops.{Stops, Never};
 use crate::scope::{Given, with};
 use crate::stop::Stop;
 use crate::value::value_of;
-use spec_core::code::{ActField, Checked, ExitField};
+use match_code::Prepared;
+use spec_core::code::{ActField, ExitField};
 use spec_core::items::Sort;
 use spec_core::term::Term;
 use std::alloc::Global;
@@ -36,31 +38,31 @@ fn column_of(given: Given) -> Column
 /// The fields of an action, where its expressions have values.
 pub fn open_fields(
     alloc: Global,
-    checked: &Checked,
+    prepared: &Prepared,
     scope: &[(u32, Given)],
     fields: &[ActField],
     budget: u64,
 ) -> Result<Option<Vec<Column>>, Stop>
-    requires executable { IsExecutable (program_of checked.now).theory }
-    ensures some { IfOk result (λ o. IfSome o (λ cs. FieldsOpen (program_of checked.now).theory
-        (marks_of (program_of checked.now).theory scope.now) (map action_field_of fields.now) (map field_of cs.items))) }
-    ensures none { IfOk result (λ o. IfNone o ((cs : List OpenField) → FieldsOpen (program_of checked.now).theory
-        (marks_of (program_of checked.now).theory scope.now) (map action_field_of fields.now) cs → ⊥)) }
-    ensures fault { IfErr result (Stops (program_of checked.now).theory budget (λ t.
-        OneOf (FieldAsks (program_of checked.now).theory (marks_of (program_of checked.now).theory scope.now) t)
+    requires executable { IsExecutable (program_in prepared.now).theory }
+    ensures some { IfOk result (λ o. IfSome o (λ cs. FieldsOpen (program_in prepared.now).theory
+        (marks_of (program_in prepared.now).theory scope.now) (map action_field_of fields.now) (map field_of cs.items))) }
+    ensures none { IfOk result (λ o. IfNone o ((cs : List OpenField) → FieldsOpen (program_in prepared.now).theory
+        (marks_of (program_in prepared.now).theory scope.now) (map action_field_of fields.now) cs → ⊥)) }
+    ensures fault { IfErr result (Stops (program_in prepared.now).theory budget (λ t.
+        OneOf (FieldAsks (program_in prepared.now).theory (marks_of (program_in prepared.now).theory scope.now) t)
         (map action_field_of fields.now)) Never) }
 {
     match fields {
         [] => Ok(Some(Vec::new(alloc))),
         [first, rest @ ..] => match first {
-            ActField::Give(term) => match value_of(alloc, checked, scope, term, budget)? {
+            ActField::Give(term) => match value_of(alloc, prepared, scope, term, budget)? {
                 None => Ok(None),
-                Some(given) => match open_fields(alloc, checked, scope, rest, budget)? {
+                Some(given) => match open_fields(alloc, prepared, scope, rest, budget)? {
                     None => Ok(None),
                     Some(others) => Ok(Some(in_front(column_of(given), others)?)),
                 },
             },
-            ActField::Take(_, sort) => match open_fields(alloc, checked, scope, rest, budget)? {
+            ActField::Take(_, sort) => match open_fields(alloc, prepared, scope, rest, budget)? {
                 None => Ok(None),
                 Some(others) => Ok(Some(in_front(Column::Blank(*sort, false), others)?)),
             },
@@ -71,31 +73,31 @@ pub fn open_fields(
 /// The fields of an exit, where its expressions have values.
 pub fn open_exit(
     alloc: Global,
-    checked: &Checked,
+    prepared: &Prepared,
     scope: &[(u32, Given)],
     fields: &[ExitField],
     budget: u64,
 ) -> Result<Option<Vec<Column>>, Stop>
-    requires executable { IsExecutable (program_of checked.now).theory }
-    ensures some { IfOk result (λ o. IfSome o (λ cs. ExitOpen (program_of checked.now).theory
-        (marks_of (program_of checked.now).theory scope.now) (map exit_value_of fields.now) (map field_of cs.items))) }
-    ensures none { IfOk result (λ o. IfNone o ((cs : List OpenField) → ExitOpen (program_of checked.now).theory
-        (marks_of (program_of checked.now).theory scope.now) (map exit_value_of fields.now) cs → ⊥)) }
-    ensures fault { IfErr result (Stops (program_of checked.now).theory budget (λ t.
-        OneOf (ExitAsks (program_of checked.now).theory (marks_of (program_of checked.now).theory scope.now) t)
+    requires executable { IsExecutable (program_in prepared.now).theory }
+    ensures some { IfOk result (λ o. IfSome o (λ cs. ExitOpen (program_in prepared.now).theory
+        (marks_of (program_in prepared.now).theory scope.now) (map exit_value_of fields.now) (map field_of cs.items))) }
+    ensures none { IfOk result (λ o. IfNone o ((cs : List OpenField) → ExitOpen (program_in prepared.now).theory
+        (marks_of (program_in prepared.now).theory scope.now) (map exit_value_of fields.now) cs → ⊥)) }
+    ensures fault { IfErr result (Stops (program_in prepared.now).theory budget (λ t.
+        OneOf (ExitAsks (program_in prepared.now).theory (marks_of (program_in prepared.now).theory scope.now) t)
         (map exit_value_of fields.now)) Never) }
 {
     match fields {
         [] => Ok(Some(Vec::new(alloc))),
         [first, rest @ ..] => match first {
-            ExitField::Give(term) => match value_of(alloc, checked, scope, term, budget)? {
+            ExitField::Give(term) => match value_of(alloc, prepared, scope, term, budget)? {
                 None => Ok(None),
-                Some(given) => match open_exit(alloc, checked, scope, rest, budget)? {
+                Some(given) => match open_exit(alloc, prepared, scope, rest, budget)? {
                     None => Ok(None),
                     Some(others) => Ok(Some(in_front(column_of(given), others)?)),
                 },
             },
-            ExitField::Any(sort) => match open_exit(alloc, checked, scope, rest, budget)? {
+            ExitField::Any(sort) => match open_exit(alloc, prepared, scope, rest, budget)? {
                 None => Ok(None),
                 Some(others) => Ok(Some(in_front(Column::Blank(*sort, false), others)?)),
             },
@@ -106,32 +108,32 @@ pub fn open_exit(
 /// What is known with the values of bindings, where they have values: the outer scope for their terms, and the inner one before them.
 pub fn bind(
     alloc: Global,
-    checked: &Checked,
+    prepared: &Prepared,
     outer: &[(u32, Given)],
     inner: Vec<(u32, Given)>,
     bindings: &[(u32, Sort, Term)],
     budget: u64,
 ) -> Result<Option<Vec<(u32, Given)>>, Stop>
-    requires executable { IsExecutable (program_of checked.now).theory }
-    ensures some { IfOk result (λ o. IfSome o (λ s. BindingsMayHave (program_of checked.now).theory
-        (marks_of (program_of checked.now).theory outer.now) (marks_of (program_of checked.now).theory inner.items)
-        (map binding_of bindings.now) (marks_of (program_of checked.now).theory s.items))) }
-    ensures none { IfOk result (λ o. IfNone o ((r : MarkedAssignment) → BindingsMayHave (program_of checked.now).theory
-        (marks_of (program_of checked.now).theory outer.now) (marks_of (program_of checked.now).theory inner.items)
+    requires executable { IsExecutable (program_in prepared.now).theory }
+    ensures some { IfOk result (λ o. IfSome o (λ s. BindingsMayHave (program_in prepared.now).theory
+        (marks_of (program_in prepared.now).theory outer.now) (marks_of (program_in prepared.now).theory inner.items)
+        (map binding_of bindings.now) (marks_of (program_in prepared.now).theory s.items))) }
+    ensures none { IfOk result (λ o. IfNone o ((r : MarkedAssignment) → BindingsMayHave (program_in prepared.now).theory
+        (marks_of (program_in prepared.now).theory outer.now) (marks_of (program_in prepared.now).theory inner.items)
         (map binding_of bindings.now) r → ⊥)) }
-    ensures fault { IfErr result (Stops (program_of checked.now).theory budget (λ t.
-        OneOf (BindingAsks (program_of checked.now).theory (marks_of (program_of checked.now).theory outer.now) t)
+    ensures fault { IfErr result (Stops (program_in prepared.now).theory budget (λ t.
+        OneOf (BindingAsks (program_in prepared.now).theory (marks_of (program_in prepared.now).theory outer.now) t)
         (map binding_of bindings.now)) Never) }
 {
     match bindings {
         [] => Ok(Some(inner)),
         [first, rest @ ..] => {
             let (x, _, term) = first;
-            match value_of(alloc, checked, outer, term, budget)? {
+            match value_of(alloc, prepared, outer, term, budget)? {
                 None => Ok(None),
                 Some(given) => {
                     let more = with(inner, *x, given)?;
-                    bind(alloc, checked, outer, more, rest, budget)
+                    bind(alloc, prepared, outer, more, rest, budget)
                 }
             }
         }
@@ -141,22 +143,22 @@ pub fn bind(
 /// What is known with the values of a call's terms for the variables of its process, where they have values and are as many.
 pub fn bind_arguments(
     alloc: Global,
-    checked: &Checked,
+    prepared: &Prepared,
     outer: &[(u32, Given)],
     inner: Vec<(u32, Given)>,
     vars: &[(u32, Sort)],
     terms: &[Term],
     budget: u64,
 ) -> Result<Option<Vec<(u32, Given)>>, Stop>
-    requires executable { IsExecutable (program_of checked.now).theory }
-    ensures some { IfOk result (λ o. IfSome o (λ s. ArgumentsMayHave (program_of checked.now).theory
-        (marks_of (program_of checked.now).theory outer.now) (marks_of (program_of checked.now).theory inner.items)
-        (map variable_of vars.now) (map term_of terms.now) (marks_of (program_of checked.now).theory s.items))) }
-    ensures none { IfOk result (λ o. IfNone o ((r : MarkedAssignment) → ArgumentsMayHave (program_of checked.now).theory
-        (marks_of (program_of checked.now).theory outer.now) (marks_of (program_of checked.now).theory inner.items)
+    requires executable { IsExecutable (program_in prepared.now).theory }
+    ensures some { IfOk result (λ o. IfSome o (λ s. ArgumentsMayHave (program_in prepared.now).theory
+        (marks_of (program_in prepared.now).theory outer.now) (marks_of (program_in prepared.now).theory inner.items)
+        (map variable_of vars.now) (map term_of terms.now) (marks_of (program_in prepared.now).theory s.items))) }
+    ensures none { IfOk result (λ o. IfNone o ((r : MarkedAssignment) → ArgumentsMayHave (program_in prepared.now).theory
+        (marks_of (program_in prepared.now).theory outer.now) (marks_of (program_in prepared.now).theory inner.items)
         (map variable_of vars.now) (map term_of terms.now) r → ⊥)) }
-    ensures fault { IfErr result (Stops (program_of checked.now).theory budget (λ t.
-        OneOf (ArgumentAsks (program_of checked.now).theory (marks_of (program_of checked.now).theory outer.now) t)
+    ensures fault { IfErr result (Stops (program_in prepared.now).theory budget (λ t.
+        OneOf (ArgumentAsks (program_in prepared.now).theory (marks_of (program_in prepared.now).theory outer.now) t)
         (map term_of terms.now)) Never) }
 {
     match vars {
@@ -166,12 +168,12 @@ pub fn bind_arguments(
         },
         [first, rest @ ..] => match terms {
             [] => Ok(None),
-            [term, others @ ..] => match value_of(alloc, checked, outer, term, budget)? {
+            [term, others @ ..] => match value_of(alloc, prepared, outer, term, budget)? {
                 None => Ok(None),
                 Some(given) => {
                     let (x, _) = first;
                     let more = with(inner, *x, given)?;
-                    bind_arguments(alloc, checked, outer, more, rest, others, budget)
+                    bind_arguments(alloc, prepared, outer, more, rest, others, budget)
                 }
             },
         },

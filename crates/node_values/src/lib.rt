@@ -5,3 +5,5 @@ pub mod fields;
 pub mod scope;
 pub mod stop;
 pub mod value;
+
+pub use match_code::{Evaluator, Forms, Prepared};

@@ -11,13 +11,14 @@ ghost use Rattle.spec_core.specs.Values.{HasValue};
 ghost use Rattle.rewriter.specs.Answers.{SpellsValue};
 ghost use Rattle.symbolic_rules.specs.MarkedTerms.{marked_instance, PremiseMayHold};
 ghost use Rattle.symbolic_reach.specs.Reached.{Asks, PremiseAsks};
+ghost use Rattle.match_code.specs.Prepared.{program_in};
 ghost use Rattle.node_values.specs.Found.{IsValueOf, HasNone, Spelled};
 ghost use Rattle.node_values.specs.Scopes.{marks_of};
 ghost use Rattle.node_values.specs.Stops.{Stops, Never};
 
 use crate::scope::{Given, Instance, put_in};
 use crate::stop::Stop;
-use rewriter::Eval;
+use match_code::{Eval, Prepared};
 use spec_core::code::Checked;
 use spec_core::term::Term;
 use spec_core::value::Value;
@@ -25,13 +26,13 @@ use std::alloc::Global;
 use value_terms::sort_of_ground;
 
 // The operations of a ground term's value.
-fn evaluate(alloc: Global, checked: &Checked, term: Term, budget: u64) -> Result<Value, Stop>
-    requires executable { IsExecutable (program_of checked.now).theory }
-    requires fits { FitsGround (program_of checked.now).theory (term_of term) }
-    ensures value { IfOk result (SpellsValue (program_of checked.now).theory (term_of term) budget) }
-    ensures fault { IfErr result (Stops (program_of checked.now).theory budget (λ x. x ≡ term_of term) Never) }
+fn evaluate(alloc: Global, prepared: &Prepared, term: Term, budget: u64) -> Result<Value, Stop>
+    requires executable { IsExecutable (program_in prepared.now).theory }
+    requires fits { FitsGround (program_in prepared.now).theory (term_of term) }
+    ensures value { IfOk result (SpellsValue (program_in prepared.now).theory (term_of term) budget) }
+    ensures fault { IfErr result (Stops (program_in prepared.now).theory budget (λ x. x ≡ term_of term) Never) }
 {
-    match rewriter::value(alloc, &checked.algebra, &term, budget) {
+    match prepared.value(alloc, &term, budget) {
         Ok(value) => Ok(value),
         Err(Eval::Spent) => Err(Stop::Spent(term)),
         Err(Eval::TooLarge) => Err(Stop::TooLarge(term)),
@@ -53,17 +54,17 @@ fn is_ground(checked: &Checked, term: &Term) -> bool
 /// The operations of a term's value, if it has one.
 pub fn operations_of(
     alloc: Global,
-    checked: &Checked,
+    prepared: &Prepared,
     term: Term,
     budget: u64,
 ) -> Result<Option<Value>, Stop>
-    requires executable { IsExecutable (program_of checked.now).theory }
-    ensures some { IfOk result (λ o. IfSome o (λ v. Spelled (program_of checked.now).theory (term_of term) v)) }
-    ensures none { IfOk result (λ o. IfNone o ((n : TermTree) → HasValue (program_of checked.now).theory (term_of term) n → ⊥)) }
-    ensures fault { IfErr result (Stops (program_of checked.now).theory budget (λ x. x ≡ term_of term) Never) }
+    requires executable { IsExecutable (program_in prepared.now).theory }
+    ensures some { IfOk result (λ o. IfSome o (λ v. Spelled (program_in prepared.now).theory (term_of term) v)) }
+    ensures none { IfOk result (λ o. IfNone o ((n : TermTree) → HasValue (program_in prepared.now).theory (term_of term) n → ⊥)) }
+    ensures fault { IfErr result (Stops (program_in prepared.now).theory budget (λ x. x ≡ term_of term) Never) }
 {
-    if is_ground(checked, &term) {
-        Ok(Some(evaluate(alloc, checked, term, budget)?))
+    if is_ground(prepared.checked, &term) {
+        Ok(Some(evaluate(alloc, prepared, term, budget)?))
     } else {
         Ok(None)
     }
@@ -72,22 +73,22 @@ pub fn operations_of(
 /// The value of an expression, or its mark, with what is known for its variables.
 pub fn value_of(
     alloc: Global,
-    checked: &Checked,
+    prepared: &Prepared,
     scope: &[(u32, Given)],
     term: &Term,
     budget: u64,
 ) -> Result<Option<Given>, Stop>
-    requires executable { IsExecutable (program_of checked.now).theory }
-    ensures some { IfOk result (λ o. IfSome o (IsValueOf (program_of checked.now).theory
-        (marked_instance (program_of checked.now).theory (marks_of (program_of checked.now).theory scope.now) (term_of term.now)))) }
-    ensures none { IfOk result (λ o. IfNone o (HasNone (program_of checked.now).theory
-        (marked_instance (program_of checked.now).theory (marks_of (program_of checked.now).theory scope.now) (term_of term.now)))) }
-    ensures fault { IfErr result (Stops (program_of checked.now).theory budget
-        (Asks (program_of checked.now).theory (marks_of (program_of checked.now).theory scope.now) (term_of term.now)) Never) }
+    requires executable { IsExecutable (program_in prepared.now).theory }
+    ensures some { IfOk result (λ o. IfSome o (IsValueOf (program_in prepared.now).theory
+        (marked_instance (program_in prepared.now).theory (marks_of (program_in prepared.now).theory scope.now) (term_of term.now)))) }
+    ensures none { IfOk result (λ o. IfNone o (HasNone (program_in prepared.now).theory
+        (marked_instance (program_in prepared.now).theory (marks_of (program_in prepared.now).theory scope.now) (term_of term.now)))) }
+    ensures fault { IfErr result (Stops (program_in prepared.now).theory budget
+        (Asks (program_in prepared.now).theory (marks_of (program_in prepared.now).theory scope.now) (term_of term.now)) Never) }
 {
-    match put_in(alloc, &checked.algebra, scope, term)? {
+    match put_in(alloc, &prepared.checked.algebra, scope, term)? {
         Instance::Marked(sort) => Ok(Some(Given::Mark(sort))),
-        Instance::Plain(ground) => match operations_of(alloc, checked, ground, budget)? {
+        Instance::Plain(ground) => match operations_of(alloc, prepared, ground, budget)? {
             None => Ok(None),
             Some(value) => Ok(Some(Given::Value(value))),
         },
@@ -97,19 +98,19 @@ pub fn value_of(
 // Whether two terms are equal.
 fn are_equal(
     alloc: Global,
-    checked: &Checked,
+    prepared: &Prepared,
     left: Term,
     right: Term,
     budget: u64,
 ) -> Result<bool, Stop>
-    requires executable { IsExecutable (program_of checked.now).theory }
-    ensures decides { IfOk result (λ b. IsTrue b ↔ Equal (program_of checked.now).theory (term_of left) (term_of right)) }
-    ensures fault { IfErr result (Stops (program_of checked.now).theory budget
+    requires executable { IsExecutable (program_in prepared.now).theory }
+    ensures decides { IfOk result (λ b. IsTrue b ↔ Equal (program_in prepared.now).theory (term_of left) (term_of right)) }
+    ensures fault { IfErr result (Stops (program_in prepared.now).theory budget
         (λ x. (x ≡ term_of left) ⊎ (x ≡ term_of right)) Never) }
 {
-    match operations_of(alloc, checked, left, budget)? {
+    match operations_of(alloc, prepared, left, budget)? {
         None => Ok(false),
-        Some(first) => match operations_of(alloc, checked, right, budget)? {
+        Some(first) => match operations_of(alloc, prepared, right, budget)? {
             None => Ok(false),
             Some(second) => Ok(first.same(&second)),
         },
@@ -119,24 +120,24 @@ fn are_equal(
 /// Whether the two sides of a premise are equal, with what is known for their variables, or one of them holds a mark.
 pub fn may_hold(
     alloc: Global,
-    checked: &Checked,
+    prepared: &Prepared,
     scope: &[(u32, Given)],
     left: &Term,
     right: &Term,
     budget: u64,
 ) -> Result<bool, Stop>
-    requires executable { IsExecutable (program_of checked.now).theory }
-    ensures decides { IfOk result (λ b. IsTrue b ↔ PremiseMayHold (program_of checked.now).theory
-        (marks_of (program_of checked.now).theory scope.now) (premise (term_of left.now) (term_of right.now))) }
-    ensures fault { IfErr result (Stops (program_of checked.now).theory budget
-        (PremiseAsks (program_of checked.now).theory (marks_of (program_of checked.now).theory scope.now)
+    requires executable { IsExecutable (program_in prepared.now).theory }
+    ensures decides { IfOk result (λ b. IsTrue b ↔ PremiseMayHold (program_in prepared.now).theory
+        (marks_of (program_in prepared.now).theory scope.now) (premise (term_of left.now) (term_of right.now))) }
+    ensures fault { IfErr result (Stops (program_in prepared.now).theory budget
+        (PremiseAsks (program_in prepared.now).theory (marks_of (program_in prepared.now).theory scope.now)
         (premise (term_of left.now) (term_of right.now))) Never) }
 {
-    match put_in(alloc, &checked.algebra, scope, left)? {
+    match put_in(alloc, &prepared.checked.algebra, scope, left)? {
         Instance::Marked(_) => Ok(true),
-        Instance::Plain(first) => match put_in(alloc, &checked.algebra, scope, right)? {
+        Instance::Plain(first) => match put_in(alloc, &prepared.checked.algebra, scope, right)? {
             Instance::Marked(_) => Ok(true),
-            Instance::Plain(second) => are_equal(alloc, checked, first, second, budget),
+            Instance::Plain(second) => are_equal(alloc, prepared, first, second, budget),
         },
     }
 }

@@ -14,8 +14,10 @@ ghost use Rattle.node_values.specs.Stops.{Stops, Never};
 ghost use Rattle.symbolic_rules.specs.Tables.{windows_in};
 ghost use Rattle.symbolic_actions.specs.Deciding as tests;
 ghost use Rattle.symbolic_actions.specs.Models.{marked_field_of};
+ghost use Rattle.node_values.specs.Prepared.{program_in};
 ghost use Rattle.node_verdict.specs.Found.{IsChosen, ChoosesNothing, told_field, chosen_field};
 
+use node_values::Prepared;
 use node_values::scope::{Given, with};
 use node_values::stop::Stop;
 use node_values::value::{may_hold, value_of};
@@ -148,7 +150,7 @@ fn put_front(field: ShownField, filled: Filled) -> Result<Filled, Memory>
 /// where the slots don't fit, or an expression has no value.
 pub fn filled_fields(
     alloc: Global,
-    checked: &Checked,
+    prepared: &Prepared,
     windows: &[Window],
     outer: &[(u32, Given)],
     inner: Vec<(u32, Given)>,
@@ -156,17 +158,17 @@ pub fn filled_fields(
     slots: &[Slot],
     budget: u64,
 ) -> Result<Option<Filled>, Stop>
-    requires ready { IsReady (program_of checked.now) }
-    ensures some { IfOk result (λ o. IfSome o (λ x. FieldsMayHave (program_of checked.now).theory (windows_in windows.now)
-        (marks_of (program_of checked.now).theory outer.now) (marks_of (program_of checked.now).theory inner.items)
+    requires ready { IsReady (program_in prepared.now) }
+    ensures some { IfOk result (λ o. IfSome o (λ x. FieldsMayHave (program_in prepared.now).theory (windows_in windows.now)
+        (marks_of (program_in prepared.now).theory outer.now) (marks_of (program_in prepared.now).theory inner.items)
         (map action_field_of fields.now) slots.now (map marked_field_of x.fields.items)
-        (marks_of (program_of checked.now).theory x.scope.items))) }
+        (marks_of (program_in prepared.now).theory x.scope.items))) }
     ensures none { IfOk result (λ o. IfNone o ((fs : List MarkedField) (r : MarkedAssignment) →
-        FieldsMayHave (program_of checked.now).theory (windows_in windows.now)
-        (marks_of (program_of checked.now).theory outer.now) (marks_of (program_of checked.now).theory inner.items)
+        FieldsMayHave (program_in prepared.now).theory (windows_in windows.now)
+        (marks_of (program_in prepared.now).theory outer.now) (marks_of (program_in prepared.now).theory inner.items)
         (map action_field_of fields.now) slots.now fs r → ⊥)) }
-    ensures fault { IfErr result (Stops (program_of checked.now).theory budget (λ t.
-        OneOf (FieldAsks (program_of checked.now).theory (marks_of (program_of checked.now).theory outer.now) t)
+    ensures fault { IfErr result (Stops (program_in prepared.now).theory budget (λ t.
+        OneOf (FieldAsks (program_in prepared.now).theory (marks_of (program_in prepared.now).theory outer.now) t)
         (map action_field_of fields.now)) Never) }
 {
     match fields {
@@ -178,10 +180,10 @@ pub fn filled_fields(
             [_, ..] => Ok(None),
         },
         [first, rest @ ..] => match first {
-            ActField::Give(term) => match value_of(alloc, checked, outer, term, budget)? {
+            ActField::Give(term) => match value_of(alloc, prepared, outer, term, budget)? {
                 None => Ok(None),
                 Some(given) => match filled_fields(
-                    alloc, checked, windows, outer, inner, rest, slots, budget,
+                    alloc, prepared, windows, outer, inner, rest, slots, budget,
                 )? {
                     None => Ok(None),
                     Some(others) => Ok(Some(put_front(told(given), others)?)),
@@ -189,13 +191,13 @@ pub fn filled_fields(
             },
             ActField::Take(x, sort) => match slots {
                 [] => Ok(None),
-                [slot, more @ ..] => match chosen(alloc, checked, windows, slot, *sort)? {
+                [slot, more @ ..] => match chosen(alloc, prepared.checked, windows, slot, *sort)? {
                     None => Ok(None),
                     Some(given) => {
                         let field = only_chosen(alloc, &given)?;
                         let bound = with(inner, *x, given)?;
                         match filled_fields(
-                            alloc, checked, windows, outer, bound, rest, more, budget,
+                            alloc, prepared, windows, outer, bound, rest, more, budget,
                         )? {
                             None => Ok(None),
                             Some(others) => Ok(Some(put_front(field, others)?)),
@@ -210,22 +212,22 @@ pub fn filled_fields(
 /// The fields of an exit with these slots. None where the slots don't fit, or an expression has no value.
 pub fn filled_exit(
     alloc: Global,
-    checked: &Checked,
+    prepared: &Prepared,
     windows: &[Window],
     scope: &[(u32, Given)],
     fields: &[ExitField],
     slots: &[Slot],
     budget: u64,
 ) -> Result<Option<Vec<ShownField>>, Stop>
-    requires ready { IsReady (program_of checked.now) }
-    ensures some { IfOk result (λ o. IfSome o (λ fs. ExitMayHave (program_of checked.now).theory (windows_in windows.now)
-        (marks_of (program_of checked.now).theory scope.now) (map exit_value_of fields.now) slots.now
+    requires ready { IsReady (program_in prepared.now) }
+    ensures some { IfOk result (λ o. IfSome o (λ fs. ExitMayHave (program_in prepared.now).theory (windows_in windows.now)
+        (marks_of (program_in prepared.now).theory scope.now) (map exit_value_of fields.now) slots.now
         (map marked_field_of fs.items))) }
     ensures none { IfOk result (λ o. IfNone o ((fs : List MarkedField) →
-        ExitMayHave (program_of checked.now).theory (windows_in windows.now)
-        (marks_of (program_of checked.now).theory scope.now) (map exit_value_of fields.now) slots.now fs → ⊥)) }
-    ensures fault { IfErr result (Stops (program_of checked.now).theory budget (λ t.
-        OneOf (ExitAsks (program_of checked.now).theory (marks_of (program_of checked.now).theory scope.now) t)
+        ExitMayHave (program_in prepared.now).theory (windows_in windows.now)
+        (marks_of (program_in prepared.now).theory scope.now) (map exit_value_of fields.now) slots.now fs → ⊥)) }
+    ensures fault { IfErr result (Stops (program_in prepared.now).theory budget (λ t.
+        OneOf (ExitAsks (program_in prepared.now).theory (marks_of (program_in prepared.now).theory scope.now) t)
         (map exit_value_of fields.now)) Never) }
 {
     match fields {
@@ -234,10 +236,10 @@ pub fn filled_exit(
             [_, ..] => Ok(None),
         },
         [first, rest @ ..] => match first {
-            ExitField::Give(term) => match value_of(alloc, checked, scope, term, budget)? {
+            ExitField::Give(term) => match value_of(alloc, prepared, scope, term, budget)? {
                 None => Ok(None),
                 Some(given) => match filled_exit(
-                    alloc, checked, windows, scope, rest, slots, budget,
+                    alloc, prepared, windows, scope, rest, slots, budget,
                 )? {
                     None => Ok(None),
                     Some(others) => Ok(Some(in_front(told(given), others)?)),
@@ -245,11 +247,11 @@ pub fn filled_exit(
             },
             ExitField::Any(sort) => match slots {
                 [] => Ok(None),
-                [slot, more @ ..] => match chosen(alloc, checked, windows, slot, *sort)? {
+                [slot, more @ ..] => match chosen(alloc, prepared.checked, windows, slot, *sort)? {
                     None => Ok(None),
                     Some(given) => {
                         let field = only_chosen(alloc, &given)?;
-                        match filled_exit(alloc, checked, windows, scope, rest, more, budget)? {
+                        match filled_exit(alloc, prepared, windows, scope, rest, more, budget)? {
                             None => Ok(None),
                             Some(others) => Ok(Some(in_front(field, others)?)),
                         }
@@ -263,19 +265,19 @@ pub fn filled_exit(
 /// Whether the predicate of an action, if it has one, holds, or holds a mark.
 pub fn guard_may_hold(
     alloc: Global,
-    checked: &Checked,
+    prepared: &Prepared,
     scope: &[(u32, Given)],
     guard: &Option<(Term, Term)>,
     budget: u64,
 ) -> Result<bool, Stop>
-    requires ready { IsReady (program_of checked.now) }
-    ensures decides { IfOk result (λ b. IsTrue b ↔ GuardMayHold (program_of checked.now).theory
-        (marks_of (program_of checked.now).theory scope.now) (guard_of guard.now)) }
-    ensures fault { IfErr result (Stops (program_of checked.now).theory budget
-        (GuardAsks (program_of checked.now).theory (marks_of (program_of checked.now).theory scope.now) (guard_of guard.now)) Never) }
+    requires ready { IsReady (program_in prepared.now) }
+    ensures decides { IfOk result (λ b. IsTrue b ↔ GuardMayHold (program_in prepared.now).theory
+        (marks_of (program_in prepared.now).theory scope.now) (guard_of guard.now)) }
+    ensures fault { IfErr result (Stops (program_in prepared.now).theory budget
+        (GuardAsks (program_in prepared.now).theory (marks_of (program_in prepared.now).theory scope.now) (guard_of guard.now)) Never) }
 {
     match guard {
         None => Ok(true),
-        Some((left, right)) => may_hold(alloc, checked, scope, left, right, budget),
+        Some((left, right)) => may_hold(alloc, prepared, scope, left, right, budget),
     }
 }

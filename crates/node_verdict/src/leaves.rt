@@ -9,9 +9,11 @@ ghost use Rattle.symbolic_rules.specs.MarkedTerms.{MarkedAssignment};
 ghost use Rattle.rule_origins.specs.Parts.{behaviour_at};
 ghost use Rattle.node_values.specs.Scopes.{marks_of};
 ghost use Rattle.symbolic_rules.specs.Tables.{windows_in};
+ghost use Rattle.node_values.specs.Prepared.{program_in};
 ghost use Rattle.node_verdict.specs.Judged.{Judged};
 
 use crate::choosing::{Filled, filled_exit, filled_fields, guard_may_hold};
+use node_values::Prepared;
 use node_values::scope::{Given, copy_scope};
 use node_values::stop::Stop;
 use rule_model::rules::Slot;
@@ -25,29 +27,31 @@ use symbolic_plans::composite::ActionKind;
 /// What an action shows with these chosen values.
 pub fn acts(
     alloc: Global,
-    checked: &Checked,
+    prepared: &Prepared,
     windows: &[Window],
     scope: &[(u32, Given)],
     node: u32,
     slots: &[Slot],
     budget: u64,
 ) -> Result<Option<Shown>, Stop>
-    requires ready { IsReady (program_of checked.now) }
-    ensures judged { Judged (program_of checked.now) (windows_in windows.now) budget
-        (marks_of (program_of checked.now).theory scope.now) (behaviour_at (program_of checked.now) node) (pre slots.now) result }
+    requires ready { IsReady (program_in prepared.now) }
+    ensures judged { Judged (program_in prepared.now) (windows_in windows.now) budget
+        (marks_of (program_in prepared.now).theory scope.now) (behaviour_at (program_in prepared.now) node) (pre slots.now) result }
 {
-    match action_at(checked, node) {
+    match action_at(prepared.checked, node) {
         None => Ok(None),
         Some((gate, fields, guard, _)) => {
             let inner = copy_scope(alloc, scope)?;
-            match filled_fields(alloc, checked, windows, scope, inner, fields, slots, budget)? {
+            match filled_fields(
+                alloc, prepared, windows, scope, inner, fields, slots, budget,
+            )? {
                 None => Ok(None),
                 Some(filled) => {
                     let Filled {
                         fields: shown,
                         scope: bound,
                     } = filled;
-                    let holds = guard_may_hold(alloc, checked, &bound, guard, budget)?;
+                    let holds = guard_may_hold(alloc, prepared, &bound, guard, budget)?;
                     if holds {
                         Ok(Some(Shown {
                             kind: ActionKind::At(gate),
@@ -80,20 +84,20 @@ pub fn acts_inside(alloc: Global, checked: &Checked, node: u32) -> Result<Option
 /// What an exit shows with these chosen values.
 pub fn terminates(
     alloc: Global,
-    checked: &Checked,
+    prepared: &Prepared,
     windows: &[Window],
     scope: &[(u32, Given)],
     node: u32,
     slots: &[Slot],
     budget: u64,
 ) -> Result<Option<Shown>, Stop>
-    requires ready { IsReady (program_of checked.now) }
-    ensures judged { Judged (program_of checked.now) (windows_in windows.now) budget
-        (marks_of (program_of checked.now).theory scope.now) (behaviour_at (program_of checked.now) node) (exiting slots.now) result }
+    requires ready { IsReady (program_in prepared.now) }
+    ensures judged { Judged (program_in prepared.now) (windows_in windows.now) budget
+        (marks_of (program_in prepared.now).theory scope.now) (behaviour_at (program_in prepared.now) node) (exiting slots.now) result }
 {
-    match exit_at(checked, node) {
+    match exit_at(prepared.checked, node) {
         None => Ok(None),
-        Some(fields) => match filled_exit(alloc, checked, windows, scope, fields, slots, budget)? {
+        Some(fields) => match filled_exit(alloc, prepared, windows, scope, fields, slots, budget)? {
             None => Ok(None),
             Some(shown) => Ok(Some(Shown {
                 kind: ActionKind::Exit,

@@ -1,7 +1,7 @@
 // What origins show by trees of rules.
 
 ghost use Rattle.std.specs.Prelude.{IfOk, IfErr, map, option_map};
-ghost use Rattle.spec_core.specs.Code.{program_of, relabelling_of};
+ghost use Rattle.spec_core.specs.Code.{relabelling_of};
 ghost use Rattle.spec_core.specs.Ready.{IsReady};
 ghost use Rattle.rule_model.specs.Derivations.{derivation_of};
 ghost use Rattle.symbolic_rules.specs.MarkedTerms.{unmarked};
@@ -10,15 +10,16 @@ ghost use Rattle.node_trees.specs.Origins.{meaning, relabelled_by, scoped, sourc
 ghost use Rattle.symbolic_rules.specs.Tables.{windows_in};
 ghost use Rattle.symbolic_actions.specs.Models.{show_of};
 ghost use Rattle.symbolic_actions.specs.Shows.{Shows};
+ghost use Rattle.node_values.specs.Prepared.{program_in};
 ghost use Rattle.node_verdict.specs.Asking.{TreeAsks};
 ghost use Rattle.node_verdict.specs.Judged.{Judged};
 
 use crate::relabelled::judge_relabelled;
 use node_trees::origin::Origin;
+use node_values::Prepared;
 use node_values::scope::known;
 use node_values::stop::Stop;
 use rule_model::rules::Rules;
-use spec_core::code::Checked;
 use spec_core::items::Gate;
 use spec_core::value::Value;
 use spec_core::window::Window;
@@ -28,7 +29,7 @@ use symbolic_actions::shown::Shown;
 // What the behaviour with this number of the code, with values for its variables, shows under a relabelling; an empty one is none.
 fn judge_source(
     alloc: Global,
-    checked: &Checked,
+    prepared: &Prepared,
     windows: &[Window],
     node: u32,
     values: &[(u32, Value)],
@@ -36,13 +37,13 @@ fn judge_source(
     rules: &Rules,
     budget: u64,
 ) -> Result<Option<Shown>, Stop>
-    requires ready { IsReady (program_of checked.now) }
-    ensures judged { Judged (program_of checked.now) (windows_in windows.now) budget unmarked
-        (relabelled_by (map relabelling_of pairs.now) (scoped (program_of checked.now) node values.now)) (derivation_of rules.now) result }
+    requires ready { IsReady (program_in prepared.now) }
+    ensures judged { Judged (program_in prepared.now) (windows_in windows.now) budget unmarked
+        (relabelled_by (map relabelling_of pairs.now) (scoped (program_in prepared.now) node values.now)) (derivation_of rules.now) result }
 {
     match known(alloc, values, Vec::new(alloc)) {
         Err(_) => Err(Stop::Memory),
-        Ok(scope) => judge_relabelled(alloc, checked, windows, &scope, pairs, node, rules, budget),
+        Ok(scope) => judge_relabelled(alloc, prepared, windows, &scope, pairs, node, rules, budget),
     }
 }
 
@@ -53,21 +54,21 @@ fn judge_source(
 /// are.
 pub fn shown_by(
     alloc: Global,
-    checked: &Checked,
+    prepared: &Prepared,
     windows: &[Window],
     origin: &Origin,
     rules: &Rules,
     budget: u64,
 ) -> Result<Option<Shown>, Stop>
-    requires ready { IsReady (program_of checked.now) }
-    ensures shows { IfOk result (λ o. Shows (program_of checked.now) (windows_in windows.now)
-        (meaning (program_of checked.now) (source_of origin.now)) (derivation_of rules.now) (option_map show_of o)) }
-    ensures stop { IfErr result (Stops (program_of checked.now).theory budget (TreeAsks (program_of checked.now) (windows_in windows.now)
-        unmarked (meaning (program_of checked.now) (source_of origin.now)) (derivation_of rules.now)) Never) }
+    requires ready { IsReady (program_in prepared.now) }
+    ensures shows { IfOk result (λ o. Shows (program_in prepared.now) (windows_in windows.now)
+        (meaning (program_in prepared.now) (source_of origin.now)) (derivation_of rules.now) (option_map show_of o)) }
+    ensures stop { IfErr result (Stops (program_in prepared.now).theory budget (TreeAsks (program_in prepared.now) (windows_in windows.now)
+        unmarked (meaning (program_in prepared.now) (source_of origin.now)) (derivation_of rules.now)) Never) }
 {
     judge_source(
         alloc,
-        checked,
+        prepared,
         windows,
         origin.node,
         &origin.values,

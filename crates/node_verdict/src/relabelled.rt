@@ -1,7 +1,7 @@
 // The walk along a tree of rules under a relabelling, tidied.
 
 ghost use Rattle.std.specs.Prelude.{◌≡◌, map};
-ghost use Rattle.spec_core.specs.Code.{program_of, relabelling_of};
+ghost use Rattle.spec_core.specs.Code.{relabelling_of};
 ghost use Rattle.spec_core.specs.Numbers.{gate_number};
 ghost use Rattle.spec_core.specs.Ready.{IsReady};
 ghost use Rattle.spec_core.specs.Terms.{term_of};
@@ -12,16 +12,17 @@ ghost use Rattle.rule_origins.specs.Parts.{behaviour_at};
 ghost use Rattle.node_values.specs.Scopes.{marks_of};
 ghost use Rattle.node_trees.specs.Origins.{relabelled_by};
 ghost use Rattle.symbolic_rules.specs.Tables.{windows_in};
+ghost use Rattle.node_values.specs.Prepared.{program_in};
 ghost use Rattle.node_verdict.specs.Judged.{Judged};
 
 use crate::walking::{called, walk, walk_renamed};
+use node_values::Prepared;
 use node_values::scope::Given;
 use node_values::stop::Stop;
 use rule_model::rules::Rules;
 use rule_origins::tidying::joined;
 use rule_origins::views::call_at;
 use rule_substitution::relabelling::renamed_gates;
-use spec_core::code::Checked;
 use spec_core::items::Gate;
 use spec_core::term::Term;
 use spec_core::window::Window;
@@ -31,7 +32,7 @@ use symbolic_actions::shown::Shown;
 // What a call with these gates shows.
 fn judge_call(
     alloc: Global,
-    checked: &Checked,
+    prepared: &Prepared,
     windows: &[Window],
     scope: &[(u32, Given)],
     process: u32,
@@ -40,14 +41,14 @@ fn judge_call(
     rules: &Rules,
     budget: u64,
 ) -> Result<Option<Shown>, Stop>
-    requires ready { IsReady (program_of checked.now) }
-    ensures judged { Judged (program_of checked.now) (windows_in windows.now) budget
-        (marks_of (program_of checked.now).theory scope.now) (call process (map gate_number gates.now) (map term_of terms.now))
+    requires ready { IsReady (program_in prepared.now) }
+    ensures judged { Judged (program_in prepared.now) (windows_in windows.now) budget
+        (marks_of (program_in prepared.now).theory scope.now) (call process (map gate_number gates.now) (map term_of terms.now))
         (derivation_of rules.now) result }
 {
     match rules {
         Rules::Call(part) => called(
-            alloc, checked, windows, scope, process, gates, terms, part, budget,
+            alloc, prepared, windows, scope, process, gates, terms, part, budget,
         ),
         Rules::Pre(_)
         | Rules::Int
@@ -76,7 +77,7 @@ fn judge_call(
 /// call is relabelled in its gates. It recurs as deep as constructs, the tree, and terms are.
 pub fn judge_tidied(
     alloc: Global,
-    checked: &Checked,
+    prepared: &Prepared,
     windows: &[Window],
     scope: &[(u32, Given)],
     pairs: &[(Gate, Gate)],
@@ -84,21 +85,21 @@ pub fn judge_tidied(
     rules: &Rules,
     budget: u64,
 ) -> Result<Option<Shown>, Stop>
-    requires ready { IsReady (program_of checked.now) }
-    ensures judged { Judged (program_of checked.now) (windows_in windows.now) budget
-        (marks_of (program_of checked.now).theory scope.now)
-        (tidied (map relabelling_of pairs.now) (behaviour_at (program_of checked.now) node)) (derivation_of rules.now) result }
+    requires ready { IsReady (program_in prepared.now) }
+    ensures judged { Judged (program_in prepared.now) (windows_in windows.now) budget
+        (marks_of (program_in prepared.now).theory scope.now)
+        (tidied (map relabelling_of pairs.now) (behaviour_at (program_in prepared.now) node)) (derivation_of rules.now) result }
 {
-    match joined(alloc, checked, pairs, node) {
+    match joined(alloc, prepared.checked, pairs, node) {
         Err(_) => Err(Stop::Memory),
-        Ok(one) => match call_at(checked, one.node) {
+        Ok(one) => match call_at(prepared.checked, one.node) {
             None => walk_renamed(
-                alloc, checked, windows, scope, &one.pairs, one.node, rules, budget,
+                alloc, prepared, windows, scope, &one.pairs, one.node, rules, budget,
             ),
             Some((process, gates, values)) => match renamed_gates(alloc, &one.pairs, gates) {
                 Err(_) => Err(Stop::Memory),
                 Ok(actual) => judge_call(
-                    alloc, checked, windows, scope, process, &actual, values, rules, budget,
+                    alloc, prepared, windows, scope, process, &actual, values, rules, budget,
                 ),
             },
         },
@@ -108,7 +109,7 @@ pub fn judge_tidied(
 /// What the behaviour with this number of the code shows under a relabelling; an empty one is none.
 pub fn judge_relabelled(
     alloc: Global,
-    checked: &Checked,
+    prepared: &Prepared,
     windows: &[Window],
     scope: &[(u32, Given)],
     pairs: &[(Gate, Gate)],
@@ -116,13 +117,13 @@ pub fn judge_relabelled(
     rules: &Rules,
     budget: u64,
 ) -> Result<Option<Shown>, Stop>
-    requires ready { IsReady (program_of checked.now) }
-    ensures judged { Judged (program_of checked.now) (windows_in windows.now) budget
-        (marks_of (program_of checked.now).theory scope.now)
-        (relabelled_by (map relabelling_of pairs.now) (behaviour_at (program_of checked.now) node)) (derivation_of rules.now) result }
+    requires ready { IsReady (program_in prepared.now) }
+    ensures judged { Judged (program_in prepared.now) (windows_in windows.now) budget
+        (marks_of (program_in prepared.now).theory scope.now)
+        (relabelled_by (map relabelling_of pairs.now) (behaviour_at (program_in prepared.now) node)) (derivation_of rules.now) result }
 {
     match pairs {
-        [] => walk(alloc, checked, windows, scope, node, rules, budget),
-        [_, ..] => judge_tidied(alloc, checked, windows, scope, pairs, node, rules, budget),
+        [] => walk(alloc, prepared, windows, scope, node, rules, budget),
+        [_, ..] => judge_tidied(alloc, prepared, windows, scope, pairs, node, rules, budget),
     }
 }

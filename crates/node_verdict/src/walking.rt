@@ -1,7 +1,7 @@
 // The walk along a tree of rules.
 
 ghost use Rattle.std.specs.Prelude.{◌≡◌, ◌∷◌, IfOk, map};
-ghost use Rattle.spec_core.specs.Code.{program_of, relabelling_of};
+ghost use Rattle.spec_core.specs.Code.{relabelling_of};
 ghost use Rattle.spec_core.specs.Numbers.{gate_number};
 ghost use Rattle.spec_core.specs.Ready.{IsReady};
 ghost use Rattle.spec_core.specs.Terms.{term_of};
@@ -11,11 +11,13 @@ ghost use Rattle.rule_model.specs.Derivations.{enend, disstep, disend, distake, 
 ghost use Rattle.rule_origins.specs.Parts.{behaviour_at};
 ghost use Rattle.node_values.specs.Scopes.{marks_of};
 ghost use Rattle.symbolic_rules.specs.Tables.{windows_in};
+ghost use Rattle.node_values.specs.Prepared.{program_in};
 ghost use Rattle.node_verdict.specs.Judged.{Judged};
 
 use crate::choosing::{chosen, lies_within};
 use crate::leaves::{acts, acts_inside, terminates};
 use crate::making;
+use node_values::Prepared;
 use node_values::fields::{bind, bind_arguments};
 use node_values::scope::{Given, copy_scope, with};
 use node_values::stop::Stop;
@@ -27,7 +29,6 @@ use rule_origins::views::{
     hide_at, parallel_at, relabel_at, value_choice_at,
 };
 use rule_substitution::relabelling::pairs;
-use spec_core::code::Checked;
 use spec_core::items::Gate;
 use spec_core::memory::Memory;
 use spec_core::term::Term;
@@ -53,21 +54,21 @@ fn extended(
 #[cycle(walk)]
 fn left_chosen(
     alloc: Global,
-    checked: &Checked,
+    prepared: &Prepared,
     windows: &[Window],
     scope: &[(u32, Given)],
     node: u32,
     part: &Rules,
     budget: u64,
 ) -> Result<Option<Shown>, Stop>
-    requires ready { IsReady (program_of checked.now) }
-    ensures judged { Judged (program_of checked.now) (windows_in windows.now) budget
-        (marks_of (program_of checked.now).theory scope.now) (behaviour_at (program_of checked.now) node)
+    requires ready { IsReady (program_in prepared.now) }
+    ensures judged { Judged (program_in prepared.now) (windows_in windows.now) budget
+        (marks_of (program_in prepared.now).theory scope.now) (behaviour_at (program_in prepared.now) node)
         (chl (derivation_of part.now)) result }
 {
-    match choice_at(checked, node) {
+    match choice_at(prepared.checked, node) {
         None => Ok(None),
-        Some((left, _)) => walk(alloc, checked, windows, scope, left, part, budget),
+        Some((left, _)) => walk(alloc, prepared, windows, scope, left, part, budget),
     }
 }
 
@@ -75,21 +76,21 @@ fn left_chosen(
 #[cycle(walk)]
 fn right_chosen(
     alloc: Global,
-    checked: &Checked,
+    prepared: &Prepared,
     windows: &[Window],
     scope: &[(u32, Given)],
     node: u32,
     part: &Rules,
     budget: u64,
 ) -> Result<Option<Shown>, Stop>
-    requires ready { IsReady (program_of checked.now) }
-    ensures judged { Judged (program_of checked.now) (windows_in windows.now) budget
-        (marks_of (program_of checked.now).theory scope.now) (behaviour_at (program_of checked.now) node)
+    requires ready { IsReady (program_in prepared.now) }
+    ensures judged { Judged (program_in prepared.now) (windows_in windows.now) budget
+        (marks_of (program_in prepared.now).theory scope.now) (behaviour_at (program_in prepared.now) node)
         (chr (derivation_of part.now)) result }
 {
-    match choice_at(checked, node) {
+    match choice_at(prepared.checked, node) {
         None => Ok(None),
-        Some((_, right)) => walk(alloc, checked, windows, scope, right, part, budget),
+        Some((_, right)) => walk(alloc, prepared, windows, scope, right, part, budget),
     }
 }
 
@@ -97,7 +98,7 @@ fn right_chosen(
 #[cycle(walk)]
 fn value_chosen(
     alloc: Global,
-    checked: &Checked,
+    prepared: &Prepared,
     windows: &[Window],
     scope: &[(u32, Given)],
     node: u32,
@@ -105,21 +106,21 @@ fn value_chosen(
     part: &Rules,
     budget: u64,
 ) -> Result<Option<Shown>, Stop>
-    requires ready { IsReady (program_of checked.now) }
-    ensures judged { Judged (program_of checked.now) (windows_in windows.now) budget
-        (marks_of (program_of checked.now).theory scope.now) (behaviour_at (program_of checked.now) node)
+    requires ready { IsReady (program_in prepared.now) }
+    ensures judged { Judged (program_in prepared.now) (windows_in windows.now) budget
+        (marks_of (program_in prepared.now).theory scope.now) (behaviour_at (program_in prepared.now) node)
         (val slot.now (derivation_of part.now)) result }
 {
-    match value_choice_at(checked, node) {
+    match value_choice_at(prepared.checked, node) {
         None => Ok(None),
-        Some((x, sort, body)) => match chosen(alloc, checked, windows, slot, sort)? {
+        Some((x, sort, body)) => match chosen(alloc, prepared.checked, windows, slot, sort)? {
             None => Ok(None),
             Some(given) => {
-                if !lies_within(&checked.algebra, windows, &given) {
+                if !lies_within(&prepared.checked.algebra, windows, &given) {
                     return Ok(None);
                 }
                 let inner = extended(alloc, scope, x, given)?;
-                walk(alloc, checked, windows, &inner, body, part, budget)
+                walk(alloc, prepared, windows, &inner, body, part, budget)
             }
         },
     }
@@ -129,7 +130,7 @@ fn value_chosen(
 #[cycle(walk)]
 fn gate_chosen(
     alloc: Global,
-    checked: &Checked,
+    prepared: &Prepared,
     windows: &[Window],
     scope: &[(u32, Given)],
     node: u32,
@@ -137,18 +138,20 @@ fn gate_chosen(
     part: &Rules,
     budget: u64,
 ) -> Result<Option<Shown>, Stop>
-    requires ready { IsReady (program_of checked.now) }
-    ensures judged { Judged (program_of checked.now) (windows_in windows.now) budget
-        (marks_of (program_of checked.now).theory scope.now) (behaviour_at (program_of checked.now) node)
+    requires ready { IsReady (program_in prepared.now) }
+    ensures judged { Judged (program_in prepared.now) (windows_in windows.now) budget
+        (marks_of (program_in prepared.now).theory scope.now) (behaviour_at (program_in prepared.now) node)
         (gate place (derivation_of part.now)) result }
 {
-    match gate_choice_at(checked, node) {
+    match gate_choice_at(prepared.checked, node) {
         None => Ok(None),
         Some((from, gates, body)) => match gate_at(gates, place) {
             None => Ok(None),
             Some(to) => {
                 let renamed = renaming(alloc, from, to)?;
-                walk_renamed(alloc, checked, windows, scope, &renamed, body, part, budget)
+                walk_renamed(
+                    alloc, prepared, windows, scope, &renamed, body, part, budget,
+                )
             }
         },
     }
@@ -158,23 +161,23 @@ fn gate_chosen(
 #[cycle(walk)]
 fn guarded(
     alloc: Global,
-    checked: &Checked,
+    prepared: &Prepared,
     windows: &[Window],
     scope: &[(u32, Given)],
     node: u32,
     part: &Rules,
     budget: u64,
 ) -> Result<Option<Shown>, Stop>
-    requires ready { IsReady (program_of checked.now) }
-    ensures judged { Judged (program_of checked.now) (windows_in windows.now) budget
-        (marks_of (program_of checked.now).theory scope.now) (behaviour_at (program_of checked.now) node)
+    requires ready { IsReady (program_in prepared.now) }
+    ensures judged { Judged (program_in prepared.now) (windows_in windows.now) budget
+        (marks_of (program_in prepared.now).theory scope.now) (behaviour_at (program_in prepared.now) node)
         (guard (derivation_of part.now)) result }
 {
-    match guarded_at(checked, node) {
+    match guarded_at(prepared.checked, node) {
         None => Ok(None),
         Some((left, right, body)) => {
-            if may_hold(alloc, checked, scope, left, right, budget)? {
-                walk(alloc, checked, windows, scope, body, part, budget)
+            if may_hold(alloc, prepared, scope, left, right, budget)? {
+                walk(alloc, prepared, windows, scope, body, part, budget)
             } else {
                 Ok(None)
             }
@@ -186,25 +189,25 @@ fn guarded(
 #[cycle(walk)]
 fn bound(
     alloc: Global,
-    checked: &Checked,
+    prepared: &Prepared,
     windows: &[Window],
     scope: &[(u32, Given)],
     node: u32,
     part: &Rules,
     budget: u64,
 ) -> Result<Option<Shown>, Stop>
-    requires ready { IsReady (program_of checked.now) }
-    ensures judged { Judged (program_of checked.now) (windows_in windows.now) budget
-        (marks_of (program_of checked.now).theory scope.now) (behaviour_at (program_of checked.now) node)
+    requires ready { IsReady (program_in prepared.now) }
+    ensures judged { Judged (program_in prepared.now) (windows_in windows.now) budget
+        (marks_of (program_in prepared.now).theory scope.now) (behaviour_at (program_in prepared.now) node)
         (letting (derivation_of part.now)) result }
 {
-    match bound_at(checked, node) {
+    match bound_at(prepared.checked, node) {
         None => Ok(None),
         Some((bindings, body)) => {
             let copied = copy_scope(alloc, scope)?;
-            match bind(alloc, checked, scope, copied, bindings, budget)? {
+            match bind(alloc, prepared, scope, copied, bindings, budget)? {
                 None => Ok(None),
-                Some(inner) => walk(alloc, checked, windows, &inner, body, part, budget),
+                Some(inner) => walk(alloc, prepared, windows, &inner, body, part, budget),
             }
         }
     }
@@ -214,22 +217,22 @@ fn bound(
 #[cycle(walk)]
 fn left_alone(
     alloc: Global,
-    checked: &Checked,
+    prepared: &Prepared,
     windows: &[Window],
     scope: &[(u32, Given)],
     node: u32,
     part: &Rules,
     budget: u64,
 ) -> Result<Option<Shown>, Stop>
-    requires ready { IsReady (program_of checked.now) }
-    ensures judged { Judged (program_of checked.now) (windows_in windows.now) budget
-        (marks_of (program_of checked.now).theory scope.now) (behaviour_at (program_of checked.now) node)
+    requires ready { IsReady (program_in prepared.now) }
+    ensures judged { Judged (program_in prepared.now) (windows_in windows.now) budget
+        (marks_of (program_in prepared.now).theory scope.now) (behaviour_at (program_in prepared.now) node)
         (parl (derivation_of part.now)) result }
 {
-    match parallel_at(checked, node) {
+    match parallel_at(prepared.checked, node) {
         None => Ok(None),
         Some((gates, left, _)) => {
-            let shown = walk(alloc, checked, windows, scope, left, part, budget);
+            let shown = walk(alloc, prepared, windows, scope, left, part, budget);
             making::alone(gates, shown)
         }
     }
@@ -239,22 +242,22 @@ fn left_alone(
 #[cycle(walk)]
 fn right_alone(
     alloc: Global,
-    checked: &Checked,
+    prepared: &Prepared,
     windows: &[Window],
     scope: &[(u32, Given)],
     node: u32,
     part: &Rules,
     budget: u64,
 ) -> Result<Option<Shown>, Stop>
-    requires ready { IsReady (program_of checked.now) }
-    ensures judged { Judged (program_of checked.now) (windows_in windows.now) budget
-        (marks_of (program_of checked.now).theory scope.now) (behaviour_at (program_of checked.now) node)
+    requires ready { IsReady (program_in prepared.now) }
+    ensures judged { Judged (program_in prepared.now) (windows_in windows.now) budget
+        (marks_of (program_in prepared.now).theory scope.now) (behaviour_at (program_in prepared.now) node)
         (parr (derivation_of part.now)) result }
 {
-    match parallel_at(checked, node) {
+    match parallel_at(prepared.checked, node) {
         None => Ok(None),
         Some((gates, _, right)) => {
-            let shown = walk(alloc, checked, windows, scope, right, part, budget);
+            let shown = walk(alloc, prepared, windows, scope, right, part, budget);
             making::alone(gates, shown)
         }
     }
@@ -264,7 +267,7 @@ fn right_alone(
 #[cycle(walk)]
 fn together(
     alloc: Global,
-    checked: &Checked,
+    prepared: &Prepared,
     windows: &[Window],
     scope: &[(u32, Given)],
     node: u32,
@@ -272,19 +275,25 @@ fn together(
     second: &Rules,
     budget: u64,
 ) -> Result<Option<Shown>, Stop>
-    requires ready { IsReady (program_of checked.now) }
-    ensures judged { Judged (program_of checked.now) (windows_in windows.now) budget
-        (marks_of (program_of checked.now).theory scope.now) (behaviour_at (program_of checked.now) node)
+    requires ready { IsReady (program_in prepared.now) }
+    ensures judged { Judged (program_in prepared.now) (windows_in windows.now) budget
+        (marks_of (program_in prepared.now).theory scope.now) (behaviour_at (program_in prepared.now) node)
         (both (derivation_of first.now) (derivation_of second.now)) result }
 {
-    match parallel_at(checked, node) {
+    match parallel_at(prepared.checked, node) {
         None => Ok(None),
         Some((gates, left, right)) => {
-            match walk(alloc, checked, windows, scope, left, first, budget)? {
+            match walk(alloc, prepared, windows, scope, left, first, budget)? {
                 None => Ok(None),
-                Some(one) => match walk(alloc, checked, windows, scope, right, second, budget)? {
+                Some(one) => match walk(alloc, prepared, windows, scope, right, second, budget)? {
                     None => Ok(None),
-                    Some(other) => Ok(over::both(alloc, &checked.algebra, gates, &one, &other)?),
+                    Some(other) => Ok(over::both(
+                        alloc,
+                        &prepared.checked.algebra,
+                        gates,
+                        &one,
+                        &other,
+                    )?),
                 },
             }
         }
@@ -295,23 +304,23 @@ fn together(
 #[cycle(walk)]
 fn hidden(
     alloc: Global,
-    checked: &Checked,
+    prepared: &Prepared,
     windows: &[Window],
     scope: &[(u32, Given)],
     node: u32,
     part: &Rules,
     budget: u64,
 ) -> Result<Option<Shown>, Stop>
-    requires ready { IsReady (program_of checked.now) }
-    ensures judged { Judged (program_of checked.now) (windows_in windows.now) budget
-        (marks_of (program_of checked.now).theory scope.now) (behaviour_at (program_of checked.now) node)
+    requires ready { IsReady (program_in prepared.now) }
+    ensures judged { Judged (program_in prepared.now) (windows_in windows.now) budget
+        (marks_of (program_in prepared.now).theory scope.now) (behaviour_at (program_in prepared.now) node)
         (hiding (derivation_of part.now)) result }
 {
-    match hide_at(checked, node) {
+    match hide_at(prepared.checked, node) {
         None => Ok(None),
         Some((gates, body)) => {
-            let shown = walk(alloc, checked, windows, scope, body, part, budget);
-            making::hidden(alloc, &checked.algebra, windows, gates, shown)
+            let shown = walk(alloc, prepared, windows, scope, body, part, budget);
+            making::hidden(alloc, &prepared.checked.algebra, windows, gates, shown)
         }
     }
 }
@@ -320,22 +329,22 @@ fn hidden(
 #[cycle(walk)]
 fn passed(
     alloc: Global,
-    checked: &Checked,
+    prepared: &Prepared,
     windows: &[Window],
     scope: &[(u32, Given)],
     node: u32,
     part: &Rules,
     budget: u64,
 ) -> Result<Option<Shown>, Stop>
-    requires ready { IsReady (program_of checked.now) }
-    ensures judged { Judged (program_of checked.now) (windows_in windows.now) budget
-        (marks_of (program_of checked.now).theory scope.now) (behaviour_at (program_of checked.now) node)
+    requires ready { IsReady (program_in prepared.now) }
+    ensures judged { Judged (program_in prepared.now) (windows_in windows.now) budget
+        (marks_of (program_in prepared.now).theory scope.now) (behaviour_at (program_in prepared.now) node)
         (pass (derivation_of part.now)) result }
 {
-    match hide_at(checked, node) {
+    match hide_at(prepared.checked, node) {
         None => Ok(None),
         Some((gates, body)) => {
-            let shown = walk(alloc, checked, windows, scope, body, part, budget);
+            let shown = walk(alloc, prepared, windows, scope, body, part, budget);
             making::seen(gates, shown)
         }
     }
@@ -345,22 +354,22 @@ fn passed(
 #[cycle(walk)]
 fn before_end(
     alloc: Global,
-    checked: &Checked,
+    prepared: &Prepared,
     windows: &[Window],
     scope: &[(u32, Given)],
     node: u32,
     part: &Rules,
     budget: u64,
 ) -> Result<Option<Shown>, Stop>
-    requires ready { IsReady (program_of checked.now) }
-    ensures judged { Judged (program_of checked.now) (windows_in windows.now) budget
-        (marks_of (program_of checked.now).theory scope.now) (behaviour_at (program_of checked.now) node)
+    requires ready { IsReady (program_in prepared.now) }
+    ensures judged { Judged (program_in prepared.now) (windows_in windows.now) budget
+        (marks_of (program_in prepared.now).theory scope.now) (behaviour_at (program_in prepared.now) node)
         (enstep (derivation_of part.now)) result }
 {
-    match enable_at(checked, node) {
+    match enable_at(prepared.checked, node) {
         None => Ok(None),
         Some((left, _, _)) => {
-            let shown = walk(alloc, checked, windows, scope, left, part, budget);
+            let shown = walk(alloc, prepared, windows, scope, left, part, budget);
             making::going_on(shown)
         }
     }
@@ -370,23 +379,23 @@ fn before_end(
 #[cycle(walk)]
 fn handed_on(
     alloc: Global,
-    checked: &Checked,
+    prepared: &Prepared,
     windows: &[Window],
     scope: &[(u32, Given)],
     node: u32,
     part: &Rules,
     budget: u64,
 ) -> Result<Option<Shown>, Stop>
-    requires ready { IsReady (program_of checked.now) }
-    ensures judged { Judged (program_of checked.now) (windows_in windows.now) budget
-        (marks_of (program_of checked.now).theory scope.now) (behaviour_at (program_of checked.now) node)
+    requires ready { IsReady (program_in prepared.now) }
+    ensures judged { Judged (program_in prepared.now) (windows_in windows.now) budget
+        (marks_of (program_in prepared.now).theory scope.now) (behaviour_at (program_in prepared.now) node)
         (enend (derivation_of part.now)) result }
 {
-    match enable_at(checked, node) {
+    match enable_at(prepared.checked, node) {
         None => Ok(None),
         Some((left, vars, _)) => {
-            let shown = walk(alloc, checked, windows, scope, left, part, budget);
-            making::handed(alloc, &checked.algebra, windows, vars, shown)
+            let shown = walk(alloc, prepared, windows, scope, left, part, budget);
+            making::handed(alloc, &prepared.checked.algebra, windows, vars, shown)
         }
     }
 }
@@ -395,22 +404,22 @@ fn handed_on(
 #[cycle(walk)]
 fn undisabled(
     alloc: Global,
-    checked: &Checked,
+    prepared: &Prepared,
     windows: &[Window],
     scope: &[(u32, Given)],
     node: u32,
     part: &Rules,
     budget: u64,
 ) -> Result<Option<Shown>, Stop>
-    requires ready { IsReady (program_of checked.now) }
-    ensures judged { Judged (program_of checked.now) (windows_in windows.now) budget
-        (marks_of (program_of checked.now).theory scope.now) (behaviour_at (program_of checked.now) node)
+    requires ready { IsReady (program_in prepared.now) }
+    ensures judged { Judged (program_in prepared.now) (windows_in windows.now) budget
+        (marks_of (program_in prepared.now).theory scope.now) (behaviour_at (program_in prepared.now) node)
         (disstep (derivation_of part.now)) result }
 {
-    match disable_at(checked, node) {
+    match disable_at(prepared.checked, node) {
         None => Ok(None),
         Some((left, _)) => {
-            let shown = walk(alloc, checked, windows, scope, left, part, budget);
+            let shown = walk(alloc, prepared, windows, scope, left, part, budget);
             making::going_on(shown)
         }
     }
@@ -420,22 +429,22 @@ fn undisabled(
 #[cycle(walk)]
 fn ended(
     alloc: Global,
-    checked: &Checked,
+    prepared: &Prepared,
     windows: &[Window],
     scope: &[(u32, Given)],
     node: u32,
     part: &Rules,
     budget: u64,
 ) -> Result<Option<Shown>, Stop>
-    requires ready { IsReady (program_of checked.now) }
-    ensures judged { Judged (program_of checked.now) (windows_in windows.now) budget
-        (marks_of (program_of checked.now).theory scope.now) (behaviour_at (program_of checked.now) node)
+    requires ready { IsReady (program_in prepared.now) }
+    ensures judged { Judged (program_in prepared.now) (windows_in windows.now) budget
+        (marks_of (program_in prepared.now).theory scope.now) (behaviour_at (program_in prepared.now) node)
         (disend (derivation_of part.now)) result }
 {
-    match disable_at(checked, node) {
+    match disable_at(prepared.checked, node) {
         None => Ok(None),
         Some((left, _)) => {
-            let shown = walk(alloc, checked, windows, scope, left, part, budget);
+            let shown = walk(alloc, prepared, windows, scope, left, part, budget);
             making::terminated(shown)
         }
     }
@@ -445,21 +454,21 @@ fn ended(
 #[cycle(walk)]
 fn disabling(
     alloc: Global,
-    checked: &Checked,
+    prepared: &Prepared,
     windows: &[Window],
     scope: &[(u32, Given)],
     node: u32,
     part: &Rules,
     budget: u64,
 ) -> Result<Option<Shown>, Stop>
-    requires ready { IsReady (program_of checked.now) }
-    ensures judged { Judged (program_of checked.now) (windows_in windows.now) budget
-        (marks_of (program_of checked.now).theory scope.now) (behaviour_at (program_of checked.now) node)
+    requires ready { IsReady (program_in prepared.now) }
+    ensures judged { Judged (program_in prepared.now) (windows_in windows.now) budget
+        (marks_of (program_in prepared.now).theory scope.now) (behaviour_at (program_in prepared.now) node)
         (distake (derivation_of part.now)) result }
 {
-    match disable_at(checked, node) {
+    match disable_at(prepared.checked, node) {
         None => Ok(None),
-        Some((_, right)) => walk(alloc, checked, windows, scope, right, part, budget),
+        Some((_, right)) => walk(alloc, prepared, windows, scope, right, part, budget),
     }
 }
 
@@ -467,7 +476,7 @@ fn disabling(
 #[cycle(walk)]
 pub fn called(
     alloc: Global,
-    checked: &Checked,
+    prepared: &Prepared,
     windows: &[Window],
     scope: &[(u32, Given)],
     process: u32,
@@ -476,21 +485,21 @@ pub fn called(
     part: &Rules,
     budget: u64,
 ) -> Result<Option<Shown>, Stop>
-    requires ready { IsReady (program_of checked.now) }
-    ensures judged { Judged (program_of checked.now) (windows_in windows.now) budget
-        (marks_of (program_of checked.now).theory scope.now) (call process (map gate_number gates.now) (map term_of terms.now))
+    requires ready { IsReady (program_in prepared.now) }
+    ensures judged { Judged (program_in prepared.now) (windows_in windows.now) budget
+        (marks_of (program_in prepared.now).theory scope.now) (call process (map gate_number gates.now) (map term_of terms.now))
         (calling (derivation_of part.now)) result }
 {
-    match definition_at(checked, process) {
+    match definition_at(prepared.checked, process) {
         None => Ok(None),
         Some((formal, vars, body)) => {
             let none = Vec::new(alloc);
-            match bind_arguments(alloc, checked, scope, none, vars, terms, budget)? {
+            match bind_arguments(alloc, prepared, scope, none, vars, terms, budget)? {
                 None => Ok(None),
                 Some(inner) => {
                     let renamed = pairs(alloc, formal, gates)?;
                     walk_renamed(
-                        alloc, checked, windows, &inner, &renamed, body, part, budget,
+                        alloc, prepared, windows, &inner, &renamed, body, part, budget,
                     )
                 }
             }
@@ -502,22 +511,22 @@ pub fn called(
 #[cycle(walk)]
 fn call_acts(
     alloc: Global,
-    checked: &Checked,
+    prepared: &Prepared,
     windows: &[Window],
     scope: &[(u32, Given)],
     node: u32,
     part: &Rules,
     budget: u64,
 ) -> Result<Option<Shown>, Stop>
-    requires ready { IsReady (program_of checked.now) }
-    ensures judged { Judged (program_of checked.now) (windows_in windows.now) budget
-        (marks_of (program_of checked.now).theory scope.now) (behaviour_at (program_of checked.now) node)
+    requires ready { IsReady (program_in prepared.now) }
+    ensures judged { Judged (program_in prepared.now) (windows_in windows.now) budget
+        (marks_of (program_in prepared.now).theory scope.now) (behaviour_at (program_in prepared.now) node)
         (calling (derivation_of part.now)) result }
 {
-    match call_at(checked, node) {
+    match call_at(prepared.checked, node) {
         None => Ok(None),
         Some((process, gates, terms)) => called(
-            alloc, checked, windows, scope, process, gates, terms, part, budget,
+            alloc, prepared, windows, scope, process, gates, terms, part, budget,
         ),
     }
 }
@@ -526,22 +535,22 @@ fn call_acts(
 #[cycle(walk)]
 fn renamed(
     alloc: Global,
-    checked: &Checked,
+    prepared: &Prepared,
     windows: &[Window],
     scope: &[(u32, Given)],
     node: u32,
     part: &Rules,
     budget: u64,
 ) -> Result<Option<Shown>, Stop>
-    requires ready { IsReady (program_of checked.now) }
-    ensures judged { Judged (program_of checked.now) (windows_in windows.now) budget
-        (marks_of (program_of checked.now).theory scope.now) (behaviour_at (program_of checked.now) node)
+    requires ready { IsReady (program_in prepared.now) }
+    ensures judged { Judged (program_in prepared.now) (windows_in windows.now) budget
+        (marks_of (program_in prepared.now).theory scope.now) (behaviour_at (program_in prepared.now) node)
         (rel (derivation_of part.now)) result }
 {
-    match relabel_at(checked, node) {
+    match relabel_at(prepared.checked, node) {
         None => Ok(None),
         Some((pairs, body)) => {
-            let shown = walk(alloc, checked, windows, scope, body, part, budget);
+            let shown = walk(alloc, prepared, windows, scope, body, part, budget);
             making::relabelled(pairs, shown)
         }
     }
@@ -551,7 +560,7 @@ fn renamed(
 #[cycle(walk)]
 pub fn walk_renamed(
     alloc: Global,
-    checked: &Checked,
+    prepared: &Prepared,
     windows: &[Window],
     scope: &[(u32, Given)],
     pairs: &[(Gate, Gate)],
@@ -559,14 +568,14 @@ pub fn walk_renamed(
     rules: &Rules,
     budget: u64,
 ) -> Result<Option<Shown>, Stop>
-    requires ready { IsReady (program_of checked.now) }
-    ensures judged { Judged (program_of checked.now) (windows_in windows.now) budget
-        (marks_of (program_of checked.now).theory scope.now)
-        (relabel (map relabelling_of pairs.now) (behaviour_at (program_of checked.now) node)) (derivation_of rules.now) result }
+    requires ready { IsReady (program_in prepared.now) }
+    ensures judged { Judged (program_in prepared.now) (windows_in windows.now) budget
+        (marks_of (program_in prepared.now).theory scope.now)
+        (relabel (map relabelling_of pairs.now) (behaviour_at (program_in prepared.now) node)) (derivation_of rules.now) result }
 {
     match rules {
         Rules::Rel(part) => {
-            let shown = walk(alloc, checked, windows, scope, node, part, budget);
+            let shown = walk(alloc, prepared, windows, scope, node, part, budget);
             making::relabelled(pairs, shown)
         }
         Rules::Pre(_)
@@ -597,60 +606,61 @@ pub fn walk_renamed(
 #[cycle(walk)]
 pub fn walk(
     alloc: Global,
-    checked: &Checked,
+    prepared: &Prepared,
     windows: &[Window],
     scope: &[(u32, Given)],
     node: u32,
     rules: &Rules,
     budget: u64,
 ) -> Result<Option<Shown>, Stop>
-    requires ready { IsReady (program_of checked.now) }
-    ensures judged { Judged (program_of checked.now) (windows_in windows.now) budget
-        (marks_of (program_of checked.now).theory scope.now) (behaviour_at (program_of checked.now) node) (derivation_of rules.now) result }
+    requires ready { IsReady (program_in prepared.now) }
+    ensures judged { Judged (program_in prepared.now) (windows_in windows.now) budget
+        (marks_of (program_in prepared.now).theory scope.now) (behaviour_at (program_in prepared.now) node)
+        (derivation_of rules.now) result }
 {
     match rules {
         Rules::Pre(slots) => acts(
             alloc,
-            checked,
+            prepared,
             windows,
             scope,
             node,
             slots.as_slice(),
             budget,
         ),
-        Rules::Int => acts_inside(alloc, checked, node),
+        Rules::Int => acts_inside(alloc, prepared.checked, node),
         Rules::Exit(slots) => terminates(
             alloc,
-            checked,
+            prepared,
             windows,
             scope,
             node,
             slots.as_slice(),
             budget,
         ),
-        Rules::Chl(part) => left_chosen(alloc, checked, windows, scope, node, part, budget),
-        Rules::Chr(part) => right_chosen(alloc, checked, windows, scope, node, part, budget),
+        Rules::Chl(part) => left_chosen(alloc, prepared, windows, scope, node, part, budget),
+        Rules::Chr(part) => right_chosen(alloc, prepared, windows, scope, node, part, budget),
         Rules::Val(slot, part) => value_chosen(
-            alloc, checked, windows, scope, node, slot, part, budget,
+            alloc, prepared, windows, scope, node, slot, part, budget,
         ),
         Rules::Gate(place, part) => gate_chosen(
-            alloc, checked, windows, scope, node, *place, part, budget,
+            alloc, prepared, windows, scope, node, *place, part, budget,
         ),
-        Rules::Guard(part) => guarded(alloc, checked, windows, scope, node, part, budget),
-        Rules::Let(part) => bound(alloc, checked, windows, scope, node, part, budget),
-        Rules::Parl(part) => left_alone(alloc, checked, windows, scope, node, part, budget),
-        Rules::Parr(part) => right_alone(alloc, checked, windows, scope, node, part, budget),
+        Rules::Guard(part) => guarded(alloc, prepared, windows, scope, node, part, budget),
+        Rules::Let(part) => bound(alloc, prepared, windows, scope, node, part, budget),
+        Rules::Parl(part) => left_alone(alloc, prepared, windows, scope, node, part, budget),
+        Rules::Parr(part) => right_alone(alloc, prepared, windows, scope, node, part, budget),
         Rules::Both(first, second) => together(
-            alloc, checked, windows, scope, node, first, second, budget,
+            alloc, prepared, windows, scope, node, first, second, budget,
         ),
-        Rules::Hide(part) => hidden(alloc, checked, windows, scope, node, part, budget),
-        Rules::Pass(part) => passed(alloc, checked, windows, scope, node, part, budget),
-        Rules::Enstep(part) => before_end(alloc, checked, windows, scope, node, part, budget),
-        Rules::Enend(part) => handed_on(alloc, checked, windows, scope, node, part, budget),
-        Rules::Disstep(part) => undisabled(alloc, checked, windows, scope, node, part, budget),
-        Rules::Disend(part) => ended(alloc, checked, windows, scope, node, part, budget),
-        Rules::Distake(part) => disabling(alloc, checked, windows, scope, node, part, budget),
-        Rules::Call(part) => call_acts(alloc, checked, windows, scope, node, part, budget),
-        Rules::Rel(part) => renamed(alloc, checked, windows, scope, node, part, budget),
+        Rules::Hide(part) => hidden(alloc, prepared, windows, scope, node, part, budget),
+        Rules::Pass(part) => passed(alloc, prepared, windows, scope, node, part, budget),
+        Rules::Enstep(part) => before_end(alloc, prepared, windows, scope, node, part, budget),
+        Rules::Enend(part) => handed_on(alloc, prepared, windows, scope, node, part, budget),
+        Rules::Disstep(part) => undisabled(alloc, prepared, windows, scope, node, part, budget),
+        Rules::Disend(part) => ended(alloc, prepared, windows, scope, node, part, budget),
+        Rules::Distake(part) => disabling(alloc, prepared, windows, scope, node, part, budget),
+        Rules::Call(part) => call_acts(alloc, prepared, windows, scope, node, part, budget),
+        Rules::Rel(part) => renamed(alloc, prepared, windows, scope, node, part, budget),
     }
 }

@@ -58,8 +58,9 @@ fn fits(
     }
 }
 
-// The first equation from this one on that matches, or the number of equations.
-fn find(
+/// The first equation from this one on that matches an operation over so many values from the top, with the nodes for which its variables
+/// stand in `bound`; or the number of equations. It takes no memory.
+pub fn find(
     algebra: &DataSpec,
     heads: &FirstEquations,
     nodes: &Nodes,

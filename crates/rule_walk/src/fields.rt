@@ -7,6 +7,7 @@ ghost use Rattle.spec_core.specs.Terms.{TermTree, term_of};
 ghost use Rattle.rule_model.specs.declared.rules.Slot.TheVariants.{Of};
 ghost use Rattle.rule_model.specs.Fields.{Spells, FieldsHave, ExitHas, BindingsHave, ArgumentsHave, IsHandedOn};
 ghost use Rattle.rule_substitution.specs.Scopes.{terms_of};
+ghost use Rattle.match_code.specs.Prepared.{program_in};
 ghost use Rattle.rule_walk.specs.Asking.{FieldsAsk, ExitAsks, BindingsAsk, ArgumentsAsk};
 ghost use Rattle.rule_walk.specs.Bounds.{BoundsEach};
 ghost use Rattle.rule_walk.specs.Faults.{Explains, Here, IsMisfit, HasNoFields, HasNoExit, HasNoBindings, HasNoArguments};
@@ -14,6 +15,7 @@ ghost use Rattle.rule_walk.specs.Faults.{HandsOnNothing};
 
 use crate::fault::{FireFault, unfit};
 use crate::judge::{operations_of, value_of};
+use match_code::Prepared;
 use rule_model::rules::Slot;
 use rule_substitution::scope::Scope;
 use spec_core::code::{ActField, Checked, ExitField};
@@ -88,24 +90,24 @@ pub fn choose(
 /// inner ones for the fields before.
 pub fn fill(
     alloc: Global,
-    checked: &Checked,
+    prepared: &Prepared,
     outer: &Scope,
     inner: &Scope,
     fields: &[ActField],
     slots: &[Slot],
     budget: u64,
 ) -> Result<Filled, FireFault>
-    requires executable { IsExecutable (program_of checked.now).theory }
+    requires executable { IsExecutable (program_in prepared.now).theory }
     ensures filled { IfOk result (λ f.
-        FieldsHave (program_of checked.now).theory (terms_of outer.now) (terms_of inner.now) (map action_field_of fields.now) slots.now
+        FieldsHave (program_in prepared.now).theory (terms_of outer.now) (terms_of inner.now) (map action_field_of fields.now) slots.now
         f.values.items (terms_of f.scope)) }
     ensures fault { IfErr result
-        (Explains (program_of checked.now).theory budget
-        (Here (HasNoFields (program_of checked.now).theory (terms_of outer.now) (terms_of inner.now) (map action_field_of fields.now)
+        (Explains (program_in prepared.now).theory budget
+        (Here (HasNoFields (program_in prepared.now).theory (terms_of outer.now) (terms_of inner.now) (map action_field_of fields.now)
         slots.now))
-        (FieldsAsk (program_of checked.now).theory (terms_of outer.now) (map action_field_of fields.now) slots.now)) }
-    ensures within { BoundsEach (program_of checked.now).theory budget
-        (FieldsAsk (program_of checked.now).theory (terms_of outer.now) (map action_field_of fields.now) slots.now) result }
+        (FieldsAsk (program_in prepared.now).theory (terms_of outer.now) (map action_field_of fields.now) slots.now)) }
+    ensures within { BoundsEach (program_in prepared.now).theory budget
+        (FieldsAsk (program_in prepared.now).theory (terms_of outer.now) (map action_field_of fields.now) slots.now) result }
 {
     match fields {
         [] => match slots {
@@ -117,16 +119,16 @@ pub fn fill(
         },
         [first, rest @ ..] => match first {
             ActField::Give(term) => {
-                let value = operations_of(alloc, checked, outer, term, budget)?;
-                let others = fill(alloc, checked, outer, inner, rest, slots, budget)?;
+                let value = operations_of(alloc, prepared, outer, term, budget)?;
+                let others = fill(alloc, prepared, outer, inner, rest, slots, budget)?;
                 Ok(in_front(value, others)?)
             }
             ActField::Take(x, sort) => match slots {
                 [] => Err(unfit(alloc)),
                 [slot, left @ ..] => {
-                    let found = choose(alloc, checked, slot, *sort)?;
+                    let found = choose(alloc, prepared.checked, slot, *sort)?;
                     let more = inner.with(alloc, *x, *sort, &found.term)?;
-                    let others = fill(alloc, checked, outer, &more, rest, left, budget)?;
+                    let others = fill(alloc, prepared, outer, &more, rest, left, budget)?;
                     Ok(in_front(found.ops, others)?)
                 }
             },
@@ -137,21 +139,21 @@ pub fn fill(
 /// The values of an exit's fields.
 pub fn fill_exit(
     alloc: Global,
-    checked: &Checked,
+    prepared: &Prepared,
     scope: &Scope,
     fields: &[ExitField],
     slots: &[Slot],
     budget: u64,
 ) -> Result<Vec<Value>, FireFault>
-    requires executable { IsExecutable (program_of checked.now).theory }
+    requires executable { IsExecutable (program_in prepared.now).theory }
     ensures filled { IfOk result (λ values.
-        ExitHas (program_of checked.now).theory (terms_of scope.now) (map exit_value_of fields.now) slots.now values.items) }
+        ExitHas (program_in prepared.now).theory (terms_of scope.now) (map exit_value_of fields.now) slots.now values.items) }
     ensures fault { IfErr result
-        (Explains (program_of checked.now).theory budget
-        (Here (HasNoExit (program_of checked.now).theory (terms_of scope.now) (map exit_value_of fields.now) slots.now))
-        (ExitAsks (program_of checked.now).theory (terms_of scope.now) (map exit_value_of fields.now) slots.now)) }
-    ensures within { BoundsEach (program_of checked.now).theory budget
-        (ExitAsks (program_of checked.now).theory (terms_of scope.now) (map exit_value_of fields.now) slots.now) result }
+        (Explains (program_in prepared.now).theory budget
+        (Here (HasNoExit (program_in prepared.now).theory (terms_of scope.now) (map exit_value_of fields.now) slots.now))
+        (ExitAsks (program_in prepared.now).theory (terms_of scope.now) (map exit_value_of fields.now) slots.now)) }
+    ensures within { BoundsEach (program_in prepared.now).theory budget
+        (ExitAsks (program_in prepared.now).theory (terms_of scope.now) (map exit_value_of fields.now) slots.now) result }
 {
     match fields {
         [] => match slots {
@@ -160,15 +162,15 @@ pub fn fill_exit(
         },
         [first, rest @ ..] => match first {
             ExitField::Give(term) => {
-                let value = operations_of(alloc, checked, scope, term, budget)?;
-                let others = fill_exit(alloc, checked, scope, rest, slots, budget)?;
+                let value = operations_of(alloc, prepared, scope, term, budget)?;
+                let others = fill_exit(alloc, prepared, scope, rest, slots, budget)?;
                 Ok(before(value, others)?)
             }
             ExitField::Any(sort) => match slots {
                 [] => Err(unfit(alloc)),
                 [slot, left @ ..] => {
-                    let found = choose(alloc, checked, slot, *sort)?;
-                    let others = fill_exit(alloc, checked, scope, rest, left, budget)?;
+                    let found = choose(alloc, prepared.checked, slot, *sort)?;
+                    let others = fill_exit(alloc, prepared, scope, rest, left, budget)?;
                     Ok(before(found.ops, others)?)
                 }
             },
@@ -179,30 +181,30 @@ pub fn fill_exit(
 /// The terms for the variables, with the values that a `let` binds: the outer ones for its terms, the inner ones for the bindings before.
 pub fn bind(
     alloc: Global,
-    checked: &Checked,
+    prepared: &Prepared,
     outer: &Scope,
     inner: &Scope,
     bindings: &[(u32, Sort, Term)],
     budget: u64,
 ) -> Result<Scope, FireFault>
-    requires executable { IsExecutable (program_of checked.now).theory }
+    requires executable { IsExecutable (program_in prepared.now).theory }
     ensures bound { IfOk result (λ s.
-        BindingsHave (program_of checked.now).theory (terms_of outer.now) (terms_of inner.now) (map binding_of bindings.now)
+        BindingsHave (program_in prepared.now).theory (terms_of outer.now) (terms_of inner.now) (map binding_of bindings.now)
         (terms_of s)) }
     ensures fault { IfErr result
-        (Explains (program_of checked.now).theory budget
-        (Here (HasNoBindings (program_of checked.now).theory (terms_of outer.now) (terms_of inner.now) (map binding_of bindings.now)))
-        (BindingsAsk (program_of checked.now).theory (terms_of outer.now) (map binding_of bindings.now))) }
-    ensures within { BoundsEach (program_of checked.now).theory budget
-        (BindingsAsk (program_of checked.now).theory (terms_of outer.now) (map binding_of bindings.now)) result }
+        (Explains (program_in prepared.now).theory budget
+        (Here (HasNoBindings (program_in prepared.now).theory (terms_of outer.now) (terms_of inner.now) (map binding_of bindings.now)))
+        (BindingsAsk (program_in prepared.now).theory (terms_of outer.now) (map binding_of bindings.now))) }
+    ensures within { BoundsEach (program_in prepared.now).theory budget
+        (BindingsAsk (program_in prepared.now).theory (terms_of outer.now) (map binding_of bindings.now)) result }
 {
     match bindings {
         [] => Ok(inner.copy(alloc)?),
         [first, rest @ ..] => {
             let (x, sort, term) = first;
-            let value = value_of(alloc, checked, outer, term, budget)?;
+            let value = value_of(alloc, prepared, outer, term, budget)?;
             let more = inner.with(alloc, *x, *sort, &value)?;
-            bind(alloc, checked, outer, &more, rest, budget)
+            bind(alloc, prepared, outer, &more, rest, budget)
         }
     }
 }
@@ -210,24 +212,24 @@ pub fn bind(
 /// The terms for the variables of a process, with the values of a call's terms.
 pub fn bind_arguments(
     alloc: Global,
-    checked: &Checked,
+    prepared: &Prepared,
     outer: &Scope,
     inner: &Scope,
     vars: &[(u32, Sort)],
     terms: &[Term],
     budget: u64,
 ) -> Result<Scope, FireFault>
-    requires executable { IsExecutable (program_of checked.now).theory }
+    requires executable { IsExecutable (program_in prepared.now).theory }
     ensures bound { IfOk result (λ s.
-        ArgumentsHave (program_of checked.now).theory (terms_of outer.now) (terms_of inner.now) (map variable_of vars.now)
+        ArgumentsHave (program_in prepared.now).theory (terms_of outer.now) (terms_of inner.now) (map variable_of vars.now)
         (map term_of terms.now) (terms_of s)) }
     ensures fault { IfErr result
-        (Explains (program_of checked.now).theory budget
-        (Here (HasNoArguments (program_of checked.now).theory (terms_of outer.now) (terms_of inner.now) (map variable_of vars.now)
+        (Explains (program_in prepared.now).theory budget
+        (Here (HasNoArguments (program_in prepared.now).theory (terms_of outer.now) (terms_of inner.now) (map variable_of vars.now)
         (map term_of terms.now)))
-        (ArgumentsAsk (program_of checked.now).theory (terms_of outer.now) (map variable_of vars.now) (map term_of terms.now))) }
-    ensures within { BoundsEach (program_of checked.now).theory budget
-        (ArgumentsAsk (program_of checked.now).theory (terms_of outer.now) (map variable_of vars.now) (map term_of terms.now)) result }
+        (ArgumentsAsk (program_in prepared.now).theory (terms_of outer.now) (map variable_of vars.now) (map term_of terms.now))) }
+    ensures within { BoundsEach (program_in prepared.now).theory budget
+        (ArgumentsAsk (program_in prepared.now).theory (terms_of outer.now) (map variable_of vars.now) (map term_of terms.now)) result }
 {
     match vars {
         [] => match terms {
@@ -238,9 +240,9 @@ pub fn bind_arguments(
             [] => Err(unfit(alloc)),
             [term, others @ ..] => {
                 let (x, sort) = *first;
-                let value = value_of(alloc, checked, outer, term, budget)?;
+                let value = value_of(alloc, prepared, outer, term, budget)?;
                 let more = inner.with(alloc, x, sort, &value)?;
-                bind_arguments(alloc, checked, outer, &more, rest, others, budget)
+                bind_arguments(alloc, prepared, outer, &more, rest, others, budget)
             }
         },
     }

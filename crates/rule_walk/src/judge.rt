@@ -10,12 +10,13 @@ ghost use Rattle.spec_core.specs.Values.{HasValue};
 ghost use Rattle.rewriter.specs.Answers.{IsWithin, SpellsValue};
 ghost use Rattle.rule_model.specs.Fields.{GivesValue, GuardHolds, PremiseHolds};
 ghost use Rattle.rule_substitution.specs.Scopes.{terms_of};
+ghost use Rattle.match_code.specs.Prepared.{program_in};
 ghost use Rattle.rule_walk.specs.Asking.{GuardAsks, PremiseAsks};
 ghost use Rattle.rule_walk.specs.Bounds.{BoundsEach};
 ghost use Rattle.rule_walk.specs.Faults.{Explains, HasNoValue, Here};
 
 use crate::fault::{FireFault, unfit};
-use rewriter::Eval;
+use match_code::{Eval, Prepared};
 use rule_substitution::scope::Scope;
 use spec_core::code::Checked;
 use spec_core::items::Sort;
@@ -54,17 +55,17 @@ fn closed(
 // The operations of a ground term's value.
 fn evaluate(
     alloc: Global,
-    checked: &Checked,
+    prepared: &Prepared,
     ground: Ground,
     budget: u64,
 ) -> Result<Value, FireFault>
-    requires executable { IsExecutable (program_of checked.now).theory }
-    requires fits { HasSort (program_of checked.now).theory no_variables (term_of ground.term) ground.sort.0 }
-    ensures value { IfOk result (SpellsValue (program_of checked.now).theory (term_of ground.term) budget) }
+    requires executable { IsExecutable (program_in prepared.now).theory }
+    requires fits { HasSort (program_in prepared.now).theory no_variables (term_of ground.term) ground.sort.0 }
+    ensures value { IfOk result (SpellsValue (program_in prepared.now).theory (term_of ground.term) budget) }
     ensures fault { IfErr result
-        (Explains (program_of checked.now).theory budget (Here ⊥) (λ x. x ≡ term_of ground.term)) }
+        (Explains (program_in prepared.now).theory budget (Here ⊥) (λ x. x ≡ term_of ground.term)) }
 {
-    match rewriter::value(alloc, &checked.algebra, &ground.term, budget) {
+    match prepared.value(alloc, &ground.term, budget) {
         Ok(value) => Ok(value),
         Err(Eval::Spent) => Err(FireFault::Spent { term: ground.term }),
         Err(Eval::TooLarge) => Err(FireFault::TooLarge { term: ground.term }),
@@ -75,66 +76,66 @@ fn evaluate(
 /// The operations of an expression's value, with the scope's terms in the places of its variables.
 pub fn operations_of(
     alloc: Global,
-    checked: &Checked,
+    prepared: &Prepared,
     scope: &Scope,
     term: &Term,
     budget: u64,
 ) -> Result<Value, FireFault>
-    requires executable { IsExecutable (program_of checked.now).theory }
+    requires executable { IsExecutable (program_in prepared.now).theory }
     ensures value { IfOk result (λ v. (n : TermTree) ×
-        GivesValue (program_of checked.now).theory (instance (terms_of scope.now) (term_of term.now)) v n) }
+        GivesValue (program_in prepared.now).theory (instance (terms_of scope.now) (term_of term.now)) v n) }
     ensures fault { IfErr result
-        (Explains (program_of checked.now).theory budget
-        (Here (HasNoValue (program_of checked.now).theory (instance (terms_of scope.now) (term_of term.now))))
+        (Explains (program_in prepared.now).theory budget
+        (Here (HasNoValue (program_in prepared.now).theory (instance (terms_of scope.now) (term_of term.now))))
         (λ x. x ≡ instance (terms_of scope.now) (term_of term.now))) }
-    ensures within { BoundsEach (program_of checked.now).theory budget (λ x. x ≡ instance (terms_of scope.now) (term_of term.now)) result }
+    ensures within { BoundsEach (program_in prepared.now).theory budget (λ x. x ≡ instance (terms_of scope.now) (term_of term.now)) result }
 {
-    match closed(alloc, checked, scope, term)? {
+    match closed(alloc, prepared.checked, scope, term)? {
         None => Err(unfit(alloc)),
-        Some(ground) => evaluate(alloc, checked, ground, budget),
+        Some(ground) => evaluate(alloc, prepared, ground, budget),
     }
 }
 
 /// An expression's value, with the scope's terms in the places of its variables.
 pub fn value_of(
     alloc: Global,
-    checked: &Checked,
+    prepared: &Prepared,
     scope: &Scope,
     term: &Term,
     budget: u64,
 ) -> Result<Term, FireFault>
-    requires executable { IsExecutable (program_of checked.now).theory }
+    requires executable { IsExecutable (program_in prepared.now).theory }
     ensures value { IfOk result (λ n.
-        HasValue (program_of checked.now).theory (instance (terms_of scope.now) (term_of term.now)) (term_of n)) }
+        HasValue (program_in prepared.now).theory (instance (terms_of scope.now) (term_of term.now)) (term_of n)) }
     ensures fault { IfErr result
-        (Explains (program_of checked.now).theory budget
-        (Here (HasNoValue (program_of checked.now).theory (instance (terms_of scope.now) (term_of term.now))))
+        (Explains (program_in prepared.now).theory budget
+        (Here (HasNoValue (program_in prepared.now).theory (instance (terms_of scope.now) (term_of term.now))))
         (λ x. x ≡ instance (terms_of scope.now) (term_of term.now))) }
-    ensures within { BoundsEach (program_of checked.now).theory budget (λ x. x ≡ instance (terms_of scope.now) (term_of term.now)) result }
+    ensures within { BoundsEach (program_in prepared.now).theory budget (λ x. x ≡ instance (terms_of scope.now) (term_of term.now)) result }
 {
-    match closed(alloc, checked, scope, term)? {
+    match closed(alloc, prepared.checked, scope, term)? {
         None => Err(unfit(alloc)),
-        Some(ground) => spelled_value(alloc, checked, ground, budget),
+        Some(ground) => spelled_value(alloc, prepared, ground, budget),
     }
 }
 
 // A ground term's value.
 fn spelled_value(
     alloc: Global,
-    checked: &Checked,
+    prepared: &Prepared,
     ground: Ground,
     budget: u64,
 ) -> Result<Term, FireFault>
-    requires executable { IsExecutable (program_of checked.now).theory }
-    requires fits { HasSort (program_of checked.now).theory no_variables (term_of ground.term) ground.sort.0 }
-    ensures value { IfOk result (λ n. HasValue (program_of checked.now).theory (term_of ground.term) (term_of n)) }
-    ensures within { OnOk result (IsWithin (program_of checked.now).theory (term_of ground.term) budget) }
+    requires executable { IsExecutable (program_in prepared.now).theory }
+    requires fits { HasSort (program_in prepared.now).theory no_variables (term_of ground.term) ground.sort.0 }
+    ensures value { IfOk result (λ n. HasValue (program_in prepared.now).theory (term_of ground.term) (term_of n)) }
+    ensures within { OnOk result (IsWithin (program_in prepared.now).theory (term_of ground.term) budget) }
     ensures fault { IfErr result
-        (Explains (program_of checked.now).theory budget (Here ⊥) (λ x. x ≡ term_of ground.term)) }
+        (Explains (program_in prepared.now).theory budget (Here ⊥) (λ x. x ≡ term_of ground.term)) }
 {
     let sort = ground.sort;
-    let value = evaluate(alloc, checked, ground, budget)?;
-    match spelled(alloc, &checked.algebra, &value, sort)? {
+    let value = evaluate(alloc, prepared, ground, budget)?;
+    match spelled(alloc, &prepared.checked.algebra, &value, sort)? {
         None => unreachable!(),
         Some(term) => Ok(term),
     }
@@ -143,24 +144,24 @@ fn spelled_value(
 /// Goes on where the two sides of a premise are equal, with the scope's terms in the places of their variables.
 pub fn ask_premise(
     alloc: Global,
-    checked: &Checked,
+    prepared: &Prepared,
     scope: &Scope,
     left: &Term,
     right: &Term,
     budget: u64,
 ) -> Result<(), FireFault>
-    requires executable { IsExecutable (program_of checked.now).theory }
+    requires executable { IsExecutable (program_in prepared.now).theory }
     ensures holds { OnOk result
-        (PremiseHolds (program_of checked.now).theory (terms_of scope.now) (premise (term_of left.now) (term_of right.now))) }
+        (PremiseHolds (program_in prepared.now).theory (terms_of scope.now) (premise (term_of left.now) (term_of right.now))) }
     ensures fault { IfErr result
-        (Explains (program_of checked.now).theory budget
-        (Here (PremiseHolds (program_of checked.now).theory (terms_of scope.now) (premise (term_of left.now) (term_of right.now)) → ⊥))
-        (PremiseAsks (program_of checked.now).theory (terms_of scope.now) (premise (term_of left.now) (term_of right.now)))) }
-    ensures within { BoundsEach (program_of checked.now).theory budget
-        (PremiseAsks (program_of checked.now).theory (terms_of scope.now) (premise (term_of left.now) (term_of right.now))) result }
+        (Explains (program_in prepared.now).theory budget
+        (Here (PremiseHolds (program_in prepared.now).theory (terms_of scope.now) (premise (term_of left.now) (term_of right.now)) → ⊥))
+        (PremiseAsks (program_in prepared.now).theory (terms_of scope.now) (premise (term_of left.now) (term_of right.now)))) }
+    ensures within { BoundsEach (program_in prepared.now).theory budget
+        (PremiseAsks (program_in prepared.now).theory (terms_of scope.now) (premise (term_of left.now) (term_of right.now))) result }
 {
-    let first = operations_of(alloc, checked, scope, left, budget)?;
-    let second = operations_of(alloc, checked, scope, right, budget)?;
+    let first = operations_of(alloc, prepared, scope, left, budget)?;
+    let second = operations_of(alloc, prepared, scope, right, budget)?;
     if first.same(&second) {
         Ok(())
     } else {
@@ -171,22 +172,22 @@ pub fn ask_premise(
 /// Goes on where the predicate of an action holds, if it has one.
 pub fn ask_guard(
     alloc: Global,
-    checked: &Checked,
+    prepared: &Prepared,
     scope: &Scope,
     guard: &Option<(Term, Term)>,
     budget: u64,
 ) -> Result<(), FireFault>
-    requires executable { IsExecutable (program_of checked.now).theory }
-    ensures holds { OnOk result (GuardHolds (program_of checked.now).theory (terms_of scope.now) (guard_of guard.now)) }
+    requires executable { IsExecutable (program_in prepared.now).theory }
+    ensures holds { OnOk result (GuardHolds (program_in prepared.now).theory (terms_of scope.now) (guard_of guard.now)) }
     ensures fault { IfErr result
-        (Explains (program_of checked.now).theory budget
-        (Here (GuardHolds (program_of checked.now).theory (terms_of scope.now) (guard_of guard.now) → ⊥))
-        (GuardAsks (program_of checked.now).theory (terms_of scope.now) (guard_of guard.now))) }
-    ensures within { BoundsEach (program_of checked.now).theory budget
-        (GuardAsks (program_of checked.now).theory (terms_of scope.now) (guard_of guard.now)) result }
+        (Explains (program_in prepared.now).theory budget
+        (Here (GuardHolds (program_in prepared.now).theory (terms_of scope.now) (guard_of guard.now) → ⊥))
+        (GuardAsks (program_in prepared.now).theory (terms_of scope.now) (guard_of guard.now))) }
+    ensures within { BoundsEach (program_in prepared.now).theory budget
+        (GuardAsks (program_in prepared.now).theory (terms_of scope.now) (guard_of guard.now)) result }
 {
     match guard {
         None => Ok(()),
-        Some((left, right)) => ask_premise(alloc, checked, scope, left, right, budget),
+        Some((left, right)) => ask_premise(alloc, prepared, scope, left, right, budget),
     }
 }

@@ -12,6 +12,7 @@ ghost use Rattle.rule_model.specs.Derivations.{pre, exiting};
 ghost use Rattle.rule_model.specs.Derives.{DerivesWith};
 ghost use Rattle.rule_model.specs.Substitution.{put};
 ghost use Rattle.rule_substitution.specs.Scopes.{terms_of};
+ghost use Rattle.match_code.specs.Prepared.{program_in};
 ghost use Rattle.rule_walk.specs.Answers.{Leaves};
 ghost use Rattle.rule_walk.specs.Asking.{Asks};
 ghost use Rattle.rule_walk.specs.Bounds.{BoundsEach};
@@ -25,6 +26,7 @@ use crate::fault::{FireFault, unfit};
 use crate::fields::{Filled, fill, fill_exit, hand_on};
 use crate::frame::Frame;
 use crate::judge::ask_guard;
+use match_code::Prepared;
 use rule_model::action::{Action, Values};
 use rule_model::beh::Beh;
 use rule_model::rules::Slot;
@@ -45,25 +47,25 @@ pub struct Step {
 /// The step of an action.
 pub fn prefix(
     alloc: Global,
-    checked: &Checked,
+    prepared: &Prepared,
     scope: &Scope,
     from: &Beh,
     slots: &[Slot],
     budget: u64,
 ) -> Result<Step, FireFault>
-    requires ready { IsReady (program_of checked.now) }
+    requires ready { IsReady (program_in prepared.now) }
     ensures derives { IfOk result (λ s.
-        DerivesWith (program_of checked.now) (terms_of scope.now) (behaviour_of from.now) (pre slots.now) s.action (behaviour_of s.rest)) }
+        DerivesWith (program_in prepared.now) (terms_of scope.now) (behaviour_of from.now) (pre slots.now) s.action (behaviour_of s.rest)) }
     ensures fault { IfErr result
-        (IsFault (program_of checked.now) budget (terms_of scope.now) (behaviour_of from.now) (pre slots.now)) }
-    ensures within { BoundsEach (program_of checked.now).theory budget
-        (Asks (program_of checked.now) (terms_of scope.now) (behaviour_of from.now) (pre slots.now)) result }
+        (IsFault (program_in prepared.now) budget (terms_of scope.now) (behaviour_of from.now) (pre slots.now)) }
+    ensures within { BoundsEach (program_in prepared.now).theory budget
+        (Asks (program_in prepared.now) (terms_of scope.now) (behaviour_of from.now) (pre slots.now)) result }
 {
     match from.as_action() {
         None => Err(unfit(alloc)),
         Some((gate, fields, guard, rest)) => {
-            let filled = fill(alloc, checked, scope, scope, fields, slots, budget)?;
-            ask_guard(alloc, checked, &filled.scope, guard, budget)?;
+            let filled = fill(alloc, prepared, scope, scope, fields, slots, budget)?;
+            ask_guard(alloc, prepared, &filled.scope, guard, budget)?;
             let rest = filled.scope.put(alloc, rest)?;
             let Filled { values, scope: _ } = filled;
             Ok(Step {
@@ -96,25 +98,25 @@ pub fn inner(alloc: Global, scope: &Scope, from: &Beh) -> Result<Step, FireFault
 /// The step of an exit.
 pub fn exits(
     alloc: Global,
-    checked: &Checked,
+    prepared: &Prepared,
     scope: &Scope,
     from: &Beh,
     slots: &[Slot],
     budget: u64,
 ) -> Result<Step, FireFault>
-    requires ready { IsReady (program_of checked.now) }
+    requires ready { IsReady (program_in prepared.now) }
     ensures derives { IfOk result (λ s.
-        DerivesWith (program_of checked.now) (terms_of scope.now) (behaviour_of from.now) (exiting slots.now) s.action
+        DerivesWith (program_in prepared.now) (terms_of scope.now) (behaviour_of from.now) (exiting slots.now) s.action
         (behaviour_of s.rest)) }
     ensures fault { IfErr result
-        (IsFault (program_of checked.now) budget (terms_of scope.now) (behaviour_of from.now) (exiting slots.now)) }
-    ensures within { BoundsEach (program_of checked.now).theory budget
-        (Asks (program_of checked.now) (terms_of scope.now) (behaviour_of from.now) (exiting slots.now)) result }
+        (IsFault (program_in prepared.now) budget (terms_of scope.now) (behaviour_of from.now) (exiting slots.now)) }
+    ensures within { BoundsEach (program_in prepared.now).theory budget
+        (Asks (program_in prepared.now) (terms_of scope.now) (behaviour_of from.now) (exiting slots.now)) result }
 {
     match from.as_exit() {
         None => Err(unfit(alloc)),
         Some(fields) => {
-            let values = fill_exit(alloc, checked, scope, fields, slots, budget)?;
+            let values = fill_exit(alloc, prepared, scope, fields, slots, budget)?;
             Ok(Step {
                 action: Action::Exit(Values::new(values)),
                 rest: Beh::Stop,

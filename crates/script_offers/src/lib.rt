@@ -7,4 +7,5 @@ mod offers;
 
 pub use clients::offers_of_script;
 pub use fault::WishFault;
+pub use match_code::{Evaluator, Forms, Prepared};
 pub use offers::{offer_of, offers_of};

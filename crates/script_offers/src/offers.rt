@@ -1,38 +1,41 @@
 // Offers with the values of their terms.
 
 ghost use Rattle.std.specs.Prelude.{◌≡◌, ◌<◌, ℕ, IfOk, IfErr, length, map};
-ghost use Rattle.spec_core.specs.Code.{program_of};
 ghost use Rattle.spec_core.specs.Executable.{IsExecutable};
 ghost use Rattle.spec_core.specs.Lists.{Each};
 ghost use Rattle.spec_core.specs.Sorts.{FitsGround};
 ghost use Rattle.spec_core.specs.Terms.{term_of};
-ghost use Rattle.spec_core.specs.Theories.{theory_of};
 ghost use Rattle.rewriter.specs.Answers.{SpellsValue, IsWithin};
 ghost use Rattle.script_text.specs.Scripts.{FieldFits, WishFits};
 ghost use Rattle.script_text.specs.Wishes.{wished_field_of, wished_of};
+ghost use Rattle.match_code.specs.Prepared.{program_in};
 ghost use Rattle.script_offers.specs.Faults.{HasNoValue, IsFaultOf};
 ghost use Rattle.script_offers.specs.Given.{given_in, given_by, all_given, IsValuedWithin};
 ghost use Rattle.rule_model.specs.WishViews.{wish_of};
 ghost use Rattle.script_offers.specs.Valued.{IsValuedField, AreValuedFields, IsValuedWish, AreValued, GivesValues};
 
 use crate::fault::WishFault;
-use rewriter::{Eval, value};
+use match_code::{Eval, Prepared};
 use rule_model::offer::{Field, Fields, Offer};
 use rule_model::wish::ClientWish;
 use script_text::wish::{Wish, WishField};
-use spec_core::code::Checked;
 use spec_core::term::Term;
 use spec_core::value::Value;
 use std::alloc::Global;
 
 // The value of a term.
-fn value_of(alloc: Global, checked: &Checked, term: &Term, budget: u64) -> Result<Value, WishFault>
-    requires executable { IsExecutable (theory_of checked.now.algebra) }
-    requires fits { FitsGround (theory_of checked.now.algebra) (term_of term.now) }
-    ensures value { IfOk result (SpellsValue (theory_of checked.now.algebra) (term_of term.now) budget) }
-    ensures fault { IfErr result (HasNoValue (theory_of checked.now.algebra) budget (term_of term.now)) }
+fn value_of(
+    alloc: Global,
+    prepared: &Prepared,
+    term: &Term,
+    budget: u64,
+) -> Result<Value, WishFault>
+    requires executable { IsExecutable (program_in prepared.now).theory }
+    requires fits { FitsGround (program_in prepared.now).theory (term_of term.now) }
+    ensures value { IfOk result (SpellsValue (program_in prepared.now).theory (term_of term.now) budget) }
+    ensures fault { IfErr result (HasNoValue (program_in prepared.now).theory budget (term_of term.now)) }
 {
-    match value(alloc, &checked.algebra, term, budget) {
+    match prepared.value(alloc, term, budget) {
         Ok(value) => Ok(value),
         Err(Eval::Spent) => Err(WishFault::Spent(term.copy(alloc)?)),
         Err(Eval::TooLarge) => Err(WishFault::TooLarge(term.copy(alloc)?)),
@@ -43,20 +46,20 @@ fn value_of(alloc: Global, checked: &Checked, term: &Term, budget: u64) -> Resul
 // A field with the value of its term.
 fn valued_field(
     alloc: Global,
-    checked: &Checked,
+    prepared: &Prepared,
     field: &WishField,
     budget: u64,
 ) -> Result<Field, WishFault>
-    requires executable { IsExecutable (theory_of checked.now.algebra) }
-    requires fits { FieldFits (theory_of checked.now.algebra) (wished_field_of field.now) }
-    ensures valued { IfOk result (IsValuedField (theory_of checked.now.algebra) (wished_field_of field.now)) }
+    requires executable { IsExecutable (program_in prepared.now).theory }
+    requires fits { FieldFits (program_in prepared.now).theory (wished_field_of field.now) }
+    ensures valued { IfOk result (IsValuedField (program_in prepared.now).theory (wished_field_of field.now)) }
     ensures within { IfOk result (λ f.
-        Each (IsValuedWithin (theory_of checked.now.algebra) budget) (given_in (wished_field_of field.now))) }
-    ensures fault { IfErr result (IsFaultOf (theory_of checked.now.algebra) budget (given_in (wished_field_of field.now))) }
+        Each (IsValuedWithin (program_in prepared.now).theory budget) (given_in (wished_field_of field.now))) }
+    ensures fault { IfErr result (IsFaultOf (program_in prepared.now).theory budget (given_in (wished_field_of field.now))) }
 {
     match field {
         WishField::Give(term) => {
-            let value = value_of(alloc, checked, term, budget)?;
+            let value = value_of(alloc, prepared, term, budget)?;
             Ok(Field::Give(value))
         }
         WishField::Take(sort) => Ok(Field::Take(*sort)),
@@ -66,21 +69,21 @@ fn valued_field(
 // Fields with the values of their terms.
 fn valued_fields(
     alloc: Global,
-    checked: &Checked,
+    prepared: &Prepared,
     fields: &[WishField],
     budget: u64,
 ) -> Result<Fields, WishFault>
-    requires executable { IsExecutable (theory_of checked.now.algebra) }
-    requires fit { Each (FieldFits (theory_of checked.now.algebra)) (map wished_field_of fields.now) }
-    ensures valued { IfOk result (AreValuedFields (theory_of checked.now.algebra) (map wished_field_of fields.now)) }
+    requires executable { IsExecutable (program_in prepared.now).theory }
+    requires fit { Each (FieldFits (program_in prepared.now).theory) (map wished_field_of fields.now) }
+    ensures valued { IfOk result (AreValuedFields (program_in prepared.now).theory (map wished_field_of fields.now)) }
     ensures within { IfOk result (λ fs.
-        Each (IsValuedWithin (theory_of checked.now.algebra) budget) (given_by (map wished_field_of fields.now))) }
+        Each (IsValuedWithin (program_in prepared.now).theory budget) (given_by (map wished_field_of fields.now))) }
     ensures fault { IfErr result
-        (IsFaultOf (theory_of checked.now.algebra) budget (given_by (map wished_field_of fields.now))) }
+        (IsFaultOf (program_in prepared.now).theory budget (given_by (map wished_field_of fields.now))) }
 {
     let mut all = Vec::new(alloc);
     for field in fields {
-        all.push(valued_field(alloc, checked, field, budget)?)?;
+        all.push(valued_field(alloc, prepared, field, budget)?)?;
     }
     Ok(Fields::new(all))
 }
@@ -88,18 +91,18 @@ fn valued_fields(
 /// The offer that comes of one wish, as `offers_of` says.
 pub fn offer_of(
     alloc: Global,
-    checked: &Checked,
+    prepared: &Prepared,
     wish: &Wish,
     budget: u64,
 ) -> Result<ClientWish, WishFault>
-    requires executable { IsExecutable (theory_of checked.now.algebra) }
-    requires fits { WishFits (program_of checked.now) (wished_of wish.now) }
-    ensures valued { IfOk result (λ w. IsValuedWish (theory_of checked.now.algebra) (wished_of wish.now) (wish_of w)) }
+    requires executable { IsExecutable (program_in prepared.now).theory }
+    requires fits { WishFits (program_in prepared.now) (wished_of wish.now) }
+    ensures valued { IfOk result (λ w. IsValuedWish (program_in prepared.now).theory (wished_of wish.now) (wish_of w)) }
     ensures within { IfOk result (λ w.
-        Each (IsValuedWithin (theory_of checked.now.algebra) budget) (given_by (wished_of wish.now).fields)) }
-    ensures fault { IfErr result (IsFaultOf (theory_of checked.now.algebra) budget (given_by (wished_of wish.now).fields)) }
+        Each (IsValuedWithin (program_in prepared.now).theory budget) (given_by (wished_of wish.now).fields)) }
+    ensures fault { IfErr result (IsFaultOf (program_in prepared.now).theory budget (given_by (wished_of wish.now).fields)) }
 {
-    let fields = valued_fields(alloc, checked, &wish.fields, budget)?;
+    let fields = valued_fields(alloc, prepared, &wish.fields, budget)?;
     Ok(ClientWish {
         offer: Offer {
             gate: wish.gate,
@@ -112,21 +115,21 @@ pub fn offer_of(
 // Wishes with the values of their terms.
 fn valued(
     alloc: Global,
-    checked: &Checked,
+    prepared: &Prepared,
     wishes: &[Wish],
     budget: u64,
 ) -> Result<Vec<ClientWish>, WishFault>
-    requires executable { IsExecutable (theory_of checked.now.algebra) }
-    requires fit { Each (WishFits (program_of checked.now)) (map wished_of wishes.now) }
+    requires executable { IsExecutable (program_in prepared.now).theory }
+    requires fit { Each (WishFits (program_in prepared.now)) (map wished_of wishes.now) }
     ensures valued { IfOk result (λ all.
-        AreValued (theory_of checked.now.algebra) (map wished_of wishes.now) (map wish_of all.items)) }
+        AreValued (program_in prepared.now).theory (map wished_of wishes.now) (map wish_of all.items)) }
     ensures within { IfOk result (λ all.
-        Each (IsValuedWithin (theory_of checked.now.algebra) budget) (all_given (map wished_of wishes.now))) }
-    ensures fault { IfErr result (IsFaultOf (theory_of checked.now.algebra) budget (all_given (map wished_of wishes.now))) }
+        Each (IsValuedWithin (program_in prepared.now).theory budget) (all_given (map wished_of wishes.now))) }
+    ensures fault { IfErr result (IsFaultOf (program_in prepared.now).theory budget (all_given (map wished_of wishes.now))) }
 {
     let mut all = Vec::new(alloc);
     for wish in wishes {
-        all.push(offer_of(alloc, checked, wish, budget)?)?;
+        all.push(offer_of(alloc, prepared, wish, budget)?)?;
     }
     Ok(all)
 }
@@ -137,24 +140,24 @@ fn valued(
 /// the fault. It recurs as deep as the terms and the equations nest.
 pub fn offers_of(
     alloc: Global,
-    checked: &Checked,
+    prepared: &Prepared,
     wishes: &[Wish],
     budget: u64,
 ) -> Result<Vec<ClientWish>, WishFault>
-    requires executable { IsExecutable (theory_of checked.now.algebra) }
-    requires fit { Each (WishFits (program_of checked.now)) (map wished_of wishes.now) }
+    requires executable { IsExecutable (program_in prepared.now).theory }
+    requires fit { Each (WishFits (program_in prepared.now)) (map wished_of wishes.now) }
     // The offers.
     ensures valued { IfOk result (λ all.
-        AreValued (theory_of checked.now.algebra) (map wished_of wishes.now) (map wish_of all.items)) }
+        AreValued (program_in prepared.now).theory (map wished_of wishes.now) (map wish_of all.items)) }
     ensures within { IfOk result (λ all.
-        Each (IsValuedWithin (theory_of checked.now.algebra) budget) (all_given (map wished_of wishes.now))) }
+        Each (IsValuedWithin (program_in prepared.now).theory budget) (all_given (map wished_of wishes.now))) }
     ensures gates { IfOk result (λ all.
-        Each (λ w. w.offer.gate.0 < length (program_of checked.now).gates) (map wish_of all.items)) }
-    ensures values { IfOk result (λ all. Each (GivesValues (theory_of checked.now.algebra)) (map wish_of all.items)) }
+        Each (λ w. w.offer.gate.0 < length (program_in prepared.now).gates) (map wish_of all.items)) }
+    ensures values { IfOk result (λ all. Each (GivesValues (program_in prepared.now).theory) (map wish_of all.items)) }
     // Or the first term that has no value.
-    ensures fault { IfErr result (IsFaultOf (theory_of checked.now.algebra) budget (all_given (map wished_of wishes.now))) }
-    ensures complete { Each (λ t. IsWithin (theory_of checked.now.algebra) t budget) (all_given (map wished_of wishes.now)) →
+    ensures fault { IfErr result (IsFaultOf (program_in prepared.now).theory budget (all_given (map wished_of wishes.now))) }
+    ensures complete { Each (λ t. IsWithin (program_in prepared.now).theory t budget) (all_given (map wished_of wishes.now)) →
         IfErr result (λ e. e ≡ WishFault.Memory) }
 {
-    valued(alloc, checked, wishes, budget)
+    valued(alloc, prepared, wishes, budget)
 }

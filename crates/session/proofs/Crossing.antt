@@ -66,8 +66,11 @@ session_sync =
               (
                 search simple depth 60 fits 20000,
                 (
-                  search (seat_sync, shared_send, simple) depth 60 fits 20000,
-                  tt,
+                  search simple depth 60 fits 20000,
+                  (
+                    search (seat_sync, shared_send, simple) depth 60 fits 20000,
+                    tt,
+                  ),
                 ),
               ),
             ),

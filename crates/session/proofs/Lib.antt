@@ -2,7 +2,6 @@ pub mod Closed
 pub mod Collecting
 pub mod Crossing
 pub mod Ending
-mod Fitting
 pub mod Handing
 mod Manning
 mod Owning

@@ -16,6 +16,7 @@ ghost use Rattle.session.specs.Sessions.{FitsJob, IsClientOf};
 
 use crate::pass::Pass;
 use crate::session::Session;
+use board_core::{Evaluator, Prepared};
 use board_record::{LeaveFault, PendFault};
 use board_work::outcome::Outcome;
 use board_work::performing::perform;
@@ -136,9 +137,13 @@ impl Session {
     pub(crate) fn do_job(&self, taken: &TakenJob) -> Result<Outcome, Memory>
         ensures { IfOk result (FitsJob self.now taken.now) }
     {
+        let prepared = Prepared {
+            checked: &self.checked,
+            evaluator: Evaluator::new(&self.checked.algebra, &self.forms),
+        };
         perform(
             self.alloc,
-            &self.checked,
+            &prepared,
             &self.windows,
             &taken.job,
             self.settings.budget,

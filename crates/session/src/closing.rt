@@ -93,6 +93,7 @@ impl Session {
             turns,
             alloc,
             checked: _,
+            forms: _,
             settings: _,
             windows: _,
             workers: _,

@@ -9,6 +9,7 @@ ghost use Rattle.session.specs.Starting.{AreFresh, content_of, new_pass, new_wor
 
 use crate::pass::Pass;
 use crate::work_pass::WorkPass;
+use board_core::Forms;
 use board_core::board::Board;
 use session_board::shared::SharedBoard;
 use session_board::spot::Spot;
@@ -28,6 +29,7 @@ pub struct Session {
     pub(crate) turns: Turns<SharedBoard>,
     pub(crate) alloc: Global,
     pub(crate) checked: Checked,
+    pub(crate) forms: Forms,
     pub(crate) settings: Settings,
     pub(crate) windows: Vec<Window>,
     pub(crate) workers: u32,
@@ -39,6 +41,8 @@ impl Model for Session {
     ghost use Rattle.spec_core.specs.contracts.code.Checked as c;
     ghost use Rattle.spec_core.specs.contracts.settings.Settings as t;
     ghost use Rattle.spec_core.specs.contracts.window.Window as w;
+    ghost use Rattle.spec_core.specs.Theories.{theory_of};
+    ghost use Rattle.board_core.specs.Rights.{AreForms};
     ghost use Rattle.session.specs.Sessions.{SessionView, IsWellMade};
 
     ghost Value = { SessionView };
@@ -47,7 +51,8 @@ impl Model for Session {
 
     ghost view = { λ s. record { lock = s.turns; workers = s.workers } };
 
-    ghost invariant = { λ s. IsWellMade s.turns s.checked s.settings s.windows.items s.workers s.keeper };
+    ghost invariant = { λ s. IsWellMade s.turns s.checked s.settings s.windows.items s.workers s.keeper ×
+        AreForms (theory_of s.checked.algebra) s.forms };
 }
 
 // Windows that hold the same.
@@ -144,6 +149,7 @@ impl Session {
         ensures workers { IfOk result (λ r. r.2.items ≡ map (new_work_pass r.0.lock.id clients) (range_with_len clients workers)) }
     {
         let own = checked.copy(alloc)?;
+        let forms = Forms::new(alloc, &own.algebra)?;
         let board = Board::new(alloc, checked, settings, clients)?;
         let windows = copy_windows(alloc, board.windows())?;
         let (turns, mut seats) = Turns::new(alloc, SharedBoard::new(board), clients + workers + 1)?;
@@ -157,6 +163,7 @@ impl Session {
             turns,
             alloc,
             checked: own,
+            forms,
             settings,
             windows,
             workers,

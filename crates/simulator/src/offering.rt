@@ -39,7 +39,7 @@ pub fn offer(alloc: Global, board: &mut Board, wish: &Wish) -> Result<Answered, 
     board.log_is_a_derivation();
     let at = board.state().actions();
     let budget = board.settings().budget;
-    match offer_of(alloc, board.checked(), wish, budget) {
+    match offer_of(alloc, &board.prepared(), wish, budget) {
         Ok(wish) => ask(alloc, board, &wish.offer),
         Err(fault) => Ok(Answered::Told(reply_of(at, fault)?)),
     }

@@ -3,6 +3,7 @@
 use expand::expansion::{expand, expand_code};
 use node_trees::origin::Origin;
 use node_values::stop::Stop;
+use node_values::{Evaluator, Forms, Prepared};
 use spec_core::code::{ActField, Checked, CodeNode};
 use spec_core::items::{Gate, Op};
 use spec_core::memory::Memory;
@@ -25,11 +26,18 @@ const SETTINGS: Settings = Settings {
 fn composites_of(alloc: Global, behaviour: &str) -> Result<Option<usize>, Memory> {
     match over_small_data(alloc, "noexit", behaviour)? {
         None => Ok(None),
-        Some(checked) => match expand_code(alloc, &checked, checked.start, &[], &SETTINGS) {
-            Ok(x) => Ok(Some(x.composites.len())),
-            Err(Stop::Memory) => Err(Memory),
-            Err(_) => Ok(None),
-        },
+        Some(checked) => {
+            let forms = Forms::new(alloc, &checked.algebra)?;
+            let prepared = Prepared {
+                checked: &checked,
+                evaluator: Evaluator::new(&checked.algebra, &forms),
+            };
+            match expand_code(alloc, &prepared, checked.start, &[], &SETTINGS) {
+                Ok(x) => Ok(Some(x.composites.len())),
+                Err(Stop::Memory) => Err(Memory),
+                Err(_) => Ok(None),
+            }
+        }
     }
 }
 
@@ -74,7 +82,12 @@ fn with_values(alloc: Global, behaviour: &str) -> Result<Option<(ActionKind, usi
     let Some((node, x)) = rest_of(&checked) else {
         return Ok(None);
     };
-    match expand(alloc, &checked, &origin_of(alloc, node, x)?, &SETTINGS) {
+    let forms = Forms::new(alloc, &checked.algebra)?;
+    let prepared = Prepared {
+        checked: &checked,
+        evaluator: Evaluator::new(&checked.algebra, &forms),
+    };
+    match expand(alloc, &prepared, &origin_of(alloc, node, x)?, &SETTINGS) {
         Ok(x) => Ok(only(&x.composites)),
         Err(Stop::Memory) => Err(Memory),
         Err(_) => Ok(None),

@@ -9,6 +9,7 @@ use node_trees::expansion::Expansion;
 use node_trees::node::Node;
 use node_trees::origin::Gen;
 use node_values::stop::Stop;
+use node_values::{Evaluator, Forms, Prepared};
 use node_work::node::expand_node;
 use sort_windows::windows;
 use spec_core::code::Checked;
@@ -32,7 +33,12 @@ fn expanded(alloc: Global, checked: &Checked, node: &Node) -> Result<Option<Expa
     requires ready { IsReady (program_of checked.now) }
 {
     let shown = windows(alloc, &checked.algebra, 2)?;
-    match expand_node(alloc, checked, &shown, &node.origin, 100) {
+    let forms = Forms::new(alloc, &checked.algebra)?;
+    let prepared = Prepared {
+        checked,
+        evaluator: Evaluator::new(&checked.algebra, &forms),
+    };
+    match expand_node(alloc, &prepared, &shown, &node.origin, 100) {
         Ok(work) => Ok(Some(work)),
         Err(Stop::Memory) => Err(Memory),
         Err(_) => Ok(None),

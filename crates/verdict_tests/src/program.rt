@@ -7,6 +7,7 @@ use crate::lines::{line, put_term};
 use crate::trees::tree;
 use node_trees::origin::Origin;
 use node_values::stop::Stop;
+use node_values::{Evaluator, Forms, Prepared};
 use node_verdict::origins::shown_by;
 use sort_windows::windows;
 use spec_core::code::Checked;
@@ -73,7 +74,12 @@ pub fn shown_of(
                 values: Vec::new(alloc),
                 relabel,
             };
-            let outcome = shown_by(alloc, checked, &windows, &origin, &rules, budget);
+            let forms = Forms::new(alloc, &checked.algebra)?;
+            let prepared = Prepared {
+                checked,
+                evaluator: Evaluator::new(&checked.algebra, &forms),
+            };
+            let outcome = shown_by(alloc, &prepared, &windows, &origin, &rules, budget);
             told(alloc, checked, outcome)
         }
     }

@@ -7,6 +7,6 @@ pub expand_node-requires-clause-rows : goal.expand_node-requires-clause-rows
 expand_node-requires-clause-rows c =
     let v = c.args.board.now in (
       v.settings.values,
-      subst (AreBySorts (program_of c.checked.result.now).theory v.settings.values) (sym c.windows.ensures.windows)
-          (subst (λ k. AreBySorts (program_of k).theory v.settings.values v.windows) (sym c.checked.ensures) c.windows.ensures.rows),
+      subst (AreBySorts (program_of c.prepared.result.checked.now).theory v.settings.values) (sym c.windows.ensures.windows)
+          (subst (λ k. AreBySorts (program_of k).theory v.settings.values v.windows) (sym c.prepared.ensures.checked) c.windows.ensures.rows),
     )

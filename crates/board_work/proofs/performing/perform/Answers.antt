@@ -2,9 +2,9 @@ use Rattle.std.proofs.Common.{◌≡◌, subst, sym}
 use Rattle.std.proofs.lemmas.Result.{IfOk-weaker}
 use Rattle.candidates.specs.declared.job.NodeJob.{NodeJob}
 use Rattle.candidates.specs.Models.{job_of}
-use Rattle.spec_core.specs.Code.{program_of}
 use Rattle.node_trees.specs.Origins.{source_of}
 use Rattle.candidate_verdicts.specs.Tables.{windows_in}
+use Rattle.node_values.specs.Prepared.{program_in}
 use Rattle.board_work.specs.Outcomes.{ComesOf}
 use Rattle.board_work.proofs.performing.perform.Goals as goal
 
@@ -14,7 +14,7 @@ returns-in-Expand c = record {
       IfOk-weaker c.expand.result _ _
       (λ outcome h.
       subst
-      (λ (t : NodeJob). ComesOf (program_of c.args.checked.now) (windows_in c.args.windows.now) c.args.budget (source_of c.args.job.now.origin)
+      (λ (t : NodeJob). ComesOf (program_in c.args.prepared.now) (windows_in c.args.windows.now) c.args.budget (source_of c.args.job.now.origin)
       (job_of t) outcome)
       (sym c.in-Expand.is) (h c.in-Expand.field-0.0))
       c.expand.ensures;

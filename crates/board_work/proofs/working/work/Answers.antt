@@ -10,8 +10,8 @@ pub perform-requires-clause-rows : goal.perform-requires-clause-rows
 perform-requires-clause-rows c =
     let v = c.args.board.now in (
       v.settings.values,
-      subst (AreBySorts (program_of c.checked.result.now).theory v.settings.values) (sym c.windows.ensures.windows)
-          (subst (λ k. AreBySorts (program_of k).theory v.settings.values v.windows) (sym c.checked.ensures) c.windows.ensures.rows),
+      subst (AreBySorts (program_of c.prepared.result.checked.now).theory v.settings.values) (sym c.windows.ensures.windows)
+          (subst (λ k. AreBySorts (program_of k).theory v.settings.values v.windows) (sym c.prepared.ensures.checked) c.windows.ensures.rows),
     )
 
 pub returns-clause-done : goal.returns-clause-done

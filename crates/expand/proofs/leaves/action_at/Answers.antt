@@ -1,11 +1,12 @@
 use Rattle.std.proofs.Common.{map, subst, [], ◌∷◌}
-use Rattle.spec_core.specs.Code.{action_field_of, program_of}
+use Rattle.spec_core.specs.Code.{action_field_of}
 use Rattle.spec_core.proofs.Options.{if_none_at}
 use Rattle.rule_model.specs.Actions.{at_gate}
 use Rattle.symbolic_plans.specs.Plans.{field_of, prefix}
 use Rattle.node_values.specs.Found.{FieldsOpen}
 use Rattle.node_values.specs.Scopes.{marks_of}
 use Rattle.node_values.proofs.Finding.{of_some}
+use Rattle.node_values.specs.Prepared.{program_in}
 use Rattle.expand.specs.Joins.{Sized}
 use Rattle.expand.proofs.Rows.{action_comes, no_action_comes}
 use Rattle.expand.proofs.leaves.action_at.Goals as goal
@@ -13,7 +14,7 @@ use Rattle.expand.proofs.leaves.action_at.Goals as goal
 pub returns-in-Ok-None : goal.returns-in-Ok-None
 returns-in-Ok-None c = record {
   comes = λ w n p b.
-      no_action_comes (program_of c.args.checked.now) w n c.args.budget (marks_of (program_of c.args.checked.now).theory c.args.scope.now)
+      no_action_comes (program_in c.args.prepared.now) w n c.args.budget (marks_of (program_in c.args.prepared.now).theory c.args.scope.now)
       c.args.gate.0 (map action_field_of c.args.fields.now) p b c.nothing.result
       (if_none_at c.in-Ok-None.field-0 c.in-Ok-None.field-0-is c.in-Ok-None.ensures.none) c.nothing.ensures.nothing;
 }
@@ -21,11 +22,11 @@ returns-in-Ok-None c = record {
 pub returns-in-Ok : goal.returns-in-Ok
 returns-in-Ok c = record {
   comes = λ w n p b.
-      let theory = (program_of c.args.checked.now).theory in
+      let theory = (program_in c.args.prepared.now).theory in
       let m = marks_of theory c.args.scope.now in
       let fields = map action_field_of c.args.fields.now in
       let cs = map field_of c.in-Ok-Some.columns.items in
-      action_comes (program_of c.args.checked.now) w n c.args.budget m c.args.gate.0 fields p b cs c.single.result
+      action_comes (program_in c.args.prepared.now) w n c.args.budget m c.args.gate.0 fields p b cs c.single.result
       (of_some (λ columns. FieldsOpen theory m fields (map field_of columns.items)) c.in-Ok-Some.field-0 c.in-Ok-Some.columns
       c.in-Ok-Some.field-0-is c.in-Ok-Some.ensures.some)
       (subst (λ z. Sized (record { kind = at_gate c.args.gate.0; fields = cs; plan = prefix z } ∷ []) 1 c.single.result) c.in-Ok.ensures

@@ -1,6 +1,6 @@
 use Rattle.std.proofs.Common.{◌≡◌, ◌+◌, [], ◌∷◌, ◌++◌, map, take, sym, ap, subst, ◌∙◌, arith, true, Ok}
 use Rattle.std.proofs.lemmas.List.{append-nil, take_all}
-use Rattle.spec_core.specs.Code.{program_of, variable_of, binding_of, relabelling_of, exit_value_of, Variable}
+use Rattle.spec_core.specs.Code.{variable_of, binding_of, relabelling_of, exit_value_of, Variable}
 use Rattle.spec_core.specs.Numbers.{gate_number}
 use Rattle.spec_core.specs.Terms.{term_of}
 use Rattle.spec_core.specs.Theories.{premise}
@@ -15,6 +15,7 @@ use Rattle.symbolic_plans.specs.OpenPlans.{open_plan_of, under_relabelling, plan
 use Rattle.node_values.specs.declared.scope.Given.TheVariants.{Value}
 use Rattle.node_values.specs.Scopes.{marks_of, marked_of}
 use Rattle.node_values.proofs.Finding.{of_some}
+use Rattle.node_values.specs.Prepared.{program_in}
 use Rattle.expand.specs.Choosing.{IsChoice, AddsChoice, ExpandsEach}
 use Rattle.expand.specs.Joins.{Turns}
 use Rattle.expand.specs.Outcomes.{Outcome, BelowOutcome}
@@ -32,7 +33,7 @@ use Rattle.expand.proofs.walk.+walk.Goals as goal
 pub add_choice-returns-in-Ok : goal.add_choice-returns-in-Ok
 add_choice-returns-in-Ok t c = record {
   added = λ slots prefix each.
-      let p = program_of c.args.checked.now in
+      let p = program_in c.args.prepared.now in
       let w = windows_in c.args.windows.now in
       let x : Variable = record { number = c.args.x; sort = c.args.sort.0 } in
       let b = behaviour_at p c.args.body in
@@ -47,7 +48,7 @@ add_choice-returns-in-Ok t c = record {
 
 pub add_value-add_choice-requires : goal.add_value-add_choice-requires
 add_value-add_choice-requires t c =
-    let p = program_of c.args.checked.now in
+    let p = program_in c.args.prepared.now in
     let w = windows_in c.args.windows.now in (
       omega (arith, c.decreases),
       (
@@ -67,7 +68,7 @@ add_value-add_choice-requires t c =
 pub add_value-returns-in-Ok-copy : goal.add_value-returns-in-Ok-copy
 add_value-returns-in-Ok-copy t c = record {
   added =
-      let p = program_of c.args.checked.now in
+      let p = program_in c.args.prepared.now in
       subst (λ v. AddsChoice p (windows_in c.args.windows.now) c.args.calls c.args.budget (marks_of p.theory c.args.scope.now)
       (record { number = c.args.x; sort = c.args.sort.0 }) (behaviour_at p c.args.body) (map open_plan_of c.args.all.composites.items)
       c.args.all.spread (Of v) c.add_choice.result) c.in-Ok.ensures.equal c.add_choice.ensures.added;
@@ -76,7 +77,7 @@ add_value-returns-in-Ok-copy t c = record {
 pub bound_at-returns-in-Err-bind : goal.bound_at-returns-in-Err-bind
 bound_at-returns-in-Err-bind t c = record {
   comes =
-      let p = program_of c.args.checked.now in
+      let p = program_in c.args.prepared.now in
       binding_stops p (windows_in c.args.windows.now) c.args.calls c.args.budget (marks_of p.theory c.args.scope.now)
       (map binding_of c.args.bindings.now) (behaviour_at p c.args.body) c.in-Err-bind.stop c.in-Err-bind.ensures.fault;
 }
@@ -84,7 +85,7 @@ bound_at-returns-in-Err-bind t c = record {
 pub bound_at-returns-in-Ok-None : goal.bound_at-returns-in-Ok-None
 bound_at-returns-in-Ok-None t c = record {
   comes =
-      let p = program_of c.args.checked.now in
+      let p = program_in c.args.prepared.now in
       let m = marks_of p.theory c.args.scope.now in
       let bindings = map binding_of c.args.bindings.now in
       unbound_comes p (windows_in c.args.windows.now) c.args.calls c.args.budget m bindings (behaviour_at p c.args.body) c.nothing.result
@@ -96,7 +97,7 @@ bound_at-returns-in-Ok-None t c = record {
 pub bound_at-returns-in-Ok-Some : goal.bound_at-returns-in-Ok-Some
 bound_at-returns-in-Ok-Some t c = record {
   comes =
-      let p = program_of c.args.checked.now in
+      let p = program_in c.args.prepared.now in
       let w = windows_in c.args.windows.now in
       let m = marks_of p.theory c.args.scope.now in
       let bindings = map binding_of c.args.bindings.now in
@@ -114,7 +115,7 @@ bound_at-returns-in-Ok-Some t c = record {
 pub call_at-returns-in-None : goal.call_at-returns-in-None
 call_at-returns-in-None t c = record {
   comes =
-      let p = program_of c.args.checked.now in
+      let p = program_in c.args.prepared.now in
       no_definition_comes p (windows_in c.args.windows.now) c.args.budget c.args.calls (marks_of p.theory c.args.scope.now) c.args.number
       (map gate_number c.args.gates.now) (map term_of c.args.values.now) c.nothing.result c.in-None.ensures.none c.nothing.ensures.nothing;
 }
@@ -122,7 +123,7 @@ call_at-returns-in-None t c = record {
 pub enter-returns-then-calls-eq0 : goal.enter-returns-then-calls-eq0
 enter-returns-then-calls-eq0 t c = record {
   comes =
-      let p = program_of c.args.checked.now in
+      let p = program_in c.args.prepared.now in
       let w = windows_in c.args.windows.now in
       let m = marks_of p.theory c.args.scope.now in
       let b = behaviour_at p c.args.body in
@@ -133,7 +134,7 @@ enter-returns-then-calls-eq0 t c = record {
 pub enter-returns-else-calls-eq0 : goal.enter-returns-else-calls-eq0
 enter-returns-else-calls-eq0 t c = record {
   comes =
-      let p = program_of c.args.checked.now in
+      let p = program_in c.args.prepared.now in
       one_call_less p (windows_in c.args.windows.now) c.args.calls c.args.budget (marks_of p.theory c.args.scope.now)
       (behaviour_at p c.args.body) c.expand_at.result c.if-calls-eq0.false c.expand_at.ensures.comes;
 }
@@ -141,7 +142,7 @@ enter-returns-else-calls-eq0 t c = record {
 pub expand_at-returns-in-None : goal.expand_at-returns-in-None
 expand_at-returns-in-None t c = record {
   comes =
-      let p = program_of c.args.checked.now in
+      let p = program_in c.args.prepared.now in
       let w = windows_in c.args.windows.now in
       let m = marks_of p.theory c.args.scope.now in
       of_equal p w c.args.calls c.args.budget m c.nothing.result (behaviour_at p c.args.node) stop c.in-None.ensures.none
@@ -151,7 +152,7 @@ expand_at-returns-in-None t c = record {
 pub expand_at-returns-in-Some : goal.expand_at-returns-in-Some
 expand_at-returns-in-Some t c = record {
   comes =
-      let p = program_of c.args.checked.now in
+      let p = program_in c.args.prepared.now in
       of_equal p (windows_in c.args.windows.now) c.args.calls c.args.budget (marks_of p.theory c.args.scope.now)
       c.expand_construct.result (behaviour_at p c.args.node) _ c.in-Some.ensures.some c.expand_construct.ensures.comes;
 }
@@ -159,7 +160,7 @@ expand_at-returns-in-Some t c = record {
 pub gate_choice_at-returns-in-len1-up : goal.gate_choice_at-returns-in-len1-up
 gate_choice_at-returns-in-len1-up t c = record {
   comes =
-      let p = program_of c.args.checked.now in
+      let p = program_in c.args.prepared.now in
       some_gates_come p (windows_in c.args.windows.now) c.args.calls c.args.budget (marks_of p.theory c.args.scope.now)
       c.gate_choice.result c.args.gate.0 c.args.gates.now (behaviour_at p c.args.body) c.expand_at-part.result c.in-len1-up.len_at_least
       c.gate_choice.ensures.gates c.expand_at-part.ensures.comes;
@@ -168,7 +169,7 @@ gate_choice_at-returns-in-len1-up t c = record {
 pub guard_at-returns-in-Err : goal.guard_at-returns-in-Err
 guard_at-returns-in-Err t c = record {
   comes =
-      let p = program_of c.args.checked.now in
+      let p = program_in c.args.prepared.now in
       guard_stops p (windows_in c.args.windows.now) c.args.calls c.args.budget (marks_of p.theory c.args.scope.now)
       (premise (term_of c.args.left.now) (term_of c.args.right.now)) (behaviour_at p c.args.body) c.in-Err.stop c.in-Err.ensures.fault;
 }
@@ -176,7 +177,7 @@ guard_at-returns-in-Err t c = record {
 pub guard_at-returns-then-holds : goal.guard_at-returns-then-holds
 guard_at-returns-then-holds t c = record {
   comes =
-      let p = program_of c.args.checked.now in
+      let p = program_in c.args.prepared.now in
       let holds : c.in-Ok.holds ≡ true = c.if-holds.true in
       guarded_comes p (windows_in c.args.windows.now) c.args.calls c.args.budget (marks_of p.theory c.args.scope.now)
       (premise (term_of c.args.left.now) (term_of c.args.right.now)) (behaviour_at p c.args.body) c.expand_at-part.result
@@ -186,7 +187,7 @@ guard_at-returns-then-holds t c = record {
 pub guard_at-returns-else-holds : goal.guard_at-returns-else-holds
 guard_at-returns-else-holds t c = record {
   comes =
-      let p = program_of c.args.checked.now in
+      let p = program_in c.args.prepared.now in
       failing_comes p (windows_in c.args.windows.now) c.args.calls c.args.budget (marks_of p.theory c.args.scope.now)
       (premise (term_of c.args.left.now) (term_of c.args.right.now)) (behaviour_at p c.args.body) c.nothing.result
       (test_fails c.in-Ok.holds c.if-holds.false c.in-Ok.ensures.decides) c.nothing.ensures.nothing;
@@ -195,7 +196,7 @@ guard_at-returns-else-holds t c = record {
 pub expand_construct-returns-in-Stop : goal.expand_construct-returns-in-Stop
 expand_construct-returns-in-Stop t c = record {
   comes =
-      let p = program_of c.args.checked.now in
+      let p = program_in c.args.prepared.now in
       let w = windows_in c.args.windows.now in
       let n = c.args.calls in
       let k = c.args.budget in
@@ -207,7 +208,7 @@ expand_construct-returns-in-Stop t c = record {
 pub expand_construct-returns-in-Process : goal.expand_construct-returns-in-Process
 expand_construct-returns-in-Process t c = record {
   comes =
-      let p = program_of c.args.checked.now in
+      let p = program_in c.args.prepared.now in
       let w = windows_in c.args.windows.now in
       let n = c.args.calls in
       let k = c.args.budget in
@@ -219,7 +220,7 @@ expand_construct-returns-in-Process t c = record {
 pub expand_construct-returns-in-Inner : goal.expand_construct-returns-in-Inner
 expand_construct-returns-in-Inner t c = record {
   comes =
-      let p = program_of c.args.checked.now in
+      let p = program_in c.args.prepared.now in
       let w = windows_in c.args.windows.now in
       let n = c.args.calls in
       let k = c.args.budget in
@@ -231,7 +232,7 @@ expand_construct-returns-in-Inner t c = record {
 pub expand_construct-returns-in-Choice : goal.expand_construct-returns-in-Choice
 expand_construct-returns-in-Choice t c = record {
   comes =
-      let p = program_of c.args.checked.now in
+      let p = program_in c.args.prepared.now in
       let w = windows_in c.args.windows.now in
       let n = c.args.calls in
       let k = c.args.budget in
@@ -243,7 +244,7 @@ expand_construct-returns-in-Choice t c = record {
 pub expand_construct-returns-in-Guard : goal.expand_construct-returns-in-Guard
 expand_construct-returns-in-Guard t c = record {
   comes =
-      let p = program_of c.args.checked.now in
+      let p = program_in c.args.prepared.now in
       let w = windows_in c.args.windows.now in
       let n = c.args.calls in
       let k = c.args.budget in
@@ -255,7 +256,7 @@ expand_construct-returns-in-Guard t c = record {
 pub expand_construct-returns-in-Values : goal.expand_construct-returns-in-Values
 expand_construct-returns-in-Values t c = record {
   comes =
-      let p = program_of c.args.checked.now in
+      let p = program_in c.args.prepared.now in
       let w = windows_in c.args.windows.now in
       let n = c.args.calls in
       let k = c.args.budget in
@@ -267,7 +268,7 @@ expand_construct-returns-in-Values t c = record {
 pub expand_construct-returns-in-Par : goal.expand_construct-returns-in-Par
 expand_construct-returns-in-Par t c = record {
   comes =
-      let p = program_of c.args.checked.now in
+      let p = program_in c.args.prepared.now in
       let w = windows_in c.args.windows.now in
       let n = c.args.calls in
       let k = c.args.budget in
@@ -279,7 +280,7 @@ expand_construct-returns-in-Par t c = record {
 pub expand_construct-returns-in-Enable : goal.expand_construct-returns-in-Enable
 expand_construct-returns-in-Enable t c = record {
   comes =
-      let p = program_of c.args.checked.now in
+      let p = program_in c.args.prepared.now in
       let w = windows_in c.args.windows.now in
       let n = c.args.calls in
       let k = c.args.budget in
@@ -291,7 +292,7 @@ expand_construct-returns-in-Enable t c = record {
 pub expand_construct-returns-in-Disable : goal.expand_construct-returns-in-Disable
 expand_construct-returns-in-Disable t c = record {
   comes =
-      let p = program_of c.args.checked.now in
+      let p = program_in c.args.prepared.now in
       let w = windows_in c.args.windows.now in
       let n = c.args.calls in
       let k = c.args.budget in
@@ -303,7 +304,7 @@ expand_construct-returns-in-Disable t c = record {
 pub gate_choice_at-returns-in-empty : goal.gate_choice_at-returns-in-empty
 gate_choice_at-returns-in-empty t c = record {
   comes =
-      let p = program_of c.args.checked.now in
+      let p = program_in c.args.prepared.now in
       none_come p (windows_in c.args.windows.now) c.args.calls c.args.budget (marks_of p.theory c.args.scope.now) c.nothing.result
       c.args.gate.0 c.args.gates.now (behaviour_at p c.args.body) c.in-empty.len_below c.nothing.ensures.nothing;
 }
@@ -311,7 +312,7 @@ gate_choice_at-returns-in-empty t c = record {
 pub call_at-returns-in-Err : goal.call_at-returns-in-Err
 call_at-returns-in-Err t c = record {
   comes =
-      let p = program_of c.args.checked.now in
+      let p = program_in c.args.prepared.now in
       let formal = map gate_number c.in-Some.formal.now in
       let xs = map variable_of c.in-Some.vars.now in
       argument_stops p (windows_in c.args.windows.now) c.args.budget c.args.calls (marks_of p.theory c.args.scope.now) c.args.number
@@ -322,7 +323,7 @@ call_at-returns-in-Err t c = record {
 pub call_at-returns-in-Ok-None : goal.call_at-returns-in-Ok-None
 call_at-returns-in-Ok-None t c = record {
   comes =
-      let p = program_of c.args.checked.now in
+      let p = program_in c.args.prepared.now in
       let m = marks_of p.theory c.args.scope.now in
       let formal = map gate_number c.in-Some.formal.now in
       let xs = map variable_of c.in-Some.vars.now in
@@ -338,7 +339,7 @@ call_at-returns-in-Ok-None t c = record {
 pub call_at-returns : goal.call_at-returns
 call_at-returns t c = record {
   comes =
-      let p = program_of c.args.checked.now in
+      let p = program_in c.args.prepared.now in
       let w = windows_in c.args.windows.now in
       let m = marks_of p.theory c.args.scope.now in
       let formal = map gate_number c.in-Some.formal.now in
@@ -363,14 +364,14 @@ call_at-returns t c = record {
 pub value_choice_at-returns-in-Err : goal.value_choice_at-returns-in-Err
 value_choice_at-returns-in-Err t c = record {
   comes =
-      let p = program_of c.args.checked.now in
+      let p = program_in c.args.prepared.now in
       begun_stops p (windows_in c.args.windows.now) c.args.calls c.args.budget (marks_of p.theory c.args.scope.now)
       (record { number = c.args.x; sort = c.args.sort.0 }) (behaviour_at p c.args.body) c.in-Err.stop c.in-Err.ensures.nothing;
 }
 
 pub value_choice_at-loop-value-init : goal.value_choice_at-loop-value-init
 value_choice_at-loop-value-init t c =
-    let p = program_of c.args.checked.now in
+    let p = program_in c.args.prepared.now in
     no_slot p (windows_in c.args.windows.now) c.args.calls c.args.budget (marks_of p.theory c.args.scope.now)
     (record { number = c.args.x; sort = c.args.sort.0 }) (behaviour_at p c.args.body) c.in-Ok.begun c.in-Ok.ensures.nothing
 
@@ -397,7 +398,7 @@ value_choice_at-returns-in-Err-add_value t c = record {
 
 pub value_choice_at-loop-value-preserved : goal.value_choice_at-loop-value-preserved
 value_choice_at-loop-value-preserved t c =
-    let p = program_of c.args.checked.now in
+    let p = program_in c.args.prepared.now in
     let w = windows_in c.args.windows.now in
     let values = c.values_at-values.result.now in
     let i = c.loop-value.value-index in
@@ -416,7 +417,7 @@ value_choice_at-add_choice-requires t c = (
     c.requires.ready,
     (
       c.requires.rows,
-      marked_choice (program_of c.args.checked.now).theory (windows_in c.args.windows.now) c.args.sort.0
+      marked_choice (program_in c.args.prepared.now).theory (windows_in c.args.windows.now) c.args.sort.0
           (sym c.is_complete.ensures.complete ∙ c.if-is_complete.false),
     ),
   ),
@@ -425,7 +426,7 @@ value_choice_at-add_choice-requires t c = (
 pub value_choice_at-returns-then-is_complete : goal.value_choice_at-returns-then-is_complete
 value_choice_at-returns-then-is_complete t c = record {
   comes =
-      let p = program_of c.args.checked.now in
+      let p = program_in c.args.prepared.now in
       let w = windows_in c.args.windows.now in
       let m = marks_of p.theory c.args.scope.now in
       let x : Variable = record { number = c.args.x; sort = c.args.sort.0 } in
@@ -441,7 +442,7 @@ value_choice_at-returns-then-is_complete t c = record {
 pub value_choice_at-returns : goal.value_choice_at-returns
 value_choice_at-returns t c = record {
   comes =
-      let p = program_of c.args.checked.now in
+      let p = program_in c.args.prepared.now in
       let w = windows_in c.args.windows.now in
       let m = marks_of p.theory c.args.scope.now in
       let x : Variable = record { number = c.args.x; sort = c.args.sort.0 } in
@@ -458,7 +459,7 @@ value_choice_at-returns t c = record {
 pub expand_construct-returns-in-Exit : goal.expand_construct-returns-in-Exit
 expand_construct-returns-in-Exit t c = record {
   comes =
-      let p = program_of c.args.checked.now in
+      let p = program_in c.args.prepared.now in
       let w = windows_in c.args.windows.now in
       let n = c.args.calls in
       let k = c.args.budget in
@@ -470,7 +471,7 @@ expand_construct-returns-in-Exit t c = record {
 pub expand_construct-returns-in-Act : goal.expand_construct-returns-in-Act
 expand_construct-returns-in-Act t c = record {
   comes =
-      let p = program_of c.args.checked.now in
+      let p = program_in c.args.prepared.now in
       let w = windows_in c.args.windows.now in
       let n = c.args.calls in
       let k = c.args.budget in
@@ -482,7 +483,7 @@ expand_construct-returns-in-Act t c = record {
 pub expand_construct-returns-in-Let : goal.expand_construct-returns-in-Let
 expand_construct-returns-in-Let t c = record {
   comes =
-      let p = program_of c.args.checked.now in
+      let p = program_in c.args.prepared.now in
       let w = windows_in c.args.windows.now in
       let n = c.args.calls in
       let k = c.args.budget in
@@ -494,7 +495,7 @@ expand_construct-returns-in-Let t c = record {
 pub expand_construct-returns-in-Gates : goal.expand_construct-returns-in-Gates
 expand_construct-returns-in-Gates t c = record {
   comes =
-      let p = program_of c.args.checked.now in
+      let p = program_in c.args.prepared.now in
       let w = windows_in c.args.windows.now in
       let n = c.args.calls in
       let k = c.args.budget in
@@ -506,7 +507,7 @@ expand_construct-returns-in-Gates t c = record {
 pub expand_construct-returns-in-Hide : goal.expand_construct-returns-in-Hide
 expand_construct-returns-in-Hide t c = record {
   comes =
-      let p = program_of c.args.checked.now in
+      let p = program_in c.args.prepared.now in
       let w = windows_in c.args.windows.now in
       let n = c.args.calls in
       let k = c.args.budget in
@@ -518,7 +519,7 @@ expand_construct-returns-in-Hide t c = record {
 pub expand_construct-returns-in-Call : goal.expand_construct-returns-in-Call
 expand_construct-returns-in-Call t c = record {
   comes =
-      let p = program_of c.args.checked.now in
+      let p = program_in c.args.prepared.now in
       let w = windows_in c.args.windows.now in
       let n = c.args.calls in
       let k = c.args.budget in
@@ -530,7 +531,7 @@ expand_construct-returns-in-Call t c = record {
 pub expand_construct-returns-in-Relabel : goal.expand_construct-returns-in-Relabel
 expand_construct-returns-in-Relabel t c = record {
   comes =
-      let p = program_of c.args.checked.now in
+      let p = program_in c.args.prepared.now in
       let w = windows_in c.args.windows.now in
       let n = c.args.calls in
       let k = c.args.budget in

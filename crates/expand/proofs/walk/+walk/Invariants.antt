@@ -1,9 +1,9 @@
 use Rattle.std.proofs.Common.{◌+◌, ◌*◌, map, take}
-use Rattle.spec_core.specs.Code.{program_of}
 use Rattle.rule_model.specs.declared.rules.Slot.TheVariants.{Of}
 use Rattle.rule_origins.specs.Parts.{behaviour_at}
 use Rattle.symbolic_plans.specs.OpenPlans.{open_plan_of}
 use Rattle.node_values.specs.Scopes.{marks_of}
+use Rattle.node_values.specs.Prepared.{program_in}
 use Rattle.expand.specs.Choosing.{ExpandsEach}
 use Rattle.symbolic_rules.specs.Tables.{windows_in}
 use Rattle.expand.proofs.walk.+walk.Given as goal
@@ -40,6 +40,6 @@ decreases-gate_choice_at l = 8 * (l.calls * 4294967296 + l.body) + 6
 
 abbrev pub invariant-value_choice_at-loop-value : goal.invariant-value_choice_at-loop-value
 invariant-value_choice_at-loop-value l =
-    ExpandsEach (program_of l.checked) (windows_in l.windows) l.calls (marks_of (program_of l.checked).theory l.scope)
-    (record { number = l.x; sort = l.sort.0 }) (behaviour_at (program_of l.checked) l.body) (map Of (take l.value-index l.values))
+    ExpandsEach (program_in l.prepared) (windows_in l.windows) l.calls (marks_of (program_in l.prepared).theory l.scope)
+    (record { number = l.x; sort = l.sort.0 }) (behaviour_at (program_in l.prepared) l.body) (map Of (take l.value-index l.values))
     (map open_plan_of l.all.composites.items) l.all.spread

@@ -1,7 +1,7 @@
 use Rattle.std.proofs.Common.{rules, ◌≡◌, ◌<◌, ◌+◌, sym, subst, map, take, drop, length, get_or}
-use Rattle.spec_core.specs.Code.{program_of}
 use Rattle.rule_model.specs.Events.{event_of}
 use Rattle.rule_model.specs.Legal.{IsDerivation}
+use Rattle.match_code.specs.Prepared.{program_in}
 use Rattle.log_check.specs.Views.{state_of}
 use Rattle.log_check.specs.Checked.{EntriesAreWithin}
 use Rattle.log_check.specs.Entries.{EntryFails}
@@ -11,7 +11,7 @@ use Rattle.log_check.proofs.checking.walk.Goals as goal
 
 pub loop-place-preserved : goal.loop-place-preserved
 loop-place-preserved c =
-    let program = program_of c.args.checked.now in
+    let program = program_in c.args.prepared.now in
     let es = c.args.entries.now in
     let i = c.loop-place.place in
     let e = c.index-entries-place.result in
@@ -29,7 +29,7 @@ loop-place-preserved c =
 
 pub returns-in-Err-clause-fault : goal.returns-in-Err-clause-fault
 returns-in-Err-clause-fault c =
-    let program = program_of c.args.checked.now in
+    let program = program_in c.args.prepared.now in
     let es = c.args.entries.now in
     let i = c.loop-place.place in
     let e = c.index-entries-place.result in

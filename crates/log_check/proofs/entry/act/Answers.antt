@@ -1,6 +1,5 @@
 use Rattle.std.proofs.Common.{rules, ◌∙◌, ap, sym, subst}
 use Rattle.std.proofs.lemmas.Bool.{true≢false}
-use Rattle.spec_core.specs.Code.{program_of}
 use Rattle.spec_core.specs.Terms.{variable}
 use Rattle.rule_model.specs.Behaviours.{behaviour_of}
 use Rattle.rule_model.specs.Derivations.{derivation_of}
@@ -8,6 +7,7 @@ use Rattle.rule_model.specs.Derives.{Derives}
 use Rattle.rule_model.specs.Legal.{IsAgreed}
 use Rattle.rule_model.specs.States.{after_action}
 use Rattle.rule_walk.specs.Bounds.{FaultBounds}
+use Rattle.match_code.specs.Prepared.{program_in}
 use Rattle.log_check.specs.Views.{state_of}
 use Rattle.log_check.proofs.entry.act.Goals as goal
 
@@ -21,7 +21,7 @@ returns-then-not-agrees-clause-within c x h fits =
 
 pub returns-then-same-clause-next : goal.returns-then-same-clause-next
 returns-then-same-clause-next c =
-    let program = program_of c.args.checked.now in
+    let program = program_in c.args.prepared.now in
     let s = c.args.state.now in
     let b = behaviour_of s.behaviour in
     let rest = behaviour_of c.in-Ok.rest in
@@ -34,24 +34,24 @@ returns-then-same-clause-next c =
 
 pub returns-in-Ok-clause-next : goal.returns-in-Ok-clause-next
 returns-in-Ok-clause-next c next (x, derives, agreed, e) =
-    let one = c.trees_determine_steps.ensures (program_of c.args.checked.now) c.requires.ready.executable variable
+    let one = c.trees_determine_steps.ensures (program_in c.args.prepared.now) c.requires.ready.executable variable
     (behaviour_of c.args.state.now.behaviour) (derivation_of c.args.rules.now) c.in-Ok.done c.args.action.now (behaviour_of c.in-Ok.rest) x
     c.in-Ok.ensures.derives derives in
     absurd (true≢false (sym (c.same.ensures.decides.1 one.0) ∙ c.if-same.false))
 
 pub returns-in-Err-Unfit-clause-within : goal.returns-in-Err-Unfit-clause-within
 returns-in-Err-Unfit-clause-within c x h fits =
-    subst (λ f. FaultBounds (program_of c.args.checked.now).theory c.args.budget f x) c.in-Err-Unfit.field-0-is
+    subst (λ f. FaultBounds (program_in c.args.prepared.now).theory c.args.budget f x) c.in-Err-Unfit.field-0-is
     (c.in-Err-Unfit.ensures.within x h.1) fits
 
 pub returns-in-Err-Spent-clause-cause : goal.returns-in-Err-Spent-clause-cause
 returns-in-Err-Spent-clause-cause c =
-    let agreed : IsAgreed (program_of c.args.checked.now) (state_of c.args.state.now) c.args.action.now c.args.by =
+    let agreed : IsAgreed (program_in c.args.prepared.now) (state_of c.args.state.now) c.args.action.now c.args.by =
     (c.agrees.ensures (behaviour_of c.args.state.now.behaviour)).0 c.if-not-agrees.false in
     search rules
 
 pub returns-in-Err-TooLarge-clause-cause : goal.returns-in-Err-TooLarge-clause-cause
 returns-in-Err-TooLarge-clause-cause c =
-    let agreed : IsAgreed (program_of c.args.checked.now) (state_of c.args.state.now) c.args.action.now c.args.by =
+    let agreed : IsAgreed (program_in c.args.prepared.now) (state_of c.args.state.now) c.args.action.now c.args.by =
     (c.agrees.ensures (behaviour_of c.args.state.now.behaviour)).0 c.if-not-agrees.false in
     search rules

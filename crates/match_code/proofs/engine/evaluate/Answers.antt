@@ -31,7 +31,7 @@ run-requires-clause-stands c =
     (subst (Each (IsStep t rows)) (sym none.todo) tt) in
     record {
       state = at_equal t term c.args.budget rows [] _ todo todo [] _ 0 _
-          (state_begun t c.requires.executable term c.args.budget rows todo s c.requires.store.values c.requires.store.small g p steps)
+          (state_begun t c.requires.forms.executable term c.args.budget rows todo s c.requires.store.values c.requires.store.small g p steps)
           none.frames refl none.values none.uses;
       remembers = c.requires.store.remembers;
     }
@@ -42,7 +42,7 @@ returns-clause-value c =
     record {
       value = tree_at c.run.new.store.nodes c.in_ok-node.node;
       spelled = c.in_ok-value.ensures.spelled;
-      has = evaluation_gives_values (theory_of c.args.algebra.now) c.requires.executable (term_of c.args.term.now)
+      has = evaluation_gives_values (theory_of c.args.algebra.now) c.requires.forms.executable (term_of c.args.term.now)
           (tree_at c.run.new.store.nodes c.in_ok-node.node) r.uses c.requires.fits r.evaluates;
       uses = r.uses;
       evaluates = r.evaluates;

@@ -16,7 +16,7 @@ returns-in_ok-put_value-in-Some-clause-stands c =
     c.in-Some.ensures.tree in
     record {
       state = at_equal theory t c.args.budget rows runs.frames runs.frames runs.todo runs.todo _ c.put_value.new.values runs.uses runs.uses
-          (state_found theory c.requires.executable t c.args.budget rows runs.frames c.args.op c.args.count runs.todo runs.values runs.uses
+          (state_found theory c.requires.forms.executable t c.args.budget rows runs.frames c.args.op c.args.count runs.todo runs.values runs.uses
           c.requires.stands.state n c.requires.constructor c.in-Some.ensures.there is)
           refl refl c.in_ok-put_value-in-Some.ensures.put refl;
       remembers = c.requires.stands.remembers;

@@ -12,9 +12,9 @@ returns-in_err-runs-clause-cause c =
     let p = err_from_is_err_and c.from_residual.result c.from_residual.ensures.1 in
     rw (p.1, p.2)
     (record {
-      spent = λ e. state_spent t c.requires.executable (term_of c.args.term.now) c.args.budget c.args.store.now.nodes c.args.runs.now.frames
+      spent = λ e. state_spent t c.requires.forms.executable (term_of c.args.term.now) c.args.budget c.args.store.now.nodes c.args.runs.now.frames
           todo c.args.runs.now.values c.args.runs.now.uses c.requires.stands.state (c.in_err-runs.ensures.spent e);
-      large = λ e. state_large t c.requires.executable (term_of c.args.term.now) c.args.budget c.args.store.now.nodes c.args.runs.now.frames
+      large = λ e. state_large t c.requires.forms.executable (term_of c.args.term.now) c.args.budget c.args.store.now.nodes c.args.runs.now.frames
           todo c.args.runs.now.values c.args.runs.now.uses c.requires.stands.state (c.in_err-runs.ensures.large e);
     })
 
@@ -25,7 +25,7 @@ returns-clause-stands c =
     let runs = c.args.runs.now in
     let made = c.in_ok-runs.ensures in
     record {
-      state = state_stepped t c.requires.executable (term_of c.args.term.now) c.args.budget rows runs.frames c.perform.new.nodes
+      state = state_stepped t c.requires.forms.executable (term_of c.args.term.now) c.args.budget rows runs.frames c.perform.new.nodes
           (c.args.step ∷ runs.todo) c.perform.new.todo runs.values c.perform.new.values runs.uses c.in_ok-runs.field-0
           c.requires.stands.state made.longer made.ready made.within made.kept;
       remembers = still_entries t rows c.perform.new.nodes made.longer c.args.store.now.memo.entries.items c.requires.stands.remembers;

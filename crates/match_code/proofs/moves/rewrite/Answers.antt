@@ -17,7 +17,7 @@ use_right-requires c =
     let rule = c.in-Some.ensures.rule in
     let room : (x : ℕ) → Occurs x (equation_at t right.place).right → x < length c.rule_for.new.bound = λ x o.
     let h = c.requires.room right.place rule.right.there x
-    ((tight_at t c.requires.executable right.place rule.right.there).right x o) in
+    ((tight_at t c.requires.forms.executable right.place rule.right.there).right x o) in
     omega (arith, h, c.rule_for.ensures.room) in
     record {
       first = each_implied (λ x. Occurs x (equation_at t right.place).right) (λ x. x < length c.rule_for.new.bound) right.first.items room
@@ -29,7 +29,7 @@ use_right-requires c =
 pub returns-in_ok-use_right-in-Some-clause-stands : goal.returns-in_ok-use_right-in-Some-clause-stands
 returns-in_ok-use_right-in-Some-clause-stands c =
     let t = theory_of c.args.algebra.now in
-    let ex = c.requires.executable in
+    let ex = c.requires.forms.executable in
     let term = term_of c.args.term.now in
     let rows = c.args.store.now.nodes in
     let runs = c.args.runs.now in
@@ -58,7 +58,7 @@ returns-in_err-use_right-in-Some-clause-cause c =
     let p = err_from_is_err_and c.from_residual.result c.from_residual.ensures.1 in
     rw (p.1, p.2)
     (record {
-      spent = λ e. state_overspent (theory_of c.args.algebra.now) c.requires.executable (term_of c.args.term.now) c.args.budget
+      spent = λ e. state_overspent (theory_of c.args.algebra.now) c.requires.forms.executable (term_of c.args.term.now) c.args.budget
           c.args.store.now.nodes runs.frames c.args.op c.args.count runs.todo runs.values runs.uses c.requires.stands.state c.rule_for.new.bound
           c.in-Some.right.now c.in-Some.ensures.rule (c.in_err-use_right-in-Some.ensures.spent e);
       large = λ e. absurd (c.in_err-use_right-in-Some.ensures.small e);

@@ -1,5 +1,5 @@
 use Rattle.std.proofs.Common.{map, refl, ap}
-use Rattle.spec_core.specs.Code.{program_of, variable_of}
+use Rattle.spec_core.specs.Code.{variable_of}
 use Rattle.spec_core.specs.Numbers.{gate_number}
 use Rattle.spec_core.specs.Terms.{term_of}
 use Rattle.spec_core.proofs.Options.{if_none_at}
@@ -8,19 +8,20 @@ use Rattle.rule_model.specs.Fields.{ArgumentsHave}
 use Rattle.rule_origins.specs.Parts.{behaviour_at}
 use Rattle.rule_origins.specs.Values.{assignment}
 use Rattle.node_values.proofs.Finding.{of_some}
+use Rattle.node_values.specs.Prepared.{program_in}
 use Rattle.node_steps.proofs.Calls.{call_enters, no_arguments}
 use Rattle.node_steps.proofs.entering.called_body.Goals as goal
 
 pub returns-in-None-2-clause-enters : goal.returns-in-None-2-clause-enters
 returns-in-None-2-clause-enters c =
-    no_arguments (program_of c.args.checked.now) c.requires.ready c.args.called c.in-Some.body (map gate_number c.in-Some.formal.now)
+    no_arguments (program_in c.args.prepared.now) c.requires.ready c.args.called c.in-Some.body (map gate_number c.in-Some.formal.now)
     (map variable_of c.in-Some.vars.now) c.in-Some.ensures.some (map gate_number c.args.actual.now) (map term_of c.args.terms.now)
     c.args.values.now _ c.new-none.ensures.items
     (if_none_at c.in_ok-bind_arguments-in-Some.field-0 c.in-None-2.is c.in_ok-bind_arguments-in-Some.ensures.none)
 
 pub returns-in_ok-pairs-in-Some-2-clause-enters : goal.returns-in_ok-pairs-in-Some-2-clause-enters
 returns-in_ok-pairs-in-Some-2-clause-enters c =
-    let program = program_of c.args.checked.now in
+    let program = program_in c.args.prepared.now in
     call_enters program c.requires.ready c.args.called c.in-Some.body (map gate_number c.in-Some.formal.now)
     (map variable_of c.in-Some.vars.now) c.in-Some.ensures.some (map gate_number c.args.actual.now) (map term_of c.args.terms.now)
     c.args.values.now c.in-Some-2.more.items _ _ _ c.new-none.ensures.items

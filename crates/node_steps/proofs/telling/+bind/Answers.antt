@@ -1,5 +1,5 @@
 use Rattle.std.proofs.Common.{map, refl}
-use Rattle.spec_core.specs.Code.{binding_of, program_of}
+use Rattle.spec_core.specs.Code.{binding_of}
 use Rattle.spec_core.specs.Terms.{instance}
 use Rattle.rule_model.specs.Fields.{BindingsHave}
 use Rattle.rule_model.specs.Substitution.{Assignment}
@@ -7,12 +7,13 @@ use Rattle.rule_origins.specs.Values.{assignment}
 use Rattle.node_values.specs.Found.{Spelled}
 use Rattle.node_values.proofs.Finding.{of_some}
 use Rattle.node_values.proofs.Splitting.{others, mapped, some_ok_on, none_ok_on}
+use Rattle.node_values.specs.Prepared.{program_in}
 use Rattle.node_steps.proofs.Bindings.{bound_by, none_bound}
 use Rattle.node_steps.proofs.telling.+bind.Goals as goal
 
 pub returns-in_ok-more-in-Some-clause-some : goal.returns-in_ok-more-in-Some-clause-some
 returns-in_ok-more-in-Some-clause-some t c =
-    let theory = (program_of c.args.checked.now).theory in
+    let theory = (program_in c.args.prepared.now).theory in
     let s = assignment theory c.args.outer.now in
     let all = map binding_of c.args.bindings.now in
     let rest = map binding_of (others c.args.bindings.now) in
@@ -28,7 +29,7 @@ returns-in_ok-more-in-Some-clause-some t c =
 
 pub returns-in_ok-more-in-Some-clause-none : goal.returns-in_ok-more-in-Some-clause-none
 returns-in_ok-more-in-Some-clause-none t c =
-    let theory = (program_of c.args.checked.now).theory in
+    let theory = (program_in c.args.prepared.now).theory in
     let s = assignment theory c.args.outer.now in
     let all = map binding_of c.args.bindings.now in
     let rest = map binding_of (others c.args.bindings.now) in

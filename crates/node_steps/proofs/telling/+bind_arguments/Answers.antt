@@ -1,5 +1,5 @@
 use Rattle.std.proofs.Common.{map, refl, get_or}
-use Rattle.spec_core.specs.Code.{variable_of, program_of}
+use Rattle.spec_core.specs.Code.{variable_of}
 use Rattle.spec_core.specs.Terms.{term_of, instance}
 use Rattle.rule_model.specs.Fields.{ArgumentsHave}
 use Rattle.rule_model.specs.Substitution.{Assignment}
@@ -7,12 +7,13 @@ use Rattle.rule_origins.specs.Values.{assignment}
 use Rattle.node_values.specs.Found.{Spelled}
 use Rattle.node_values.proofs.Finding.{of_some}
 use Rattle.node_values.proofs.Splitting.{others, mapped, mapped_at, some_ok_on, none_ok_on}
+use Rattle.node_values.specs.Prepared.{program_in}
 use Rattle.node_steps.proofs.Bindings.{argued_by, none_argued}
 use Rattle.node_steps.proofs.telling.+bind_arguments.Goals as goal
 
 pub returns-in_ok-more-in-Some-clause-some : goal.returns-in_ok-more-in-Some-clause-some
 returns-in_ok-more-in-Some-clause-some t c =
-    let theory = (program_of c.args.checked.now).theory in
+    let theory = (program_in c.args.prepared.now).theory in
     let s = assignment theory c.args.outer.now in
     let x = get_or c.args.vars.now 0 (0, record { 0 = 0 }) in
     let u = c.term-item.result in
@@ -31,7 +32,7 @@ returns-in_ok-more-in-Some-clause-some t c =
 
 pub returns-in_ok-more-in-Some-clause-none : goal.returns-in_ok-more-in-Some-clause-none
 returns-in_ok-more-in-Some-clause-none t c =
-    let theory = (program_of c.args.checked.now).theory in
+    let theory = (program_in c.args.prepared.now).theory in
     let s = assignment theory c.args.outer.now in
     let x = get_or c.args.vars.now 0 (0, record { 0 = 0 }) in
     let u = c.term-item.result in

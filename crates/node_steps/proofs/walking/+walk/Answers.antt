@@ -1,9 +1,10 @@
 use Rattle.std.proofs.Common.{rules, ◌≡◌, ◌∙◌, map, ap, subst}
-use Rattle.spec_core.specs.Code.{program_of, synchronised_of}
+use Rattle.spec_core.specs.Code.{synchronised_of}
 use Rattle.rule_origins.specs.Parts.{behaviour_at}
 use Rattle.rule_origins.specs.Values.{assignment}
 use Rattle.symbolic_plans.specs.Plans.{below, hidden, handed_on, field_of, plan_of}
 use Rattle.symbolic_reach.specs.Asking.{PlanAsks}
+use Rattle.node_values.specs.Prepared.{program_in}
 use Rattle.node_steps.specs.Asking.{WithinAsks}
 use Rattle.node_steps.specs.Parts.{own_or}
 use Rattle.node_steps.specs.Frames.{standing}
@@ -16,7 +17,7 @@ use Rattle.node_steps.proofs.walking.+walk.Goals as goal
 
 pub walk-returns-in-Pre-clause-turns : goal.walk-returns-in-Pre-clause-turns
 walk-returns-in-Pre-clause-turns t c =
-    let program = program_of c.args.checked.now in
+    let program = program_in c.args.prepared.now in
     let s = assignment program.theory c.args.values.now in
     let b = standing program c.args.site.now in
     prefix_walks program c.requires.ready.executable c.args.from s b (plan_of c.args.scheme.now) _ c.acts.result (ap plan_of c.in-Pre.is)
@@ -24,7 +25,7 @@ walk-returns-in-Pre-clause-turns t c =
 
 pub walk-returns-in_ok-acts_inside-in-Int-clause-turns : goal.walk-returns-in_ok-acts_inside-in-Int-clause-turns
 walk-returns-in_ok-acts_inside-in-Int-clause-turns t c =
-    let program = program_of c.args.checked.now in
+    let program = program_in c.args.prepared.now in
     let s = assignment program.theory c.args.values.now in
     let b = standing program c.args.site.now in
     inner_walks program c.requires.ready.executable c.args.from s b (plan_of c.args.scheme.now) c.in_ok-acts_inside-in-Int.field-0
@@ -32,7 +33,7 @@ walk-returns-in_ok-acts_inside-in-Int-clause-turns t c =
 
 pub walk-returns-in-Exit-clause-turns : goal.walk-returns-in-Exit-clause-turns
 walk-returns-in-Exit-clause-turns t c =
-    let program = program_of c.args.checked.now in
+    let program = program_in c.args.prepared.now in
     let s = assignment program.theory c.args.values.now in
     let b = standing program c.args.site.now in
     exit_walks program c.requires.ready.executable c.args.from s b (plan_of c.args.scheme.now) _ c.terminates.result
@@ -40,7 +41,7 @@ walk-returns-in-Exit-clause-turns t c =
 
 pub walk-returns-in_ok-entered-in-Hide-clause-turns : goal.walk-returns-in_ok-entered-in-Hide-clause-turns
 walk-returns-in_ok-entered-in-Hide-clause-turns t c =
-    let program = program_of c.args.checked.now in
+    let program = program_in c.args.prepared.now in
     let s = assignment program.theory c.args.values.now in
     let b = standing program c.args.site.now in
     let part : c.in-Hide.part.value ≡ c.deref-in-Hide.result.now = search rules in
@@ -50,7 +51,7 @@ walk-returns-in_ok-entered-in-Hide-clause-turns t c =
 
 pub walk-returns-in_ok-entered-in-Enend-clause-turns : goal.walk-returns-in_ok-entered-in-Enend-clause-turns
 walk-returns-in_ok-entered-in-Enend-clause-turns t c =
-    let program = program_of c.args.checked.now in
+    let program = program_in c.args.prepared.now in
     let s = assignment program.theory c.args.values.now in
     let b = standing program c.args.site.now in
     let part : c.in-Enend.part.value ≡ c.deref-in-Enend.result.now = search rules in
@@ -60,7 +61,7 @@ walk-returns-in_ok-entered-in-Enend-clause-turns t c =
 
 pub walk_under-returns-clause-turns : goal.walk_under-returns-clause-turns
 walk_under-returns-clause-turns t c =
-    let program = program_of c.args.checked.now in
+    let program = program_in c.args.prepared.now in
     let s = assignment program.theory c.args.values.now in
     let b = standing program c.args.site.now in
     under_walks program c.requires.ready.executable c.args.row.now b c.args.values.now c.args.from c.in_ok-inner.inner
@@ -69,7 +70,7 @@ walk_under-returns-clause-turns t c =
 
 pub walk_within-returns-in-None-2-clause-turns : goal.walk_within-returns-in-None-2-clause-turns
 walk_within-returns-in-None-2-clause-turns t c =
-    let program = program_of c.args.checked.now in
+    let program = program_in c.args.prepared.now in
     let values : c.values_within-inner.result.now ≡ own_or c.args.values.now c.in-Some.found.values = search rules in
     nothing_within program c.requires.ready.executable c.args.values.now c.args.from c.args.entered c.in-Some.found
     (plan_of c.args.part.now) c.in_ok-walk-in-Some.field-0 c.in-Some.is c.in-None-2.is (subst (λ l. TurnsOr program c.args.from (assignment program.theory l) (standing program c.in-Some.found.site) (plan_of c.args.part.now)
@@ -77,7 +78,7 @@ walk_within-returns-in-None-2-clause-turns t c =
 
 pub walk_within-returns-clause-turns : goal.walk_within-returns-clause-turns
 walk_within-returns-clause-turns t c =
-    let program = program_of c.args.checked.now in
+    let program = program_in c.args.prepared.now in
     let values : c.values_within-inner.result.now ≡ own_or c.args.values.now c.in-Some.found.values = search rules in
     something_within program c.requires.ready.executable c.args.values.now c.args.from c.args.entered c.in-Some.found
     (plan_of c.args.part.now) c.in_ok-walk-in-Some.field-0 c.in-Some-2.turn c.in_ok-leave-in-Some-2.field-0 c.in-Some.is c.in-Some-2.is
@@ -86,7 +87,7 @@ walk_within-returns-clause-turns t c =
 
 pub walk_both-returns-in-None-clause-turns : goal.walk_both-returns-in-None-clause-turns
 walk_both-returns-in-None-clause-turns t c =
-    let program = program_of c.args.checked.now in
+    let program = program_in c.args.prepared.now in
     let s = assignment program.theory c.args.values.now in
     let b = standing program c.args.site.now in
     let p = plan_of c.args.left.now in
@@ -95,7 +96,7 @@ walk_both-returns-in-None-clause-turns t c =
 
 pub walk_both-returns-in-None-2-clause-turns : goal.walk_both-returns-in-None-2-clause-turns
 walk_both-returns-in-None-2-clause-turns t c =
-    let program = program_of c.args.checked.now in
+    let program = program_in c.args.prepared.now in
     let s = assignment program.theory c.args.values.now in
     let b = standing program c.args.site.now in
     let p = plan_of c.args.left.now in
@@ -109,7 +110,7 @@ walk_both-returns-in-None-2-clause-turns t c =
 
 pub walk_both-returns-in-None-3-clause-turns : goal.walk_both-returns-in-None-3-clause-turns
 walk_both-returns-in-None-3-clause-turns t c =
-    let program = program_of c.args.checked.now in
+    let program = program_in c.args.prepared.now in
     let s = assignment program.theory c.args.values.now in
     let b = standing program c.args.site.now in
     let p = plan_of c.args.left.now in
@@ -123,7 +124,7 @@ walk_both-returns-in-None-3-clause-turns t c =
 
 pub walk_both-returns-clause-turns : goal.walk_both-returns-clause-turns
 walk_both-returns-clause-turns t c =
-    let program = program_of c.args.checked.now in
+    let program = program_in c.args.prepared.now in
     let s = assignment program.theory c.args.values.now in
     let b = standing program c.args.site.now in
     let p = plan_of c.args.left.now in
@@ -141,7 +142,7 @@ walk_both-returns-clause-turns t c =
 
 pub walk_under-returns-clause-fault : goal.walk_under-returns-clause-fault
 walk_under-returns-clause-fault t c =
-    let program = program_of c.args.checked.now in
+    let program = program_in c.args.prepared.now in
     let p = plan_of c.args.part.now in
     let s = assignment program.theory c.args.values.now in
     let b = standing program c.args.site.now in

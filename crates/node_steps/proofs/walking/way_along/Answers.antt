@@ -1,9 +1,10 @@
 use Rattle.std.proofs.Common.{rules, ◌≡◌, map, subst}
-use Rattle.spec_core.specs.Code.{program_of, relabelling_of}
+use Rattle.spec_core.specs.Code.{relabelling_of}
 use Rattle.rule_model.specs.Derivations.{derivation_of}
 use Rattle.rule_origins.specs.Parts.{behaviour_at}
 use Rattle.rule_origins.specs.Values.{assignment}
 use Rattle.symbolic_plans.specs.Plans.{plan_of}
+use Rattle.node_values.specs.Prepared.{program_in}
 use Rattle.node_steps.specs.Frames.{standing}
 use Rattle.node_steps.specs.Turns.{TurnsOr}
 use Rattle.node_steps.proofs.Standing.{origin_way, no_origin_way}
@@ -12,7 +13,7 @@ use Rattle.node_steps.proofs.walking.way_along.Goals as goal
 
 pub returns-in-None-clause-none : goal.returns-in-None-clause-none
 returns-in-None-clause-none c =
-    let program = program_of c.args.checked.now in
+    let program = program_in c.args.prepared.now in
     let values = c.args.origin.now.values.items in
     let p = plan_of c.args.scheme.now in
     let q = standing program c.in_ok-site.site in
@@ -24,7 +25,7 @@ returns-in-None-clause-none c =
 
 pub returns-clause-way : goal.returns-clause-way
 returns-clause-way c =
-    let program = program_of c.args.checked.now in
+    let program = program_in c.args.prepared.now in
     let values = c.args.origin.now.values.items in
     let p = plan_of c.args.scheme.now in
     let q = standing program c.in_ok-site.site in

@@ -1,7 +1,8 @@
 use Rattle.std.proofs.Common.{map, refl}
-use Rattle.spec_core.specs.Code.{binding_of, program_of}
+use Rattle.spec_core.specs.Code.{binding_of}
 use Rattle.symbolic_rules.specs.MarkedTerms.{MarkedAssignment, marked_instance}
 use Rattle.symbolic_rules.specs.MarkedFields.{BindingsMayHave}
+use Rattle.match_code.specs.Prepared.{program_in}
 use Rattle.node_values.specs.Found.{IsValueOf}
 use Rattle.node_values.specs.Scopes.{marks_of}
 use Rattle.node_values.proofs.Fielding.{bound_by, none_bound}
@@ -11,7 +12,7 @@ use Rattle.node_values.proofs.fields.+bind.Goals as goal
 
 pub returns-in_ok-more-in-Some-clause-some : goal.returns-in_ok-more-in-Some-clause-some
 returns-in_ok-more-in-Some-clause-some t c =
-    let theory = (program_of c.args.checked.now).theory in
+    let theory = (program_in c.args.prepared.now).theory in
     let m = marks_of theory c.args.outer.now in
     let all = map binding_of c.args.bindings.now in
     let rest = map binding_of (others c.args.bindings.now) in
@@ -27,7 +28,7 @@ returns-in_ok-more-in-Some-clause-some t c =
 
 pub returns-in_ok-more-in-Some-clause-none : goal.returns-in_ok-more-in-Some-clause-none
 returns-in_ok-more-in-Some-clause-none t c =
-    let theory = (program_of c.args.checked.now).theory in
+    let theory = (program_in c.args.prepared.now).theory in
     let m = marks_of theory c.args.outer.now in
     let all = map binding_of c.args.bindings.now in
     let rest = map binding_of (others c.args.bindings.now) in

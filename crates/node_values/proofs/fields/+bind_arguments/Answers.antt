@@ -1,8 +1,9 @@
 use Rattle.std.proofs.Common.{map, refl, get_or}
-use Rattle.spec_core.specs.Code.{variable_of, program_of}
+use Rattle.spec_core.specs.Code.{variable_of}
 use Rattle.spec_core.specs.Terms.{term_of}
 use Rattle.symbolic_rules.specs.MarkedTerms.{MarkedAssignment, marked_instance}
 use Rattle.symbolic_rules.specs.MarkedFields.{ArgumentsMayHave}
+use Rattle.match_code.specs.Prepared.{program_in}
 use Rattle.node_values.specs.Found.{IsValueOf}
 use Rattle.node_values.specs.Scopes.{marks_of}
 use Rattle.node_values.proofs.Fielding.{argument_by, none_argument}
@@ -12,7 +13,7 @@ use Rattle.node_values.proofs.fields.+bind_arguments.Goals as goal
 
 pub returns-in_ok-more-in-Some-clause-some : goal.returns-in_ok-more-in-Some-clause-some
 returns-in_ok-more-in-Some-clause-some t c =
-    let theory = (program_of c.args.checked.now).theory in
+    let theory = (program_in c.args.prepared.now).theory in
     let m = marks_of theory c.args.outer.now in
     let x = get_or c.args.vars.now 0 (0, record { 0 = 0 }) in
     let u = c.term-item.result in
@@ -31,7 +32,7 @@ returns-in_ok-more-in-Some-clause-some t c =
 
 pub returns-in_ok-more-in-Some-clause-none : goal.returns-in_ok-more-in-Some-clause-none
 returns-in_ok-more-in-Some-clause-none t c =
-    let theory = (program_of c.args.checked.now).theory in
+    let theory = (program_in c.args.prepared.now).theory in
     let m = marks_of theory c.args.outer.now in
     let x = get_or c.args.vars.now 0 (0, record { 0 = 0 }) in
     let u = c.term-item.result in

@@ -1,8 +1,9 @@
 use Rattle.std.proofs.Common.{map, refl, ap, ◌∙◌, ◌∷◌}
-use Rattle.spec_core.specs.Code.{action_field_of, program_of}
+use Rattle.spec_core.specs.Code.{action_field_of}
 use Rattle.spec_core.specs.Terms.{term_of}
 use Rattle.symbolic_rules.specs.MarkedTerms.{marked_instance}
 use Rattle.symbolic_plans.specs.Plans.{field_of}
+use Rattle.match_code.specs.Prepared.{program_in}
 use Rattle.node_values.specs.Found.{IsValueOf, FieldsOpen}
 use Rattle.node_values.specs.Scopes.{marks_of}
 use Rattle.node_values.proofs.Fielding.{field_given}
@@ -12,7 +13,7 @@ use Rattle.node_values.proofs.fields.+open_fields.Goals as goal
 
 pub returns-in_ok-in_front-in-Some-2-clause-some : goal.returns-in_ok-in_front-in-Some-2-clause-some
 returns-in_ok-in_front-in-Some-2-clause-some t c =
-    let theory = (program_of c.args.checked.now).theory in
+    let theory = (program_in c.args.prepared.now).theory in
     let m = marks_of theory c.args.scope.now in
     field_given theory m (map action_field_of c.args.fields.now) (term_of c.in-Give.term) (map action_field_of (others c.args.fields.now)) _
     (map field_of c.in-Some-2.others.items) c.in-Some.given

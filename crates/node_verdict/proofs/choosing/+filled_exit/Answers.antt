@@ -1,5 +1,5 @@
 use Rattle.std.proofs.Common.{map, refl, ap, ◌∙◌, ◌∷◌}
-use Rattle.spec_core.specs.Code.{exit_value_of, program_of}
+use Rattle.spec_core.specs.Code.{exit_value_of}
 use Rattle.spec_core.specs.Terms.{term_of}
 use Rattle.symbolic_rules.specs.MarkedTerms.{marked_instance}
 use Rattle.symbolic_rules.specs.MarkedFields.{ExitMayHave}
@@ -9,13 +9,14 @@ use Rattle.node_values.proofs.Finding.{of_some}
 use Rattle.node_values.proofs.Splitting.{others, mapped, split_at}
 use Rattle.symbolic_rules.specs.Tables.{windows_in}
 use Rattle.symbolic_actions.specs.Models.{marked_field_of}
+use Rattle.node_values.specs.Prepared.{program_in}
 use Rattle.node_verdict.specs.Found.{IsChosen}
 use Rattle.node_verdict.proofs.Filling.{exit_told, exit_chosen}
 use Rattle.node_verdict.proofs.choosing.+filled_exit.Goals as goal
 
 pub returns-in-Give-clause-some : goal.returns-in-Give-clause-some
 returns-in-Give-clause-some t c =
-    let theory = (program_of c.args.checked.now).theory in
+    let theory = (program_in c.args.prepared.now).theory in
     let w = windows_in c.args.windows.now in
     let m = marks_of theory c.args.scope.now in
     let rest = map exit_value_of (others c.args.fields.now) in
@@ -31,7 +32,7 @@ returns-in-Give-clause-some t c =
 
 pub returns-clause-some : goal.returns-clause-some
 returns-clause-some t c =
-    let theory = (program_of c.args.checked.now).theory in
+    let theory = (program_in c.args.prepared.now).theory in
     let w = windows_in c.args.windows.now in
     let m = marks_of theory c.args.scope.now in
     let rest = map exit_value_of (others c.args.fields.now) in

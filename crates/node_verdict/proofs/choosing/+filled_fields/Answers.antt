@@ -1,5 +1,5 @@
 use Rattle.std.proofs.Common.{map, refl, sym, ap, subst, ◌∙◌, ◌∷◌}
-use Rattle.spec_core.specs.Code.{action_field_of, program_of}
+use Rattle.spec_core.specs.Code.{action_field_of}
 use Rattle.spec_core.specs.Terms.{term_of}
 use Rattle.spec_core.proofs.Options.{if_none_at}
 use Rattle.symbolic_rules.specs.MarkedTerms.{marked_instance}
@@ -10,13 +10,14 @@ use Rattle.node_values.proofs.Finding.{of_some}
 use Rattle.node_values.proofs.Splitting.{others, mapped, split_at}
 use Rattle.symbolic_rules.specs.Tables.{windows_in}
 use Rattle.symbolic_actions.specs.Models.{marked_field_of}
+use Rattle.node_values.specs.Prepared.{program_in}
 use Rattle.node_verdict.specs.Found.{IsChosen}
 use Rattle.node_verdict.proofs.Filling.{field_told, field_chosen, no_field_chosen}
 use Rattle.node_verdict.proofs.choosing.+filled_fields.Goals as goal
 
 pub returns-in_ok-put_front-in-Some-2-clause-some : goal.returns-in_ok-put_front-in-Some-2-clause-some
 returns-in_ok-put_front-in-Some-2-clause-some t c =
-    let theory = (program_of c.args.checked.now).theory in
+    let theory = (program_in c.args.prepared.now).theory in
     let w = windows_in c.args.windows.now in
     let m = marks_of theory c.args.outer.now in
     let l = marks_of theory c.args.inner.items in
@@ -36,7 +37,7 @@ returns-in_ok-put_front-in-Some-2-clause-some t c =
 
 pub returns-in-None-4-clause-none : goal.returns-in-None-4-clause-none
 returns-in-None-4-clause-none t c =
-    let theory = (program_of c.args.checked.now).theory in
+    let theory = (program_in c.args.prepared.now).theory in
     let w = windows_in c.args.windows.now in
     let m = marks_of theory c.args.outer.now in
     no_field_chosen theory w m c.requires.ready.executable (map action_field_of c.args.fields.now)
@@ -50,7 +51,7 @@ returns-in-None-4-clause-none t c =
 
 pub returns-in_ok-put_front-in-Some-4-clause-some : goal.returns-in_ok-put_front-in-Some-4-clause-some
 returns-in_ok-put_front-in-Some-4-clause-some t c =
-    let theory = (program_of c.args.checked.now).theory in
+    let theory = (program_in c.args.prepared.now).theory in
     let w = windows_in c.args.windows.now in
     let m = marks_of theory c.args.outer.now in
     let l = marks_of theory c.args.inner.items in

@@ -1,5 +1,5 @@
 use Rattle.std.proofs.Common.{rules, ◌≡◌, map, refl, subst}
-use Rattle.spec_core.specs.Code.{program_of, action_field_of, guard_of}
+use Rattle.spec_core.specs.Code.{action_field_of, guard_of}
 use Rattle.spec_core.proofs.Booleans.{test_fails}
 use Rattle.rule_origins.specs.Parts.{behaviour_at}
 use Rattle.symbolic_rules.specs.MarkedTerms.{GuardMayHold}
@@ -8,13 +8,14 @@ use Rattle.node_values.specs.Scopes.{marks_of}
 use Rattle.node_values.proofs.Finding.{of_some}
 use Rattle.symbolic_rules.specs.Tables.{windows_in}
 use Rattle.symbolic_actions.specs.Models.{marked_field_of}
+use Rattle.node_values.specs.Prepared.{program_in}
 use Rattle.node_verdict.proofs.Rows.{acts_failing}
 use Rattle.node_verdict.proofs.leaves.acts.Goals as goal
 
 pub returns-else-holds : goal.returns-else-holds
 returns-else-holds c = record {
   judged =
-      let p = program_of c.args.checked.now in
+      let p = program_in c.args.prepared.now in
       let w = windows_in c.args.windows.now in
       let m = marks_of p.theory c.args.scope.now in
       let fields = map action_field_of c.in-Some.fields.now in

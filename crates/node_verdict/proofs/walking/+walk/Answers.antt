@@ -1,5 +1,5 @@
 use Rattle.std.proofs.Common.{rules, ◌≡◌, ◌∷◌, map, refl, sym, ap, subst, false, true}
-use Rattle.spec_core.specs.Code.{program_of, relabelling_of, synchronised_of, variable_of, binding_of}
+use Rattle.spec_core.specs.Code.{relabelling_of, synchronised_of, variable_of, binding_of}
 use Rattle.spec_core.specs.Numbers.{gate_number}
 use Rattle.spec_core.specs.Terms.{term_of}
 use Rattle.rule_model.specs.Behaviours.{relabel}
@@ -11,6 +11,7 @@ use Rattle.node_values.proofs.Finding.{of_some}
 use Rattle.symbolic_rules.specs.Tables.{windows_in}
 use Rattle.symbolic_actions.specs.Deciding.{is_within}
 use Rattle.symbolic_actions.specs.Shows.{left_alone, right_alone, hidden_in, seen_in, before_end, handed_to, undisabled, ended, renamed_by}
+use Rattle.node_values.specs.Prepared.{program_in}
 use Rattle.node_verdict.specs.Found.{IsChosen, chosen_field}
 use Rattle.node_verdict.specs.Judged.{Judged}
 use Rattle.node_verdict.proofs.Rows.{over_judged, both_judged, value_judged, value_outside, let_judged, call_judged, call_stops, shown_of}
@@ -19,7 +20,7 @@ use Rattle.node_verdict.proofs.walking.+walk.Goals as goal
 pub left_alone-returns-in-Some : goal.left_alone-returns-in-Some
 left_alone-returns-in-Some t c = record {
   judged =
-      let p = program_of c.args.checked.now in
+      let p = program_in c.args.prepared.now in
       let w = windows_in c.args.windows.now in
       let m = marks_of p.theory c.args.scope.now in
       over_judged p w c.args.budget c.requires.ready m (left_alone (synchronised_of c.in-Some.gates.now)) (behaviour_at p c.args.node) (behaviour_at p c.in-Some.left)
@@ -29,7 +30,7 @@ left_alone-returns-in-Some t c = record {
 pub right_alone-returns-in-Some : goal.right_alone-returns-in-Some
 right_alone-returns-in-Some t c = record {
   judged =
-      let p = program_of c.args.checked.now in
+      let p = program_in c.args.prepared.now in
       let w = windows_in c.args.windows.now in
       let m = marks_of p.theory c.args.scope.now in
       over_judged p w c.args.budget c.requires.ready m (right_alone (synchronised_of c.in-Some.gates.now)) (behaviour_at p c.args.node) (behaviour_at p c.in-Some.right)
@@ -39,7 +40,7 @@ right_alone-returns-in-Some t c = record {
 pub hidden-returns-in-Some : goal.hidden-returns-in-Some
 hidden-returns-in-Some t c = record {
   judged =
-      let p = program_of c.args.checked.now in
+      let p = program_in c.args.prepared.now in
       let w = windows_in c.args.windows.now in
       let m = marks_of p.theory c.args.scope.now in
       over_judged p w c.args.budget c.requires.ready m (hidden_in (map gate_number c.in-Some.gates.now)) (behaviour_at p c.args.node) (behaviour_at p c.in-Some.body)
@@ -49,7 +50,7 @@ hidden-returns-in-Some t c = record {
 pub passed-returns-in-Some : goal.passed-returns-in-Some
 passed-returns-in-Some t c = record {
   judged =
-      let p = program_of c.args.checked.now in
+      let p = program_in c.args.prepared.now in
       let w = windows_in c.args.windows.now in
       let m = marks_of p.theory c.args.scope.now in
       over_judged p w c.args.budget c.requires.ready m (seen_in (map gate_number c.in-Some.gates.now)) (behaviour_at p c.args.node) (behaviour_at p c.in-Some.body)
@@ -59,7 +60,7 @@ passed-returns-in-Some t c = record {
 pub before_end-returns-in-Some : goal.before_end-returns-in-Some
 before_end-returns-in-Some t c = record {
   judged =
-      let p = program_of c.args.checked.now in
+      let p = program_in c.args.prepared.now in
       let w = windows_in c.args.windows.now in
       let m = marks_of p.theory c.args.scope.now in
       over_judged p w c.args.budget c.requires.ready m before_end (behaviour_at p c.args.node) (behaviour_at p c.in-Some.left)
@@ -69,7 +70,7 @@ before_end-returns-in-Some t c = record {
 pub handed_on-returns-in-Some : goal.handed_on-returns-in-Some
 handed_on-returns-in-Some t c = record {
   judged =
-      let p = program_of c.args.checked.now in
+      let p = program_in c.args.prepared.now in
       let w = windows_in c.args.windows.now in
       let m = marks_of p.theory c.args.scope.now in
       over_judged p w c.args.budget c.requires.ready m (handed_to (map variable_of c.in-Some.vars.now)) (behaviour_at p c.args.node) (behaviour_at p c.in-Some.left)
@@ -79,7 +80,7 @@ handed_on-returns-in-Some t c = record {
 pub undisabled-returns-in-Some : goal.undisabled-returns-in-Some
 undisabled-returns-in-Some t c = record {
   judged =
-      let p = program_of c.args.checked.now in
+      let p = program_in c.args.prepared.now in
       let w = windows_in c.args.windows.now in
       let m = marks_of p.theory c.args.scope.now in
       over_judged p w c.args.budget c.requires.ready m undisabled (behaviour_at p c.args.node) (behaviour_at p c.in-Some.left)
@@ -89,7 +90,7 @@ undisabled-returns-in-Some t c = record {
 pub ended-returns-in-Some : goal.ended-returns-in-Some
 ended-returns-in-Some t c = record {
   judged =
-      let p = program_of c.args.checked.now in
+      let p = program_in c.args.prepared.now in
       let w = windows_in c.args.windows.now in
       let m = marks_of p.theory c.args.scope.now in
       over_judged p w c.args.budget c.requires.ready m ended (behaviour_at p c.args.node) (behaviour_at p c.in-Some.left)
@@ -99,7 +100,7 @@ ended-returns-in-Some t c = record {
 pub renamed-returns-in-Some : goal.renamed-returns-in-Some
 renamed-returns-in-Some t c = record {
   judged =
-      let p = program_of c.args.checked.now in
+      let p = program_in c.args.prepared.now in
       let w = windows_in c.args.windows.now in
       let m = marks_of p.theory c.args.scope.now in
       over_judged p w c.args.budget c.requires.ready m (renamed_by (map relabelling_of c.in-Some.pairs.now)) (behaviour_at p c.args.node) (behaviour_at p c.in-Some.body)
@@ -109,7 +110,7 @@ renamed-returns-in-Some t c = record {
 pub together-returns : goal.together-returns
 together-returns t c = record {
   judged =
-      let p = program_of c.args.checked.now in
+      let p = program_in c.args.prepared.now in
       let w = windows_in c.args.windows.now in
       let m = marks_of p.theory c.args.scope.now in
       let x = behaviour_at p c.in-Some.left in
@@ -126,7 +127,7 @@ together-returns t c = record {
 pub value_chosen-returns-then-not-lies_within : goal.value_chosen-returns-then-not-lies_within
 value_chosen-returns-then-not-lies_within t c = record {
   judged =
-      let p = program_of c.args.checked.now in
+      let p = program_in c.args.prepared.now in
       let w = windows_in c.args.windows.now in
       let m = marks_of p.theory c.args.scope.now in
       let g = c.in-Some-2.given in
@@ -140,7 +141,7 @@ value_chosen-returns-then-not-lies_within t c = record {
 pub value_chosen-returns-in_ok-inner-in-Some-2 : goal.value_chosen-returns-in_ok-inner-in-Some-2
 value_chosen-returns-in_ok-inner-in-Some-2 t c = record {
   judged =
-      let p = program_of c.args.checked.now in
+      let p = program_in c.args.prepared.now in
       let w = windows_in c.args.windows.now in
       let m = marks_of p.theory c.args.scope.now in
       let g = c.in-Some-2.given in
@@ -158,7 +159,7 @@ value_chosen-returns-in_ok-inner-in-Some-2 t c = record {
 pub bound-returns-in-Some-2 : goal.bound-returns-in-Some-2
 bound-returns-in-Some-2 t c = record {
   judged =
-      let p = program_of c.args.checked.now in
+      let p = program_in c.args.prepared.now in
       let w = windows_in c.args.windows.now in
       let m = marks_of p.theory c.args.scope.now in
       let copied : c.in_ok-copied-in-Some.copied.items ≡ c.args.scope.now = c.in_ok-copied-in-Some.ensures.equal in
@@ -177,7 +178,7 @@ bound-returns-in-Some-2 t c = record {
 pub called-returns-in_err-bind_arguments-in-Some : goal.called-returns-in_err-bind_arguments-in-Some
 called-returns-in_err-bind_arguments-in-Some t c = record {
   judged =
-      let p = program_of c.args.checked.now in
+      let p = program_in c.args.prepared.now in
       let w = windows_in c.args.windows.now in
       let m = marks_of p.theory c.args.scope.now in
       call_stops p w c.args.budget c.requires.ready c.args.process c.in-Some.body (map gate_number c.in-Some.formal.now)
@@ -189,7 +190,7 @@ called-returns-in_err-bind_arguments-in-Some t c = record {
 pub called-returns-in_ok-renamed-in-Some-2 : goal.called-returns-in_ok-renamed-in-Some-2
 called-returns-in_ok-renamed-in-Some-2 t c = record {
   judged =
-      let p = program_of c.args.checked.now in
+      let p = program_in c.args.prepared.now in
       let w = windows_in c.args.windows.now in
       let m = marks_of p.theory c.args.scope.now in
       let xs = map variable_of c.in-Some.vars.now in
@@ -211,7 +212,7 @@ called-returns-in_ok-renamed-in-Some-2 t c = record {
 pub walk-returns-in-Int : goal.walk-returns-in-Int
 walk-returns-in-Int t c = record {
   judged =
-      let p = program_of c.args.checked.now in
+      let p = program_in c.args.prepared.now in
       let w = windows_in c.args.windows.now in
       let m = marks_of p.theory c.args.scope.now in
       subst (λ z. Judged p w c.args.budget m (behaviour_at p c.args.node) (derivation_of z) c.acts_inside.result) (sym c.in-Int.is)
@@ -221,7 +222,7 @@ walk-returns-in-Int t c = record {
 pub walk_renamed-returns-in-Rel : goal.walk_renamed-returns-in-Rel
 walk_renamed-returns-in-Rel t c = record {
   judged =
-      let p = program_of c.args.checked.now in
+      let p = program_in c.args.prepared.now in
       let w = windows_in c.args.windows.now in
       let m = marks_of p.theory c.args.scope.now in
       let pairs = map relabelling_of c.args.pairs.now in

@@ -1,6 +1,6 @@
 use Rattle.std.proofs.Common.{map, refl}
 use Rattle.spec_core.proofs.Lists.{each-next, each-all, each-map}
-use Rattle.spec_core.specs.Code.{program_of, relabelling_of}
+use Rattle.spec_core.specs.Code.{relabelling_of}
 use Rattle.spec_core.proofs.Members.{some_image}
 use Rattle.rule_origins.specs.Parts.{behaviour_at}
 use Rattle.rule_origins.specs.Values.{assignment}
@@ -10,13 +10,14 @@ use Rattle.symbolic_plans.specs.OpenPlans.{open_plan_of}
 use Rattle.symbolic_reach.specs.Asking.{PlanAsks}
 use Rattle.node_trees.specs.Origins.{meaning, relabelled_by, source_of}
 use Rattle.node_trees.specs.Rests.{way_of}
+use Rattle.node_values.specs.Prepared.{program_in}
 use Rattle.node_work.specs.Ways.{HasWays, PlansAsk}
 use Rattle.node_work.proofs.Adding.{more_ways, still_has}
 use Rattle.node_work.proofs.alternatives.ways_of_all.Goals as goal
 
 pub returns-in-Err-clause-stop : goal.returns-in-Err-clause-stop
 returns-in-Err-clause-stop c =
-    let program = program_of c.args.checked.now in
+    let program = program_in c.args.prepared.now in
     let s = assignment program.theory c.args.origin.now.values.items in
     let code = relabelled_by (map relabelling_of c.args.origin.now.relabel.items) (behaviour_at program c.args.origin.now.node) in
     let items = c.args.composites.now in
@@ -28,7 +29,7 @@ returns-in-Err-clause-stop c =
 
 pub loop-composite-preserved : goal.loop-composite-preserved
 loop-composite-preserved c =
-    let program = program_of c.args.checked.now in
+    let program = program_in c.args.prepared.now in
     let b = meaning program (source_of c.args.origin.now) in
     let items = c.args.composites.now in
     let p = open_plan_of c.composite-item.result in
@@ -45,7 +46,7 @@ loop-composite-preserved c =
 
 pub returns-clause-complete : goal.returns-clause-complete
 returns-clause-complete c =
-    let program = program_of c.args.checked.now in
+    let program = program_in c.args.prepared.now in
     let b = meaning program (source_of c.args.origin.now) in
     let all = map way_of c.loop-composite.all.items in
     each-map (HasWays program b all) open_plan_of c.args.composites.now

@@ -1,6 +1,5 @@
 use Rattle.std.proofs.Common.{◌≡◌, ◌∷◌, [], map, ap, ◌∙◌}
 use Rattle.std.proofs.lemmas.List.{map-append}
-use Rattle.spec_core.specs.Code.{program_of}
 use Rattle.rule_model.specs.Derivations.{derivation_of}
 use Rattle.node_values.proofs.Finding.{of_some}
 use Rattle.symbolic_plans.specs.OpenPlans.{open_plan_of}
@@ -8,12 +7,13 @@ use Rattle.symbolic_plans.specs.Plans.{plan_of}
 use Rattle.node_trees.specs.Origins.{meaning, source_of}
 use Rattle.node_trees.specs.Rests.{way_of, IsWayOf}
 use Rattle.node_steps.specs.Blanks.{blank_tree}
+use Rattle.node_values.specs.Prepared.{program_in}
 use Rattle.node_work.proofs.Adding.{one_way}
 use Rattle.node_work.proofs.alternatives.with_way.Goals as goal
 
 pub returns-in_ok-push-in-Some-clause-added : goal.returns-in_ok-push-in-Some-clause-added
 returns-in_ok-push-in-Some-clause-added c =
-    let program = program_of c.args.checked.now in
+    let program = program_in c.args.prepared.now in
     let b = meaning program (source_of c.args.origin.now) in
     let found = c.in_ok-way_along.field-0 in
     one_way program b (open_plan_of c.args.composite.now) (map way_of c.args.ways.items) (map way_of c.push.new.self.items)

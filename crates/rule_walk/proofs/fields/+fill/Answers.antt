@@ -1,7 +1,8 @@
 use Rattle.std.proofs.Common.{rules, map}
-use Rattle.spec_core.specs.Code.{action_field_of, program_of}
+use Rattle.spec_core.specs.Code.{action_field_of}
 use Rattle.spec_core.specs.Terms.{term_of}
 use Rattle.rule_substitution.specs.Scopes.{terms_of}
+use Rattle.match_code.specs.Prepared.{program_in}
 use Rattle.rule_walk.proofs.Faults.{handed_on}
 use Rattle.rule_walk.proofs.Filling.{others, fields_later, mapped, split_at}
 use Rattle.rule_walk.proofs.fields.+fill.Goals as goal
@@ -10,7 +11,7 @@ pub returns-in_err-others-in-len1-up-slots-2-clause-fault :
     goal.returns-in_err-others-in-len1-up-slots-2-clause-fault
 returns-in_err-others-in-len1-up-slots-2-clause-fault t c =
     handed_on c.from_residual-in_err-others-in-len1-up-slots-2.result _ c.in_err-others-in-len1-up-slots-2.field-0.0 (search rules)
-    (fields_later (program_of c.args.checked.now).theory c.requires.executable c.args.budget (terms_of c.args.outer.now)
+    (fields_later (program_in c.args.prepared.now).theory c.requires.executable c.args.budget (terms_of c.args.outer.now)
     (terms_of c.args.inner.now) (terms_of c.in_ok-more-in-len1-up-slots-2.more) (record { number = c.in-Take.x; sort = c.in-Take.sort.0 })
     (map action_field_of c.args.fields.now) (map action_field_of (others c.args.fields.now)) c.in_ok-found-in-len1-up-slots-2.found.ops
     c.args.slots.now (others c.args.slots.now) (term_of c.in_ok-found-in-len1-up-slots-2.found.term)

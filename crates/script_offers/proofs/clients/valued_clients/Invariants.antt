@@ -8,5 +8,5 @@ use Rattle.script_offers.proofs.clients.valued_clients.Given as goal
 
 abbrev pub invariant-loop-wishes : goal.invariant-loop-wishes
 invariant-loop-wishes l =
-    Gathered (AreValued (theory_of l.checked.algebra)) all_given (IsValuedWithin (theory_of l.checked.algebra) l.budget)
+    Gathered (AreValued (theory_of l.prepared.checked.now.algebra)) all_given (IsValuedWithin (theory_of l.prepared.checked.now.algebra) l.budget)
     (map all_wished_of l.clients) (map all_wishes_of l.all.items) (map all_wished_of (drop l.wishes-index l.clients))

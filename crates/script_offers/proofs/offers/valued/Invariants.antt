@@ -9,6 +9,6 @@ use Rattle.script_offers.proofs.offers.valued.Given as goal
 
 abbrev pub invariant-loop-wish : goal.invariant-loop-wish
 invariant-loop-wish l =
-    Gathered (IsValuedWish (theory_of l.checked.algebra)) (λ w. given_by w.fields)
-    (IsValuedWithin (theory_of l.checked.algebra) l.budget) (map wished_of l.wishes) (map wish_of l.all.items)
+    Gathered (IsValuedWish (theory_of l.prepared.checked.now.algebra)) (λ w. given_by w.fields)
+    (IsValuedWithin (theory_of l.prepared.checked.now.algebra) l.budget) (map wished_of l.wishes) (map wish_of l.all.items)
     (map wished_of (drop l.wish-index l.wishes))

@@ -8,5 +8,5 @@ use Rattle.script_offers.proofs.offers.valued_fields.Given as goal
 
 abbrev pub invariant-loop-field : goal.invariant-loop-field
 invariant-loop-field l =
-    Gathered (IsValuedField (theory_of l.checked.algebra)) given_in (IsValuedWithin (theory_of l.checked.algebra) l.budget)
+    Gathered (IsValuedField (theory_of l.prepared.checked.now.algebra)) given_in (IsValuedWithin (theory_of l.prepared.checked.now.algebra) l.budget)
     (map wished_field_of l.fields) l.all.items (map wished_field_of (drop l.field-index l.fields))

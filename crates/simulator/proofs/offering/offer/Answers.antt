@@ -10,13 +10,13 @@ pub returns-in-Ok-clause-offer : goal.returns-in-Ok-clause-offer
 returns-in-Ok-clause-offer c =
     IfOk-weaker c.ask.result _ _
     (λ answered h.
-    asked_so c.args.board.now c.checked.result.now c.checked.ensures c.settings-budget.result.budget
+    asked_so c.args.board.now c.prepared.result.checked.now c.prepared.ensures.checked c.settings-budget.result.budget
     (ap (λ (k : Settings). k.budget) c.settings-budget.ensures) (wished_of c.args.wish.now) c.ask.new.board (wish_of c.in-Ok.wish)
     c.in-Ok.ensures.valued c.in-Ok.ensures.within answered h)
     c.ask.ensures.answered
 
 pub returns-in_ok-reply_of-in-Err-clause-offer : goal.returns-in_ok-reply_of-in-Err-clause-offer
 returns-in_ok-reply_of-in-Err-clause-offer c =
-    without_value c.args.board.now c.checked.result.now c.checked.ensures c.settings-budget.result.budget
+    without_value c.args.board.now c.prepared.result.checked.now c.prepared.ensures.checked c.settings-budget.result.budget
     (ap (λ (k : Settings). k.budget) c.settings-budget.ensures) (wished_of c.args.wish.now) c.in-Err.fault c.in_ok-reply_of-in-Err.field-0
     c.actions-at.result (search rules) c.in-Err.ensures.fault c.in_ok-reply_of-in-Err.ensures

@@ -6,7 +6,9 @@ use Rattle.candidate_verdicts.specs.Stored.{is_gone, without}
 use Rattle.board_laws.specs.Needed.{generation_of}
 use Rattle.rule_model.specs.Derivations.{derivation_of}
 use Rattle.spec_core.specs.Code.{program_of}
+use Rattle.spec_core.specs.Theories.{theory_of}
 use Rattle.node_trees.specs.declared.origin.Gen.{Gen}
+use Rattle.board_laws.specs.Rights.{AreForms}
 use Rattle.board_core.specs.Boards.{AreOfLiving}
 use Rattle.board_core.specs.Views.{BoardView, pieces, program, tree}
 use Rattle.board_core.specs.contracts.board.Board.{the_view}
@@ -29,17 +31,20 @@ invariant_of-self c =
     c.retain.ensures.filtered)
     ∙ kept_over (λ job. not (is_gone c.gone-gone.result.now (generation_of job))) v.out) in (
       (
-        stays (program v) (program u) v.settings.values v.settings.values v.windows v.windows (tree u) (tree u) (pieces u) (pieces u)
-            u.session.tree.next u.session.tree.next (ap program_of c.act.ensures.setting.0) refl refl refl refl refl
-            (steps (program v) v.settings.values v.windows (tree v) (tree u) v.session.tree.next u.session.tree.next
-            (derivation_of c.args.rules.now) gone c.act.new.self.tree.came (pieces v) (pieces u) c.act.ensures.step
-            (λ g e. c.drop_gone.ensures.gone g e ∙ ap (λ (l : List Gen). without l (pieces v) g e) same)
-            c.self.invariant.0.0),
-        subst (AreOfLiving (tree u) (pieces u)) (sym left)
-            (stepped_living (tree v) (tree u) gone c.act.ensures.step.ended (pieces v) (pieces u) (map job_of v.out)
-            (λ g e. c.drop_gone.ensures.gone g e ∙ ap (λ (l : List Gen). without l (pieces v) g e) same) c.self.invariant.0.1),
+        (
+          stays (program v) (program u) v.settings.values v.settings.values v.windows v.windows (tree u) (tree u) (pieces u) (pieces u)
+              u.session.tree.next u.session.tree.next (ap program_of c.act.ensures.setting.0) refl refl refl refl refl
+              (steps (program v) v.settings.values v.windows (tree v) (tree u) v.session.tree.next u.session.tree.next
+              (derivation_of c.args.rules.now) gone c.act.new.self.tree.came (pieces v) (pieces u) c.act.ensures.step
+              (λ g e. c.drop_gone.ensures.gone g e ∙ ap (λ (l : List Gen). without l (pieces v) g e) same)
+              c.self.invariant.0.0.0),
+          subst (AreOfLiving (tree u) (pieces u)) (sym left)
+              (stepped_living (tree v) (tree u) gone c.act.ensures.step.ended (pieces v) (pieces u) (map job_of v.out)
+              (λ g e. c.drop_gone.ensures.gone g e ∙ ap (λ (l : List Gen). without l (pieces v) g e) same) c.self.invariant.0.0.1),
+        ),
+        record { of_tree = tt },
       ),
-      record { of_tree = tt },
+      subst (λ k. AreForms (theory_of k.algebra) c.self.inside.forms) (sym c.act.ensures.setting.0) c.self.invariant.1,
     )
 
 pub returns-clause-out : goal.returns-clause-out

@@ -13,5 +13,5 @@ use Rattle.board_core.proofs.board.Board.decided_is_due.Goals as goal
 pub returns : goal.returns
 returns c =
     subst (λ (z : BoardView). (entry : Next PendingOffer Derivation) → decided_at z ≡ Some entry → IsDue z entry) c.self.view_is
-    (due.decided_is_due (the_view c.self.inside) c.self.invariant.0 c.log_is_a_derivation.ensures.ready
+    (due.decided_is_due (the_view c.self.inside) c.self.invariant.0.0 c.log_is_a_derivation.ensures.ready
     (subst (λ t. AreApart (trees.shape t)) c.tree.ensures c.generations_are_sound.ensures.apart) c.log_is_a_derivation.ensures.reached)

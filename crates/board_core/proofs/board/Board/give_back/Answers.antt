@@ -18,9 +18,12 @@ invariant_of-self c =
     ap (map job_of) (filter_same _ (λ job. not (same_job (job_of job) task)) _ (λ x b f' k. search rules) _ _ c.retain.ensures.filtered)
     ∙ kept_over (λ other. not (same_job other task)) v.out in (
       (
-        c.self.invariant.0.0,
-        subst (AreOfLiving (tree v) (pieces v)) (sym left)
-            (left_living (tree v) (pieces v) (map job_of v.out) c.self.invariant.0.1 (λ other. not (same_job other task))),
+        (
+          c.self.invariant.0.0.0,
+          subst (AreOfLiving (tree v) (pieces v)) (sym left)
+              (left_living (tree v) (pieces v) (map job_of v.out) c.self.invariant.0.0.1 (λ other. not (same_job other task))),
+        ),
+        c.self.invariant.0.1,
       ),
       c.self.invariant.1,
     )

@@ -14,13 +14,16 @@ invariant_of-self-2 c =
     let v = the_view c.self.inside in
     let lives : IsTrue c.lives.result = search rules in (
       (
-        puts (program v) v.settings.values v.windows (tree v) v.session.tree.next c.args.piece (pieces v) (stored c.put.new.self)
-            (subst (λ (z : BoardView). IsPieceOf (program z) (windows z) c.args.piece (tree z)) (sym c.self.view_is) c.requires.piece)
-            (subst (λ (z : BoardView). c.args.piece.generation.0 < z.session.tree.next) (sym c.self.view_is) (c.lives.ensures.begun lives))
-            c.in_ok-put.ensures.put c.self.invariant.0.0,
-        put_living (tree v) (pieces v) (map job_of v.out) c.self.invariant.0.1 c.args.piece (stored c.put.new.self)
-            (subst (λ (z : BoardView). Lives (tree z) c.args.piece.generation.0) (sym c.self.view_is) (c.lives.ensures.lives.0 lives))
-            c.in_ok-put.ensures.put,
+        (
+          puts (program v) v.settings.values v.windows (tree v) v.session.tree.next c.args.piece (pieces v) (stored c.put.new.self)
+              (subst (λ (z : BoardView). IsPieceOf (program z) (windows z) c.args.piece (tree z)) (sym c.self.view_is) c.requires.piece)
+              (subst (λ (z : BoardView). c.args.piece.generation.0 < z.session.tree.next) (sym c.self.view_is) (c.lives.ensures.begun lives))
+              c.in_ok-put.ensures.put c.self.invariant.0.0.0,
+          put_living (tree v) (pieces v) (map job_of v.out) c.self.invariant.0.0.1 c.args.piece (stored c.put.new.self)
+              (subst (λ (z : BoardView). Lives (tree z) c.args.piece.generation.0) (sym c.self.view_is) (c.lives.ensures.lives.0 lives))
+              c.in_ok-put.ensures.put,
+        ),
+        c.self.invariant.0.1,
       ),
       c.self.invariant.1,
     )

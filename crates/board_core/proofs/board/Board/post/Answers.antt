@@ -1,8 +1,10 @@
 use Rattle.std.proofs.Common.{◌∙◌, ap, map, refl, subst, sym}
 use Rattle.spec_core.specs.Code.{program_of}
+use Rattle.spec_core.specs.Theories.{theory_of}
 use Rattle.node_trees.specs.Rests.{expansion_of}
 use Rattle.node_trees.specs.Shapes.{Held, IsNodeOf, IsRight, posted}
 use Rattle.candidates.specs.Models.{job_of}
+use Rattle.board_laws.specs.Rights.{AreForms}
 use Rattle.board_core.specs.Boards.{AreOfLiving, IsWorkAt}
 use Rattle.board_core.specs.Views.{BoardView, program, tree, pieces, windows}
 use Rattle.board_core.specs.contracts.board.Board.{the_view}
@@ -19,17 +21,20 @@ invariant_of-self c =
     let g = c.args.generation.0 in
     let work = expansion_of c.args.work in (
       (
-        stays (program v) (program u) v.settings.values v.settings.values v.windows v.windows (posted g work (tree v)) (tree u) (pieces v)
-            (pieces v) v.session.tree.next u.session.tree.next (ap program_of c.post.ensures.setting.0) refl refl c.post.ensures.posted refl
-            c.post.ensures.next
-            (posts (program v) v.settings.values v.windows (tree v) g v.session.tree.next work (pieces v)
-            (subst (λ (z : BoardView). (n : Held) → IsNodeOf (tree z) g n → IsWorkAt (program z) (windows z) n.source work) (sym c.self.view_is)
-            c.requires.work)
-            (λ a b. subst (IsRight (program v)) c.post.ensures.posted (c.post.ensures.right a b)) c.self.invariant.0.0),
-        subst (λ t. AreOfLiving t (pieces v) (map job_of v.out)) (sym c.post.ensures.posted)
-            (posted_living g work (tree v) (pieces v) (map job_of v.out) c.self.invariant.0.1),
+        (
+          stays (program v) (program u) v.settings.values v.settings.values v.windows v.windows (posted g work (tree v)) (tree u) (pieces v)
+              (pieces v) v.session.tree.next u.session.tree.next (ap program_of c.post.ensures.setting.0) refl refl c.post.ensures.posted refl
+              c.post.ensures.next
+              (posts (program v) v.settings.values v.windows (tree v) g v.session.tree.next work (pieces v)
+              (subst (λ (z : BoardView). (n : Held) → IsNodeOf (tree z) g n → IsWorkAt (program z) (windows z) n.source work) (sym c.self.view_is)
+              c.requires.work)
+              (λ a b. subst (IsRight (program v)) c.post.ensures.posted (c.post.ensures.right a b)) c.self.invariant.0.0.0),
+          subst (λ t. AreOfLiving t (pieces v) (map job_of v.out)) (sym c.post.ensures.posted)
+              (posted_living g work (tree v) (pieces v) (map job_of v.out) c.self.invariant.0.0.1),
+        ),
+        record { of_tree = tt },
       ),
-      record { of_tree = tt },
+      subst (λ k. AreForms (theory_of k.algebra) c.self.inside.forms) (sym c.post.ensures.setting.0) c.self.invariant.1,
     )
 
 pub returns-clause-nodes : goal.returns-clause-nodes

@@ -9,5 +9,5 @@ returns-then-awaits_clients-clause-none c =
     let running : v.stop ≡ None = search rules in
     let goes : IsTrue c.goes_by_rules.result = search rules in
     let awaits : IsTrue c.awaits_clients.result = search rules in
-    λ e. quiet_by_clients v running (c.goes_by_rules.ensures.goes goes) (subst IsBoard c.self.view_is c.self.invariant.0)
+    λ e. quiet_by_clients v running (c.goes_by_rules.ensures.goes goes) (subst IsBoard c.self.view_is c.self.invariant.0.0)
     (c.awaits_clients.ensures.0 awaits)

@@ -11,7 +11,7 @@ use Rattle.match_code.proofs.engine.Engine.compare.Goals as goal
 pub returns-clause-decides : goal.returns-clause-decides
 returns-clause-decides c =
     let t = theory_of c.args.self.now.algebra.now in
-    let ex = c.requires.engine.executable in
+    let ex = c.requires.engine.forms.executable in
     let l = c.in-Ok.ensures.value in
     let r = subst (λ d. SpellsValue (theory_of d) (term_of c.args.right.now) c.args.budget c.in-Ok-value.right_value) c.in-Ok.ensures.algebra
     c.in-Ok-value.ensures.value in

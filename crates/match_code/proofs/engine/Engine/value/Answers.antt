@@ -20,7 +20,6 @@ returns-in_err-value-clause-engine c =
     let long : before.len ≡ length before.items = search rules in
     let kept : length after ≡ length before.items = c.in_err-value.ensures.room ∙ ap length lent in
     record {
-      executable = c.requires.engine.executable;
       forms = c.requires.engine.forms;
       room = subst (HasRoom t) (sym kept ∙ ap length (sym (written after before.items before.len (sym kept) long))) c.requires.engine.room;
       store = subst (IsStore t) (sym c.replace-before.ensures.after)

@@ -9,14 +9,14 @@ pub close-requires-clause-each : goal.close-requires-clause-each
 close-requires-clause-each c =
     let inside = c.self.inside in
     each_rests c.args.self inside.turns inside.workers c.self.view_is c.args.passes.items c.args.workers.items inside.keeper
-    c.in_ok-seats.seats.items c.in_ok-seats.ensures.seats c.requires.clients c.requires.workers c.self.invariant.keeper_rests
+    c.in_ok-seats.seats.items c.in_ok-seats.ensures.seats c.requires.clients c.requires.workers c.self.invariant.0.keeper_rests
 
 pub close-requires-clause-complete : goal.close-requires-clause-complete
 close-requires-clause-complete c =
     let inside = c.self.inside in
     each_number c.args.self inside.turns inside.workers c.self.view_is c.args.passes.items c.args.workers.items inside.keeper
-    c.in_ok-seats.seats.items c.in_ok-seats.ensures.seats c.requires.all_clients c.requires.all_workers c.self.invariant.keeper_is_last
-    c.self.invariant.seats
+    c.in_ok-seats.seats.items c.in_ok-seats.ensures.seats c.requires.all_clients c.requires.all_workers c.self.invariant.0.keeper_is_last
+    c.self.invariant.0.seats
 
 pub close-requires-2-clause-idle : goal.close-requires-2-clause-idle
 close-requires-2-clause-idle c =
