@@ -8,6 +8,7 @@ use Rattle.spec_core.specs.Theories.{ConditionalEquation, equation_of}
 use Rattle.type_contents.specs.Contents.{contents}
 use Rattle.type_contents.specs.Numbering.{all_sorts, all_operations, parts}
 use Rattle.type_contents.specs.Settled.{IsSettled}
+use Rattle.type_contents.specs.TypeIndexes.{IsTypeIndexOf}
 use Rattle.type_contents.specs.Views.{described_of, parts_at}
 use Rattle.type_images.specs.Views.{shared_of}
 use Rattle.type_equation_copies.specs.declared.equations.TypeEquations.{TypeEquations}
@@ -40,6 +41,7 @@ pub record IsPrepared (p : Prepared) : Type 0 where
   pub contents : p.contents.now ≡ contents p.types.now
   pub parts : map parts_at p.standings.items ≡ parts p.types.now
   pub numbers : AreNumbersOf p.types.now p.numbers
+  pub by_name : IsTypeIndexOf p.by_name p.types.now
 
 -- the own equations of types
 abbrev pub stated_by : List (Vec Equation Global) → List (List ConditionalEquation)

@@ -1,11 +1,12 @@
-// Items by their names.
+// The numbers of items.
 
-ghost use Rattle.std.specs.Prelude.{◌≡◌, ◌∷◌, ◌++◌, ℕ, List, [], IfOk, OnOk, map, length, bytes_eq, string_bytes, if◌then◌else◌};
+ghost use Rattle.std.specs.Prelude.{◌≡◌, List, IfOk, OnOk, map, if◌then◌else◌};
 ghost use Rattle.std.specs.List.{position_or_len};
 ghost use Rattle.type_contents.specs.Items.{is_same_item, is_in};
 ghost use Rattle.type_contents.specs.Items as items;
 ghost use Rattle.type_contents.specs.Views.{item_of, described_of};
-ghost use Rattle.type_equation_copies.specs.Indexes.{item_at, numbered_of, group_at, IsIndexOf, first_number, items_in};
+ghost use Rattle.type_contents.specs.declared.item.Item as code;
+ghost use Rattle.type_equation_copies.specs.Indexes.{item_at, number_at, IsIndexOf, items_in};
 
 use indexmap::IndexMap;
 use spec_core::memory::Memory;
@@ -13,35 +14,12 @@ use std::alloc::Global;
 use type_contents::item::Item;
 use type_contents::own::Declared;
 
-/// An item with its number.
-#[derive(Drop)]
-pub struct Numbered<'a> {
-    number: usize,
-    item: &'a Item,
-}
-
-/// Items by their names, with their numbers from 0.
+/// The numbers of items, from 0; of those that are one that of the first.
 #[derive(Drop)]
 pub struct ItemIndex<'a> {
-    // by names in small letters
-    groups: IndexMap<String, Vec<Numbered<'a>>>,
+    numbers: IndexMap<&'a Item, usize>,
+    // how many items there are
     count: usize,
-}
-
-// The number of the first of these that is the item; the given one where none is.
-fn first_number(all: &[Numbered<'_>], item: &Item, none: usize) -> usize
-    ensures { result ≡ first_number (is_same_item (item_of item.now)) none (map numbered_of all.now) }
-{
-    match all {
-        [] => none,
-        [first, others @ ..] => {
-            if item.is_same(first.item) {
-                first.number
-            } else {
-                first_number(others, item, none)
-            }
-        }
-    }
 }
 
 // The items of descriptions.
@@ -56,17 +34,13 @@ fn items_in<'a>(alloc: Global, all: &'a [Declared<'_>]) -> Result<Vec<&'a Item>,
 }
 
 impl<'a> ItemIndex<'a> {
-    // Adds an item to those of its name.
-    fn add(&mut self, alloc: Global, number: usize, item: &'a Item) -> Result<(), Memory>
-        ensures group { OnOk result ((name : List ℕ) → group_at self.new name ≡ group_at self.old name
-            ++ (if bytes_eq name (string_bytes item.now.name) then (number, item_of item.now) ∷ [] else [])) }
+    // Puts in the number of an item, in place of the one that is there.
+    fn put(&mut self, number: usize, item: &'a Item) -> Result<(), Memory>
+        ensures numbers { OnOk result ((other : code.Item) → number_at self.new other
+            ≡ (if is_same_item (item_of other) (item_of item.now) then number else number_at self.old other)) }
         ensures count { self.new.count ≡ self.old.count }
     {
-        let name = String::from_str(alloc, item.name.as_str())?;
-        self.groups
-            .entry(name)?
-            .or_default()
-            .push(Numbered { number, item })?;
+        self.numbers.insert(item, number)?;
         Ok(())
     }
 
@@ -75,11 +49,12 @@ impl<'a> ItemIndex<'a> {
         ensures { IfOk result (λ index. IsIndexOf index (map item_at items.now)) }
     {
         let mut index = ItemIndex {
-            groups: IndexMap::new(alloc),
+            numbers: IndexMap::new(alloc),
             count: items.len(),
         };
-        for (i, item) in items.iter().enumerate() {
-            index.add(alloc, i, item)?;
+        for behind in 0..items.len() {
+            let number = items.len() - 1 - behind;
+            index.put(number, items[number])?;
         }
         Ok(index)
     }
@@ -92,13 +67,13 @@ impl<'a> ItemIndex<'a> {
         ItemIndex::new(alloc, &items)
     }
 
-    // The number of an item among those of its name; how many items there are where it isn't there.
-    fn number_in_group(&self, item: &Item) -> usize
-        ensures { result ≡ first_number (is_same_item (item_of item.now)) self.now.count (group_at self.now (item_of item.now).name) }
+    // The number of an item; how many there are where it isn't there.
+    fn number_at(&self, item: &Item) -> usize
+        ensures { result ≡ number_at self.now item.now }
     {
-        match self.groups.get(item.name.as_str()) {
+        match self.numbers.get(&item) {
             None => self.count,
-            Some(found) => first_number(found, item, self.count),
+            Some(number) => *number,
         }
     }
 
@@ -106,7 +81,7 @@ impl<'a> ItemIndex<'a> {
     pub fn number(&self, item: &Item) -> usize
         ensures { (items : List items.Item) → IsIndexOf self.now items → result ≡ position_or_len (is_same_item (item_of item.now)) items }
     {
-        self.number_in_group(item)
+        self.number_at(item)
     }
 
     /// Whether an item is there. It takes no memory.

@@ -7,6 +7,7 @@ ghost use Rattle.spec_core.specs.Theories.{equation_of};
 ghost use Rattle.type_contents.specs.Lists.{listed};
 ghost use Rattle.type_contents.specs.Contents as items;
 ghost use Rattle.type_contents.specs.Numbering.{all_sorts, all_operations};
+ghost use Rattle.type_contents.specs.Uses.{number_of};
 ghost use Rattle.type_contents.specs.Views.{described_of};
 ghost use Rattle.type_images.specs.Same as same;
 ghost use Rattle.type_images.specs.Views.{numbers_of, shared_of};
@@ -24,9 +25,9 @@ use spec_core::memory::Memory;
 use std::alloc::Global;
 use type_contents::contents::Contents;
 use type_contents::flat::FlatData;
-use type_contents::numbers::number_of;
 use type_contents::order::itself_and_parts;
 use type_contents::standing::{Standing, standings_of};
+use type_contents::type_index::TypeIndex;
 use type_images::numbers::Renumbering;
 use type_images::set::firsts;
 use type_images::shared::SharedEquation;
@@ -42,6 +43,8 @@ pub struct Prepared<'f, 'a> {
     pub numbers: ItemNumbers<'f, 'a>,
     /// Of which types each is made.
     pub standings: Vec<Option<Standing>>,
+    // the numbers of the types
+    by_name: TypeIndex,
 }
 
 impl<'f, 'a> Prepared<'f, 'a> {
@@ -62,22 +65,34 @@ impl<'f, 'a> Prepared<'f, 'a> {
             contents: &flat.contents,
             numbers: ItemNumbers::of(alloc, flat)?,
             standings: standings_of(alloc, types)?,
+            by_name: TypeIndex::of(alloc, types)?,
         })
+    }
+
+    // The number of the type of this name; how many types there are where there is none.
+    fn number(&self, alloc: Global, name: &Token) -> Result<usize, Memory>
+        requires { IsPrepared self.now }
+        ensures { IfOk result (λ n. n ≡ number_of self.now.types.now name.now) }
+    {
+        self.by_name.number(alloc, name)
     }
 }
 
 // Adds the equations of the types of these names.
 fn add_all_of(
-    types: &[TypeDef],
+    alloc: Global,
+    prepared: &Prepared<'_, '_>,
     all: &mut Vec<SharedEquation>,
     found: &[Option<TypeEquations>],
     names: &[Token],
 ) -> Result<(), Memory>
+    requires { IsPrepared prepared.now }
     ensures { OnOk result (map shared_of all.new.items ≡ map shared_of all.old.items
-        ++ flat_map (contents.all_of types.now (map made_at found.now)) names.now) }
+        ++ flat_map (contents.all_of prepared.now.types.now (map made_at found.now)) names.now) }
 {
     for name in names {
-        add_shared(all, all_at(found, number_of(types, name)))?;
+        let number = prepared.number(alloc, name)?;
+        add_shared(all, all_at(found, number))?;
     }
     Ok(())
 }
@@ -102,16 +117,17 @@ fn imports_of(imports: &Option<Vec<Token>>) -> &[Token]
 // All equations of a type that is declared with these.
 fn declared_all(
     alloc: Global,
-    types: &[TypeDef],
+    prepared: &Prepared<'_, '_>,
     found: &[Option<TypeEquations>],
     imports: &[Token],
     own: &[SharedEquation],
 ) -> Result<Vec<SharedEquation>, Memory>
+    requires { IsPrepared prepared.now }
     ensures { IfOk result (λ all. map shared_of all.items ≡ same.firsts
-        (flat_map (contents.all_of types.now (map made_at found.now)) imports.now ++ map shared_of own.now)) }
+        (flat_map (contents.all_of prepared.now.types.now (map made_at found.now)) imports.now ++ map shared_of own.now)) }
 {
     let mut all = Vec::new(alloc);
-    add_all_of(types, &mut all, found, imports)?;
+    add_all_of(alloc, prepared, &mut all, found, imports)?;
     add_shared(&mut all, own)?;
     each_once(alloc, &all)
 }
@@ -119,24 +135,21 @@ fn declared_all(
 // All equations of a copy.
 fn copied_all(
     alloc: Global,
-    types: &[TypeDef],
+    prepared: &Prepared<'_, '_>,
     found: &[Option<TypeEquations>],
     source: &Token,
     actuals: &[Token],
     news: &Renumbering,
 ) -> Result<Vec<SharedEquation>, Memory>
+    requires { IsPrepared prepared.now }
     ensures { IfOk result (λ all. map shared_of all.items ≡ same.firsts
-        (flat_map (contents.all_of types.now (map made_at found.now)) actuals.now
-        ++ contents.copied types.now (map made_at found.now) source.now (numbers_of news.now))) }
+        (flat_map (contents.all_of prepared.now.types.now (map made_at found.now)) actuals.now
+        ++ contents.copied prepared.now.types.now (map made_at found.now) source.now (numbers_of news.now))) }
 {
     let mut all = Vec::new(alloc);
-    add_all_of(types, &mut all, found, actuals)?;
-    add_images(
-        alloc,
-        &mut all,
-        news,
-        all_at(found, number_of(types, source)),
-    )?;
+    add_all_of(alloc, prepared, &mut all, found, actuals)?;
+    let number = prepared.number(alloc, source)?;
+    add_images(alloc, &mut all, news, all_at(found, number))?;
     each_once(alloc, &all)
 }
 
@@ -154,7 +167,8 @@ fn newly_copied(
 {
     let types = prepared.types;
     let among = itself_and_parts(alloc, types, &prepared.standings, source)?;
-    let content = all_at(found, number_of(types, source));
+    let number = prepared.number(alloc, source)?;
+    let content = all_at(found, number);
     let ordered = in_order(alloc, found, &among, content, types.len())?;
     new_images(alloc, news, &ordered)
 }
@@ -176,7 +190,7 @@ fn copied(
         (map made_at found.now) source.now (numbers_of news.now)) }
 {
     Ok(TypeEquations {
-        all: copied_all(alloc, prepared.types, found, source, actuals, news)?,
+        all: copied_all(alloc, prepared, found, source, actuals, news)?,
         brought: newly_copied(alloc, prepared, found, source, news)?,
     })
 }
@@ -189,13 +203,14 @@ fn declared(
     own: &[Equation],
     imports: &[Token],
 ) -> Result<TypeEquations, Memory>
+    requires { IsPrepared prepared.now }
     ensures all { IfOk result (λ e. (equations_of e).all ≡ same.firsts
         (flat_map (contents.all_of prepared.now.types.now (map made_at found.now)) imports.now ++ map equation_of own.now)) }
     ensures brought { IfOk result (λ e. (equations_of e).brought ≡ map equation_of own.now) }
 {
     let brought = shared(alloc, own)?;
     Ok(TypeEquations {
-        all: declared_all(alloc, prepared.types, found, imports, &brought)?,
+        all: declared_all(alloc, prepared, found, imports, &brought)?,
         brought,
     })
 }
@@ -214,7 +229,8 @@ fn renamed(
     ensures brought { IfOk result (λ e. (equations_of e).brought ≡ contents.newly_copied prepared.now.types.now
         (map made_at found.now) source.now (copies.copy_numbers prepared.now.types.now [] pairs.now)) }
 {
-    let content = prepared.contents.of_type(number_of(prepared.types, source));
+    let number = prepared.number(alloc, source)?;
+    let content = prepared.contents.of_type(number);
     let news = prepared.numbers.in_copy(alloc, content.table, &[], pairs)?;
     copied(alloc, prepared, found, source, &[], &news)
 }
@@ -237,7 +253,8 @@ fn actualized(
         (map made_at found.now) source.now (copies.copy_numbers prepared.now.types.now
         (items.formals_of prepared.now.types.now (items.contents prepared.now.types.now) source.now) pairs.now)) }
 {
-    let content = prepared.contents.of_type(number_of(prepared.types, source));
+    let number = prepared.number(alloc, source)?;
+    let content = prepared.contents.of_type(number);
     let news = prepared
         .numbers
         .in_copy(alloc, content.table, content.formals, pairs)?;

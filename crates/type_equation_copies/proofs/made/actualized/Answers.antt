@@ -14,7 +14,7 @@ returns-clause-all c =
     let table = map made_at c.args.found.now in
     subst (λ news. IfOk c.copied.result (λ e. map shared_of e.all.items ≡ same.firsts (flat_map (contents.all_of types table) c.args.actuals.now ++ contents.copied types table c.args.source.now news)))
     (c.in_ok-news.ensures types c.requires.numbers ∙ ap (λ f. copies.copy_numbers types f c.args.pairs.now)
-    (c.of_type-content.ensures.formals ∙ ap (λ t. (slice_index_or t c.number_of.result items.no_content).formals) c.requires.contents ∙ ap (λ k. (slice_index_or (items.contents types) k items.no_content).formals) c.number_of.ensures.number))
+    (c.of_type-content.ensures.formals ∙ ap (λ t. (slice_index_or t c.in_ok-number.number items.no_content).formals) c.requires.contents ∙ ap (λ k. (slice_index_or (items.contents types) k items.no_content).formals) c.in_ok-number.ensures))
     c.copied.ensures.all
 
 pub returns-clause-brought : goal.returns-clause-brought
@@ -23,5 +23,5 @@ returns-clause-brought c =
     let table = map made_at c.args.found.now in
     subst (λ news. IfOk c.copied.result (λ e. map shared_of e.brought.items ≡ contents.newly_copied types table c.args.source.now news))
     (c.in_ok-news.ensures types c.requires.numbers ∙ ap (λ f. copies.copy_numbers types f c.args.pairs.now)
-    (c.of_type-content.ensures.formals ∙ ap (λ t. (slice_index_or t c.number_of.result items.no_content).formals) c.requires.contents ∙ ap (λ k. (slice_index_or (items.contents types) k items.no_content).formals) c.number_of.ensures.number))
+    (c.of_type-content.ensures.formals ∙ ap (λ t. (slice_index_or t c.in_ok-number.number items.no_content).formals) c.requires.contents ∙ ap (λ k. (slice_index_or (items.contents types) k items.no_content).formals) c.in_ok-number.ensures))
     c.copied.ensures.brought

@@ -1,9 +1,14 @@
-use Rattle.std.proofs.Common.{◌≡◌, ℕ, List, map, take, length}
-use Rattle.type_equation_copies.specs.Indexes.{item_at, group_at, named_from}
+use Rattle.std.proofs.Common.{◌≡◌, ◌+◌, ◌-◌, drop, length}
+use Rattle.std.specs.List.{position_or_len}
+use Rattle.type_contents.specs.declared.item.Item as code
+use Rattle.type_contents.specs.Items.{is_same_item}
+use Rattle.type_contents.specs.Views.{item_of}
+use Rattle.type_equation_copies.specs.Indexes.{item_at, number_at}
 use Rattle.type_equation_copies.proofs.item_index.ItemIndex.new.Given as goal
 
-abbrev pub invariant-loop-i : goal.invariant-loop-i
-invariant-loop-i l = record {
-  groups : (name : List ℕ) → group_at l.index name ≡ named_from name 0 (map item_at (take l.i l.items));
+abbrev pub invariant-loop-behind : goal.invariant-loop-behind
+invariant-loop-behind l = record {
   count : l.index.count ≡ length l.items;
+  numbers : (x : code.Item) → number_at l.index x ≡ (length l.items - l.behind)
+      + position_or_len (λ y. is_same_item (item_of x) (item_at y)) (drop (length l.items - l.behind) l.items);
 }
