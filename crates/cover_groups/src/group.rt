@@ -1,21 +1,22 @@
 // Equations with one left side up to names of variables.
 
-ghost use Rattle.std.specs.Prelude.{ℕ, ◌≡◌, ◌↔◌, List, IfOk, OnOk, IsTrue, map};
+ghost use Rattle.std.specs.Prelude.{ℕ, ◌≡◌, ◌↔◌, IfOk, OnOk, IsTrue, map};
 ghost use Rattle.cover_groups.specs.Fullness.{HaveAtMost};
 ghost use Rattle.cover_groups.specs.Groups.{AllFrom, AllGive, HasFullGroup, IsListAdded, premise_instance, premises_of, premises_at};
-ghost use Rattle.cover_search.specs.Heads.{equations_at, headed, headed_in, IsHeadIndexOf};
+ghost use Rattle.cover_search.specs.Heads.{equations_at};
 ghost use Rattle.cover_search.specs.Indexes.{IsIndexOf};
+ghost use Rattle.cover_search.specs.Lefts.{IsLeftIndexOf};
 ghost use Rattle.spec_core.specs.Cover.{IsGroup};
 ghost use Rattle.spec_core.specs.Lists.{Each, IsOneOf};
 ghost use Rattle.spec_core.specs.Orthogonality.{HasNoLooseVariables, IsOrthogonal};
 ghost use Rattle.spec_core.specs.Sorts.{FitsData};
 ghost use Rattle.spec_core.specs.Substitutions.{substitution_of};
-ghost use Rattle.spec_core.specs.Terms.{TermTrees, variable, apply, term_of};
-ghost use Rattle.spec_core.specs.Theories.{ConditionalEquation, premise_of, equation_of, theory_of};
+ghost use Rattle.spec_core.specs.Terms.{variable, term_of};
+ghost use Rattle.spec_core.specs.Theories.{premise_of, equation_of, theory_of};
 
 use crate::full::is_full;
 use crate::renaming::renaming;
-use cover_search::{DataIndex, HeadIndex, Headed};
+use cover_search::{DataIndex, Headed, LeftIndex};
 use spec_core::equation::{DataSpec, Equation};
 use spec_core::memory::Memory;
 use spec_core::term::Term;
@@ -67,46 +68,39 @@ fn add_list(
     }
 }
 
-// The equations of the operation of a left side, if it has any.
-fn headed_as<'i>(heads: &'i HeadIndex<'_>, left: &Term) -> Option<&'i [Headed<'i>]>
-    ensures { (es : List ConditionalEquation) (f : ℕ) (ts : TermTrees) → IsHeadIndexOf heads.now es → term_of left.now ≡ apply f ts →
-        headed_in result ≡ headed f es }
-{
-    match left {
-        Term::Var(_) => None,
-        Term::App(op, _) => heads.headed(*op),
-    }
-}
-
 // The lists of premises of those of these equations that have this left side, under its names.
-fn lists_among(alloc: Global, headed: &[Headed<'_>], left: &Term) -> Result<Vec<Premises>, Memory>
+fn lists_among(
+    alloc: Global,
+    equations: &[Headed<'_>],
+    left: &Term,
+) -> Result<Vec<Premises>, Memory>
     requires applied { (x : ℕ) → term_of left.now ≡ variable x → ⊥ }
-    requires closed { Each HasNoLooseVariables (equations_at headed.now) }
-    ensures from { IfOk result (λ lists. AllFrom (equations_at headed.now) (term_of left.now) (map premises_of lists.items)) }
-    ensures give { IfOk result (λ lists. AllGive (term_of left.now) (map premises_of lists.items) (equations_at headed.now)) }
+    requires closed { Each HasNoLooseVariables (equations_at equations.now) }
+    ensures from { IfOk result (λ lists. AllFrom (equations_at equations.now) (term_of left.now) (map premises_of lists.items)) }
+    ensures give { IfOk result (λ lists. AllGive (term_of left.now) (map premises_of lists.items) (equations_at equations.now)) }
 {
     let mut lists = Vec::new(alloc);
-    for one in headed {
+    for one in equations {
         add_list(alloc, left, one.equation, &mut lists)?;
     }
     Ok(lists)
 }
 
-// The lists of premises of the equations with this left side, under its names.
+// The lists of premises of the equations with an equation's left side, under its names.
 fn group_lists(
     alloc: Global,
     algebra: &DataSpec,
-    heads: &HeadIndex<'_>,
-    left: &Term,
+    lefts: &LeftIndex<'_>,
+    equation: &Equation,
 ) -> Result<Vec<Premises>, Memory>
-    requires applied { (x : ℕ) → term_of left.now ≡ variable x → ⊥ }
+    requires applied { (x : ℕ) → (equation_of equation.now).left ≡ variable x → ⊥ }
     requires closed { Each HasNoLooseVariables (theory_of algebra.now).equations }
-    requires heads { IsHeadIndexOf heads.now (theory_of algebra.now).equations }
-    ensures { IfOk result (λ lists. IsGroup (theory_of algebra.now) (term_of left.now) (map premises_of lists.items)) }
+    requires lefts { IsLeftIndexOf lefts.now (theory_of algebra.now).equations }
+    ensures { IfOk result (λ lists. IsGroup (theory_of algebra.now) (equation_of equation.now).left (map premises_of lists.items)) }
 {
-    match headed_as(heads, left) {
+    match lefts.keyed_as(equation) {
         None => Ok(Vec::new(alloc)),
-        Some(headed) => lists_among(alloc, headed, left),
+        Some(keyed) => lists_among(alloc, keyed, &equation.left),
     }
 }
 
@@ -151,7 +145,7 @@ pub fn has_full_group(
     requires listed { IsOneOf (equation_of equation.now) (theory_of algebra.now).equations }
     ensures decides { IfOk result (λ full. IsTrue full ↔ HasFullGroup (theory_of algebra.now) (equation_of equation.now)) }
 {
-    let lists = group_lists(alloc, algebra, &index.heads, &equation.left)?;
+    let lists = group_lists(alloc, algebra, &index.lefts, equation)?;
     let all = slices_of(alloc, &lists)?;
     is_full(longest(&all), &all, alloc, algebra, index, &equation.vars)
 }

@@ -1,12 +1,11 @@
 -- The constructors of a sort.
-use Rattle.std.proofs.Common.{ℕ, zero, suc, ◌≡◌, ◌∙◌, ◌<◌, ◌≤◌, ◌+◌, ◌-◌, ◌⊎◌, nat_eq, refl, sym, ap, subst, arith, length, map, take, get_or, add-one, List, [], ◌∷◌, ◌++◌, drop, Bool, true, false, Some, inl, inr, if◌then◌else◌}
+use Rattle.std.proofs.Common.{ℕ, zero, suc, ◌≡◌, ◌∙◌, ◌<◌, ◌≤◌, ◌+◌, ◌-◌, refl, sym, ap, subst, arith, length, map, take, get_or, add-one, List, [], ◌∷◌, ◌++◌, drop, Bool, Some, inl, inr}
 use Rattle.std.specs.List.{slice_get}
-use Rattle.std.proofs.lemmas.Bool.{eqb-true, eqb-false}
-use Rattle.std.proofs.lemmas.List.{append-nil, map-append, same_from_push, take_more}
-use Rattle.std.proofs.lemmas.Option.{same_Some, slice_get_within}
+use Rattle.std.proofs.lemmas.List.{map-append, same_from_push, take_more}
+use Rattle.std.proofs.lemmas.Option.{same_Some}
 use Rattle.spec_core.specs.Constructors.{IsConstructor}
 use Rattle.spec_core.specs.Sorts.{OnSome}
-use Rattle.spec_core.specs.Terms.{TermTrees, apply}
+use Rattle.spec_core.specs.Terms.{TermTrees}
 use Rattle.spec_core.specs.Numbers.{op_number}
 use Rattle.spec_core.specs.Theories.{Operation, Theory, operation_of}
 use Rattle.spec_core.specs.declared.items.Op.{Op}
@@ -15,7 +14,6 @@ use Rattle.cover_search.specs.Constructors.{IsConstructorOf, AreConstructorsBelo
 use Rattle.cover_search.specs.Makers.{IsMaker}
 use Rattle.cover_search.specs.Search.{OpenBy, IsAlternative, IsOpened, AreAlternatives}
 use Rattle.cover_search.specs.Sorts.{AreInhabited}
-use Rattle.cover_search.proofs.Options.{on_some}
 use Rattle.cover_search.proofs.Stacking.{makers_in, no_alternatives, one_more}
 
 no_last : (rest : List ℕ) (c : ℕ) → rest ++ c ∷ [] ≡ [] → ⊥

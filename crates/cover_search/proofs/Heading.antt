@@ -1,5 +1,5 @@
 -- Equations by their heads.
-use Rattle.std.proofs.Common.{ℕ, ◌≡◌, ◌∙◌, ◌<◌, ◌+◌, arith, nat_eq, refl, sym, ap, subst, length, take, map, get_or, List, [], ◌∷◌, ◌++◌, Bool, true, false, inl, inr, if◌then◌else◌}
+use Rattle.std.proofs.Common.{ℕ, ◌≡◌, ◌∙◌, ◌<◌, ◌+◌, arith, nat_eq, refl, sym, ap, subst, length, take, map, get_or, List, [], ◌∷◌, ◌++◌, Bool, true, false, if◌then◌else◌}
 use Rattle.std.specs.Prelude.{◌↔◌, IsTrue}
 use Rattle.std.specs.List.{filter}
 use Rattle.std.proofs.lemmas.Bool.{eq-eqb, eqb-true}
@@ -9,8 +9,10 @@ use Rattle.spec_core.specs.Lists.{Each}
 use Rattle.spec_core.specs.Terms.{TermTree, TermTrees, variable, apply}
 use Rattle.spec_core.specs.Theories.{ConditionalEquation, Heads, equation_of}
 use Rattle.spec_core.proofs.Lists.{map_next}
+use Rattle.type_images.specs.Groups.{key_of}
 use Rattle.cover_search.specs.declared.heads.Headed.{Headed}
 use Rattle.cover_search.specs.Heads.{is_application, is_headed, headed, headed_equation, equations_at}
+use Rattle.cover_search.specs.Lefts.{keyed}
 
 -- one more equation of a list that a loop goes over
 pub headed_next : (f : ℕ) (es : List Equation) (i : ℕ) (e : Equation) → i < length es → e ≡ get_or es i e →
@@ -18,6 +20,13 @@ pub headed_next : (f : ℕ) (es : List Equation) (i : ℕ) (e : Equation) → i 
     headed f (map equation_of (take i es)) ++ (if is_headed f (equation_of e) then equation_of e ∷ [] else [])
 headed_next f es i e within at =
     ap (headed f) (map_next equation_of es i e within at) ∙ filter-append (is_headed f) (map equation_of (take i es)) (equation_of e ∷ [])
+
+-- the same of a key
+pub keyed_next : (k : ℕ) (es : List Equation) (i : ℕ) (e : Equation) → i < length es → e ≡ get_or es i e →
+    keyed k (map equation_of (take (i + 1) es)) ≡
+    keyed k (map equation_of (take i es)) ++ (if nat_eq k (key_of (equation_of e)) then equation_of e ∷ [] else [])
+keyed_next k es i e within at =
+    ap (keyed k) (map_next equation_of es i e within at) ∙ filter-append (λ d. nat_eq k (key_of d)) (map equation_of (take i es)) (equation_of e ∷ [])
 
 -- what holds of those that a test chooses, and of all others, holds of all
 pub each_back : {A : Type 0} (P : A → Type 0) (p : A → Bool) (xs : List A) → ((x : A) → p x ≡ false → P x) → Each P (filter p xs) → Each P xs

@@ -1,3 +1,4 @@
+pub mod Candidates
 pub mod Constructing
 pub mod Ending
 pub mod Facing
@@ -6,3 +7,4 @@ pub mod Inhabiting
 pub mod Options
 pub mod Searching
 pub mod Stacking
+pub mod There

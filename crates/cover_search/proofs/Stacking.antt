@@ -1,21 +1,20 @@
 -- The stack of the search.
-use Rattle.std.proofs.Common.{ℕ, zero, suc, ◌≡◌, ◌<◌, ◌≤◌, ◌↔◌, List, [], ◌∷◌, ◌++◌, Option, Some, None, Bool, length, map, drop, get_or, refl, ap, sym, subst, ◌∙◌, arith, inl, inr, ◌⊎◌}
+use Rattle.std.proofs.Common.{ℕ, suc, ◌≡◌, ◌≤◌, ◌↔◌, List, [], ◌∷◌, ◌++◌, Option, Some, None, Bool, length, refl, ap, sym, subst, ◌∙◌, inl, inr, ◌⊎◌}
 use Rattle.std.proofs.lemmas.List.{drop_all}
-use Rattle.spec_core.specs.declared.signature.OpDecl.{OpDecl}
 use Rattle.spec_core.specs.Lists.{Each, OneOf}
 use Rattle.spec_core.specs.Terms.{TermTrees, apply}
-use Rattle.spec_core.specs.Theories.{Operation, Theory, operation_of}
+use Rattle.spec_core.specs.Theories.{Operation, Theory}
 use Rattle.equation_sets.specs.Members.{IsIn}
 use Rattle.equation_shapes.specs.Shapes.{AreOfShape, MeetAll}
 use Rattle.cover_search.proofs.Facing.{all_cover_if}
-use Rattle.cover_search.specs.declared.arguments.Arguments.{Arguments}
+use Rattle.cover_search.specs.declared.pending.Pending.{Pending}
 use Rattle.cover_search.specs.Sorts.{IsInhabited, AreIn}
 use Rattle.cover_search.specs.Search.{variables, faced_any, opened_any, OpenBy, IsFirstMeeting, Finds, FindsFirst, covered, uncovered, split, in_none, later, here, arguments_of, stack_onto, stack_of, IsAlternative, AreAlternatives, LeadsBack}
 
-pub pushed_onto : (todo : List Arguments) (a : Arguments) (done : List TermTrees) →
-    stack_onto (todo ++ a ∷ []) done ≡ arguments_of a ∷ stack_onto todo done
+pub pushed_onto : (todo : List Pending) (a : Pending) (done : List TermTrees) →
+    stack_onto (todo ++ a ∷ []) done ≡ arguments_of a.pattern ∷ stack_onto todo done
 pushed_onto [] a done = refl
-pushed_onto (b ∷ todo) a done = pushed_onto todo a (arguments_of b ∷ done)
+pushed_onto (b ∷ todo) a done = pushed_onto todo a (arguments_of b.pattern ∷ done)
 
 pub makers_in : (theory : Theory) (marks : List Bool) (sorts : List ℕ) → ((s : ℕ) → IsIn s marks ↔ IsInhabited theory s) →
     AreIn marks sorts ↔ Each (IsInhabited theory) sorts
@@ -28,19 +27,6 @@ makers_in theory marks (s ∷ sorts) exact =
 pub one_more : (theory : Theory) (s : ℕ) (row ps : TermTrees) (c : ℕ) (d : Operation) (ds : List Operation) (qs old before new : List TermTrees) → OpenBy theory s row ps (suc c) ds qs → before ≡ qs ++ old → IsAlternative theory s row ps c d before new → (rs : List TermTrees) × OpenBy theory s row ps c (d ∷ ds) rs × (new ≡ rs ++ old)
 one_more theory s row ps c d ds qs old before new o e (inl a) = (opened_any (apply c (variables d.args)) row ps ∷ qs, inl (a.0, (qs, refl, o)), a.1 ∙ ap (λ x. opened_any (apply c (variables d.args)) row ps ∷ x) e)
 one_more theory s row ps c d ds qs old before new o e (inr a) = (qs, inr (a.0, o), a.1 ∙ e)
-
-drop_at : (xs : List OpDecl) (i : ℕ) (d : OpDecl) → i < length xs → d ≡ get_or xs i d →
-    drop i (map operation_of xs) ≡ operation_of d ∷ drop (suc i) (map operation_of xs)
-drop_at [] i d w a = absurd (omega arith)
-drop_at (x ∷ xs) zero d w a = ap (λ y. operation_of y ∷ map operation_of xs) (sym a)
-drop_at (x ∷ xs) (suc i) d w a = drop_at xs i d (omega arith) a
-
-pub alternatives_next : (theory : Theory) (s : ℕ) (row ps : TermTrees) (ops : List OpDecl) (c k : ℕ) (d : OpDecl) (old before new : List TermTrees) → theory.operations ≡ map operation_of ops → k ≡ suc c → c < length ops → d ≡ get_or ops c d → AreAlternatives theory s row ps k old before → IsAlternative theory s row ps c (operation_of d) before new → AreAlternatives theory s row ps c old new
-alternatives_next theory s row ps ops c k d old before new same e w a h i =
-    let h' = subst (λ n. AreAlternatives theory s row ps n old before) e h in
-    let o : OpenBy theory s row ps (suc c) (drop (suc c) (map operation_of ops)) h'.0 = subst (λ xs. OpenBy theory s row ps (suc c) (drop (suc c) xs) h'.0) same h'.1 in
-    let r = one_more theory s row ps c (operation_of d) (drop (suc c) (map operation_of ops)) h'.0 old before new o h'.2 i in
-    (r.0, subst (λ xs. OpenBy theory s row ps c (drop c xs) r.0) (sym same) (subst (λ xs. OpenBy theory s row ps c xs r.0) (sym (drop_at ops c d w a)) r.1), r.2)
 
 pub no_alternatives : (theory : Theory) (s : ℕ) (row ps : TermTrees) (c : ℕ) (old : List TermTrees) → length theory.operations ≤ c →
     AreAlternatives theory s row ps c old old
@@ -103,5 +89,5 @@ module _ (theory : Theory) (rows : List TermTrees) where
   not_facing (r ∷ rs) ps row (inl m) e = inl (all_cover_if r ps m.0 (ap (λ x. faced_any x ps) (sym m.1) ∙ e))
   not_facing (r ∷ rs) ps row (inr m) e = inr (not_facing rs ps row m.1 e)
 
-pub popped : (old new : List Arguments) (a : Arguments) → old ≡ new ++ a ∷ [] → stack_of old ≡ arguments_of a ∷ stack_of new
+pub popped : (old new : List Pending) (a : Pending) → old ≡ new ++ a ∷ [] → stack_of old ≡ arguments_of a.pattern ∷ stack_of new
 popped old new a e = ap stack_of e ∙ pushed_onto new a []

@@ -1,7 +1,10 @@
+pub mod Candidates
 pub mod Constructors
 pub mod Heads
 pub mod Indexes
+pub mod Lefts
 pub mod Makers
 pub mod Search
 pub mod Sorts
+pub mod Splits
 pub mod Turns

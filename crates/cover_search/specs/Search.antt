@@ -2,6 +2,7 @@
 use Rattle.std.specs.Prelude.{ℕ, suc, ◌≡◌, ◌⊎◌, Bool, List, [], ◌∷◌, ◌++◌, drop, map, Option, Some, None}
 use Rattle.spec_core.specs.Lists.{Each, OneOf}
 use Rattle.cover_search.specs.declared.arguments.Arguments.{Arguments}
+use Rattle.cover_search.specs.declared.pending.Pending.{Pending}
 use Rattle.spec_core.specs.Terms.{TermTree, TermTrees, variable, apply, no_terms, and_term, terms, term_of}
 use Rattle.spec_core.specs.Theories.{Operation, Theory}
 use Rattle.equation_shapes.specs.Shapes.{AreOfShape, MeetAll}
@@ -45,6 +46,31 @@ abbrev mutual
   opened_any u no_terms ps = ps
   opened_any u (and_term r rs) no_terms = no_terms
 
+-- the operation of a term that isn't a variable
+abbrev pub operation_of : TermTree → Option ℕ
+operation_of (variable x) = None
+operation_of (apply f ts) = Some f
+
+-- the first answer where there is that variable in the first term of a list, else the second
+abbrev pub there_first : Option ℕ → Option ℕ → Option ℕ → Option ℕ
+there_first (Some s) one other = one
+there_first None one other = other
+
+-- the operation that another row has at the place of that variable; none where it has a variable there, or above it
+abbrev mutual
+  pub operation_there : TermTree → TermTree → TermTree → Option ℕ
+  operation_there (variable x) p q = None
+  operation_there (apply g rs) (variable s) q = operation_of q
+  operation_there (apply g rs) (apply f ps) (variable y) = None
+  operation_there (apply g rs) (apply f ps) (apply h qs) = operation_there_in rs ps qs
+
+  pub operation_there_in : TermTrees → TermTrees → TermTrees → Option ℕ
+  operation_there_in no_terms ps qs = None
+  operation_there_in (and_term r rs) no_terms qs = None
+  operation_there_in (and_term r rs) (and_term p ps) no_terms = None
+  operation_there_in (and_term r rs) (and_term p ps) (and_term q qs) =
+      there_first (faced r p) (operation_there r p q) (operation_there_in rs ps qs)
+
 -- the patterns in which that variable, of this sort, is replaced by each constructor that has values among these operations, the
 -- first of which has the number c
 abbrev pub OpenBy : Theory → ℕ → TermTrees → TermTrees → ℕ → List Operation → List TermTrees → Type 0
@@ -82,11 +108,11 @@ abbrev pub rows_of : List Arguments → List TermTrees
 rows_of rows = map arguments_of rows
 
 -- the patterns of a stack, the last one first
-abbrev pub stack_onto : List Arguments → List TermTrees → List TermTrees
+abbrev pub stack_onto : List Pending → List TermTrees → List TermTrees
 stack_onto [] done = done
-stack_onto (a ∷ todo) done = stack_onto todo (arguments_of a ∷ done)
+stack_onto (p ∷ todo) done = stack_onto todo (arguments_of p.pattern ∷ done)
 
-abbrev pub stack_of : List Arguments → List TermTrees
+abbrev pub stack_of : List Pending → List TermTrees
 stack_of todo = stack_onto todo []
 
 -- before the stack stands the pattern opened by the operation c, declared as d, if that is a constructor of the sort that has values

@@ -1,17 +1,22 @@
 // What stands for a variable of a pattern: the constructors of its sort.
 
-ghost use Rattle.std.specs.Prelude.{◌≡◌, IfOk, OnOk, map};
+ghost use Rattle.std.specs.Prelude.{ℕ, ◌≡◌, List, IfOk, OnOk, map};
+ghost use Rattle.cover_search.specs.Candidates.{AreMeeting, HasCandidates};
 ghost use Rattle.cover_search.specs.Indexes.{IsIndexOf};
 ghost use Rattle.cover_search.specs.Search.{variables, stack_of, IsOpened, AreAlternatives};
+ghost use Rattle.cover_search.specs.Splits.{IsSplitOf};
+ghost use Rattle.spec_core.specs.Lists.{Each};
 ghost use Rattle.spec_core.specs.Numbers.{sort_number};
 ghost use Rattle.spec_core.specs.Sorts.{FitsData};
-ghost use Rattle.spec_core.specs.Terms.{apply, term_of, terms};
+ghost use Rattle.spec_core.specs.Terms.{TermTrees, apply, term_of, terms};
 ghost use Rattle.spec_core.specs.Theories.{theory_of, operation_of};
 
 use crate::are_in;
 use crate::arguments::Arguments;
 use crate::index::DataIndex;
 use crate::opening::opened_any;
+use crate::pending::Pending;
+use crate::split::Split;
 use equation_sets::set::NumberSet;
 use spec_core::equation::DataSpec;
 use spec_core::items::{Op, Sort};
@@ -39,17 +44,26 @@ fn push_alternative(
     declaration: &OpDecl,
     row: &[Term],
     pattern: &[Term],
-    todo: &mut Vec<Arguments>,
+    split: &Split,
+    todo: &mut Vec<Pending>,
 ) -> Result<(), Memory>
-    ensures { OnOk result (IsOpened inhabited.now (terms (map term_of row.now)) (terms (map term_of pattern.now)) op.0
+    ensures opened { OnOk result (IsOpened inhabited.now (terms (map term_of row.now)) (terms (map term_of pattern.now)) op.0
         (operation_of declaration.now) (stack_of todo.old.items) (stack_of todo.new.items)) }
+    ensures candidates { OnOk result ((rows : List TermTrees) (numbers : List ℕ) →
+        IsSplitOf split.now rows (terms (map term_of row.now)) (terms (map term_of pattern.now)) numbers →
+        AreMeeting rows (terms (map term_of pattern.now)) numbers → Each (HasCandidates rows) todo.old.items →
+        Each (HasCandidates rows) todo.new.items) }
 {
     if !are_in(&declaration.args, inhabited) {
         return Ok(());
     }
     let made = constructor_over(alloc, op, &declaration.args)?;
     let items = opened_any(row, pattern, alloc, &made)?;
-    todo.push(Arguments { items })?;
+    let candidates = split.candidates(alloc, op)?;
+    todo.push(Pending {
+        pattern: Arguments { items },
+        candidates,
+    })?;
     Ok(())
 }
 
@@ -61,12 +75,17 @@ pub fn push_alternatives(
     sort: u32,
     row: &[Term],
     pattern: &[Term],
-    todo: &mut Vec<Arguments>,
+    split: &Split,
+    todo: &mut Vec<Pending>,
 ) -> Result<(), Memory>
     requires fits { FitsData (theory_of algebra.now) }
     requires index { IsIndexOf index.now (theory_of algebra.now) }
-    ensures { OnOk result (AreAlternatives (theory_of algebra.now) sort (terms (map term_of row.now)) (terms (map term_of pattern.now)) 0
+    ensures alternatives { OnOk result (AreAlternatives (theory_of algebra.now) sort (terms (map term_of row.now)) (terms (map term_of pattern.now)) 0
         (stack_of todo.old.items) (stack_of todo.new.items)) }
+    ensures candidates { OnOk result ((rows : List TermTrees) (numbers : List ℕ) →
+        IsSplitOf split.now rows (terms (map term_of row.now)) (terms (map term_of pattern.now)) numbers →
+        AreMeeting rows (terms (map term_of pattern.now)) numbers → Each (HasCandidates rows) todo.old.items →
+        Each (HasCandidates rows) todo.new.items) }
 {
     let constructors = index.constructors.of_sort(sort);
     let mut place = constructors.len();
@@ -74,7 +93,16 @@ pub fn push_alternatives(
         place -= 1;
         let op = constructors[place];
         let declaration = &algebra.signature.ops[op.0 as usize];
-        push_alternative(alloc, &index.inhabited, op, declaration, row, pattern, todo)?;
+        push_alternative(
+            alloc,
+            &index.inhabited,
+            op,
+            declaration,
+            row,
+            pattern,
+            split,
+            todo,
+        )?;
     }
     Ok(())
 }

@@ -7,16 +7,18 @@ ghost use Rattle.spec_core.specs.Theories.{theory_of};
 
 use crate::constructors::ConstructorIndex;
 use crate::heads::HeadIndex;
+use crate::lefts::LeftIndex;
 use crate::sorts::inhabited_sorts;
 use equation_sets::set::NumberSet;
 use spec_core::equation::DataSpec;
 use spec_core::memory::Memory;
 use std::alloc::Global;
 
-/// The equations of each operation, the constructors of each sort, and the sorts that have a value.
+/// The equations of each operation and of each left side, the constructors of each sort, and the sorts that have a value.
 #[derive(Drop)]
 pub struct DataIndex<'a> {
     pub heads: HeadIndex<'a>,
+    pub lefts: LeftIndex<'a>,
     pub constructors: ConstructorIndex,
     pub inhabited: NumberSet,
 }
@@ -28,10 +30,12 @@ impl<'a> DataIndex<'a> {
         ensures { IfOk result (λ index. IsIndexOf index (theory_of algebra.now)) }
     {
         let heads = HeadIndex::of(alloc, &algebra.equations)?;
+        let lefts = LeftIndex::of(alloc, &algebra.equations)?;
         let constructors = ConstructorIndex::of(alloc, algebra, &heads)?;
         let inhabited = inhabited_sorts(alloc, algebra, &heads)?;
         Ok(DataIndex {
             heads,
+            lefts,
             constructors,
             inhabited,
         })

@@ -1,7 +1,7 @@
 // Where a row of patterns tells apart what a pattern leaves open.
 
 ghost use Rattle.std.specs.Prelude.{◌≡◌, IfOk, map};
-ghost use Rattle.cover_search.specs.Search.{faced, faced_any, opened, opened_any};
+ghost use Rattle.cover_search.specs.Search.{faced, faced_any, opened, opened_any, operation_of, operation_there, operation_there_in};
 ghost use Rattle.spec_core.specs.Terms.{term_of, terms};
 
 use spec_core::memory::Memory;
@@ -77,4 +77,54 @@ pub fn opened_any(
         }
     }
     Ok(all)
+}
+
+// The operation of a term that isn't a variable.
+fn operation_of(term: &Term) -> Option<u32>
+    ensures { result ≡ operation_of (term_of term.now) }
+{
+    match term {
+        Term::Var(_) => None,
+        Term::App(op, _) => Some(op.0),
+    }
+}
+
+// The operation that another row has at the place of that variable; none where it has a variable there, or above it.
+#[cycle(there)]
+fn operation_there(row: &Term, pattern: &Term, other: &Term) -> Option<u32>
+    ensures { result ≡ operation_there (term_of row.now) (term_of pattern.now) (term_of other.now) }
+{
+    match row {
+        Term::Var(_) => None,
+        Term::App(_, rows) => match pattern {
+            Term::Var(_) => operation_of(other),
+            Term::App(_, patterns) => match other {
+                Term::Var(_) => None,
+                Term::App(_, others) => operation_there_in(rows, patterns, others),
+            },
+        },
+    }
+}
+
+/// The same of three lists. It takes no memory.
+#[cycle(there)]
+pub fn operation_there_in(rows: &[Term], patterns: &[Term], others: &[Term]) -> Option<u32>
+    ensures { result ≡ operation_there_in (terms (map term_of rows.now)) (terms (map term_of patterns.now)) (terms (map term_of others.now)) }
+{
+    match rows {
+        [] => None,
+        [row, rows @ ..] => match patterns {
+            [] => None,
+            [pattern, patterns @ ..] => match others {
+                [] => None,
+                [other, others @ ..] => {
+                    let facing = faced(row, pattern);
+                    match facing {
+                        None => operation_there_in(rows, patterns, others),
+                        Some(_) => operation_there(row, pattern, other),
+                    }
+                }
+            },
+        },
+    }
 }

@@ -21,18 +21,18 @@ loop-one-preserved c =
     let old = map premises_of c.loop-one.lists.items in
     let new = map premises_of c.add_list.new.lists.items in
     record {
-      from = from_more (equations_at c.args.headed.now) l e old new
-          (some_image (λ y. e ≡ y) headed_equation c.args.headed.now c.args.headed.now c.loop-one.one-index
+      from = from_more (equations_at c.args.equations.now) l e old new
+          (some_image (λ y. e ≡ y) headed_equation c.args.equations.now c.args.equations.now c.loop-one.one-index
           c.one-item.result refl c.loop-one-test.true c.one-item.is refl)
           c.in_ok-add_list.ensures c.loop-one.invariant.from;
-      give = subst (AllGive l new) (sym (map_next headed_equation c.args.headed.now c.loop-one.one-index c.one-item.result c.loop-one-test.true c.one-item.is))
-          (give_more l e old new (equations_at (take c.loop-one.one-index c.args.headed.now)) c.in_ok-add_list.ensures c.loop-one.invariant.give);
+      give = subst (AllGive l new) (sym (map_next headed_equation c.args.equations.now c.loop-one.one-index c.one-item.result c.loop-one-test.true c.one-item.is))
+          (give_more l e old new (equations_at (take c.loop-one.one-index c.args.equations.now)) c.in_ok-add_list.ensures c.loop-one.invariant.give);
     }
 
 pub returns : goal.returns
 returns c = record {
   from = c.loop-one.invariant.from;
   give = subst (λ xs. AllGive (term_of c.args.left.now) (map premises_of c.loop-one.lists.items) (equations_at xs))
-      (take_all c.loop-one.one-index c.args.headed.now c.loop-one-test.false)
+      (take_all c.loop-one.one-index c.args.equations.now c.loop-one-test.false)
       c.loop-one.invariant.give;
 }

@@ -6,6 +6,6 @@ use Rattle.cover_groups.proofs.group.lists_among.Given as goal
 
 abbrev pub invariant-loop-one : goal.invariant-loop-one
 invariant-loop-one l = record {
-  from : AllFrom (equations_at l.headed) (term_of l.left) (map premises_of l.lists.items);
-  give : AllGive (term_of l.left) (map premises_of l.lists.items) (equations_at (take l.one-index l.headed));
+  from : AllFrom (equations_at l.equations) (term_of l.left) (map premises_of l.lists.items);
+  give : AllGive (term_of l.left) (map premises_of l.lists.items) (equations_at (take l.one-index l.equations));
 }

@@ -40,11 +40,12 @@ loop-place-preserved c =
           (stack_of c.args.todo.now.items) (stack_of c.loop-place.todo.items) (stack_of c.push_alternative.new.todo.items)
           c.requires.index.inhabited parted
           (declared ops (get_or cs (place - 1) none).0 c.index-declaration.result.now (omega (arith, within, length-map ops operation_of)) c.index-declaration.ensures)
-          c.loop-place.invariant.coming c.in_ok-push_alternative.ensures;
+          c.loop-place.invariant.coming c.in_ok-push_alternative.ensures.opened;
+      candidates = λ rows numbers is h all. c.in_ok-push_alternative.ensures.candidates rows numbers is h (c.loop-place.invariant.candidates rows numbers is h all);
     }
 
-pub returns : goal.returns
-returns c =
+pub returns-clause-alternatives : goal.returns-clause-alternatives
+returns-clause-alternatives c =
     let cs = c.of_sort-constructors.result.now in
     let none : c.loop-place.place ≡ 0 = omega (arith, c.loop-place-test.false) in
     all_came (theory_of c.args.algebra.now) c.args.sort (terms (map term_of c.args.row.now)) (terms (map term_of c.args.pattern.now))

@@ -1,4 +1,4 @@
-use Rattle.spec_core.specs.Theories.{operation_of, theory_of}
+use Rattle.spec_core.specs.Theories.{theory_of}
 use Rattle.spec_core.proofs.Lists.{untrue}
 use Rattle.cover_search.specs.Constructors.{constructors_at}
 use Rattle.cover_search.proofs.Constructing.{not_added}
