@@ -1,14 +1,15 @@
 -- A call that is performed by a right side in postfix order.
-use Rattle.std.proofs.Common.{ℕ, ◌≡◌, ◌+◌, ◌<◌, ◌≤◌, List, [], ◌∷◌, ◌++◌, length, map, drop, reverse, refl, sym, ap, subst}
-use Rattle.std.proofs.Common.{◌∙◌, arith, append_assoc, inl, inr, ◌⊎◌, take, get_or}
+use Rattle.std.proofs.Common.{ℕ, zero, suc, ◌≡◌, ◌+◌, ◌<◌, ◌≤◌, List, [], ◌∷◌, ◌++◌, length, map, drop, reverse, refl, sym, ap, subst}
+use Rattle.std.proofs.Common.{◌∙◌, arith, append_assoc, slice_index_or, inl, inr, take, get_or}
 use Rattle.std.proofs.lemmas.List.{map-append, reverse-append}
 use Rattle.spec_core.specs.Budgets.{IsBeyond}
 use Rattle.spec_core.specs.Executable.{IsExecutable}
 use Rattle.spec_core.specs.declared.items.Op.{Op}
 use Rattle.spec_core.specs.Lists.{Each}
 use Rattle.spec_core.proofs.Lists.{each_implied, take_next}
+use Rattle.spec_core.specs.Orthogonality.{IsAmong, AreApart, AllApart}
 use Rattle.spec_core.specs.Terms.{TermTree, TermTrees, variable, apply, no_terms, and_term, width, instance, Occurs}
-use Rattle.spec_core.specs.Theories.{Theory, Heads}
+use Rattle.spec_core.specs.Theories.{Premise, ConditionalEquation, Theory}
 use Rattle.value_nodes.specs.declared.node.Node.{Node}
 use Rattle.value_nodes.specs.Nodes.{tree_at, IsNode}
 use Rattle.value_nodes.proofs.Nodes.{longer_itself}
@@ -17,15 +18,15 @@ use Rattle.rewriter.specs.declared.step.Step.TheVariants.{Put, Call}
 use Rattle.rewriter.specs.Calls.{arguments_of, Pending, Wanting}
 use Rattle.rewriter.specs.Machine.{Task, put, call, plan, plan_all, Comes, Keeps}
 use Rattle.rewriter.specs.Runs.{Coming}
-use Rattle.rewriter.specs.Steps.{equation_at, bound_at, put_by, task_of, IsStep, IsMatch}
-use Rattle.rewriter.proofs.Calls.{three_ways, match_heads, pending_skips, pending_found, wanting_uses, wanting_spent, right_nodes}
+use Rattle.rewriter.specs.Steps.{no_equation, equation_at, bound_at, put_by, task_of, IsStep}
+use Rattle.rewriter.proofs.Calls.{at_place, match_heads, pending_skips, pending_found, wanting_uses, wanting_spent, right_nodes}
 use Rattle.rewriter.proofs.Moves.{same, keep_on, exceeds_before}
 use Rattle.rewriter.proofs.Tops.{drop_map, each_under}
 use Rattle.match_code.specs.declared.frames.Frame.{Frame}
 use Rattle.match_code.specs.declared.rights.Symbol.{Symbol}
 use Rattle.match_code.specs.declared.rights.Symbol.TheVariants.{Variable, Operation}
 use Rattle.match_code.specs.declared.rights.Right.{Right}
-use Rattle.match_code.specs.Rights.{task_by, OnVariable, IsRight, IsUnconditional, IsRule}
+use Rattle.match_code.specs.Rights.{task_by, OnVariable, IsUnconditional, IsRule}
 use Rattle.match_code.specs.States.{IsState}
 use Rattle.match_code.proofs.States.{state_stepped, state_spent, turn_one}
 
@@ -71,26 +72,32 @@ puts_kept theory s (x ∷ xs) tasks vals u =
     (sym (turn_one (s x) (map s xs) vals)) (puts_kept theory s xs tasks (s x ∷ vals) u) in
     record { back = q.back; on = q.on; met = q.met; large = q.large }
 
--- of the equations from the first of an operation on, the first that matches is the first of all
-pub first_matches : (theory : Theory) → IsExecutable theory → (rows : List Node) (bound : List ℕ) (f count : ℕ) (there : List ℕ)
-    (first place : ℕ) (right : Right) → IsRight theory right → IsUnconditional theory f → right.place ≡ place →
-    IsMatch rows bound (equation_at theory place).left (apply f (arguments_of rows count there)) →
-    ((j : ℕ) → j < first → j < length theory.equations → Heads f (equation_at theory j) → ⊥) →
-    ((j : ℕ) → first ≤ j → j < place → j < length theory.equations → (s : ℕ → TermTree) →
-    instance s (equation_at theory j).left ≡ apply f (arguments_of rows count there) → ⊥) →
-    IsRule theory rows bound f count there right
-first_matches theory ex rows bound f count there first place right known plain e fits before onward = record {
-  right = known;
-  unconditional = plain;
-  fits = subst (λ i. IsMatch rows bound (equation_at theory i).left (apply f (arguments_of rows count there))) (sym e) fits;
-  none_before = λ j b m s q. by_place j (subst (λ i. j < i) e b) m s q (three_ways j first);
-}
-  where
-    by_place : (j : ℕ) → j < place → j < length theory.equations → (s : ℕ → TermTree) →
-        instance s (equation_at theory j).left ≡ apply f (arguments_of rows count there) → (j < first) ⊎ (j ≡ first) ⊎ (first < j) → ⊥
-    by_place j b m s q (inl h) = before j h m (match_heads theory ex j f (arguments_of rows count there) s m q)
-    by_place j b m s q (inr (inl h)) = onward j (omega (arith, h)) b m s q
-    by_place j b m s q (inr (inr h)) = onward j (omega (arith, h)) b m s q
+-- of equations without premises that are apart, no two match the same
+apart_at : (theory : Theory) (es : List ConditionalEquation) (i j : ℕ) → i < j → j < length es → AllApart theory es →
+    AreApart theory (slice_index_or es i no_equation) (slice_index_or es j no_equation)
+apart_at theory [] i j h l a = absurd (omega (arith, l))
+apart_at theory (e ∷ es) zero zero h l a = absurd (omega (arith, h))
+apart_at theory (e ∷ es) zero (suc j) h l a = at_place (AreApart theory e) es j a.0 (omega (arith, l))
+apart_at theory (e ∷ es) (suc i) zero h l a = absurd (omega (arith, h))
+apart_at theory (e ∷ es) (suc i) (suc j) h l a = apart_at theory es i j (omega (arith, h)) (omega (arith, l)) a.1
+
+none_among : (r : ℕ → ℕ) (p : Premise) → IsAmong r [] [] p → ⊥
+none_among r p (inl o) = o
+none_among r p (inr o) = o
+
+no_common : (theory : Theory) (e d : ConditionalEquation) → AreApart theory e d → e.premises ≡ [] → d.premises ≡ [] →
+    (s z : ℕ → TermTree) → instance s e.left ≡ instance z d.left → ⊥
+no_common theory e d (inl h) a b s z q = h s z q
+no_common theory e d (inr x) a b s z q =
+    none_among x.name x.p (subst (λ ps. IsAmong x.name [] ps x.p) b (subst (λ ps. IsAmong x.name ps d.premises x.p) a x.here))
+
+none_before : (theory : Theory) → IsExecutable theory → (f : ℕ) (vs : TermTrees) (place : ℕ) (s : ℕ → TermTree) →
+    place < length theory.equations → IsUnconditional theory f → instance s (equation_at theory place).left ≡ apply f vs → (j : ℕ) → 0 ≤ j →
+    j < place → j < length theory.equations → (z : ℕ → TermTree) → instance z (equation_at theory j).left ≡ apply f vs → ⊥
+none_before theory ex f vs place s h plain q j a b m z r =
+    no_common theory (equation_at theory j) (equation_at theory place)
+    (apart_at theory theory.equations j place b h ex.orthogonal.apart)
+    (plain j m (match_heads theory ex j f vs z m r)) (plain place h (match_heads theory ex place f vs s h q)) z s (r ∙ sym q)
 
 module _ (theory : Theory) (ex : IsExecutable theory) (t : TermTree) (budget : ℕ) (rows : List Node) (frames : List Frame) (op : Op)
     (k : ℕ) (todo : List Step) (there : List ℕ) (uses : ℕ) (s : IsState theory t budget rows frames (Call op k ∷ todo) there uses)
@@ -105,7 +112,8 @@ module _ (theory : Theory) (ex : IsExecutable theory) (t : TermTree) (budget : �
   to_rule : Keeps (Pending theory rows 0 op.0 k todo there) uses (Wanting theory rows bound right.place 0 op.0 k todo there) uses
   to_rule =
       keep_on uses uses uses
-      (pending_skips theory rows 0 right.place op.0 k todo there uses (omega arith) (λ j a b m z q. rule.none_before j b m z q))
+      (pending_skips theory rows 0 right.place op.0 k todo there uses (omega arith)
+      (none_before theory ex op.0 (arguments_of rows k there) right.place (put_by rows bound) rule.right.there rule.unconditional rule.fits.fits))
       (pending_found theory ex rows right.place op.0 k todo there bound uses rule.right.there rule.fits)
 
   -- the nodes for which a right side's variables stand

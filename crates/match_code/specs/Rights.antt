@@ -2,7 +2,7 @@
 use Rattle.std.specs.Prelude.{ℕ, ◌≡◌, ◌<◌, List, [], ◌++◌, map, length, slice_index_or, Bool, false, IsTrue}
 use Rattle.spec_core.specs.Executable.{IsExecutable}
 use Rattle.spec_core.specs.Lists.{Each}
-use Rattle.spec_core.specs.Terms.{TermTree, apply, instance, Occurs}
+use Rattle.spec_core.specs.Terms.{TermTree, apply, Occurs}
 use Rattle.spec_core.specs.Theories.{Theory, Heads}
 use Rattle.value_nodes.specs.declared.node.Node.{Node}
 use Rattle.rewriter.specs.Calls.{arguments_of, HasRoom}
@@ -12,7 +12,7 @@ use Rattle.rewriter.specs.Steps.{equation_at, IsMatch}
 use Rattle.match_code.specs.declared.rights.Symbol.{Symbol}
 use Rattle.match_code.specs.declared.rights.Symbol.TheVariants.{Variable, Operation}
 use Rattle.match_code.specs.declared.rights.Right.{Right}
-pub use Rattle.match_code.specs.declared.rights.Forms.{Forms}
+use Rattle.match_code.specs.declared.rights.Forms.{Forms}
 
 -- the task for which a symbol stands, under what the variables stand for
 abbrev pub task_by : (ℕ → TermTree) → Symbol → Task
@@ -56,10 +56,8 @@ pub record AreForms (theory : Theory) (forms : Forms) : Type 0 where
   pub unconditional : AreUnconditional theory forms.unconditional.items
   pub rights : Each (IsRight theory) forms.rights.items
 
--- the right side of the first equation that matches an operation over so many values, where no equation of the operation has a premise
+-- the right side of an equation that matches an operation over so many values, where no equation of the operation has a premise
 pub record IsRule (theory : Theory) (rows : List Node) (bound : List ℕ) (f count : ℕ) (there : List ℕ) (rule : Right) : Type 0 where
   pub right : IsRight theory rule
   pub unconditional : IsUnconditional theory f
   pub fits : IsMatch rows bound (equation_at theory rule.place).left (apply f (arguments_of rows count there))
-  pub none_before : (j : ℕ) → j < rule.place → j < length theory.equations → (s : ℕ → TermTree) →
-      instance s (equation_at theory j).left ≡ apply f (arguments_of rows count there) → ⊥

@@ -14,6 +14,7 @@ mod rights;
 mod run;
 mod state;
 mod tidying;
+mod trees;
 mod uses;
 
 pub use engine::Engine;

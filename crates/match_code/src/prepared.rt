@@ -14,7 +14,7 @@ use spec_core::term::Term;
 use spec_core::value::Value;
 use std::alloc::Global;
 
-/// A checked specification, with what evaluates its terms.
+/// A checked specification, with what evaluates its terms. It is three references, and making one takes no memory.
 #[derive(Drop)]
 pub struct Prepared<'a> {
     pub checked: &'a Checked,

@@ -10,6 +10,7 @@ ghost use Rattle.rewriter.specs.Machine.{plan, plan_all, put};
 ghost use Rattle.rewriter.specs.Steps.{equation_at};
 ghost use Rattle.match_code.specs.Rights.{task_by, OnVariable, IsRight, IsUnconditional, IsNoted, AreUnconditional, AreForms};
 
+use crate::trees::Trees;
 use rewriter::equations::{head_of, most_variables, numbered};
 use rewriter::heads::FirstEquations;
 use spec_core::equation::DataSpec;
@@ -53,12 +54,14 @@ pub struct Right {
 }
 
 /// What is made once of the equations: which of them each operation heads, the greatest number of variables of one, of which operations
-/// it is noted that none of their equations has a premise, and the right sides by the equations' numbers.
+/// it is noted that none of their equations has a premise, decision trees for the left sides, and the right sides by the equations'
+/// numbers.
 #[derive(Drop)]
 pub struct Forms {
     pub heads: FirstEquations,
     pub room: usize,
     pub unconditional: Vec<bool>,
+    pub trees: Trees,
     pub rights: Vec<Right>,
 }
 
@@ -215,6 +218,7 @@ impl Forms {
             heads,
             room: most_variables(algebra),
             unconditional,
+            trees: Trees::new(alloc, algebra)?,
             rights,
         })
     }

@@ -28,8 +28,9 @@ use std::alloc::{AllocError, Global};
 use value_nodes::equality::same_value;
 use value_nodes::node::Nodes;
 
-// Whether an equation's left side matches an operation over so many values.
-fn fits(
+/// Whether an equation's left side matches an operation over so many values from the top; the nodes for which its variables stand are put
+/// into `bound`. It recurs as deep as the left side nests, and takes no memory.
+pub fn fits(
     algebra: &DataSpec,
     nodes: &Nodes,
     values: &Values,
@@ -58,9 +59,8 @@ fn fits(
     }
 }
 
-/// The first equation from this one on that matches an operation over so many values from the top, with the nodes for which its variables
-/// stand in `bound`; or the number of equations. It takes no memory.
-pub fn find(
+// The first equation from this one on that matches, or the number of equations.
+fn find(
     algebra: &DataSpec,
     heads: &FirstEquations,
     nodes: &Nodes,
