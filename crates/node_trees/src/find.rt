@@ -1,13 +1,14 @@
 // Nodes found by their generations, and expanded.
 
-ghost use Rattle.std.specs.Prelude.{◌≡◌, ◌++◌, IfOk, IfSome, IfNone, None, Some};
-ghost use Rattle.node_trees.specs.Differences.{IsDifference, missing};
+ghost use Rattle.std.specs.Prelude.{◌≡◌, ◌++◌, true, false, IfOk, IfSome, IfNone, OnOk, None, Some};
+ghost use Rattle.node_trees.specs.Differences.{AreGenerationsOf, IsDifference, missing};
 ghost use Rattle.node_trees.specs.Posting.{is_there, posted_first};
 ghost use Rattle.node_trees.specs.Rests.{expansion_of};
-ghost use Rattle.node_trees.specs.Shapes.{shape_of, held_of, node_at};
+ghost use Rattle.node_trees.specs.Shapes.{Shape, shape_of, held_of, node_at};
 
 use crate::branch::Branch;
 use crate::expansion::Expansion;
+use crate::generations::Generations;
 use crate::node::Node;
 use crate::origin::Gen;
 use spec_core::memory::Memory;
@@ -36,13 +37,28 @@ impl Branch {
         }
     }
 
-    /// Whether a node has this generation. It takes no memory.
-    pub fn has(&self, generation: Gen) -> bool
-        ensures has { result ≡ is_there (node_at generation.0 (shape_of self.now)) }
+    // Expands the first node of this generation, from the left. Where there is none, it gives the expansion back.
+    fn post_first(&mut self, generation: Gen, work: Expansion) -> Option<Expansion>
+        ensures posted { shape_of self.new ≡ posted_first generation.0 (expansion_of work) (shape_of self.old) }
+        ensures found { IfNone result (is_there (node_at generation.0 (shape_of self.old)) ≡ true) }
+        ensures missed { IfSome result (λ back. (back ≡ work) × (is_there (node_at generation.0 (shape_of self.old)) ≡ false)
+            × (shape_of self.new ≡ shape_of self.old)) }
     {
-        match self.node_at(generation) {
-            Some(_) => true,
-            None => false,
+        match self {
+            Branch::Leaf(node) => {
+                if node.generation.0 == generation.0 {
+                    node.work = Some(work);
+                    None
+                } else {
+                    Some(work)
+                }
+            }
+            Branch::Ended => Some(work),
+            Branch::Over(_, part) => part.post_first(generation, work),
+            Branch::Between(_, left, right) => match left.post_first(generation, work) {
+                None => None,
+                Some(work) => right.post_first(generation, work),
+            },
         }
     }
 
@@ -50,32 +66,17 @@ impl Branch {
     pub fn post(&mut self, generation: Gen, work: Expansion)
         ensures posted { shape_of self.new ≡ posted_first generation.0 (expansion_of work) (shape_of self.old) }
     {
-        match self {
-            Branch::Leaf(node) => {
-                if node.generation.0 == generation.0 {
-                    node.work = Some(work)
-                }
-            }
-            Branch::Ended => {}
-            Branch::Over(_, part) => part.post(generation, work),
-            Branch::Between(_, left, right) => {
-                if left.has(generation) {
-                    left.post(generation, work)
-                } else {
-                    right.post(generation, work)
-                }
-            }
-        }
+        self.post_first(generation, work);
     }
 
-    /// Appends the generations of this tree's nodes that the other tree doesn't have, from the left.
-    pub fn put_missing(&self, other: &Branch, generations: &mut Vec<Gen>) -> Result<(), Memory>
-        ensures missing { IfOk result (λ _.
-            generations.new.items ≡ generations.old.items ++ missing (shape_of self.now) (shape_of other.now)) }
+    // Appends the generations of this tree's nodes that aren't those of another tree, from the left.
+    fn put_missing(&self, others: &Generations, generations: &mut Vec<Gen>) -> Result<(), Memory>
+        ensures missing { OnOk result ((other : Shape) → AreGenerationsOf others.now other →
+            generations.new.items ≡ generations.old.items ++ missing (shape_of self.now) other) }
     {
         match self {
             Branch::Leaf(node) => {
-                if other.has(node.generation) {
+                if others.has(node.generation) {
                     Ok(())
                 } else {
                     generations.push(node.generation)?;
@@ -83,10 +84,10 @@ impl Branch {
                 }
             }
             Branch::Ended => Ok(()),
-            Branch::Over(_, part) => part.put_missing(other, generations),
+            Branch::Over(_, part) => part.put_missing(others, generations),
             Branch::Between(_, left, right) => {
-                left.put_missing(other, generations)?;
-                right.put_missing(other, generations)
+                left.put_missing(others, generations)?;
+                right.put_missing(others, generations)
             }
         }
     }
@@ -96,7 +97,8 @@ impl Branch {
 pub fn difference(alloc: Global, old: &Branch, new: &Branch) -> Result<Vec<Gen>, Memory>
     ensures difference { IfOk result (λ all. IsDifference all.items (shape_of old.now) (shape_of new.now)) }
 {
+    let others = Generations::of(alloc, new)?;
     let mut all = Vec::new(alloc);
-    old.put_missing(new, &mut all)?;
+    old.put_missing(&others, &mut all)?;
     Ok(all)
 }

@@ -6,6 +6,7 @@ pub mod composite;
 pub mod expansion;
 pub mod find;
 pub mod fresh;
+mod generations;
 pub mod left;
 pub mod node;
 pub mod origin;
