@@ -48,7 +48,7 @@ either_still : (a b c : Bool) → a || b ≡ true → (b ≡ true → c ≡ true
 either_still true b c e h = refl
 either_still false b c e h = h e
 
-either_so : (a b : Bool) → b ≡ true → a || b ≡ true
+pub either_so : (a b : Bool) → b ≡ true → a || b ≡ true
 either_so true b e = refl
 either_so false b e = e
 
@@ -103,7 +103,7 @@ both_so : (a b : Bool) → a ≡ true → b ≡ true → a && b ≡ true
 both_so true b e f = f
 both_so false b e f = let no : false ≡ true = e in absurd cc
 
-first_so : (a b : Bool) → a ≡ true → a || b ≡ true
+pub first_so : (a b : Bool) → a ≡ true → a || b ≡ true
 first_so true b e = refl
 first_so false b e = let no : false ≡ true = e in absurd cc
 
@@ -210,7 +210,7 @@ join : (v : Sought) (ps qs rs ss : List PlacedPlan) → sift v ps ≡ sift v rs 
 join v ps qs rs ss e f =
     flat_map-append (plans_sought v) ps qs ∙ ap (λ z. z ++ sift v qs) e ∙ ap (λ z. sift v rs ++ z) f ∙ sym (flat_map-append (plans_sought v) rs ss)
 
-part_over : (o : Unary) (v : Sought) (ps : List PlacedPlan) →
+pub part_over : (o : Unary) (v : Sought) (ps : List PlacedPlan) →
     sift v (map (placed_over_one o) ps) ≡ fill (λ p. element (over_one o p) ∷ []) (sift (sought_below (under_one o) v) ps)
 part_over o v ps =
     ap (sift v) (as_stepped o ps)
@@ -220,7 +220,7 @@ turns : (v : Sought) (f : OpenPlan → OpenPlan) → ((p : OpenPlan) → (f p).k
     sift v ps ≡ sift v rs → sift v (map (turned_there f) ps) ≡ sift v (map (turned_there f) rs)
 turns v f same ps rs e = sift_turned v f same ps ∙ ap (fill (λ p. element (f p) ∷ [])) e ∙ sym (sift_turned v f same rs)
 
-alone_sifted : (gates : Synchronised) (row : Row) (v : Sought) (ps : List PlacedPlan) →
+pub alone_sifted : (gates : Synchronised) (row : Row) (v : Sought) (ps : List PlacedPlan) →
     sift v (placed_alone gates row ps) ≡ fill (λ p. map element (plans_alone gates row p)) (sift (sought_below (by_itself gates) v) ps)
 alone_sifted gates row v ps =
     sift_stepped (by_itself gates) v (λ p. map made (plans_alone gates row p)) (λ p. map element (plans_alone gates row p))
@@ -271,7 +271,7 @@ back (made p ∷ ps) a = ap (λ z. made p ∷ z) (back ps a)
 back (awaited g steps ∷ ps) a = absurd a
 
 module _ (theory : Theory) where
-  both_sifted : (gates : Synchronised) (v : Sought) (ps qs : List PlacedPlan) →
+  pub both_sifted : (gates : Synchronised) (v : Sought) (ps qs : List PlacedPlan) →
       sift v (flat_map (stepped (with_another gates) (placed_partners theory gates qs)) ps) ≡
       fill (λ p. partners_sought theory gates v p qs) (sift (sought_below (with_another gates) v) ps)
   both_sifted gates v ps qs =

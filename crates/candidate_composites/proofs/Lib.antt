@@ -1,3 +1,4 @@
+pub mod StandingFirst
 pub mod Kept
 pub mod Placed
 pub mod Staying

@@ -1,3 +1,4 @@
+pub mod Foremost
 pub mod Joining
 pub mod Kept
 pub mod Known

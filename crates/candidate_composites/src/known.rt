@@ -62,8 +62,12 @@ fn either(first: bool, second: bool) -> bool
     first || second
 }
 
-// Whether some of a node's own composites is of an action that is sought, and may come up.
-fn is_some_kept(composites: &[OpenComposite], sought: &Sought, joining: Joining<'_, '_>) -> bool
+/// Whether some of a node's own composites is of an action that is sought, and may come up.
+pub(crate) fn is_some_kept(
+    composites: &[OpenComposite],
+    sought: &Sought,
+    joining: Joining<'_, '_>,
+) -> bool
     ensures { result ≡ has_made (map made
         (filter (λ p. is_kept (sought_in sought.now) (joining_of joining.entry) p.kind) (map open_plan_of composites.now))) }
 {

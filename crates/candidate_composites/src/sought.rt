@@ -313,8 +313,8 @@ impl Sought {
         }
     }
 
-    // Whether actions of some kind are sought.
-    fn seeks_some(&self) -> bool
+    /// Whether actions of some kind are sought. It takes no memory.
+    pub(crate) fn seeks_some(&self) -> bool
         ensures { result ≡ seeks_some (sought_in self.now) }
     {
         match self {

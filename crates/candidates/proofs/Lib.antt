@@ -7,3 +7,4 @@ pub mod Stepping
 pub mod Asking
 pub mod Numbering
 pub mod Walking
+pub mod StandingFirst

@@ -12,6 +12,7 @@ ghost use Rattle.candidate_search.specs.Searches.{query_of};
 ghost use Rattle.node_trees.specs.Shapes.{shape_of};
 ghost use Rattle.candidate_verdicts.specs.Stored.{stored};
 ghost use Rattle.candidate_composites.specs.Tables.{windows_in};
+ghost use Rattle.candidate_composites.specs.Foremost.{IsForemost};
 ghost use Rattle.candidate_composites.specs.Known.{placed_of, placed_plans};
 ghost use Rattle.candidates.specs.Listed.{trees_sought};
 ghost use Rattle.candidates.specs.Jobs.{jobs_of};
@@ -25,6 +26,7 @@ use crate::composites::Composites;
 use crate::job::{NodeJob, first_unjudged, is_expanded};
 use crate::known_tree::KnownTree;
 use crate::walk::{Met, Walk, kinds_sought};
+use candidate_composites::foremost::{Foremost, foremost_of};
 use candidate_composites::known::sought_composites;
 use candidate_composites::part::Part;
 use candidate_search::searches::TreeSearch;
@@ -188,13 +190,23 @@ impl<'a> KnownTree<'a> {
         }
     }
 
-    // The first tree for which a query asks.
+    // What stands first among the trees for which a query may ask, as far as it is told without any list.
+    fn foremost(&self, alloc: Global, search: &TreeSearch<'_>) -> Result<Foremost, Memory>
+        ensures { IfOk result (λ f. IsForemost f (trees_for self.now (query_of search.now))) }
+    {
+        match &self.composites {
+            Composites::Unlisted => {
+                let sought = kinds_sought(alloc, search)?;
+                foremost_of(alloc, self.tree, &sought)
+            }
+            Composites::Lent(_) => Ok(Foremost::Untold),
+            Composites::Listed(_) => Ok(Foremost::Untold),
+        }
+    }
+
+    // The first tree for which a query asks, along those for which it may ask.
     #[tactic(auto, using(crate::proofs::Asking::first_after))]
-    pub(crate) fn first_asked(
-        &self,
-        alloc: Global,
-        search: TreeSearch<'_>,
-    ) -> Result<First<Rules>, Memory>
+    fn first_along(&self, alloc: Global, search: TreeSearch<'_>) -> Result<First<Rules>, Memory>
         ensures { IfOk result (λ f. first_of derivation_of f ≡
             first_of_those self.now (query_of search.entry) (trees_for self.now (query_of search.entry))) }
     {
@@ -208,6 +220,23 @@ impl<'a> KnownTree<'a> {
             }
         }
         Ok(First::Absent)
+    }
+
+    // The first tree for which a query asks.
+    #[tactic(auto, using(crate::proofs::StandingFirst::open_at_gap, crate::proofs::StandingFirst::absent_in_none))]
+    pub(crate) fn first_asked(
+        &self,
+        alloc: Global,
+        search: TreeSearch<'_>,
+    ) -> Result<First<Rules>, Memory>
+        ensures { IfOk result (λ f. first_of derivation_of f ≡
+            first_of_those self.now (query_of search.entry) (trees_for self.now (query_of search.entry))) }
+    {
+        match self.foremost(alloc, &search)? {
+            Foremost::Gap(_) => Ok(First::Open),
+            Foremost::Nothing => Ok(First::Absent),
+            Foremost::Untold => self.first_along(alloc, search),
+        }
     }
 
     // All trees for which a query asks.
@@ -233,9 +262,9 @@ impl<'a> KnownTree<'a> {
         Ok(All::These(those))
     }
 
-    // What the search for the first tree still asks.
+    // What the search for the first tree still asks, along those for which it may ask.
     #[tactic(auto, using(crate::proofs::Asking::first_asked))]
-    pub(crate) fn missing_to_first(
+    fn missing_along(
         &self,
         alloc: Global,
         search: TreeSearch<'_>,
@@ -254,6 +283,30 @@ impl<'a> KnownTree<'a> {
             }
         }
         Ok(Missing::Unheld)
+    }
+
+    // What the search for the first tree still asks.
+    #[tactic(auto, using(crate::proofs::StandingFirst::job_at_gap, crate::proofs::StandingFirst::none_left, crate::proofs::StandingFirst::none_held))]
+    pub(crate) fn missing_to_first(
+        &self,
+        alloc: Global,
+        search: TreeSearch<'_>,
+    ) -> Result<Missing<NodeJob>, Memory>
+        ensures { IfOk result (Tells job_of
+            (left_to_first self.now (query_of search.entry) (trees_for self.now (query_of search.entry)))
+            (is_held_among self.now (query_of search.entry) (trees_for self.now (query_of search.entry)))) }
+    {
+        match self.foremost(alloc, &search)? {
+            Foremost::Gap(generation) => {
+                if is_expanded(self.out, generation) {
+                    self.missing_along(alloc, search)
+                } else {
+                    Ok(Missing::Job(NodeJob::Expand(generation)))
+                }
+            }
+            Foremost::Nothing => Ok(Missing::Unheld),
+            Foremost::Untold => self.missing_along(alloc, search),
+        }
     }
 
     // What the search for all trees still asks.

@@ -104,8 +104,8 @@ returns-in_ok-turn_below-in-Disable-clause-some t c =
     ∙ sym (made_of_sides plan_by_disabling (under_row Distake) ps qs)
     ∙ ap has_made same
 
-pub returns-in_ok-put_others-in-Par-clause-kept : goal.returns-in_ok-put_others-in-Par-clause-kept
-returns-in_ok-put_others-in-Par-clause-kept t c =
+pub returns-in_ok-put_others-in-Par : goal.returns-in_ok-put_others-in-Par
+returns-in_ok-put_others-in-Par t c =
     let theory = theory_of c.args.algebra.now in
     let v = sought_in c.args.sought.now in
     let j = joining_of c.args.joining in
@@ -134,36 +134,7 @@ returns-in_ok-put_others-in-Par-clause-kept t c =
     ∙ ap (λ l. placed_over_two theory (beside gates) l (map found_of c.put_kept-in-Par-2.new.all.items)) first
     ∙ ap (placed_over_two theory (beside gates) ps) second
     ∙ same in
-    c.in_ok-put_others-in-Par.ensures ∙ ap (λ l. map found_of c.args.all.now.items ++ l) both
-
-pub returns-in_ok-put_others-in-Par-clause-some : goal.returns-in_ok-put_others-in-Par-clause-some
-returns-in_ok-put_others-in-Par-clause-some t c =
-    let theory = theory_of c.args.algebra.now in
-    let v = sought_in c.args.sought.now in
-    let j = joining_of c.args.joining in
-    let gates = synchronised_of c.in-Par.gates in
-    let ps = kept_plans theory c.args.prunes (shape_of c.deref-in-Par.result.now) v j in
-    let above = right_of c.args.prunes (beside gates) ps j in
-    let qs = kept_plans theory c.args.prunes (shape_of c.deref-in-Par-3.result.now) v above in
-    let first : map found_of c.put_kept-in-Par.new.all.items ≡ ps =
-    c.in_ok-put_kept-in-Par.ensures.kept ∙ ap (λ l. map found_of l ++ ps) c.new-first.ensures.items in
-    let joins : joining_of c.right_of-above.result ≡ above =
-    c.right_of-above.ensures
-    ∙ ap (λ l. right_of c.args.prunes (beside gates) (map found_of l) j) c.deref-in-Par-2.ensures.value
-    ∙ ap (λ l. right_of c.args.prunes (beside gates) l j) first in
-    let second : map found_of c.put_kept-in-Par-2.new.all.items ≡ qs =
-    c.in_ok-put_kept-in-Par-2.ensures.kept
-    ∙ ap (λ l. map found_of l ++ kept_plans theory c.args.prunes (shape_of c.deref-in-Par-3.result.now) v (joining_of c.right_of-above.result))
-    c.new-second.ensures.items
-    ∙ ap (kept_plans theory c.args.prunes (shape_of c.deref-in-Par-3.result.now) v) joins in
-    let shape : shape_of c.args.branch.now ≡
-    between (beside gates) (shape_of c.deref-in-Par.result.now) (shape_of c.deref-in-Par-3.result.now) =
-    search rules in
-    let same : placed_over_two theory (beside gates) ps qs ≡ kept_plans theory c.args.prunes (shape_of c.args.branch.now) v j =
-    ap (λ s. kept_plans theory c.args.prunes s v j) (sym shape) in
-    let both : map found_of c.in_ok-both-in-Par.both.items ≡ kept_plans theory c.args.prunes (shape_of c.args.branch.now) v j =
-    c.in_ok-both-in-Par.ensures
-    ∙ ap (λ l. placed_over_two theory (beside gates) l (map found_of c.put_kept-in-Par-2.new.all.items)) first
-    ∙ ap (placed_over_two theory (beside gates) ps) second
-    ∙ same in
-    c.has_composite-some.ensures ∙ ap (λ l. has_made (map found_of l)) c.deref-in-Par-4.ensures.value ∙ ap has_made both
+    record {
+      kept = c.in_ok-put_others-in-Par.ensures ∙ ap (λ l. map found_of c.args.all.now.items ++ l) both;
+      some = c.has_composite-some.ensures ∙ ap (λ l. has_made (map found_of l)) c.deref-in-Par-4.ensures.value ∙ ap has_made both;
+    }

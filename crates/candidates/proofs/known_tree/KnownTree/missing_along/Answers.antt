@@ -5,7 +5,7 @@ use Rattle.candidates.specs.KnownTrees.{is_held_among}
 use Rattle.candidates.specs.Models.{job_of}
 use Rattle.candidates.specs.Walks.{met_of, ahead}
 use Rattle.candidates.proofs.Asking.{first_job, first_more, held_after}
-use Rattle.candidates.proofs.known_tree.KnownTree.missing_to_first.Goals as goal
+use Rattle.candidates.proofs.known_tree.KnownTree.missing_along.Goals as goal
 
 pub returns-in-Job : goal.returns-in-Job
 returns-in-Job c =

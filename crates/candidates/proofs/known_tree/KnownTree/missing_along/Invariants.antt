@@ -2,7 +2,7 @@ use Rattle.std.proofs.Common.{◌≡◌, length}
 use Rattle.candidate_search.specs.Searches.{query_of}
 use Rattle.candidates.specs.Walks.{ahead}
 use Rattle.candidates.specs.KnownTrees.{left_to_first, is_held_among, trees_for}
-use Rattle.candidates.proofs.known_tree.KnownTree.missing_to_first.Given as goal
+use Rattle.candidates.proofs.known_tree.KnownTree.missing_along.Given as goal
 
 abbrev pub invariant-loop-walk : goal.invariant-loop-walk
 invariant-loop-walk l =
