@@ -7,7 +7,6 @@ use Rattle.spec_core.specs.Lists.{IsOneOf}
 use Rattle.spec_core.proofs.Members.{contains_one}
 use Rattle.rule_model.specs.declared.action.Action.{Action}
 use Rattle.rule_model.specs.Answering.{name_of}
-use Rattle.rule_model.specs.declared.reply.LimitKind.TheVariants.{Steps}
 use Rattle.rule_model.specs.Answers.{Answer, deadlock, ended, limit}
 use Rattle.rule_model.specs.declared.rules.Rules.{Rules}
 use Rattle.rule_model.specs.Derivations.{Derivation, derivation_of}
@@ -21,7 +20,6 @@ use Rattle.decision_order.specs.declared.settle.Settled.TheVariants.{Takes, Goes
 use Rattle.board_record.specs.Records.{IsSession}
 use Rattle.board_record.specs.Views.{HasActed}
 use Rattle.board_laws.specs.declared.stop_reason.StopReason.{StopReason}
-use Rattle.board_laws.specs.declared.stop_reason.StopReason.TheVariants.{Limit}
 use Rattle.board_laws.specs.Next.{GoesByRules, HasEnded, IsAct, IsEventOf, IsLeast, next_by_rules, next_ended}
 use Rattle.board_laws.specs.Drawing.{drawn}
 use Rattle.board_laws.specs.Stopping.{answer_by}
@@ -34,7 +32,7 @@ use Rattle.board_offers.proofs.Derivations.{pending_clients_differ}
 use Rattle.board_offers.proofs.Order.{least_is_least}
 use Rattle.board_offers.proofs.Stalls.{stalls_name_all}
 use Rattle.board_core.specs.Entries.{entry_of, OfAct}
-use Rattle.board_core.specs.Settled.{AnswersLeast, AppendsAlone, HasSettled, HasStepped, IsDue, IsKnownAtLimit, LeavesNodes, settled_limit, settled_next}
+use Rattle.board_core.specs.Settled.{AnswersLeast, HasSettled, HasStepped, IsDue, IsKnownAtLimit, LeavesNodes, settled_next}
 use Rattle.board_core.specs.Settled.{settled_stopped}
 use Rattle.board_core.specs.Views.{BoardView, program, events, state, tree, decided_at, HasOneMore}
 
@@ -124,20 +122,6 @@ least_pending s name e =
 -- replies to the least client
 
 module _ (old new : BoardView) where
-  -- the answer was given to it
-  pub answers : (answer : Answer) (name : OfferName) → option_map name_of (first (by_client (state old).pending)) ≡ Some name →
-      events new ≡ events old ++ replied name.0 name.1 answer ∷ [] →
-      IsPossible (program old) (state old) (replied name.0 name.1 answer) (state new) → AppendsAlone old new → AnswersLeast old new answer
-  answers answer name e log possible alone =
-      let l = least_is (state old) name e in
-      let same = same_reply name (name_of l.offer) answer answer l.same refl in (
-        l.offer,
-        l.least,
-        subst (λ (x : Event). events new ≡ events old ++ x ∷ []) same log,
-        subst (λ (x : Event). IsPossible (program old) (state old) x (state new)) same possible,
-        alone,
-      )
-
   -- the reason that has stopped the session
   pub told_reason : (reason : StopReason) → old.stop ≡ Some reason → new.stop ≡ old.stop → (answer : Answer) →
       answer ≡ answer_by (state old).actions reason → AnswersLeast old new answer → HasSettled old new
@@ -148,18 +132,6 @@ module _ (old new : BoardView) where
     one_more = h.4.0;
     leaves = (h.4.1, h.4.2);
     why = settled_stopped reason e (same ∙ e) (h.0, h.1, ap (replied h.0.client h.0.number) is);
-  }
-
-  -- the limit
-  pub told_limit : old.stop ≡ None → new.stop ≡ Some (Limit Steps) → IsKnownAtLimit old →
-      AnswersLeast old new (limit (state old).actions Steps) → HasSettled old new
-  told_limit e f at h = record {
-    event = replied h.0.client h.0.number (limit (state old).actions Steps);
-    log = h.2;
-    possible = h.3;
-    one_more = h.4.0;
-    leaves = (h.4.1, h.4.2);
-    why = settled_limit e f at (h.0, h.1, refl);
   }
 
   -- the end

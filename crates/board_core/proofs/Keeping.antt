@@ -1,13 +1,11 @@
 -- What is known stays so.
-use Rattle.std.proofs.Common.{ℕ, ◌≡◌, ◌<◌, List, sym, subst, length, Option, None, Some}
+use Rattle.std.proofs.Common.{ℕ, ◌≡◌, ◌<◌, List, sym, subst}
 use Rattle.spec_core.specs.declared.window.Window.{Window}
 use Rattle.spec_core.specs.Code.{Program}
-use Rattle.sort_windows.specs.Found.{AreBySorts}
 use Rattle.rule_model.specs.Derivations.{Derivation}
 use Rattle.node_trees.specs.declared.origin.Gen.{Gen}
 use Rattle.node_trees.specs.Rests.{Work}
-use Rattle.candidate_verdicts.specs.Shows.{Show}
-use Rattle.node_trees.specs.Shapes.{Held, Shape, AllWait, IsNodeOf, IsRight, IsWorkFor, IsWorkOf, posted}
+use Rattle.node_trees.specs.Shapes.{Held, Shape, IsNodeOf, IsRight, IsWorkFor, posted}
 use Rattle.candidate_verdicts.specs.Views.{IsStep}
 use Rattle.offer_index.specs.Tables.{windows_in}
 use Rattle.candidate_verdicts.specs.declared.pieces.Piece.{Piece}
@@ -29,24 +27,7 @@ stays p q k l rows others t u ps qs n m a b c d e f h =
     (subst (λ z. IsKnown p k rows z qs m) (sym d)
     (subst (λ z. IsKnown p k rows t z m) (sym e) (subst (λ z. IsKnown p k rows t ps z) (sym f) h)))))
 
-nothing : (o : Option (Option Show)) (s : Option Show) → o ≡ None → o ≡ Some s → ⊥
-nothing o s e f = cc
-
 module _ (program : Program) (size : ℕ) (rows : List Window) where
-  -- every node waits, and nothing is known
-  pub begins : (t : Shape) (pieces : Pieces) (next : ℕ) → AreBySorts program.theory size rows →
-      length rows ≡ length program.theory.sorts → AllWait t → ((g : ℕ) (d : Derivation) → pieces g d ≡ None) →
-      IsKnown program size rows t pieces next
-  begins t pieces next are long wait none = record {
-    rows_are = are;
-    all_sorts = long;
-    right = λ up n s. subst (IsWorkOf program n.source) (sym (wait up n s)) tt;
-    complete = (completeness_stays program).waiting t wait;
-    expansions = (expansions_stay program (windows_in rows)).waiting t wait;
-    shown = λ up n s d o e. absurd (nothing (pieces n.generation d) o (none n.generation d) e);
-    none_from = λ g d h. none g d;
-  }
-
   -- a step
   pub steps : (old new : Shape) (next later : ℕ) (d : Derivation) (gone came : List Gen) (pieces others : Pieces) →
       IsStep program old next d new later gone came →

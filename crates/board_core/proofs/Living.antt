@@ -1,10 +1,10 @@
 -- What is known of nodes, and which jobs are out, speaks of nodes that live.
-use Rattle.std.proofs.Common.{ℕ, ◌≡◌, ◌==◌, ◌||◌, ◌∙◌, ◌⊎◌, inl, inr, refl, sym, ap, subst, List, [], ◌∷◌, ◌++◌, filter, not, cond, Some, None}
+use Rattle.std.proofs.Common.{ℕ, ◌≡◌, ◌==◌, ◌||◌, ◌∙◌, ◌⊎◌, inl, inr, refl, sym, ap, subst, List, [], ◌∷◌, filter, not, cond, Some, None}
 use Rattle.std.proofs.Common.{Bool, true, false, if◌then◌else◌, option_map}
 use Rattle.std.proofs.lemmas.Bool.Decides.{Decides-eqb}
 use Rattle.std.proofs.lemmas.Bool.{true≢false}
 use Rattle.spec_core.specs.Lists.{Each, IsOneOf}
-use Rattle.spec_core.proofs.Lists.{each_filter, each_push, each_implied}
+use Rattle.spec_core.proofs.Lists.{each_filter, each_implied}
 use Rattle.rule_model.specs.Derivations.{Derivation}
 use Rattle.node_trees.specs.declared.origin.Gen.{Gen}
 use Rattle.node_trees.specs.Differences.{IsDifference}
@@ -41,14 +41,7 @@ each_passing {A = A} P Q p (x ∷ xs) f h = by_test (p x) refl (each_passing P Q
 
 -- every node is as it was
 
-pub begins_living : (t : Shape) (pieces : Pieces) → ((g : ℕ) (d : Derivation) → pieces g d ≡ None) → AreOfLiving t pieces []
-begins_living t pieces none = record { known = λ g d dead. none g d; jobs = tt }
-
 module _ (t : Shape) (pieces : Pieces) (out : List NodeJob) (h : AreOfLiving t pieces out) where
-  -- one more job is out
-  pub handed_living : (job : NodeJob) → Lives t (generation_of job) → AreOfLiving t pieces (out ++ job ∷ [])
-  handed_living job lives = record { known = h.known; jobs = each_push (λ j. Lives t (generation_of j)) out job h.jobs lives }
-
   -- some jobs aren't out any more
   pub left_living : (stays : NodeJob → Bool) → AreOfLiving t pieces (filter stays out)
   left_living stays = record { known = h.known; jobs = each_filter (λ j. Lives t (generation_of j)) stays out h.jobs }

@@ -1,28 +1,9 @@
 -- What nodes that live on stand for.
-use Rattle.std.proofs.Common.{ℕ, ◌≡◌, ◌↔◌, ◌∙◌, ◌<◌, ◌==◌, List, [], ◌∷◌, refl, sym, ap, subst, Some, Bool, IsTrue, true, false, if◌then◌else◌, arith}
-use Rattle.node_trees.specs.Generations.{AreApart, AreBelow}
-use Rattle.node_trees.specs.Origins.{Source}
+use Rattle.std.proofs.Common.{ℕ, ◌≡◌, ◌∙◌, ◌==◌, List, [], ◌∷◌, refl, sym, ap, subst, Some, Bool, true, false, if◌then◌else◌, arith}
 use Rattle.node_trees.specs.Rests.{Work}
 use Rattle.node_trees.specs.Shapes.{Held, Shape, leaf, over, between, Above, under, first_of, second_of, Stands, IsNodeOf, posted}
-use Rattle.board_core.specs.Views.{BoardView, tree, SameNodes}
-use Rattle.board_core.specs.Working.{HasOrigin, KeepsNodes, IsOrigin}
-
--- the same nodes
-pub same_keeps : (old new : BoardView) → SameNodes old new → KeepsNodes old new
-same_keeps old new same = record {
-  more = omega (arith, same.1);
-  was = λ g m is below. (m, subst (λ (t : Shape). IsNodeOf t g m) same.0 is, refl);
-}
-
--- what keeps nodes, done twice
-pub keeps_twice : (a b c : BoardView) → KeepsNodes a b → KeepsNodes b c → KeepsNodes a c
-keeps_twice a b c one other = record {
-  more = omega (arith, one.more, other.more);
-  was = λ g m is below.
-      let r = other.was g m is (omega (arith, one.more, below)) in
-      let q = one.was g r.0 r.1 below in
-      (q.0, q.1, r.2 ∙ q.2);
-}
+use Rattle.board_core.specs.Views.{BoardView, tree}
+use Rattle.board_core.specs.Working.{KeepsNodes}
 
 -- a node is expanded
 
@@ -57,31 +38,3 @@ post_keeps old new h work e next = record {
 }
 
 -- what the node of a generation stands for
-
--- it stays so
-pub origin_stays : (old new : BoardView) (g : ℕ) (o : Source) → KeepsNodes old new → IsOrigin old g o → IsOrigin new g o
-origin_stays old new g o keeps h = record {
-  begun = omega (arith, keeps.more, h.begun);
-  origin = λ m is. let r = keeps.was g m is h.begun in r.2 ∙ h.origin r.0 r.1;
-}
-
--- a node that lives before and after stands for the same
-pub source_stays : (old new : BoardView) (g : ℕ) (n m : Held) → AreApart (tree old) → AreBelow (tree old) old.session.tree.next →
-    KeepsNodes old new → IsNodeOf (tree old) g n → IsNodeOf (tree new) g m → m.source ≡ n.source
-source_stays old new g n m apart below keeps was is =
-    let r = keeps.was g m is (subst (λ (k : ℕ). k < old.session.tree.next) was.same (below was.up n was.stands)) in
-    r.2 ∙ ap (λ (k : Held). k.source) (apart r.1.up was.up r.0 n r.1.stands was.stands (r.1.same ∙ sym was.same)).1
-
--- a node that is found has the origin exactly where it stands for it
-pub found_has_origin : (t : Shape) (g : ℕ) (n : Held) (o : Source) (b : Bool) → AreApart t → IsNodeOf t g n → (IsTrue b ↔ (n.source ≡ o)) →
-    IsTrue b ↔ HasOrigin t g o
-found_has_origin t g n o b apart is same = (
-  λ h. record { node = n; is = is; source = same.0 h },
-  λ h. same.1
-      (ap (λ (k : Held). k.source) (apart is.up h.is.up n h.node is.stands h.is.stands (is.same ∙ sym h.is.same)).1 ∙ h.source),
-)
-
--- then each node of the generation stands for it
-pub has_one_origin : (t : Shape) (g : ℕ) (o : Source) → AreApart t → HasOrigin t g o → (n : Held) → IsNodeOf t g n → n.source ≡ o
-has_one_origin t g o apart h n is =
-    ap (λ (k : Held). k.source) (apart is.up h.is.up n h.node is.stands h.is.stands (is.same ∙ sym h.is.same)).1 ∙ h.source

@@ -1,5 +1,5 @@
 -- Where nothing comes next, whatever the behaviour may do.
-use Rattle.std.proofs.Common.{◌≡◌, ◌↔◌, List, [], refl, sym, ap, ◌∙◌, inl, inr, Option, Some, None, is_some, Bool, true, false, not, IsTrue}
+use Rattle.std.proofs.Common.{◌≡◌, ◌↔◌, List, [], refl, sym, ap, ◌∙◌, inl, Option, Some, None, is_some, Bool, true, false, not, IsTrue}
 use Rattle.std.proofs.lemmas.Bool.{false_from_ne_true}
 use Rattle.spec_core.specs.declared.settings.Settings.{Settings}
 use Rattle.spec_core.specs.Code.{Program}
@@ -18,8 +18,8 @@ use Rattle.board_offers.specs.Waiting.{by_client, only_asks, waiting_in}
 use Rattle.board_offers.proofs.AllWait.{all_wait_is_decided}
 use Rattle.board_core.specs.Boards.{IsBoard}
 use Rattle.board_core.specs.Awaiting.{AwaitsClients}
-use Rattle.board_core.specs.Settled.{IsQuiet, quiet_nothing, quiet_stopped, quiet_undecided}
-use Rattle.board_core.specs.Views.{BoardView, program, state, windows, decided_at}
+use Rattle.board_core.specs.Settled.{IsQuiet, quiet_nothing, quiet_stopped}
+use Rattle.board_core.specs.Views.{BoardView, program, state, windows}
 use Rattle.board_core.proofs.Tables.{table_of_session}
 
 abbrev by_trees : (o p : Option Derivation) → Next PendingOffer Derivation
@@ -92,22 +92,4 @@ module _ (v : BoardView) (running : v.stop ≡ None) (rules : GoesByRules (state
         (next_awaiting (program v) v.settings (windows v) (state v)
         (table_of_session (program v) v.settings v.windows is.0.rows_are is.0.all_sorts) awaits)
         (inl awaits);
-  }
-
-  -- what is known decides that nothing comes next
-  pub quiet_by_rules : IsNextOf (program v) v.settings (state v) nothing → decided_at v ≡ Some nothing → IsQuiet v v
-  quiet_by_rules next decided = record {
-    log = (refl, refl, refl);
-    nodes = (refl, refl, refl);
-    out = refl;
-    why = quiet_nothing running running rules next (inr decided);
-  }
-
-  -- what is known doesn't decide what comes next
-  pub quiet_so_far : (AwaitsClients (state v) → ⊥) → decided_at v ≡ None → IsQuiet v v
-  quiet_so_far busy undecided = record {
-    log = (refl, refl, refl);
-    nodes = (refl, refl, refl);
-    out = refl;
-    why = quiet_undecided running running rules busy undecided;
   }

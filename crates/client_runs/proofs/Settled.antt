@@ -25,7 +25,7 @@ use Rattle.candidate_verdicts.specs.Stored.{stored}
 use Rattle.candidates.specs.declared.job.NodeJob as declared
 use Rattle.candidates.specs.Jobs.{NodeJob, is_out}
 use Rattle.candidates.specs.Models.{job_of}
-use Rattle.board_laws.specs.Needed.{entry_decided, jobs_needed}
+use Rattle.board_laws.specs.Needed.{entry_decided}
 use Rattle.board_laws.proofs.Pending.{nothing_next_nothing_pending}
 use Rattle.board_laws.proofs.Settling.{nothing_needed_is_decided}
 use Rattle.board_laws.specs.declared.stop_reason.StopReason.TheVariants.{Limit}
@@ -89,9 +89,6 @@ module _ (old new : BoardView) (like : IsLike old new) where
 
   same_decided : decided_at new ≡ decided_at old
   same_decided = same entry_decided
-
-  pub same_needed : needed_at new ≡ needed_at old
-  same_needed = same jobs_needed
 
   next_there : IsNextOf (program old) old.settings (state old) nothing → IsNextOf (program new) new.settings (state new) nothing
   next_there h =

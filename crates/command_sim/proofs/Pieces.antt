@@ -1,5 +1,5 @@
 -- Pieces of an input, one behind another.
-use Rattle.std.proofs.Common.{ℕ, ◌+◌, ◌-◌, ◌^◌, ◌≡◌, ◌≤◌, List, [], ◌++◌, Option, Some, None, Result, length, subst, sym, arith}
+use Rattle.std.proofs.Common.{ℕ, ◌+◌, ◌-◌, ◌^◌, ◌≡◌, ◌≤◌, List, [], ◌++◌, Option, Some, None, Result, length, subst, arith}
 use Rattle.std.specs.Prelude.{IsErrOf, OnErr}
 use Rattle.std.proofs.Math.Nat.{le-min, min-le_left, min-le_right}
 use Rattle.std.proofs.lemmas.List.{length-append}
@@ -9,14 +9,13 @@ use Rattle.lotos_outside.specs.Counts.{Rose, next_count}
 use Rattle.lotos_outside.specs.Source.{with_first}
 use Rattle.simulator.specs.Sims.{SimView}
 use Rattle.command_lines.specs.Inputs.{Input, inlet}
-use Rattle.command_lines.specs.Lines.{IsUnended}
-use Rattle.command_lines.proofs.Inputs.{first_nothing, gave_both}
+use Rattle.command_lines.proofs.Inputs.{gave_both}
 use Rattle.command_lines.proofs.Written.{prefix_both}
 use Rattle.command_sim.specs.declared.end.End.{End}
 use Rattle.command_sim.specs.Simulations.{input_limit, Begins, IsCut, IsSimulated, IsWritten, Reads}
 use Rattle.command_sim.specs.Steps.{CutPiece, TookAll, TookPiece, Wrote}
-use Rattle.command_sim.proofs.Simulating.{reads_both, reads_nothing, written_behind}
-use Rattle.command_sim.proofs.Steps.{wrote_both, wrote_nothing}
+use Rattle.command_sim.proofs.Simulating.{reads_both, written_behind}
+use Rattle.command_sim.proofs.Steps.{wrote_both}
 
 pub rose_more : (first second third : ℕ) → first ≤ second → Rose second third → Rose first third
 rose_more first second third few rose =
@@ -46,14 +45,6 @@ module _ (program : Program) where
   abbrev pub Came : ℕ → SimView → ℕ → Option (List ℕ) → Option (List ℕ) → Option (List ℕ) → SimView → List ℕ → ℕ → Option (List ℕ) → Type 0
   Came count old room rest rest_left before new left room_left after = (bytes text : List ℕ) × (rest ≡ with_first bytes rest_left) ×
       Reads program old bytes text new left × (room_left + length bytes ≡ room) × (count ≤ length bytes) × Wrote text before after
-
-  pub none_came : (old : SimView) (room : ℕ) (rest before : Option (List ℕ)) → Came 0 old room rest rest before old [] room before
-  none_came old room rest before =
-      ([], [], sym (first_nothing rest), reads_nothing program old [] tt, omega arith, omega arith, wrote_nothing before)
-
-  pub came_unended : (count : ℕ) (old : SimView) (room : ℕ) (rest rest_left before : Option (List ℕ)) (new : SimView) (left : List ℕ) (room_left : ℕ)
-      (after : Option (List ℕ)) → Came count old room rest rest_left before new left room_left after → IsUnended left
-  came_unended count old room rest rest_left before new left room_left after (bytes, text, gave, reads, sum, many, wrote) = reads.unended
 
   module _ (count : ℕ) (old between : SimView) (room middle_room : ℕ) (rest middle_rest rest_left : Option (List ℕ)) (before middle : Option (List ℕ))
       (held : List ℕ) (faults middle_faults faults_left : ℕ)

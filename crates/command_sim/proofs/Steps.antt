@@ -116,11 +116,6 @@ module _ (program : Program) where
       subst (λ l. TookBytes program old held (b ∷ []) written old l written None) (sym is)
       ([], reads_nothing program old (held ++ b ∷ []) (one_unended program held b h e), wrote_nothing written)
 
-  pub took_none : (old : SimView) (held : List ℕ) (written : Option (List ℕ)) → IsUnended held →
-      TookBytes program old held [] written old held written None
-  took_none old held written h =
-      ([], subst (λ l. Reads program old l [] old held) (sym (append-nil held)) (reads_nothing program old held h), wrote_nothing written)
-
   pub took_unended : (old new : SimView) (held bytes left : List ℕ) (before after : Option (List ℕ)) →
       TookBytes program old held bytes before new left after None → IsUnended left
   took_unended old new held bytes left before after (text, reads, wrote) = reads.unended

@@ -1,5 +1,5 @@
 -- Seats that are handed back.
-use Rattle.std.proofs.Common.{ℕ, ◌+◌, ◌≤◌, ◌<◌, ◌≡◌, ◌∙◌, refl, sym, ap, subst, arith, List, [], ◌∷◌, ◌++◌, map, append_assoc, append-nil}
+use Rattle.std.proofs.Common.{ℕ, ◌+◌, ◌≤◌, ◌<◌, ◌≡◌, ◌∙◌, refl, sym, ap, subst, arith, List, [], ◌∷◌, ◌++◌, map, append_assoc}
 use Rattle.std.proofs.Common.{Contains, ◌⊎◌, inl, inr}
 use Rattle.std.specs.Prelude.{All}
 use Rattle.std.specs.List.{AllByRecursion}
@@ -26,9 +26,6 @@ each_append A [] ys h k = k
 each_append A (x ∷ xs) ys h k = (h.0, each_append A xs ys h.1 k)
 
 module _ {P : Type 0} (IsOf : P → Seat → Type 0) where
-  pub adds_none : (seats : List Seat) → AddsSeats IsOf [] seats seats
-  adds_none seats = record { more = []; behind = sym (append-nil seats); each = tt; only = tt }
-
   -- one more seat behind them, of one more pass
   pub adds_one : (done : List P) (old now new : List Seat) (p : P) (seat : Seat) → AddsSeats IsOf done old now → new ≡ now ++ seat ∷ [] →
       IsOf p seat → AddsSeats IsOf (p ∷ done) old new
@@ -47,12 +44,6 @@ module _ {P : Type 0} (IsOf : P → Seat → Type 0) where
             (each_weaker (IsSeatOfOne IsOf done) (IsSeatOfOne IsOf (p ∷ done)) (λ s k. (k.0, contains_later p k.0 done k.1, k.2)) h.more h.only)
             ((p, contains_first p done, is), tt);
       }
-
-  -- the same of all passes, once none is left
-  pub adds_all : (all rest done : List P) (old new : List Seat) → all ≡ rest ++ done → rest ≡ [] → AddsSeats IsOf done old new →
-      AddsSeats IsOf all old new
-  adds_all all rest done old new parts none h =
-      subst (λ ps. AddsSeats IsOf ps old new) (sym (parts ∙ ap (λ l. l ++ done) none)) h
 
   pub one_taken : (all before rest done : List P) (p : P) → all ≡ before ++ done → before ≡ rest ++ p ∷ [] → all ≡ rest ++ p ∷ done
   one_taken all before rest done p parts taken = parts ∙ ap (λ l. l ++ done) taken ∙ append_assoc rest (p ∷ []) done

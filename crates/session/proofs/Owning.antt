@@ -145,29 +145,3 @@ front_made n k xs ys most same =
     let none = none_made_in_front n (k - length xs) ys (none_made_behind n xs ys same) in
     ap (made_by maker_of n) (longer_front k xs ys most) ∙ made_behind n xs (take (k - length xs) ys)
     ∙ ap (λ l. made_by maker_of n xs ++ l) none ∙ append-nil (made_by maker_of n xs)
-
--- the offers of a client are among the lines of its seat
-
-own_offer : (n client : ℕ) → n + 1 ≡ client → (lines : List Line) →
-    offers_by client (events_in (made_by maker_of n lines)) ≡ offers_by client (events_in lines)
-own_offer n client e [] = refl
-own_offer n client e (Halted ∷ lines) = own_offer n client e lines
-own_offer n client e (Happened entry ∷ lines) =
-    by_test (is_named n (seat_for (event_of entry))) refl (own_offer n client e lines)
-  where
-    by_test : (b : Bool) → is_named n (seat_for (event_of entry)) ≡ b →
-        offers_by client (events_in (made_by maker_of n lines)) ≡ offers_by client (events_in lines) →
-        offers_by client (events_in (cond b (Happened entry ∷ made_by maker_of n lines) (made_by maker_of n lines)))
-        ≡ offers_by client (event_of entry ∷ events_in lines)
-    by_test true is h =
-        offers_by_behind client (event_of entry ∷ []) (events_in (made_by maker_of n lines))
-        ∙ ap (λ l. offers_by client (event_of entry ∷ []) ++ l) h
-        ∙ sym (offers_by_behind client (event_of entry ∷ []) (events_in lines))
-    by_test false is h =
-        h
-        ∙ sym (offers_by_behind client (event_of entry ∷ []) (events_in lines)
-        ∙ ap (λ l. l ++ offers_by client (events_in lines)) (no_offer_of n client e (event_of entry) is))
-
-pub own_offers : (n client : ℕ) → n + 1 ≡ client → (lines : List Line) →
-    offers_by client (events_in lines) ≡ offers_by client (events_in (made_by maker_of n lines))
-own_offers n client e lines = sym (own_offer n client e lines)

@@ -1,5 +1,5 @@
 -- What a turn of a client tells, by the lines that its seat has made.
-use Rattle.std.proofs.Common.{ℕ, ◌+◌, ◌-◌, ◌≤◌, ◌<◌, ◌≡◌, sym, ap, subst, arith, Contains, length, Some, Result, Ok, Err, IfOk, OnErr}
+use Rattle.std.proofs.Common.{ℕ, ◌+◌, ◌-◌, ◌<◌, ◌≡◌, sym, subst, Contains, length, Some, Result, Ok, Err, IfOk, OnErr}
 use Rattle.spec_core.specs.Code.{program_of}
 use Rattle.turn_lock.specs.Entries.{Continues}
 use Rattle.turn_lock.specs.Seats.{AgreesWith, SeatModel}
@@ -21,13 +21,6 @@ use Rattle.session.specs.Passes.{HasLeftBy}
 use Rattle.session.specs.Sessions.{SessionView}
 use Rattle.session.proofs.Owning.{left_is_own, own_is_there}
 use Rattle.session.proofs.Seats.{gives_none, gives_one}
-
--- a client of the session is one of the board
-pub is_client : (s : SessionView) (v : SharedView) (n client : ℕ) → fixed_part v ≡ s.lock.fixed → n + 1 ≡ client → client ≤ s.lock.fixed.clients →
-    (1 ≤ client) × (client ≤ v.board.session.clients)
-is_client s v n client same number most =
-    let clients : v.board.session.clients ≡ s.lock.fixed.clients = ap (λ (f : FixedPart). f.clients) same in
-    (omega (arith, number), omega (arith, clients, most))
 
 module _ (client : ℕ) (v : SharedView) (seat : SeatModel Line) (number : seat.number + 1 ≡ client) (agrees : AgreesWith maker_of (lines v) seat) where
   events_are : events_in (lines v) ≡ events v.board

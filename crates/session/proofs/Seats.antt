@@ -61,9 +61,6 @@ stays_halted xs ys begins h = subst (λ l. Contains l Halted) (sym begins.1) (Co
 
 -- a turn in which the seat makes a line, or none
 
-pub grows_on : (v w : SharedView) → GrowsByNone v w → Begins (lines v) (lines w)
-grows_on v w h = (h.0, h.1)
-
 pub gives_none : (n : ℕ) (v w : SharedView) → GrowsByNone v w → Continues maker_of n (lines v) (lines w)
 gives_none n v w h = continues_by_none n (lines v) (lines w) h.0 h.1 h.2
 
@@ -114,12 +111,6 @@ has_its_answers seat client v idle agrees running =
     }
 
 -- one turn behind another
-
-pub stays_on : (a b c : SeatModel Line) → StaysSeat a b → StaysSeat b c → StaysSeat a c
-stays_on a b c x y = (y.0 ∙ x.0, y.1 ∙ x.1, y.2 ∙ x.2)
-
-pub sees_on : (a b c : SeatModel Line) → HasSeenMore a b → HasSeenMore b c → HasSeenMore a c
-sees_on a b c x y = (begins_on a.seen b.seen c.seen x.0 y.0, y.1 ∙ x.1)
 
 pub sees_itself : (seat : SeatModel Line) → HasSeenMore seat seat
 sees_itself seat = (([], sym (append-nil seat.seen)), refl)

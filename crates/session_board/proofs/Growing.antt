@@ -3,19 +3,18 @@ use Rattle.std.proofs.Common.{ℕ, ◌+◌, ◌≡◌, ◌∙◌, refl, sym, ap,
 use Rattle.std.proofs.Common.{append-nil, Bool, true, false, Some, None}
 use Rattle.std.specs.Prelude.{All}
 use Rattle.std.specs.List.{AllByRecursion}
-use Rattle.std.proofs.lemmas.List.{append_cancel_left, length-append, map-append, take-append-le}
+use Rattle.std.proofs.lemmas.List.{length-append, take-append-le}
 use Rattle.std.proofs.lemmas.List.Elements.{All-append, All-from_recursion, All-nil, All-weaker, filter-append, recursion_from_All}
 use Rattle.spec_core.specs.Lists.{Each}
 use Rattle.turn_lock.specs.Entries.{is_named, Begins, Continues, made_by}
 use Rattle.rule_model.specs.declared.log.Entry.{Entry}
 use Rattle.rule_model.specs.Events.{Event, event_of, pended, acted, replied, stalled, left}
-use Rattle.board_core.specs.Views.{events}
 use Rattle.session_laws.specs.Logs.{IsOfClient}
 use Rattle.session_board.specs.declared.line.Line.{Line}
 use Rattle.session_board.specs.declared.line.Line.TheVariants.{Happened, Halted}
 use Rattle.session_board.specs.declared.spot.Spot.{Spot}
 use Rattle.session_board.specs.Answers.{IsSpot}
-use Rattle.session_board.specs.Growing.{GrowsByNone, GrowsByOne}
+use Rattle.session_board.specs.Growing.{GrowsByNone}
 use Rattle.session_board.specs.Lines.{actions_after, events_in, lines_of, maker_of, mark, seat_for}
 use Rattle.session_board.specs.Shared.{SharedView, lines}
 use Rattle.session_board.proofs.Lists.{lines_behind}
@@ -57,23 +56,6 @@ grows_by_mark old new running same = grows_by_none old new [] running (same ∙ 
 
 pub stays_grown : (v : SharedView) → GrowsByNone v v
 stays_grown v = ([], sym (append-nil (lines v)), All-nil IsOfNone)
-
--- by one entry of this event
-pub grows_by_one : (old new : SharedView) (entry : Entry) (event : Event) → old.halted ≡ false → new.halted ≡ false →
-    new.board.session.entries ≡ old.board.session.entries ++ entry ∷ [] → events new.board ≡ events old.board ++ event ∷ [] →
-    GrowsByOne old new event
-grows_by_one old new entry event running still grown log = (
-  entry,
-  ap (λ l. lines_of l new.halted) grown ∙ ap (lines_of (old.board.session.entries ++ entry ∷ [])) still
-      ∙ lines_behind old.board.session.entries (entry ∷ []) false
-      ∙ ap (λ b. lines_of old.board.session.entries b ++ Happened entry ∷ []) (sym running),
-  last_is
-      (append_cancel_left (map event_of old.board.session.entries) (event_of entry ∷ []) (event ∷ [])
-      (sym (map-append event_of old.board.session.entries (entry ∷ [])) ∙ sym (ap (map event_of) grown) ∙ log)),
-)
-  where
-    last_is : {A : Type 0} {x y : A} → x ∷ [] ≡ y ∷ [] → x ≡ y
-    last_is e = cc
 
 -- what the seats know where the list grew by lines that none makes
 

@@ -1,7 +1,7 @@
 -- Lines of the list, and what happened by them.
 use Rattle.std.proofs.Common.{ℕ, zero, suc, ◌+◌, ◌-◌, ◌≤◌, ◌≡◌, ◌∙◌, refl, sym, ap, arith, List, [], ◌∷◌, ◌++◌, length, map, take}
 use Rattle.std.proofs.Common.{append_assoc, append-nil, Bool, true, false}
-use Rattle.std.proofs.lemmas.List.{length-append, length-map, map-append}
+use Rattle.std.proofs.lemmas.List.{length-map, map-append}
 use Rattle.rule_model.specs.declared.log.Entry.{Entry}
 use Rattle.rule_model.specs.Events.{Event, event_of}
 use Rattle.board_record.specs.Answered.{actions_with}
@@ -38,9 +38,6 @@ lines_behind xs ys halted =
 
 pub count_lines : (xs : List Entry) → length (lines_of xs false) ≡ length xs
 count_lines xs = ap length (running_lines xs) ∙ length-map xs Happened
-
-pub count_halted : (xs : List Entry) → length (lines_of xs true) ≡ length xs + 1
-count_halted xs = length-append (map Happened xs) (Halted ∷ []) ∙ ap (λ n. n + 1) (length-map xs Happened)
 
 -- how many actions there are in logs one behind another
 pub actions_behind : (at : ℕ) (xs ys : List Event) → actions_after at (xs ++ ys) ≡ actions_after (actions_after at xs) ys

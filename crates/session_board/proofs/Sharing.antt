@@ -1,19 +1,16 @@
 -- What the board does, as the value behind the lock sees it.
-use Rattle.std.proofs.Common.{ℕ, ◌≤◌, ◌<◌, ◌≡◌, ◌∙◌, refl, sym, ap, subst, arith, List, [], ◌∷◌, ◌++◌, length, map}
-use Rattle.std.proofs.Common.{Bool, false, None}
+use Rattle.std.proofs.Common.{ℕ, ◌≤◌, ◌≡◌, ◌∙◌, refl, sym, ap, subst, List, [], ◌∷◌, ◌++◌, length, map}
+use Rattle.std.proofs.Common.{Bool, false}
 use Rattle.std.specs.Prelude.{Contains}
-use Rattle.std.proofs.lemmas.List.{length-append}
 use Rattle.spec_core.specs.Code.{program_of}
 use Rattle.rule_model.specs.declared.log.Entry.{Entry}
 use Rattle.rule_model.specs.declared.offer.Offer.{Offer}
 use Rattle.rule_model.specs.Code.{IsStart}
 use Rattle.rule_model.specs.Events.{event_of, left, pended}
-use Rattle.rule_model.specs.Legal.{IsDerivation}
 use Rattle.rule_model.specs.States.{after_leave, after_offer, start_state}
-use Rattle.board_record.specs.Records.{IsSession}
 use Rattle.log_states.specs.Clients.{numbers_from}
 use Rattle.log_states.specs.Possible.{MayLeave, MayOffer}
-use Rattle.board_core.specs.Views.{BoardView, program, events, state, HasOneMore, SameLog, SameSetting}
+use Rattle.board_core.specs.Views.{BoardView, program, events, state, SameSetting}
 use Rattle.session_laws.specs.Logs.{IsDrivenLog}
 use Rattle.board_work.specs.Driven.{StaysDriven}
 use Rattle.board_work.specs.Going.{GoesOn}
@@ -23,7 +20,7 @@ use Rattle.session_board.specs.Answers.{IsSpot}
 use Rattle.session_board.specs.Lines.{AllHaveLeft, lines_of}
 use Rattle.session_board.specs.Shared.{SharedView, HasDrivenLog, IsSound, lines}
 use Rattle.session_board.proofs.Leaving.{none_open_all_left, some_open_not_all_left}
-use Rattle.session_board.proofs.Lists.{count_lines, events_of_lines}
+use Rattle.session_board.proofs.Lists.{events_of_lines}
 
 -- driven logs
 
@@ -40,26 +37,9 @@ driven_on old new setting stays h = record {
 pub goes_on_driven : (old new : BoardView) → GoesOn old new → HasDrivenLog old → HasDrivenLog new
 goes_on_driven old new h = driven_on old new h.setting h.driven
 
-pub stays_driven : (old new : BoardView) → SameSetting old new → SameLog old new → new.stop ≡ old.stop → HasDrivenLog old → HasDrivenLog new
-stays_driven old new setting log stop = driven_on old new setting (driving.nothing_happens old new setting log stop)
-
 -- where it isn't noted that nothing is to be done, nothing has to be so
 pub unnoted : (v : BoardView) → HasDrivenLog v → IsSound v false
 unnoted v driven = record { driven = driven; idle = λ e. let never : ⊥ = cc in absurd never }
-
--- a log in which nothing happened is driven
-pub begins_driven : (v : BoardView) → v.stop ≡ None → events v ≡ [] → IsSession (program v) v.session.clients (events v) (state v) →
-    HasDrivenLog v
-begins_driven v stop none session =
-    let start = start_state session.behaviour (numbers_from 1 v.session.clients) in
-    let at : state v ≡ start = subst (λ l. IsDerivation (program v) l start (state v)) none session.derivation in
-    record {
-      behaviour = session.behaviour;
-      start = session.start;
-      driven =
-          subst (λ o. IsDrivenLog (program v) v.settings start o (events v) (state v)) (sym stop)
-          (subst (λ l. IsDrivenLog (program v) v.settings start None l (state v)) (sym none) at);
-    }
 
 -- an offer, and a client that leaves
 
@@ -90,20 +70,6 @@ no_lines v running none = running_list v running ∙ ap (λ xs. lines_of xs fals
 
 pub spot_running : (v : SharedView) (spot : Spot) → v.halted ≡ false → IsSpot (lines v) spot → IsSpot (lines_of v.board.session.entries false) spot
 spot_running v spot running is = subst (λ l. IsSpot l spot) (running_list v running) is
-
-pub spot_within : (v : SharedView) (spot : Spot) → v.halted ≡ false → IsSpot (lines v) spot → spot.lines ≤ length v.board.session.entries
-spot_within v spot running is =
-    let w = (spot_running v spot running is).within in
-    let n = count_lines v.board.session.entries in
-    omega (arith, w, n)
-
--- where an entry was appended, the list is longer
-pub is_longer : (old new : SharedView) → old.halted ≡ false → new.halted ≡ false → HasOneMore old.board new.board → length (lines old) < length (lines new)
-is_longer old new running still more =
-    let a = ap length (running_list old running) ∙ count_lines old.board.session.entries in
-    let b = ap length (running_list new still) ∙ count_lines new.board.session.entries in
-    let c = ap length more.1 ∙ length-append old.board.session.entries (more.0 ∷ []) in
-    omega (arith, a, b, c)
 
 -- who has left, by the lines
 

@@ -1,7 +1,6 @@
 -- The offers of each client are answered in order.
 use Rattle.std.proofs.Common.{ℕ, ◌≡◌, ◌∙◌, refl, sym, ap, subst, List, [], ◌∷◌, ◌++◌, map, append_assoc, append-nil, Contains, Option, Some, None}
 use Rattle.std.proofs.Common.{inl, inr, Bool, true, false, not, nat_eq, nat_lt, ◌&&◌, cond}
-use Rattle.std.specs.List.{filter}
 use Rattle.std.proofs.lemmas.Bool.{eqb-true, eq-eqb, ne_eqb, and_parts}
 use Rattle.std.proofs.lemmas.List.{map-append}
 use Rattle.std.proofs.lemmas.List.Elements.{filter-append}
@@ -21,7 +20,7 @@ use Rattle.board_offers.specs.Waiting.{AreOfDifferentClients, by_client, insert_
 use Rattle.board_offers.proofs.Derivations.{pending_clients_differ}
 use Rattle.board_offers.proofs.Members.{in_by_client}
 use Rattle.board_laws.specs.declared.stop_reason.StopReason.{StopReason}
-use Rattle.board_laws.specs.Next.{IsNextEvent, next_ended, next_by_rules, IsEventOf}
+use Rattle.board_laws.specs.Next.{next_ended, next_by_rules, IsEventOf}
 use Rattle.session_laws.specs.Answers.{answered_to, names_of, of_client, offers_by}
 use Rattle.session_laws.specs.Laws.{DrivenLogsAnswerClients}
 use Rattle.session_laws.specs.Logs.{IsLogBy, ComesByRules, ComesByReason, IsDrivenLog}
@@ -54,9 +53,6 @@ module _ (k : ℕ) where
   -- without the offer of a name, one less
   name_first : (name : OfferName) (names : List OfferName) → name.0 ≡ k → names_of k (name ∷ names) ≡ name ∷ names_of k names
   name_first name names e = ap (λ b. cond b (name ∷ names_of k names) (names_of k names)) (eq-eqb name.0 k e)
-
-  name_other : (name : OfferName) (names : List OfferName) → (name.0 ≡ k → ⊥) → names_of k (name ∷ names) ≡ names_of k names
-  name_other name names e = ap (λ b. cond b (name ∷ names_of k names) (names_of k names)) (ne_eqb name.0 k e)
 
   -- an offer that is the client's, among offers of different clients, is the only one
   only_mine : (ps : List PendingOffer) (p : PendingOffer) → AreOfDifferentClients ps → Contains ps p → p.client ≡ k →

@@ -1,19 +1,18 @@
 -- Lines are answered.
-use Rattle.std.proofs.Common.{ℕ, ◌≡◌, ◌<◌, refl, ap, subst, arith, List, length, take, Option, Some, None}
+use Rattle.std.proofs.Common.{ℕ, ◌≡◌, ◌<◌, ap, subst, arith, List, length, take, Option, Some, None}
 use Rattle.spec_core.specs.Code.{program_of}
 use Rattle.spec_core.specs.Ready.{IsReady}
-use Rattle.rule_model.specs.States.{State}
 use Rattle.board_laws.specs.Rules.{any}
-use Rattle.board_core.specs.Views.{BoardView, program, state, SameLog, SameSetting}
+use Rattle.board_core.specs.Views.{BoardView, program, state, SameSetting}
 use Rattle.simulator_lines.specs.Lines.{Asked, menu, step, offered, trace, quit, IsLine}
 use Rattle.simulator_steps.specs.declared.choosing.Chosen.TheVariants as chosen
 use Rattle.simulator_steps.specs.Choosing.{ComesOfChoice}
 use Rattle.simulator_steps.proofs.TwoLists.{both_hold, holds_on}
 use Rattle.simulator.specs.declared.answer.SimFault.{SimFault}
 use Rattle.simulator.specs.declared.answer.SimFault.TheVariants.{BadLine, NoStep, Memory}
-use Rattle.simulator.specs.Menus.{HasSteps, IsMenu, menu_limit}
-use Rattle.simulator.specs.Sims.{CountsSteps, ExplainsFault, HasNoAnswer, HasStep, ShowsMenu, SimView, sim_at}
-use Rattle.simulator.proofs.Menus.{counted, take_short}
+use Rattle.simulator.specs.Menus.{HasSteps, menu_limit}
+use Rattle.simulator.specs.Sims.{CountsSteps, ExplainsFault, HasNoAnswer, HasStep, SimView}
+use Rattle.simulator.proofs.Menus.{take_short}
 
 -- while the behaviour stays, the last menu is one of it
 pub counts_stay : (old new : BoardView) → SameSetting old new → (state new).behaviour ≡ (state old).behaviour → (last : Option ℕ) →
@@ -21,10 +20,6 @@ pub counts_stay : (old new : BoardView) → SameSetting old new → (state new).
 counts_stay old new setting behaviour None h = tt
 counts_stay old new setting behaviour (Some count) h =
     holds_on old new any (λ all. count ≡ length (take menu_limit all)) (ap program_of setting.0.0) setting.1 behaviour h
-
-pub counts_by_log : (old new : BoardView) → SameSetting old new → SameLog old new → (last : Option ℕ) → CountsSteps old last →
-    CountsSteps new last
-counts_by_log old new setting log = counts_stay old new setting (ap (λ (s : State). s.behaviour) log.1)
 
 -- a step of the last menu isn't missing
 pub never_missing : (v new : BoardView) → IsReady (program v) → (last : Option ℕ) (n : ℕ) → CountsSteps v last → HasStep last n →
@@ -39,15 +34,6 @@ never_missing v new ready last n counts has missing =
     let short = take_short menu_limit both.0 in
     let within = has.within in
     omega (arith, same, few, short, within)
-
--- a menu is shown
-pub shows : (old new : BoardView) (last : Option ℕ) (text : List ℕ) (count : ℕ) → old.stop ≡ None → new.stop ≡ None →
-    IsMenu (program new) new.settings (state new) text count → ShowsMenu (sim_at old last) (sim_at new (Some count)) text
-shows old new last text count running still is = record { running = running; still = still; count = count; shown = is; steps = refl }
-
-pub counts_shown : (v : BoardView) (text : List ℕ) (count : ℕ) → IsMenu (program v) v.settings (state v) text count →
-    CountsSteps v (Some count)
-counts_shown v text count is = counted (program v) v.settings (state v) text count is
 
 -- what a line has no answer for
 pub explained : (old new : SimView) (text : List ℕ) (asked : Asked) → IsLine (program old.board) text asked → (e : SimFault) →
