@@ -1,12 +1,21 @@
 use Rattle.std.proofs.Common.{◌≡◌, ◌∙◌, option_map, ap, map, length, refl, sym, None, Some}
 use Rattle.std.proofs.lemmas.List.{length-map}
 use Rattle.std.specs.List.{slice_get}
+use Rattle.spec_core.proofs.Lists.{each_slice_get}
 use Rattle.rule_model.specs.Derivations.{derivation_of}
 use Rattle.board_laws.specs.Rules.{goes_on}
 use Rattle.board_laws.specs.Drawing.{drawn}
-use Rattle.board_core.specs.Views.{BoardView, state}
+use Rattle.board_core.specs.Settled.{MayFollow}
+use Rattle.board_core.specs.Views.{BoardView, program, state, tree}
 use Rattle.board_core.proofs.Entries.{acts, on_ok_both, same_draw}
 use Rattle.board_core.proofs.board.Board.go_on.Goals as goal
+
+pub act-requires-clause-may : goal.act-requires-clause-may
+act-requires-clause-may c =
+    let v = c.args.self.now in
+    each_slice_get (MayFollow (program v) (state v) (tree v) None) (map derivation_of c.args.those.now) c.drawn-number.result
+    (derivation_of c.in-Some.rules.now) c.requires.due.done.1
+    (sym c.tree_at.ensures ∙ ap (option_map (λ r. derivation_of r.now)) c.in-Some.is)
 
 pub returns-clause-settled : goal.returns-clause-settled
 returns-clause-settled c =
