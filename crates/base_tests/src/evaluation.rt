@@ -1,6 +1,6 @@
 // What evaluation gives, and what it costs, by the machine that goes by the definition step by step.
 
-use crate::polish::{data, term};
+use crate::polish::{data, partial_data, term};
 use spec_core::equation::DataSpec;
 use spec_core::memory::Memory;
 use std::alloc::Global;
@@ -28,6 +28,27 @@ const ROWS: [(&str, &str, u64); 15] = [
     ("p0s0", "0", 3),
     ("l:0_", "t", 4),
     ("l:0:d0:s0_", "f", 11),
+];
+
+// The same where operations are partial: d(0) = 0, z(0) = t, z(s(x)) = f, first(x,y) = x, a(x,y) = first(x,x), and p(x,y) = 0 where z(x) = t.
+const PARTIAL_ROWS: [(&str, &str, u64); 12] = [
+    ("ds0", "ds0", 0),
+    ("dd0", "0", 2),
+    ("dds0", "dds0", 0),
+    // the premise, and the equation itself
+    ("p00", "0", 2),
+    // the premise alone, which fails: so the call stays
+    ("ps00", "ps00", 1),
+    ("sps00", "sps00", 1),
+    // the argument, first itself, and the argument again
+    ("1ps000", "ps00", 3),
+    ("1s0ps00", "s0", 2),
+    // the argument, a itself, the argument twice, first itself, and the argument again
+    ("aps000", "ps00", 6),
+    ("zsps00", "f", 2),
+    ("zps00", "zps00", 1),
+    // the argument, and the argument again in the premise
+    ("pps000", "pps000", 2),
 ];
 
 // Whether the term comes to this value after so many uses, with just so many allowed.
@@ -68,6 +89,15 @@ fn costs(
 fn values_cost_what_the_definition_says(rt: HostRuntime) -> Result<(), Fail> {
     let algebra = data(rt.alloc())?;
     for row in &ROWS {
+        assert!(rt; costs(rt.alloc(), &algebra, row)?, "at {}", row.0);
+    }
+    Ok(())
+}
+
+#[test]
+fn calls_that_match_no_equation_are_values(rt: HostRuntime) -> Result<(), Fail> {
+    let algebra = partial_data(rt.alloc())?;
+    for row in &PARTIAL_ROWS {
         assert!(rt; costs(rt.alloc(), &algebra, row)?, "at {}", row.0);
     }
     Ok(())

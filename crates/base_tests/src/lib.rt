@@ -2,11 +2,15 @@
 #![tactic(auto)]
 
 #[cfg(test)]
+mod asked;
+#[cfg(test)]
 mod copies;
 #[cfg(test)]
 mod evaluation;
 #[cfg(test)]
 mod generated;
+#[cfg(test)]
+mod partial;
 #[cfg(test)]
 mod polish;
 #[cfg(test)]
@@ -23,6 +27,8 @@ mod sinks;
 mod sources;
 #[cfg(test)]
 mod terms;
+#[cfg(test)]
+mod truth;
 #[cfg(test)]
 mod values;
 #[cfg(test)]

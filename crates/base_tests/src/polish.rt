@@ -11,16 +11,9 @@ use std::alloc::Global;
 /// The sort of the numbers.
 pub const NUMBER: Sort = Sort(0);
 
-/// The sort of the truth values.
-pub const TRUTH: Sort = Sort(1);
+const TRUTH: Sort = Sort(1);
 
 const LIST: Sort = Sort(2);
-
-/// The operation `true`.
-pub const TRUE: Op = Op(2);
-
-/// The operation `false`.
-pub const FALSE: Op = Op(3);
 
 // The operations by their numbers.
 const OPERATIONS: [(&str, &[Sort], Sort); 17] = [
@@ -79,6 +72,18 @@ const EQUATIONS: [&[&str]; 24] = [
     &["l:xk", "&zxlk"],
 ];
 
+// The same operations with fewer equations: of doubling, of a call with premises and of others some calls match none.
+const PARTIAL_EQUATIONS: [&[&str]; 8] = [
+    &["nt", "f"],
+    &["nf", "t"],
+    &["axy", "1xx"],
+    &["d0", "0"],
+    &["1xy", "x"],
+    &["z0", "t"],
+    &["zsx", "f"],
+    &["zx", "t", "pxy", "0"],
+];
+
 // The number at which a letter stands, if it is there.
 fn place(letters: &[u8], letter: u8) -> Option<u32> {
     for (number, one) in letters.iter().enumerate() {
@@ -132,10 +137,10 @@ fn equation_of(alloc: Global, sides: &[&str]) -> Result<Equation, Memory> {
     Ok(made)
 }
 
-/// Numbers, truth values and lists, with functions over them: Ackermann's, doubling, the next odd number, comparisons, and two with premises.
-pub fn data(alloc: Global) -> Result<DataSpec, Memory> {
+// The data with these equations.
+fn data_with(alloc: Global, all: &[&[&str]]) -> Result<DataSpec, Memory> {
     let mut equations = Vec::new(alloc);
-    for sides in &EQUATIONS {
+    for sides in all {
         equations.push(equation_of(alloc, sides)?)?;
     }
     Ok(DataSpec {
@@ -145,4 +150,14 @@ pub fn data(alloc: Global) -> Result<DataSpec, Memory> {
         },
         equations,
     })
+}
+
+/// Numbers, truth values and lists, with functions over them: Ackermann's, doubling, the next odd number, comparisons, and two with premises.
+pub fn data(alloc: Global) -> Result<DataSpec, Memory> {
+    data_with(alloc, &EQUATIONS)
+}
+
+/// The same operations, of which some are partial.
+pub fn partial_data(alloc: Global) -> Result<DataSpec, Memory> {
+    data_with(alloc, &PARTIAL_EQUATIONS)
 }

@@ -1,7 +1,9 @@
 -- What the rules decide on a board is due.
 use Rattle.std.proofs.Common.{◌≡◌, ◌∙◌, length, refl, sym, ap, subst, Option, None, Some}
+use Rattle.std.specs.Prelude.{IfSome}
+use Rattle.spec_core.specs.Lists.{IsOneOf}
 use Rattle.spec_core.specs.Ready.{IsReady}
-use Rattle.spec_core.proofs.Members.{each_from, contains_one}
+use Rattle.spec_core.proofs.Members.{each_from, each_one, contains_one}
 use Rattle.rule_model.specs.declared.action.Action.{Action}
 use Rattle.rule_model.specs.Answering.{name_of}
 use Rattle.rule_model.specs.Behaviours.{Behaviour}
@@ -9,19 +11,23 @@ use Rattle.rule_model.specs.Derivations.{Derivation}
 use Rattle.rule_model.specs.Derives.{Derives}
 use Rattle.rule_model.specs.Events.{OfferName}
 use Rattle.rule_model.specs.Legal.{IsAgreed}
-use Rattle.rule_model.specs.States.{PendingOffer}
+use Rattle.rule_model.specs.States.{PendingOffer, start_state}
 use Rattle.offer_index.proofs.Answers.{exact_answers_exist}
 use Rattle.offer_index.specs.MarkedTerms.{unmarked}
 use Rattle.offer_index.specs.Evaluations.{Evaluation, IsExact}
 use Rattle.board_laws.specs.Laws.{composites_of}
 use Rattle.board_laws.proofs.Own.{own_plans_are_those}
 use Rattle.board_laws.specs.Rules.{Next, takes, deadlocks, is_beyond, is_not_now, goes_on, stalls, nothing, meeting, unseen, next_of}
-use Rattle.board_laws.specs.Asked.{TestsAsked, TreeQuery}
+use Rattle.board_laws.specs.Asked.{TestsAsked, TreeQuery, offer_in}
+use Rattle.board_laws.specs.Choosing.{ChoosesValues}
+use Rattle.board_laws.specs.Gaps.{element}
 use Rattle.board_laws.specs.TreeLaws.{EntryHolds, lists_of}
 use Rattle.node_trees.specs.Generations.{AreApart}
 use Rattle.node_trees.specs.Origins.{meaning}
 use Rattle.node_trees.specs.Shapes.{stands_for}
+use Rattle.candidate_verdicts.specs.Known.{NodePart, missing_parts}
 use Rattle.candidates.specs.Laws.{IsKnownTree}
+use Rattle.candidates.specs.Listed.{known_trees}
 use Rattle.candidates.proofs.Deciding.{decided_entries_are_next, decided_entries_are_so}
 use Rattle.board_laws.specs.Complete.{IsSearched}
 use Rattle.board_laws.proofs.Following.{searched_trees_follow}
@@ -33,10 +39,16 @@ use Rattle.board_offers.specs.Waiting.{waiting_in}
 use Rattle.board_offers.proofs.Sound.{waiting_is_sound}
 use Rattle.board_laws.specs.StoppingLaws.{GiveReasons, IsKnownState}
 use Rattle.board_laws.proofs.StoppingGiven as given
-use Rattle.board_core.specs.Boards.{IsBoard}
+use Rattle.board_laws.specs.JobValues.{GivesValues, HoldValues}
+use Rattle.board_laws.proofs.JobValues.{listed_trees_choose_values, needed_jobs_choose_values}
+use Rattle.board_record.specs.Records.{IsSession}
+use Rattle.log_states.specs.Clients.{numbers_from}
+use Rattle.board_core.specs.Boards.{AllOfferValues, IsBoard}
 use Rattle.board_core.specs.Settled.{IsDue, MayBeDone, MayFollow}
-use Rattle.board_core.specs.Views.{BoardView, program, state, tree, windows, pieces, decided_at, first_at, all_at}
+use Rattle.board_core.specs.Views.{BoardView, program, events, state, tree, windows, pieces, decided_at, first_at, all_at}
+use Rattle.board_core.specs.Working.{NeededChooseValues}
 use Rattle.board_core.proofs.Found.{IsFound, decided_is_found}
+use Rattle.board_core.proofs.Giving.{pending_gives, rows_hold_values}
 use Rattle.board_core.proofs.Tables.{table_of_session}
 
 module _ (v : BoardView) (is : IsBoard v) (ready : IsReady (program v)) (apart : AreApart (tree v))
@@ -71,6 +83,28 @@ module _ (v : BoardView) (is : IsBoard v) (ready : IsReady (program v)) (apart :
   jobs_give_reasons =
       let exact = exact_answers_exist (program v) ready in
       given.jobs_give_reasons (program v) v.settings exact.0 (windows v) (tree v) (pieces v) (state v) (known_state exact.0 exact.1)
+
+  hold : HoldValues (program v).theory (windows v)
+  hold = rows_hold_values (program v).theory ready.executable v.settings.values v.windows is.0.rows_are
+
+  -- each part of which nothing is known, of a tree among which a search looks for an offer that gives values, chooses values
+  pub listed_choose_values : (q : TreeQuery) → IfSome (offer_in q) (GivesValues (program v).theory) → (d : Derivation) →
+      IsOneOf (element d) (known_trees (program v).theory (windows v) (tree v) q) → (part : NodePart) →
+      IsOneOf part (missing_parts (pieces v) (tree v) d) → ChoosesValues (program v).theory part.rules
+  listed_choose_values q offers d listed =
+      let exact = exact_answers_exist (program v) ready in
+      listed_trees_choose_values (program v) exact.0 exact.1 (windows v) hold (tree v)
+      ((known_state exact.0 exact.1).own exact.0 exact.1) (pieces v) q offers d listed
+
+  -- so does the tree of each job that the rules need, if it has one
+  pub needed_choose_values : AllOfferValues v.session → IsSession (program v) v.session.clients (events v) (state v) → NeededChooseValues v
+  needed_choose_values offers session job needed =
+      let exact = exact_answers_exist (program v) ready in
+      needed_jobs_choose_values (program v) exact.0 exact.1 (windows v) hold (tree v)
+      ((known_state exact.0 exact.1).own exact.0 exact.1) (pieces v) (waiting_in (state v)) (waiting_is_sound (state v))
+      (λ p i. each_one (λ (o : PendingOffer). GivesValues (program v).theory o.offer) (state v).pending p
+      (pending_gives (program v) (events v) (start_state session.behaviour (numbers_from 1 v.session.clients)) (state v) session.derivation
+      offers tt) i) job needed
 
   module _ (entry : Next PendingOffer Derivation) (decided : decided_at v ≡ Some entry) where
     next : IsNextOf (program v) v.settings (state v) entry

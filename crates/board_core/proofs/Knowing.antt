@@ -1,11 +1,12 @@
 -- What the program finds in what is known of a board's tree.
-use Rattle.std.proofs.Common.{◌≡◌, List, [], ◌∷◌, ◌++◌, map, refl, ap, subst, sym, ◌∙◌, inl, inr, Option, Some, option_map, Bool, true, false, cond, not, filter, ◌==◌, ◌||◌, None}
+use Rattle.std.proofs.Common.{ℕ, ◌≡◌, ◌⊎◌, ◌&&◌, nat_lt, length, if◌then◌else◌, List, [], ◌∷◌, ◌++◌, map, refl, ap, subst, sym, ◌∙◌, inl, inr, Option, Some, option_map, Bool, true, false, cond, not, filter, ◌==◌, ◌||◌, None}
 use Rattle.std.proofs.lemmas.Bool.{and_parts, eqb-true}
 use Rattle.std.proofs.lemmas.List.{map-append}
 use Rattle.spec_core.specs.declared.equation.DataSpec.{DataSpec}
 use Rattle.spec_core.specs.declared.window.Window.{Window}
 use Rattle.spec_core.specs.Lists.{IsOneOf}
 use Rattle.spec_core.specs.Theories.{theory_of}
+use Rattle.spec_core.proofs.Members.{one_parts}
 use Rattle.rule_model.specs.declared.rules.Rules.{Rules}
 use Rattle.rule_model.specs.Derivations.{Derivation, derivation_of}
 use Rattle.rule_model.specs.States.{PendingOffer}
@@ -14,7 +15,7 @@ use Rattle.board_laws.specs.Lazy.{first}
 use Rattle.board_laws.specs.Rules.{Waiting}
 use Rattle.decision_order.specs.declared.listing.OffersByNumber.{OffersByNumber}
 use Rattle.decision_order.specs.declared.settle.Settled.{Settled}
-use Rattle.decision_order.specs.Jobs.{first_not_out, not_out}
+use Rattle.decision_order.specs.Jobs.{first_not_out, not_out, taken_on}
 use Rattle.decision_order.specs.Needed.{next_needed}
 use Rattle.decision_order.specs.Numbered.{entry_with, waiting_with}
 use Rattle.decision_order.specs.Rules.{next_decided}
@@ -29,17 +30,18 @@ use Rattle.candidate_verdicts.specs.Stored.{stored}
 use Rattle.candidate_verdicts.proofs.Sameness.{same_rules_are_one}
 use Rattle.candidates.specs.declared.known_tree.KnownTree.{KnownTree}
 use Rattle.candidates.specs.declared.job.NodeJob as declared
-use Rattle.candidates.specs.Jobs.{NodeJob, to_expand, to_judge, same_job, is_out}
-use Rattle.candidates.specs.KnownTrees.{offer_in, first_in, all_in, is_out_in, jobs_to_first, jobs_to_all, is_held_in}
+use Rattle.candidates.specs.Jobs.{NodeJob, to_expand, to_judge, same_job, is_out, with_job}
+use Rattle.candidates.specs.KnownTrees.{offer_in, first_in, all_in, is_out_in, with_job_in, jobs_to_first, jobs_to_all, is_held_in}
 use Rattle.candidates.specs.Listed.{first_tree}
 use Rattle.candidates.specs.Models.{job_of}
 use Rattle.board_laws.specs.Needed.{entry_decided, generation_of, jobs_needed}
+use Rattle.board_laws.specs.JobValues.{JobChoosesValues}
 use Rattle.board_laws.specs.Reasons.{LooksForTrees}
 use Rattle.board_offers.specs.Offers.{offer_at}
 use Rattle.board_offers.specs.Waiting.{waiting_in}
 use Rattle.board_core.specs.declared.job.Job.{Job}
 use Rattle.board_core.specs.Entries.{entry_of}
-use Rattle.board_core.specs.Views.{BoardView, state, tree, decided_at, first_at, needed_at}
+use Rattle.board_core.specs.Views.{BoardView, program, state, tree, decided_at, first_at, needed_at}
 use Rattle.board_core.specs.Working.{IsHandedOut, first_free}
 
 -- the jobs that are kept of a list are kept of what they stand for
@@ -110,8 +112,8 @@ pub handed_out : (old new : BoardView) (task again : declared.NodeJob) (job : Jo
     job.task ≡ task → job_of again ≡ job_of task → first_free old ≡ Some (job_of task) → new.out ≡ old.out ++ again ∷ [] →
     Lives (tree old) (generation_of (job_of task)) →
     ((n : Held) → IsNodeOf (tree old) (generation_of (job_of task)) n → n.source ≡ source_of job.origin) → LooksForTrees (state old) →
-    IsHandedOut old new job
-handed_out old new task again job same copied first out lives origin looks = record {
+    JobChoosesValues (program old).theory (job_of task) → IsHandedOut old new job
+handed_out old new task again job same copied first out lives origin looks values = record {
   first = first ∙ ap (λ t. Some (job_of t)) (sym same);
   out =
       ap (map job_of) out ∙ map-append job_of old.out (again ∷ [])
@@ -119,6 +121,7 @@ handed_out old new task again job same copied first out lives origin looks = rec
   lives = subst (λ t. Lives (tree old) (generation_of (job_of t))) (sym same) lives;
   origin = subst (λ t. (n : Held) → IsNodeOf (tree old) (generation_of (job_of t)) n → n.source ≡ source_of job.origin) (sym same) origin;
   looks = looks;
+  values = subst (λ t. JobChoosesValues (program old).theory (job_of t)) (sym same) values;
 }
 
 -- what is known of the tree is what the board knows
@@ -166,22 +169,57 @@ module _ (v : BoardView) (k : KnownTree) (is : IsOf v k) (o : OffersByNumber)
       let g = subst (λ z. Finds s v.session.checked.algebra v.windows (tree v) v.pieces z (waiting_with (offer_at z) (waiting_of o))) is.offers f in
       subst (Finds s v.session.checked.algebra v.windows (tree v) v.pieces (state v).pending) asked g
 
-  abbrev Needs : Option NodeJob → List declared.NodeJob → DataSpec → List Window → Shape → Pieces → Waiting PendingOffer → Type 0
-  Needs job out algebra rows t ps w =
-      job ≡ first_not_out (is_out (map job_of out)) (jobs_needed (theory_of algebra) (windows_in rows) t (stored ps) w)
+  abbrev Needed : List NodeJob → DataSpec → List Window → Shape → Pieces → Waiting PendingOffer → Type 0
+  Needed jobs algebra rows t ps w = jobs ≡ jobs_needed (theory_of algebra) (windows_in rows) t (stored ps) w
 
-  pub found_job : (those : List declared.NodeJob) → k.out.now ≡ those → (job : Option NodeJob) →
-      job ≡ first_not_out (is_out_in k)
-      (next_needed (jobs_to_first k) (jobs_to_all k) (is_held_in k) (waiting_with (offer_in k) (waiting_of o))) →
-      job ≡ first_not_out (is_out (map job_of those)) (needed_at v)
-  found_job those out job h =
+  abbrev needed_known : List NodeJob
+  needed_known = next_needed (jobs_to_first k) (jobs_to_all k) (is_held_in k) (waiting_with (offer_in k) (waiting_of o))
+
+  -- what is needed as far as is known is what the board needs
+  needed_is : needed_known ≡ needed_at v
+  needed_is =
+      let jobs = needed_known in
       let p : List PendingOffer = map pending_of k.offers.now in
       let w : List PendingOffer → Waiting PendingOffer = λ z. waiting_with (offer_at z) (waiting_of o) in
-      let a : Needs job k.out.now k.algebra.now k.windows.now (shape_of k.tree.now) k.pieces.now (w p) = h in
-      let b = subst (λ z. Needs job k.out.now z k.windows.now (shape_of k.tree.now) k.pieces.now (w p)) is.algebra a in
-      let d = subst (λ z. Needs job k.out.now v.session.checked.algebra z (shape_of k.tree.now) k.pieces.now (w p)) is.windows b in
-      let e = subst (λ z. Needs job k.out.now v.session.checked.algebra v.windows z k.pieces.now (w p)) is.tree d in
-      let f = subst (λ z. Needs job k.out.now v.session.checked.algebra v.windows (tree v) z (w p)) is.pieces e in
-      let g = subst (λ z. Needs job k.out.now v.session.checked.algebra v.windows (tree v) v.pieces (w z)) is.offers f in
-      let i = subst (Needs job k.out.now v.session.checked.algebra v.windows (tree v) v.pieces) asked g in
-      subst (λ z. Needs job z v.session.checked.algebra v.windows (tree v) v.pieces (waiting_in (state v))) out i
+      let a : Needed jobs k.algebra.now k.windows.now (shape_of k.tree.now) k.pieces.now (w p) = refl in
+      let b = subst (λ z. Needed jobs z k.windows.now (shape_of k.tree.now) k.pieces.now (w p)) is.algebra a in
+      let d = subst (λ z. Needed jobs v.session.checked.algebra z (shape_of k.tree.now) k.pieces.now (w p)) is.windows b in
+      let e = subst (λ z. Needed jobs v.session.checked.algebra v.windows z k.pieces.now (w p)) is.tree d in
+      let f = subst (λ z. Needed jobs v.session.checked.algebra v.windows (tree v) z (w p)) is.pieces e in
+      let g = subst (λ z. Needed jobs v.session.checked.algebra v.windows (tree v) v.pieces (w z)) is.offers f in
+      subst (Needed jobs v.session.checked.algebra v.windows (tree v) v.pieces) asked g
+
+  pub found_job : (those : List declared.NodeJob) → k.out.now ≡ those → (job : Option NodeJob) →
+      job ≡ first_not_out (is_out_in k) needed_known → job ≡ first_not_out (is_out (map job_of those)) (needed_at v)
+  found_job those out job h =
+      h ∙ ap (λ l. first_not_out (is_out (map job_of l)) needed_known) out ∙ ap (first_not_out (is_out (map job_of those))) needed_is
+
+  pub found_jobs : (limit : ℕ) (those : List declared.NodeJob) → k.out.now ≡ those → (jobs : List NodeJob) →
+      jobs ≡ taken_on (with_job_in k limit) [] needed_known → jobs ≡ taken_on (with_job limit (map job_of those)) [] (needed_at v)
+  found_jobs limit those out jobs h =
+      h
+      ∙ ap (λ l. taken_on (with_job limit (map job_of l)) [] needed_known) out
+      ∙ ap (taken_on (with_job limit (map job_of those)) []) needed_is
+
+-- what is taken on of some jobs is among them
+pub taken_are_asked : (limit : ℕ) (out jobs : List NodeJob) (job : NodeJob) → IsOneOf job (taken_on (with_job limit out) [] jobs) → IsOneOf job jobs
+taken_are_asked limit out jobs job h = by_taken (from [] jobs h)
+  where
+    by_taken : IsOneOf job [] ⊎ IsOneOf job jobs → IsOneOf job jobs
+    by_taken (inl never) = absurd never
+    by_taken (inr among) = among
+
+    from : (taken xs : List NodeJob) → IsOneOf job (taken_on (with_job limit out) taken xs) → IsOneOf job taken ⊎ IsOneOf job xs
+    from taken [] h = inl h
+    from taken (x ∷ xs) h =
+        by_test (nat_lt (length taken) limit && (not (is_out out x) && not (is_out taken x))) (from (with_job limit out taken x) xs h)
+      where
+        by_last : IsOneOf job taken ⊎ IsOneOf job (x ∷ []) → IsOneOf job taken ⊎ IsOneOf job (x ∷ xs)
+        by_last (inl before) = inl before
+        by_last (inr (inl here)) = inr (inl here)
+        by_last (inr (inr never)) = absurd never
+
+        by_test : (b : Bool) → IsOneOf job (if b then taken ++ x ∷ [] else taken) ⊎ IsOneOf job xs → IsOneOf job taken ⊎ IsOneOf job (x ∷ xs)
+        by_test b (inr later) = inr (inr later)
+        by_test true (inl here) = by_last (one_parts job taken (x ∷ []) here)
+        by_test false (inl before) = inl before

@@ -3,6 +3,7 @@ pub mod Due
 pub mod Ending
 pub mod Entries
 pub mod Found
+pub mod Giving
 pub mod Keeping
 pub mod Knowing
 pub mod Living

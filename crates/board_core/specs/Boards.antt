@@ -3,12 +3,17 @@ use Rattle.std.specs.Prelude.{ℕ, ◌≡◌, List, Option, None, IfSome, false,
 use Rattle.spec_core.specs.declared.window.Window.{Window}
 use Rattle.spec_core.specs.Code.{Program}
 use Rattle.spec_core.specs.Lists.{Each}
+use Rattle.spec_core.specs.Theories.{Theory}
 use Rattle.offer_index.specs.Windows.{Windows}
 use Rattle.rule_model.specs.Derivations.{Derivation}
+use Rattle.rule_model.specs.Events.{Event, pended}
 use Rattle.candidates.specs.Jobs.{NodeJob}
 use Rattle.candidates.specs.Models.{job_of}
 use Rattle.board_laws.specs.Needed.{generation_of}
 use Rattle.board_laws.specs.Expansions.{IsExpansion}
+use Rattle.board_laws.specs.JobValues.{GivesValues}
+use Rattle.board_record.specs.Views as records
+use Rattle.board_record.specs.Views.{RecordView}
 use Rattle.sort_windows.specs.Found.{AreBySorts}
 use Rattle.node_trees.specs.Origins.{Source, meaning}
 use Rattle.node_trees.specs.Rests.{Work, IsWayOf}
@@ -50,6 +55,15 @@ pub record IsIndexed (program : Program) (rows : List Window) (t : Shape) (index
 
 abbrev pub IsIndexedBoard : BoardView → Option IndexView → Type 0
 IsIndexedBoard v index = IsBoard v × IsIndexed (views.program v) v.windows (views.tree v) index
+
+-- an event that is an offer gives values
+abbrev pub OffersValues : Theory → Event → Type 0
+OffersValues theory (pended client number offer ask) = GivesValues theory offer
+OffersValues theory _ = Unit {0}
+
+-- so does each offer that a session has seen
+abbrev pub AllOfferValues : RecordView → Type 0
+AllOfferValues r = Each (OffersValues (records.program r).theory) (records.events r)
 
 -- the work is what the origin can do: it has the plans of its composites, its ways to act, and ways for the trees of its plans
 pub record IsWorkAt (program : Program) (w : Windows) (o : Source) (work : Work) : Type 0 where

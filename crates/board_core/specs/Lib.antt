@@ -5,6 +5,7 @@ pub mod Entries
 pub mod Settled
 pub mod Views
 pub mod Working
+pub use Rattle.board_laws.specs.JobValues
 pub use Rattle.board_laws.specs.Prepared
 pub use Rattle.board_laws.specs.Rights
 pub use Rattle.board_offers.specs.Offers

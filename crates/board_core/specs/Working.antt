@@ -1,9 +1,11 @@
 -- Jobs that are handed out, and what comes of them.
 use Rattle.std.specs.Prelude.{ℕ, ◌≡◌, ◌<◌, ◌≤◌, ◌⊎◌, ◌++◌, ◌∷◌, [], List, map, filter, not, Option, Some, None}
-use Rattle.spec_core.specs.Lists.{IsOneOf}
-use Rattle.decision_order.specs.Jobs.{first_not_out}
-use Rattle.candidates.specs.Jobs.{NodeJob, to_expand, to_judge, same_job, is_out}
+use Rattle.spec_core.specs.Code.{Program}
+use Rattle.spec_core.specs.Lists.{Each, IsOneOf}
+use Rattle.decision_order.specs.Jobs.{first_not_out, taken_on}
+use Rattle.candidates.specs.Jobs.{NodeJob, to_expand, to_judge, same_job, is_out, with_job}
 use Rattle.candidates.specs.Models.{job_of}
+use Rattle.board_laws.specs.JobValues.{JobChoosesValues}
 use Rattle.board_laws.specs.Needed.{Waits, generation_of}
 use Rattle.board_laws.specs.Next.{GoesByRules}
 use Rattle.candidate_verdicts.specs.Stored.{is_gone}
@@ -23,13 +25,33 @@ use Rattle.board_core.specs.Views.{BoardView, needed_at, program, state, tree, w
 abbrev pub first_free : BoardView → Option NodeJob
 first_free v = first_not_out (is_out (map job_of v.out)) (needed_at v)
 
--- the job is the first that is needed and wasn't out, it is out now, and its origin is that of its node; the rules look for trees
+-- the job's tree of rules, if it has one, chooses values
+abbrev pub IsOfValues : Program → Job → Type 0
+IsOfValues program job = JobChoosesValues program.theory (job_of job.task)
+
+-- the job is the first that is needed and wasn't out, it is out now, and its origin is that of its node; the rules look for trees; and its
+-- tree, if it has one, chooses values
 pub record IsHandedOut (old new : BoardView) (job : Job) : Type 0 where
   pub first : first_free old ≡ Some (job_of job.task)
   pub out : map job_of new.out ≡ map job_of old.out ++ job_of job.task ∷ []
   pub lives : Lives (tree old) (generation_of (job_of job.task))
   pub origin : (n : Held) → IsNodeOf (tree old) (generation_of (job_of job.task)) n → n.source ≡ source_of job.origin
   pub looks : LooksForTrees (state old)
+  pub values : IsOfValues (program old) job
+
+-- the rules need the job; its node lives, and its origin is that of the node; the rules look for trees; and its tree, if it has one,
+-- chooses values
+pub record IsAsked (v : BoardView) (job : Job) : Type 0 where
+  pub among : IsOneOf (job_of job.task) (needed_at v)
+  pub lives : Lives (tree v) (generation_of (job_of job.task))
+  pub origin : (n : Held) → IsNodeOf (tree v) (generation_of (job_of job.task)) n → n.source ≡ source_of job.origin
+  pub looks : LooksForTrees (state v)
+  pub values : IsOfValues (program v) job
+
+-- the first jobs that the rules need and that aren't out, each once, up to so many
+pub record AreAsked (v : BoardView) (limit : ℕ) (jobs : List Job) : Type 0 where
+  pub those : map (λ job. job_of job.task) jobs ≡ taken_on (with_job limit (map job_of v.out)) [] (needed_at v)
+  pub each : Each (IsAsked v) jobs
 
 -- why no job is handed out: the session has stopped, or ended with an offer pending, or waits for its clients; or no further job is needed
 pub data NoneFree (v : BoardView) : Type 0 where
@@ -44,6 +66,10 @@ pub record IsNeeded (v : BoardView) (job : NodeJob) : Type 0 where
   pub running : v.stop ≡ None
   pub looks : LooksForTrees (state v)
   pub among : IsOneOf job (needed_at v)
+
+-- the tree of each job that the rules need, if it has one, chooses values
+abbrev pub NeededChooseValues : BoardView → Type 0
+NeededChooseValues v = (job : NodeJob) → IsOneOf job (needed_at v) → JobChoosesValues (program v).theory job
 
 -- the job is to find what a node shows
 abbrev pub IsVerdict : NodeJob → Type 0

@@ -17,6 +17,7 @@ ghost use Rattle.log_states.specs.Views.{state_at};
 ghost use Rattle.node_trees.specs.Generations.{AreApart, AreBelow};
 ghost use Rattle.node_trees.specs.Shapes.{AllWait, stands_for};
 ghost use Rattle.board_core.specs.Boards.{AreOfLiving};
+ghost use Rattle.board_laws.specs.JobValues.{GivesValues};
 ghost use Rattle.board_core.specs.Views as views;
 ghost use Rattle.board_core.specs.Views.{program, events, pieces, state, tree, HasOneMore, SameSetting, SameLog, SameNodes};
 
@@ -65,7 +66,7 @@ impl Model for Board {
     ghost use Rattle.board_laws.specs.contracts.stop_reason.StopReason as t;
     ghost use Rattle.board_laws.specs.Rights.{AreForms};
     ghost use Rattle.spec_core.specs.Theories.{theory_of};
-    ghost use Rattle.board_core.specs.Boards.{IsIndexedBoard};
+    ghost use Rattle.board_core.specs.Boards.{AllOfferValues, IsIndexedBoard};
     ghost use Rattle.board_core.specs.Views.{BoardView};
 
     ghost Value = { BoardView };
@@ -88,7 +89,7 @@ impl Model for Board {
       pieces = v.pieces;
       out = v.out.items;
       stop = v.stop;
-    }) v.index × AreForms (theory_of v.record.checked.algebra) v.forms };
+    }) v.index × AreForms (theory_of v.record.checked.algebra) v.forms × AllOfferValues v.record };
 }
 
 impl Board {
@@ -212,7 +213,7 @@ impl Board {
         self.record.reply_of(client, number)
     }
 
-    /// A client makes its next offer, or only asks for it; its number, from 1 for each client.
+    /// A client makes its next offer, or only asks for it; its number, from 1 for each client. What the offer gives are values.
     pub fn pend(
         &mut self,
         alloc: Global,
@@ -220,6 +221,7 @@ impl Board {
         offer: &Offer,
         ask: bool,
     ) -> Result<u64, PendFault>
+        requires values { GivesValues (program self.old).theory offer.now }
         ensures may { IfOk result (λ n. MayOffer (length (program self.old).gates) (state self.old) client n offer.now) }
         ensures log { IfOk result (λ n. events self.new ≡ events self.old ++ pended client n offer.now ask ∷ []) }
         ensures one_more { OnOk result (HasOneMore self.old self.new) }

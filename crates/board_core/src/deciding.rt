@@ -1,14 +1,14 @@
 // What comes next, as far as what is known decides it.
 
-ghost use Rattle.std.specs.Prelude.{◌≡◌, ◌↔◌, IfOk, IfSome, IsTrue, Some, map, option_map};
+ghost use Rattle.std.specs.Prelude.{◌≡◌, ◌↔◌, [], IfOk, IfSome, IsTrue, Some, map, option_map};
 ghost use Rattle.spec_core.specs.Lists.{IsOneOf};
 ghost use Rattle.rule_model.specs.Derivations.{derivation_of};
 ghost use Rattle.log_states.specs.Views.{pending_of};
 ghost use Rattle.candidates.specs.Composites.{AreAllOf};
 ghost use Rattle.candidates.specs.KnownTrees.{HasItsParts};
-ghost use Rattle.candidates.specs.Jobs.{is_out};
+ghost use Rattle.candidates.specs.Jobs.{is_out, with_job};
 ghost use Rattle.candidates.specs.Models.{job_of};
-ghost use Rattle.decision_order.specs.Jobs.{first_not_out};
+ghost use Rattle.decision_order.specs.Jobs.{first_not_out, taken_on};
 ghost use Rattle.node_trees.specs.Shapes.{shape_of};
 ghost use Rattle.board_core.specs.Entries.{entry_of};
 ghost use Rattle.board_core.specs.Views.{program, state, tree, decided_at, needed_at};
@@ -18,7 +18,7 @@ use crate::board::Board;
 use crate::copying::is_same;
 use board_laws::OFFERS_LIMIT;
 use board_offers::waiting::offers_by_number;
-use candidates::entry::{next_entry, next_job};
+use candidates::entry::{next_entry, next_job, next_jobs};
 use candidates::job::NodeJob;
 use candidates::known_tree::KnownTree;
 use decision_order::settle::Settled;
@@ -129,6 +129,16 @@ impl Board {
         ensures job { IfOk result (λ job. option_map job_of job ≡ first_not_out (is_out (map job_of self.now.out)) (needed_at self.now)) }
     {
         self.next_besides(alloc, &self.out)
+    }
+
+    // The first jobs that the rules still need and that aren't out, each once, up to so many.
+    pub(crate) fn next_tasks(&self, alloc: Global, limit: usize) -> Result<Vec<NodeJob>, Memory>
+        ensures jobs { IfOk result (λ jobs. map job_of jobs.items ≡
+            taken_on (with_job limit (map job_of self.now.out)) [] (needed_at self.now)) }
+    {
+        let offers = offers_by_number(alloc, self.state())?;
+        let known = self.known(alloc)?;
+        next_jobs(alloc, &known, &offers, limit)
     }
 
     // Whether the job is among those that the rules still need.

@@ -1,7 +1,7 @@
 // The jobs of a board: what workers do for it.
 
-ghost use Rattle.std.specs.Prelude.{ℕ, ◌≡◌, ◌↔◌, ◌<◌, ◌≤◌, IfOk, IfSome, IfNone, IsTrue, OnErr, None, Some, [], false, map};
-ghost use Rattle.spec_core.specs.Lists.{IsOneOf};
+ghost use Rattle.std.specs.Prelude.{ℕ, ◌≡◌, ◌↔◌, ◌<◌, ◌≤◌, ◌⊎◌, IfOk, IfSome, IfNone, IsTrue, OnErr, None, Some, [], false, map};
+ghost use Rattle.spec_core.specs.Lists.{Each, IsOneOf};
 ghost use Rattle.candidates.specs.Jobs as jobs;
 ghost use Rattle.candidates.specs.Jobs.{to_expand, to_judge};
 ghost use Rattle.candidates.specs.Models.{job_of};
@@ -19,7 +19,9 @@ ghost use Rattle.node_trees.specs.Shapes.{Held, IsNodeOf, Lives, posted};
 ghost use Rattle.board_core.specs.Boards.{IsWorkAt};
 ghost use Rattle.board_laws.specs.Needed.{Waits, generation_of};
 ghost use Rattle.board_laws.specs.Counts.{limited, offers_limit, offers_of_tree};
-ghost use Rattle.board_core.specs.Working.{HasOrigin, IsFree, IsHandedOut, IsVerdict, KeepsNodes, NoneFree, WhyNone, first_free, first_reason, left_out};
+ghost use Rattle.board_laws.specs.JobValues.{JobChoosesValues};
+ghost use Rattle.board_core.specs.Working.{AreAsked, HasOrigin, IsAsked, IsFree, IsHandedOut, IsVerdict, KeepsNodes, NeededChooseValues};
+ghost use Rattle.board_core.specs.Working.{NoneFree, WhyNone, first_free, first_reason, left_out};
 ghost use Rattle.board_core.specs.Views.{program, state, tree, windows, pieces, needed_at, SameLog, SameSession, SameNodes};
 
 use crate::board::Board;
@@ -91,6 +93,14 @@ impl Board {
         self.record.tree().generations_are_sound();
     }
 
+    // The trees of the jobs that the rules need choose values.
+    fn needed_jobs_choose_values(&self)
+        ensures { NeededChooseValues self.now }
+    {
+        self.record.log_is_a_derivation();
+        self.record.tree().generations_are_sound();
+    }
+
     // How many possible agreements the behaviour has that is reached, of those of which every participant is expanded; all above the limit
     // comes to one more.
     fn offers(&self, alloc: Global) -> Result<u64, Memory>
@@ -124,6 +134,7 @@ impl Board {
         requires first { first_free self.old ≡ Some (job_of task) }
         requires lives { Lives (tree self.old) (generation_of (job_of task)) }
         requires looks { LooksForTrees (state self.old) }
+        requires values { JobChoosesValues (program self.old).theory (job_of task) }
         ensures job { IfOk result (IsHandedOut self.old self.new) }
         ensures kept { OnErr result (self.new.out ≡ self.old.out) }
         ensures log { SameLog self.old self.new }
@@ -156,6 +167,7 @@ impl Board {
             return Ok(None);
         }
         self.needed_jobs_live();
+        self.needed_jobs_choose_values();
         match self.next_task(alloc)? {
             None => Ok(None),
             Some(task) => {
@@ -167,6 +179,46 @@ impl Board {
                 Ok(Some(job))
             }
         }
+    }
+
+    // The job, which the rules need, with what its node stands for.
+    fn asked(&self, alloc: Global, task: &NodeJob) -> Result<Job, Memory>
+        requires needed { IsOneOf (job_of task.now) (needed_at self.now) }
+        requires looks { LooksForTrees (state self.now) }
+        ensures job { IfOk result (λ job. job_of job.task ≡ job_of task.now) }
+        ensures asked { IfOk result (IsAsked self.now) }
+    {
+        self.needed_jobs_live();
+        self.needed_jobs_choose_values();
+        let task = copy_job(alloc, task)?;
+        let job = self.with_origin(alloc, task)?;
+        Ok(job)
+    }
+
+    // The jobs with what their nodes stand for.
+    fn with_origins(&self, alloc: Global, tasks: &[NodeJob]) -> Result<Vec<Job>, Memory>
+        requires needed { Each (λ job. IsOneOf job (needed_at self.now)) (map job_of tasks.now) }
+        requires looks { LooksForTrees (state self.now) }
+        ensures those { IfOk result (λ jobs. map (λ job. job_of job.task) jobs.items ≡ map job_of tasks.now) }
+        ensures each { IfOk result (λ jobs. Each (IsAsked self.now) jobs.items) }
+    {
+        let mut jobs = Vec::new(alloc);
+        for task in tasks {
+            jobs.push(self.asked(alloc, task)?)?;
+        }
+        Ok(jobs)
+    }
+
+    /// The first jobs that the rules still need and that aren't out, each once, at most `limit`. They stay free. None where the session has
+    /// stopped or ended, or waits for its clients.
+    pub fn next_jobs(&self, alloc: Global, limit: usize) -> Result<Vec<Job>, Memory>
+        ensures jobs { IfOk result (λ jobs. AreAsked self.now limit jobs.items ⊎ (jobs.items ≡ []) × NoneFree self.now) }
+    {
+        if !self.goes_on() {
+            return Ok(Vec::new(alloc));
+        }
+        let tasks = self.next_tasks(alloc, limit)?;
+        self.with_origins(alloc, &tasks)
     }
 
     /// The job is free again. It takes no memory.

@@ -5,6 +5,7 @@ pub mod FollowedGiven
 pub mod FollowedLists
 pub mod FollowedParts
 pub mod Following
+pub mod JobValues
 pub mod Keeping
 pub mod Knowing
 pub mod Living
@@ -19,5 +20,6 @@ pub mod StoppingParts
 pub mod Those
 pub use Rattle.decision_trees.proofs.Parts
 pub use Rattle.node_values.proofs.Splitting
+pub use Rattle.node_verdict.proofs.Sorts
 pub use Rattle.node_work.proofs.Top
 pub use Rattle.symbolic_plans.proofs.Own

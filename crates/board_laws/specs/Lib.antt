@@ -2,6 +2,7 @@ pub mod Complete
 pub mod Drawing
 pub mod FollowedLaws
 pub mod Given
+pub mod JobValues
 pub mod Needed
 pub mod NeededLaws
 pub mod Next
@@ -19,5 +20,6 @@ pub use Rattle.decision_trees.specs.Lazy
 pub use Rattle.decision_trees.specs.Rules
 pub use Rattle.node_values.specs.Prepared
 pub use Rattle.node_values.specs.Rights
+pub use Rattle.node_verdict.specs.Choosing
 pub use Rattle.node_work.specs.Expansions
 pub use Rattle.symbolic_plans.specs.Laws

@@ -1,13 +1,15 @@
 -- Why a job that a search asks for has no answer is a reason to stop.
 use Rattle.std.proofs.Common.{ℕ, ◌≡◌, sym, subst}
+use Rattle.std.specs.Prelude.{IfSome}
 use Rattle.spec_core.specs.Lists.{IsOneOf}
 use Rattle.spec_core.specs.Ready.{IsReady}
+use Rattle.spec_core.specs.Theories.{Theory}
 use Rattle.rule_model.specs.declared.offer.Offer.{Offer}
 use Rattle.rule_model.specs.Derivations.{Derivation}
 use Rattle.rule_model.specs.States.{PendingOffer}
 use Rattle.board_laws.specs.Gaps.{OrGap, element, gap}
 use Rattle.board_laws.specs.Rules.{Query, Waiting, any, any_beyond}
-use Rattle.candidate_laws.specs.Asked.{TreeQuery}
+use Rattle.candidate_laws.specs.Asked.{TreeQuery, offer_in}
 use Rattle.candidate_laws.proofs.Answers.{exact_answers_exist}
 use Rattle.candidate_verdicts.specs.Known.{NodePart, missing_parts}
 use Rattle.candidate_verdicts.proofs.Missing.{missing_parts_are_missing}
@@ -16,6 +18,7 @@ use Rattle.candidates.specs.Jobs.{NodeJob, to_expand, to_judge}
 use Rattle.candidates.specs.Listed.{known_trees}
 use Rattle.candidates.specs.Models.{job_of}
 use Rattle.candidates.specs.Waiting.{waiting_in}
+use Rattle.board_laws.specs.JobValues.{GivesValues, JobChoosesValues}
 use Rattle.board_laws.specs.Needed.{IsOfRules, generation_of}
 use Rattle.board_laws.proofs.Living.{gap_waits}
 use Rattle.board_laws.proofs.StoppingGiven.{part_gives}
@@ -33,24 +36,31 @@ of_all state any all = tt
 of_all state any_beyond all = tt
 of_all state _ all = absurd all
 
+for_all : (theory : Theory) (q : TreeQuery) → AsksForAll q → IfSome (offer_in q) (GivesValues theory)
+for_all theory any all = tt
+for_all theory any_beyond all = tt
+for_all theory _ all = absurd all
+
 module _ (v : BoardView) (is : IsBoard v) (ready : IsReady (program v)) (apart : AreApart (tree v))
     (reached : (state v).behaviour ≡ stands_for (program v) (tree v)) where
   -- why the job has no answer at a node with this origin is a reason to stop
   abbrev Gives : NodeJob → Source → Type 0
   Gives job o = GivesReason (program v) v.settings (windows v) (state v) o job
 
-  -- the node of the job lives, and why the job has no answer there is a reason to stop
+  -- the job's tree chooses values, its node lives, and why the job has no answer there is a reason to stop
   pub record IsOfTree (job : NodeJob) : Type 0 where
+    pub values : JobChoosesValues (program v).theory job
     pub lives : Lives (tree v) (generation_of job)
     pub gives : (o : Source) → ((n : Held) → IsNodeOf (tree v) (generation_of job) n → n.source ≡ o) → Gives job o
 
-  at_node : (job : NodeJob) (n : Held) → IsNodeOf (tree v) (generation_of job) n → Gives job n.source → IsOfTree job
-  at_node job n node gives =
-      record { lives = record { node = n; is = node }; gives = λ o origin. subst (Gives job) (origin n node) gives }
+  at_node : (job : NodeJob) → JobChoosesValues (program v).theory job → (n : Held) → IsNodeOf (tree v) (generation_of job) n →
+      Gives job n.source → IsOfTree job
+  at_node job values n node gives =
+      record { values = values; lives = record { node = n; is = node }; gives = λ o origin. subst (Gives job) (origin n node) gives }
 
   expansion_of_tree : (g : ℕ) → Lives (tree v) g → IsOfTree (to_expand g)
   expansion_of_tree g lives =
-      at_node (to_expand g) lives.node lives.is (λ reason unexpanded.
+      at_node (to_expand g) tt lives.node lives.is (λ reason unexpanded.
       (due.jobs_give_reasons v is ready apart reached).expansions g lives.node lives.is unexpanded.0 unexpanded.1 reason unexpanded.2)
 
   part_of_tree : (q : TreeQuery) → AsksForAll q → (d : Derivation) →
@@ -60,7 +70,8 @@ module _ (v : BoardView) (is : IsBoard v) (ready : IsReady (program v)) (apart :
       let lives = (missing_parts_are_missing (program v).theory (windows v) (pieces v) (tree v) d).lives part missing in
       let exact = exact_answers_exist (program v) ready in
       let of = of_all (waiting_in (state v)) q all in
-      at_node (to_judge part) lives.node lives.is (λ reason unshown.
+      at_node (to_judge part)
+      (due.listed_choose_values v is ready apart reached q (for_all (program v).theory q all) d listed part missing) lives.node lives.is (λ reason unshown.
       part_gives (program v) v.settings exact.0 (windows v) (tree v) (pieces v) (state v)
       (due.known_state v is ready apart reached exact.0 exact.1) part lives.node
       (record { query = q; of_rules = of; tree = d; listed = listed; missing = missing }) lives.is unshown.0
@@ -84,5 +95,6 @@ module _ (v : BoardView) (is : IsBoard v) (ready : IsReady (program v)) (apart :
       (task : declared.NodeJob) → FindsOut v x (job_of task) → (job : Job) → job.task ≡ task →
       ((n : Held) → IsNodeOf (tree v) (generation_of (job_of task)) n → n.source ≡ source_of job.origin) → IsSound v job
   found_job_is_sound q all x listed task finds job same origin =
-      subst (λ (t : declared.NodeJob). Gives (job_of t) (source_of job.origin)) (sym same)
-      ((found_out q all x listed (job_of task) finds).gives (source_of job.origin) origin)
+      let of = found_out q all x listed (job_of task) finds in
+      subst (λ (t : declared.NodeJob). Gives (job_of t) (source_of job.origin) × JobChoosesValues (program v).theory (job_of t)) (sym same)
+      (of.gives (source_of job.origin) origin, of.values)

@@ -22,6 +22,7 @@ use Rattle.board_laws.specs.Reasons.{IsReasonToStop}
 use Rattle.board_core.specs.Origins.{Source, meaning, source_of}
 use Rattle.board_core.specs.declared.job.Job.{Job}
 use Rattle.board_core.specs.Views.{BoardView, pieces, program, state, tree, windows}
+use Rattle.board_core.specs.Working.{IsOfValues}
 use Rattle.board_work.specs.Outcomes.{IsUnexpanded, IsUnshown}
 use Rattle.board_lists.specs.declared.looking.Looked.{Looked}
 use Rattle.board_lists.specs.declared.looking.Looked.TheVariants.{Trees, Missing}
@@ -49,8 +50,11 @@ GivesReason program settings w s o (to_judge part) =
     IsReasonToStop program settings s reason
 
 module _ (v : BoardView) where
+  -- why the job has no answer, where it has none, is a reason to stop; and its tree, if it has one, chooses values
   abbrev pub IsSound : Job → Type 0
-  IsSound job = GivesReason (program v) v.settings (windows v) (state v) (source_of job.origin) (job_of job.task)
+  IsSound job =
+      GivesReason (program v) v.settings (windows v) (state v) (source_of job.origin) (job_of job.task) ×
+      IsOfValues (program v) job
 
   -- The job finds out what is met: it expands the node of a gap; or it judges a part of a tree, of which nothing is known.
   abbrev pub FindsOut : OrGap Derivation → NodeJob → Type 0

@@ -7,6 +7,7 @@ ghost use Rattle.board_core.specs.Origins.{source_of};
 ghost use Rattle.board_core.specs.Shapes.{Held, IsNodeOf};
 ghost use Rattle.candidate_verdicts.specs.Known.{node_part};
 ghost use Rattle.candidates.specs.Jobs.{to_expand, to_judge};
+ghost use Rattle.candidates.specs.Models.{job_of};
 ghost use Rattle.board_core.specs.Views.{program, state, tree, windows};
 ghost use Rattle.board_work.specs.Outcomes.{ComesOf, IsOutcome};
 ghost use Rattle.board_lists.specs.Leaving.{IsNotStoppedBySteps, OnlyLooks};
@@ -87,7 +88,8 @@ fn judged(
 // Takes in what came of a job, if its node still stands for the job's origin.
 fn take_in(alloc: Global, board: &mut Board, job: &Job, outcome: Outcome) -> Result<(), Memory>
     requires outcome { IsOutcome (program board.old) (windows board.old) board.old.settings.budget job.now outcome }
-    requires sound { IsSound board.old job.now }
+    requires sound { GivesReason (program board.old) board.old.settings (windows board.old) (state board.old) (source_of job.now.origin)
+        (job_of job.now.task) }
     requires running { board.old.stop ≡ None }
     ensures looks { OnlyLooks board.old board.new }
     ensures steps { IsNotStoppedBySteps board.new }

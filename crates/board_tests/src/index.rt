@@ -1,12 +1,11 @@
 // The index of a board's tree: before nodes are expanded, then, and after the action.
 
-use crate::telling::{A, B, board_of};
+use crate::telling::{A, B, any_number, board_of};
 use crate::working::{do_job, work_and_settle};
 use board_core::board::Board;
 use offer_index::index::OfferIndex;
 use offer_index::{OpenComposite, Scheme};
-use rule_model::offer::{Field, Fields, Offer};
-use spec_core::items::{Gate, Sort};
+use spec_core::items::Gate;
 use spec_core::memory::Memory;
 use std::alloc::Global;
 use std::test::Fail;
@@ -14,16 +13,6 @@ use std::test::Fail;
 // Three take part in the one action, which is `a !s(0)`. Two of them have predicates, so each of the two values that are looked at counts.
 const THREE: &str =
     "(a ?z : N; stop |[a]| a ?y : N [p(y) = 0]; stop) |[a]| a ?x : N [x = s(0)]; stop";
-
-// The offer of any number at the first gate.
-fn any_number(alloc: Global) -> Result<Offer, Memory> {
-    let mut fields = Vec::new(alloc);
-    fields.push(Field::Take(Sort(1)))?;
-    Ok(Offer {
-        gate: Gate(A),
-        fields: Fields::new(fields),
-    })
-}
 
 fn index_of(alloc: Global, board: &Board) -> Result<OfferIndex, Memory> {
     board.log_is_a_derivation();

@@ -9,6 +9,7 @@ use board_core::job::Job;
 use board_record::{LeaveFault, PendFault};
 use board_work::Gen;
 use board_work::working::work;
+use candidates::job::NodeJob;
 use spec_core::memory::Memory;
 use std::alloc::Global;
 
@@ -79,6 +80,19 @@ fn takes_job(
     Ok(expanded == Some(node))
 }
 
+// Does a job, where it expands a node; whether it does.
+fn does_expansion(alloc: Global, board: &mut Board, job: Job) -> Result<bool, Memory> {
+    let Job { task, origin } = job;
+    match task {
+        NodeJob::Expand(generation) => {
+            let task = NodeJob::Expand(generation);
+            work(alloc, board, Job { task, origin })?;
+            Ok(true)
+        }
+        NodeJob::Judge(_, _) => Ok(false),
+    }
+}
+
 // Takes another job and keeps it in the place of one that was kept, which is done then; whether it expands this node.
 fn takes_another(
     alloc: Global,
@@ -90,8 +104,7 @@ fn takes_another(
         return Ok(false);
     };
     let expands = takes_job(alloc, board, kept, node)?;
-    work(alloc, board, before)?;
-    Ok(expands)
+    Ok(does_expansion(alloc, board, before)? && expands)
 }
 
 fn counts(board: &Board, entries: usize, pending: usize, actions: u64, open: usize) -> bool {

@@ -1,13 +1,15 @@
 // Boards of small specifications, and what they tell, as text.
 
-ghost use Rattle.std.specs.Prelude.{◌≤◌};
+ghost use Rattle.std.specs.Prelude.{◌≤◌, IfOk};
+ghost use Rattle.spec_core.specs.Theories.{Theory};
+ghost use Rattle.board_core.specs.JobValues.{GivesValues};
 
 use crate::working::BUDGET;
 use board_core::board::Board;
 use rule_model::log::End;
-use rule_model::offer::{Fields, Offer};
+use rule_model::offer::{Field, Fields, Offer};
 use rule_model::reply::{LimitKind, Reply};
-use spec_core::items::Gate;
+use spec_core::items::{Gate, Sort};
 use spec_core::memory::Memory;
 use spec_core::settings::Settings;
 use std::alloc::Global;
@@ -43,11 +45,25 @@ pub fn board_of(
 }
 
 /// The offer without values at the gate with a number.
-pub fn offer_at(alloc: Global, gate: u32) -> Offer {
+pub fn offer_at(alloc: Global, gate: u32) -> Offer
+    ensures { (theory : Theory) → GivesValues theory result }
+{
     Offer {
         gate: Gate(gate),
         fields: Fields::new(Vec::new(alloc)),
     }
+}
+
+/// The offer of any number at the first gate.
+pub fn any_number(alloc: Global) -> Result<Offer, Memory>
+    ensures { IfOk result (λ o. (theory : Theory) → GivesValues theory o) }
+{
+    let mut fields = Vec::new(alloc);
+    fields.push(Field::Take(Sort(1)))?;
+    Ok(Offer {
+        gate: Gate(A),
+        fields: Fields::new(fields),
+    })
 }
 
 fn limit_text(kind: LimitKind) -> &'static str {

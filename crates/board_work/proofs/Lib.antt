@@ -1,3 +1,4 @@
 pub mod Driving
 pub mod Going
 pub mod Taking
+pub mod Handing

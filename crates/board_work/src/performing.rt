@@ -4,6 +4,7 @@ ghost use Rattle.std.specs.Prelude.{ℕ, ◌≡◌, IfOk, Some};
 ghost use Rattle.board_laws.specs.declared.stop_reason.StopReason.{StopReason};
 ghost use Rattle.spec_core.specs.Ready.{IsReady};
 ghost use Rattle.board_core.specs.Found.{AreBySorts};
+ghost use Rattle.board_core.specs.Working.{IsOfValues};
 ghost use Rattle.board_laws.specs.Given.{reason_of};
 ghost use Rattle.candidate_verdicts.specs.Tables.{windows_in};
 ghost use Rattle.candidates.specs.Jobs.{to_expand, to_judge};
@@ -11,6 +12,7 @@ ghost use Rattle.candidate_verdicts.specs.Known.{node_part};
 ghost use Rattle.rule_model.specs.Derivations.{derivation_of};
 ghost use Rattle.node_trees.specs.Origins.{source_of};
 ghost use Rattle.node_values.specs.Prepared.{program_in};
+ghost use Rattle.node_verdict.specs.Choosing.{ChoosesValues};
 ghost use Rattle.board_work.specs.declared.outcome.Outcome.TheVariants.{Stopped};
 ghost use Rattle.board_work.specs.Outcomes.{ComesOf, IsOutcome};
 
@@ -67,6 +69,7 @@ fn judge(
     budget: u64,
 ) -> Result<Outcome, Memory>
     requires ready { IsReady (program_in prepared.now) }
+    requires values { ChoosesValues (program_in prepared.now).theory (derivation_of rules.now) }
     ensures { IfOk result (λ outcome. (g : ℕ) → ComesOf (program_in prepared.now) (windows_in windows.now) budget (source_of origin.now)
         (to_judge (node_part g (derivation_of rules.now))) outcome) }
 {
@@ -77,7 +80,8 @@ fn judge(
 }
 
 /// Does a job, without the board from which it was taken: over a specification that is ready and the first values of its sorts, with at most
-/// `budget` uses of equations for each value. It takes no lock. It recurs as deep as constructs, calls, terms and trees of rules nest.
+/// `budget` uses of equations for each value. The job's tree of rules, if it has one, chooses values. It takes no lock. It recurs as deep as
+/// constructs, calls, terms and trees of rules nest.
 pub fn perform(
     alloc: Global,
     prepared: &Prepared,
@@ -87,6 +91,7 @@ pub fn perform(
 ) -> Result<Outcome, Memory>
     requires ready { IsReady (program_in prepared.now) }
     requires rows { (k : ℕ) × AreBySorts (program_in prepared.now).theory k windows.now }
+    requires values { IsOfValues (program_in prepared.now) job.now }
     ensures outcome { IfOk result (IsOutcome (program_in prepared.now) (windows_in windows.now) budget job.now) }
 {
     match &job.task {

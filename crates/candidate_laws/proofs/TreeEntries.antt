@@ -88,7 +88,7 @@ module _ (program : Program) (e : Evaluation) (size : ℕ) (w : Windows) (b : Be
       record { pending = pending; action = acts.0; rest = acts.1; derives = acts.2; meets = acts.4 }
 
   no_step : lists any ≡ [] → lists any_beyond ≡ [] → NoStep program b
-  no_step none none_beyond = no_tree_no_step program size w data_fit answered.windows b none_seen
+  no_step none none_beyond = no_tree_no_step program size w answered.ready.executable answered.windows b none_seen
     where
       none_seen : (k : Kind) → NoTree program w b None k
       none_seen k d (inl i) = none_asked any none d (k, i)
@@ -96,7 +96,7 @@ module _ (program : Program) (e : Evaluation) (size : ℕ) (w : Windows) (b : Be
 
   never : (p : PendingOffer) → lists (meeting p) ≡ [] → ((d : Derivation) (k : Kind) → IsBeyond program w b (Some p.offer) d k → ⊥) →
       NeverMeets program b p.offer
-  never p none none_beyond = no_tree_for_the_offer_none_meets program size w data_fit answered.windows b p.offer none_seen
+  never p none none_beyond = no_tree_for_the_offer_none_meets program size w answered.ready.executable answered.windows b p.offer none_seen
     where
       none_seen : NoTree program w b (Some p.offer) (at_gate p.offer.gate.0)
       none_seen d (inl i) = none_asked (meeting p) none d (at_gate p.offer.gate.0, i)
@@ -134,7 +134,7 @@ module _ (program : Program) (e : Evaluation) (size : ℕ) (w : Windows) (b : Be
     stalling waits none_unseen none_beyond p pending = record {
       waits = waits;
       some = (p, pending);
-      unseen = no_unseen_tree_no_unseen_step program size w data_fit answered.windows b (no_tree inside tt) (no_tree ends tt);
+      unseen = no_unseen_tree_no_unseen_step program size w answered.ready.executable answered.windows b (no_tree inside tt) (no_tree ends tt);
       never = λ o i. never o (none_meets o i)
           (λ d k h. none_asked (beyond_or_unseen o) (none_beyond o (sound.by_client o i)) d (inl (k, h)));
     }

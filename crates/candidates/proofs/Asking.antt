@@ -1,14 +1,16 @@
 -- Searches in a known tree, one met thing after another.
 use Rattle.std.proofs.Common.{◌≡◌, ◌++◌, ◌∙◌, ◌||◌, List, [], ◌∷◌, map, flat_map, sym, ap, Option, Some, Bool, true, false}
 use Rattle.std.proofs.lemmas.List.{map-append}
+use Rattle.std.proofs.lemmas.List.Sums.{fold-append}
 use Rattle.spec_core.specs.Theories.{Theory, theory_of}
 use Rattle.rule_model.specs.declared.offer.Offer.{Offer}
 use Rattle.rule_model.specs.declared.rules.Rules.{Rules}
 use Rattle.rule_model.specs.Derivations.{Derivation, derivation_of}
 use Rattle.candidate_composites.specs.Tables.{windows_in}
+use Rattle.decision_trees.specs.Decisions.{Question}
 use Rattle.decision_trees.specs.Gaps.{OrGap}
-use Rattle.decision_trees.specs.Lazy.{first}
 use Rattle.decision_trees.specs.Rules.{Query}
+use Rattle.decision_order.specs.Jobs.{taken_on}
 use Rattle.decision_order.specs.Searches.{first_of}
 use Rattle.decision_order.specs.declared.listing.First.{First}
 use Rattle.decision_order.specs.declared.listing.First.TheVariants.{Is}
@@ -19,10 +21,10 @@ use Rattle.candidate_composites.specs.Known.{PlacedPlan, plans_sought}
 use Rattle.candidate_laws.specs.Sought.{Sought}
 use Rattle.candidates.specs.Listed.{kinds_sought, trees_in, trees_sought, verdict_for}
 use Rattle.candidates.specs.Jobs.{NodeJob, jobs_of}
-use Rattle.candidates.specs.KnownTrees.{is_out_in, first_of_those, all_of_those, left_to_first, left_to_all, is_held_among}
+use Rattle.candidates.specs.KnownTrees.{first_of_those, all_of_those, jobs_to_first_of, jobs_to_all_of, is_held_among}
 use Rattle.candidates.specs.declared.known_tree.KnownTree.{KnownTree}
-use Rattle.candidates.proofs.Stepping.{first_then, all_then, and_more, one_more, first_from, all_from, more_to_first, end_to_first, job_to_first}
-use Rattle.candidates.proofs.Stepping.{more_to_all, job_to_all, held_from}
+use Rattle.candidates.proofs.Stepping.{first_then, all_then, and_more, one_more, first_from, all_from, more_to_first, end_to_first}
+use Rattle.candidates.proofs.Stepping.{more_to_all, held_from}
 
 -- a search looks for the same trees where the parts are those that are sought
 pub sought_alone : (theory : Theory) (w : Windows) (q : Query Offer) (v : Sought) (ps qs : List PlacedPlan) → v ≡ kinds_sought q →
@@ -44,30 +46,35 @@ module _ (s : KnownTree) (q : Query Offer) (l : List (OrGap Derivation)) (x : Or
   all_after = ap (all_of_those s q) next ∙ all_from verdict x rest
 
   pub held_after : is_held_among s q l ≡ is_held_among s q (x ∷ []) || is_held_among s q rest
-  held_after = ap (is_held_among s q) next ∙ held_from verdict (jobs_of (stored s.pieces.now) (shape_of s.tree.now)) (is_out_in s) x rest
+  held_after = ap (is_held_among s q) next ∙ held_from verdict (jobs_of (stored s.pieces.now) (shape_of s.tree.now)) x rest
 
-  pub first_more : left_to_all s q (x ∷ []) ≡ [] → is_held_among s q (x ∷ []) ≡ false → left_to_first s q l ≡ left_to_first s q rest
-  first_more e h =
-      ap (left_to_first s q) next
-      ∙ more_to_first verdict (jobs_of (stored s.pieces.now) (shape_of s.tree.now)) (is_out_in s) x rest e h
+  abbrev jobs : Question Derivation → List NodeJob
+  jobs = jobs_of (stored s.pieces.now) (shape_of s.tree.now)
 
-  pub first_end : is_held_among s q (x ∷ []) ≡ true → left_to_first s q l ≡ []
-  first_end h =
-      ap (left_to_first s q) next ∙ end_to_first verdict (jobs_of (stored s.pieces.now) (shape_of s.tree.now)) (is_out_in s) x rest h
+  pub first_more : is_held_among s q (x ∷ []) ≡ false → jobs_to_first_of s q l ≡ jobs_to_all_of s q (x ∷ []) ++ jobs_to_first_of s q rest
+  first_more h = ap (jobs_to_first_of s q) next ∙ more_to_first verdict jobs x rest h
 
-  pub first_job : (j : NodeJob) → first (left_to_all s q (x ∷ [])) ≡ Some j → first (left_to_first s q l) ≡ Some j
-  first_job j e =
-      ap (λ z. first (left_to_first s q z)) next
-      ∙ job_to_first verdict (jobs_of (stored s.pieces.now) (shape_of s.tree.now)) (is_out_in s) x rest j e
+  pub first_end : is_held_among s q (x ∷ []) ≡ true → jobs_to_first_of s q l ≡ jobs_to_all_of s q (x ∷ [])
+  first_end h = ap (jobs_to_first_of s q) next ∙ end_to_first verdict jobs x rest h
 
-  pub all_more : left_to_all s q (x ∷ []) ≡ [] → left_to_all s q l ≡ left_to_all s q rest
-  all_more e =
-      ap (left_to_all s q) next ∙ more_to_all verdict (jobs_of (stored s.pieces.now) (shape_of s.tree.now)) (is_out_in s) x rest e
+  pub all_more : jobs_to_all_of s q l ≡ jobs_to_all_of s q (x ∷ []) ++ jobs_to_all_of s q rest
+  all_more = ap (jobs_to_all_of s q) next ∙ more_to_all verdict jobs x rest
 
-  pub all_job : (j : NodeJob) → first (left_to_all s q (x ∷ [])) ≡ Some j → first (left_to_all s q l) ≡ Some j
-  all_job j e =
-      ap (λ z. first (left_to_all s q z)) next
-      ∙ job_to_all verdict (jobs_of (stored s.pieces.now) (shape_of s.tree.now)) (is_out_in s) x rest j e
+  -- what is taken on at one met thing, and then behind it
+  module _ (step : List NodeJob → NodeJob → List NodeJob) (old new : List NodeJob)
+      (taken : new ≡ taken_on step old (jobs_to_all_of s q (x ∷ []))) where
+    behind : (js : List NodeJob) → taken_on step old (jobs_to_all_of s q (x ∷ []) ++ js) ≡ taken_on step new js
+    behind js = fold-append step old (jobs_to_all_of s q (x ∷ [])) js ∙ ap (λ z. taken_on step z js) (sym taken)
+
+    pub taken_first : is_held_among s q (x ∷ []) ≡ false →
+        taken_on step old (jobs_to_first_of s q l) ≡ taken_on step new (jobs_to_first_of s q rest)
+    taken_first h = ap (taken_on step old) (first_more h) ∙ behind (jobs_to_first_of s q rest)
+
+    pub taken_end : is_held_among s q (x ∷ []) ≡ true → taken_on step old (jobs_to_first_of s q l) ≡ new
+    taken_end h = ap (taken_on step old) (first_end h) ∙ sym taken
+
+    pub taken_all : taken_on step old (jobs_to_all_of s q l) ≡ taken_on step new (jobs_to_all_of s q rest)
+    taken_all = ap (taken_on step old) all_more ∙ behind (jobs_to_all_of s q rest)
 
   -- one more tree was found
   pub all_found : (whole : Option (List Derivation)) (xs ys : List Rules) (tree : Rules) (f : First Rules) →
@@ -80,5 +87,7 @@ module _ (s : KnownTree) (q : Query Offer) (l : List (OrGap Derivation)) (x : Or
       ∙ one_more (map derivation_of xs) (derivation_of tree) (all_of_those s q rest)
       ∙ ap (λ zs. and_more zs (all_of_those s q rest)) (sym (ap (map derivation_of) pushed ∙ map-append derivation_of xs (tree ∷ [])))
 
--- what a search for the first tree still asks, one met thing after another
-pub ruleset first_asked = (first_more, first_end, first_job, held_after)
+-- what a search for the first tree, or for all, still asks, one met thing after another
+pub ruleset first_asked = (taken_first, taken_end, held_after)
+
+pub ruleset all_asked = (taken_all, held_after)

@@ -4,6 +4,7 @@ pub mod Entries
 pub mod Deciding
 pub mod Needing
 pub mod Stepping
+pub mod Taking
 pub mod Asking
 pub mod Numbering
 pub mod Walking

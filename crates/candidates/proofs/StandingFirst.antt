@@ -1,11 +1,11 @@
 -- What stands first among the trees of a known tree tells what a search comes to.
-use Rattle.std.proofs.Common.{ℕ, ◌≡◌, ◌∙◌, not, List, [], ◌∷◌, map, flat_map, sym, ap, subst, Option, Some, None, false, cond}
+use Rattle.std.proofs.Common.{◌≡◌, ◌∙◌, List, [], ◌∷◌, map, sym, ap, subst, Some, None, false}
 use Rattle.spec_core.specs.Theories.{Theory, theory_of}
 use Rattle.rule_model.specs.declared.offer.Offer.{Offer}
 use Rattle.rule_model.specs.Derivations.{Derivation}
 use Rattle.decision_trees.specs.Gaps.{OrGap, gap, element, in_its_place}
-use Rattle.decision_trees.specs.Lazy.{first}
 use Rattle.decision_trees.specs.Rules.{Query}
+use Rattle.decision_order.specs.Jobs.{taken_on}
 use Rattle.candidate_laws.specs.Sought.{Sought}
 use Rattle.candidate_search.specs.Searches.{asked_from}
 use Rattle.node_trees.specs.declared.origin.Gen.{Gen}
@@ -21,9 +21,8 @@ use Rattle.candidates.specs.declared.composites.Composites.TheVariants.{Unlisted
 use Rattle.candidates.specs.Composites.{listed_or}
 use Rattle.candidates.specs.Jobs.{NodeJob, to_expand}
 use Rattle.candidates.specs.Listed.{kinds_sought, trees_sought}
-use Rattle.candidates.specs.KnownTrees.{is_out_in, first_of_those, left_to_first, is_held_among, trees_for}
+use Rattle.candidates.specs.KnownTrees.{first_of_those, jobs_to_first_of, is_held_among, trees_for}
 use Rattle.candidates.specs.declared.known_tree.KnownTree.{KnownTree}
-use Rattle.candidates.proofs.Asking.{first_job}
 
 -- of what is sought of the tree, and so of its trees for which the query may ask
 of_sought : (f : Foremost) (theory : Theory) (w : Windows) (q : Query Offer) (v : Sought) (t : Shape) → v ≡ kinds_sought q →
@@ -48,13 +47,32 @@ module _ (s : KnownTree) (q : Query Offer) (l : List (OrGap Derivation)) (f : Fo
   pub absent_in_none : f ≡ Nothing → Some None ≡ first_of_those s q l
   absent_in_none e = sym (ap (first_of_those s q) (subst (λ x. IsForemost x l) e so))
 
-  pub job_at_gap : (g : Gen) → f ≡ Gap g → is_out_in s (to_expand g.0) ≡ false → first (left_to_first s q l) ≡ Some (to_expand g.0)
-  job_at_gap g e i =
-      let h : (rest : List (OrGap Derivation)) × (l ≡ gap g.0 ∷ rest) = subst (λ x. IsForemost x l) e so in
-      first_job s q l (gap g.0) h.0 h.1 (to_expand g.0) (ap (λ b. first (cond (not b) (to_expand g.0 ∷ []) [])) i)
+  -- the gap is taken on first, and then there is no room; or it is met once more
+  module _ (step : List NodeJob → NodeJob → List NodeJob) (old new : List NodeJob) where
+    at_gap : (g : Gen) → f ≡ Gap g → (js : List NodeJob) × (jobs_to_first_of s q l ≡ to_expand g.0 ∷ js)
+    at_gap g e =
+        let h : (rest : List (OrGap Derivation)) × (l ≡ gap g.0 ∷ rest) = subst (λ x. IsForemost x l) e so in
+        (jobs_to_first_of s q h.0, ap (jobs_to_first_of s q) h.1)
 
-  pub none_left : f ≡ Nothing → left_to_first s q l ≡ []
-  none_left e = ap (left_to_first s q) (subst (λ x. IsForemost x l) e so)
+    pub full_at_gap : (g : Gen) → f ≡ Gap g → new ≡ step old (to_expand g.0) → ((js : List NodeJob) → taken_on step new js ≡ new) →
+        new ≡ taken_on step old (jobs_to_first_of s q l)
+    full_at_gap g e taken full =
+        let r = at_gap g e in
+        sym (ap (taken_on step old) r.1 ∙ ap (λ z. taken_on step z r.0) (sym taken) ∙ full r.0)
+
+    pub past_gap : (g : Gen) → f ≡ Gap g → new ≡ step old (to_expand g.0) → step new (to_expand g.0) ≡ new →
+        taken_on step new (jobs_to_first_of s q l) ≡ taken_on step old (jobs_to_first_of s q l)
+    past_gap g e taken again =
+        let r = at_gap g e in
+        ap (taken_on step new) r.1
+        ∙ ap (λ z. taken_on step z r.0) (again ∙ taken)
+        ∙ sym (ap (taken_on step old) r.1)
+
+  pub none_asked : f ≡ Nothing → jobs_to_first_of s q l ≡ []
+  none_asked e = ap (jobs_to_first_of s q) (subst (λ x. IsForemost x l) e so)
 
   pub none_held : f ≡ Nothing → is_held_among s q l ≡ false
   none_held e = ap (is_held_among s q) (subst (λ x. IsForemost x l) e so)
+
+-- what a search takes on where it is told what stands first
+pub ruleset foremost_asked = (full_at_gap, past_gap, none_asked, none_held)

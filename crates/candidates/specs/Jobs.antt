@@ -1,5 +1,5 @@
 -- What is to be done at nodes, so that searches are decided. (This profile.)
-use Rattle.std.specs.Prelude.{ℕ, ◌==◌, ◌&&◌, ◌||◌, List, [], ◌∷◌, map, flat_map, Bool, false}
+use Rattle.std.specs.Prelude.{ℕ, ◌==◌, ◌&&◌, ◌||◌, not, nat_lt, List, [], ◌∷◌, ◌++◌, length, map, flat_map, Bool, false, if◌then◌else◌}
 use Rattle.decision_trees.specs.Decisions.{Question, expand, judge}
 use Rattle.rule_model.specs.Derivations.{Derivation}
 use Rattle.candidate_laws.specs.Waiting.{Candidate}
@@ -36,3 +36,8 @@ same_job _ _ = false
 abbrev pub is_out : List NodeJob → NodeJob → Bool
 is_out [] job = false
 is_out (other ∷ out) job = same_job other job || is_out out job
+
+-- what is taken on with one more job: they are fewer than the number says, and it isn't out and not among them
+abbrev pub with_job : ℕ → List NodeJob → List NodeJob → NodeJob → List NodeJob
+with_job limit out taken job =
+    if nat_lt (length taken) limit && (not (is_out out job) && not (is_out taken job)) then taken ++ job ∷ [] else taken

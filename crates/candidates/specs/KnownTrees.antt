@@ -8,7 +8,6 @@ use Rattle.candidate_composites.specs.Tables.{windows_in}
 use Rattle.decision_trees.specs.Gaps.{OrGap, first_known, all_known, missing_to_first, all_missing, known_to_hold}
 use Rattle.decision_trees.specs.Lazy.{first}
 use Rattle.decision_trees.specs.Rules.{Query}
-use Rattle.decision_order.specs.Jobs.{not_out}
 use Rattle.decision_order.specs.Numbered.{query_with}
 use Rattle.log_states.specs.Views.{pending_of}
 use Rattle.candidate_laws.specs.Asked.{TreeQuery}
@@ -19,7 +18,7 @@ use Rattle.candidate_verdicts.specs.Stored.{stored}
 use Rattle.board_offers.specs.Offers.{offer_at}
 use Rattle.candidates.specs.Composites.{listed_or}
 use Rattle.candidates.specs.Listed.{trees_sought, verdict_for, first_tree, all_trees, asked_for_first, asked_for_all, is_known_to_hold}
-use Rattle.candidates.specs.Jobs.{NodeJob, all_jobs, is_out}
+use Rattle.candidates.specs.Jobs.{NodeJob, all_jobs, is_out, with_job}
 use Rattle.candidates.specs.Models.{job_of}
 use Rattle.candidates.specs.declared.known_tree.KnownTree.{KnownTree}
 
@@ -31,6 +30,10 @@ module _ (s : KnownTree) where
   -- somebody works at the job
   abbrev pub is_out_in : NodeJob → Bool
   is_out_in job = is_out (map job_of s.out.now) job
+
+  -- what is taken on with one more job, up to so many
+  abbrev pub with_job_in : ℕ → List NodeJob → NodeJob → List NodeJob
+  with_job_in limit taken job = with_job limit (map job_of s.out.now) taken job
 
   -- the query for an offer with a number
   abbrev pub numbered : Query ℕ → Query Offer
@@ -72,13 +75,6 @@ module _ (s : KnownTree) where
     abbrev pub jobs_to_all_of : List NodeJob
     jobs_to_all_of = all_jobs (stored s.pieces.now) (shape_of s.tree.now) (all_missing
         (verdict_for (theory_of s.algebra.now) (windows_in s.windows.now) (stored s.pieces.now) (shape_of s.tree.now) q) those)
-
-    -- the jobs that nobody works at
-    abbrev pub left_to_first : List NodeJob
-    left_to_first = not_out is_out_in jobs_to_first_of
-
-    abbrev pub left_to_all : List NodeJob
-    left_to_all = not_out is_out_in jobs_to_all_of
 
     abbrev pub is_held_among : Bool
     is_held_among = is_some (first (known_to_hold

@@ -1,21 +1,23 @@
 // What is to be done at nodes.
 
-ghost use Rattle.std.specs.Prelude.{◌≡◌, [], map, option_map};
+ghost use Rattle.std.specs.Prelude.{◌≡◌, [], OnOk, length, map, nat_lt};
 ghost use Rattle.rule_model.specs.Derivations.{derivation_of};
 ghost use Rattle.decision_trees.specs.Known.{unless_known};
-ghost use Rattle.decision_order.specs.Jobs.{first_not_out};
+ghost use Rattle.decision_order.specs.Jobs.{taken_on};
 ghost use Rattle.node_trees.specs.Shapes.{shape_of};
 ghost use Rattle.candidate_verdicts.specs.Known.{missing_parts, node_part};
-ghost use Rattle.candidate_verdicts.specs.Stored.{stored, node_part_of};
-ghost use Rattle.candidates.specs.Jobs.{to_expand, to_judge, same_job, is_out};
+ghost use Rattle.candidate_verdicts.specs.Stored.{stored};
+ghost use Rattle.candidates.specs.Jobs.{to_expand, to_judge, same_job, is_out, with_job};
 ghost use Rattle.candidates.specs.Models.{job_of};
 
-use candidate_verdicts::pieces::{NodeRules, Pieces};
+use candidate_verdicts::pieces::Pieces;
 use candidate_verdicts::rule::{Sides, part_under, sides_under};
 use candidate_verdicts::same::same_rules;
 use node_trees::branch::Branch;
 use node_trees::origin::Gen;
 use rule_model::rules::Rules;
+use spec_core::memory::Memory;
+use std::alloc::Global;
 
 /// What is to be done at the node of a generation.
 #[derive(Drop)]
@@ -70,50 +72,99 @@ pub fn is_judged(out: &[NodeJob], generation: Gen, rules: &Rules) -> bool
     false
 }
 
-// The tree of rules at a node, unless something is known of it or it is judged by one of these jobs.
-fn unjudged_at<'a>(
+// Whether there are fewer jobs than the number says.
+fn has_room(jobs: &[NodeJob], limit: usize) -> bool
+    ensures { result ≡ nat_lt (length (map job_of jobs.now)) limit }
+{
+    jobs.len() < limit
+}
+
+/// Takes on a job to expand the node of a generation, unless it is out or taken on already, or there are `limit` jobs.
+pub(crate) fn add_expansion(
+    out: &[NodeJob],
+    generation: Gen,
+    limit: usize,
+    jobs: &mut Vec<NodeJob>,
+) -> Result<(), Memory>
+    ensures { OnOk result (map job_of jobs.new.items ≡
+        with_job limit (map job_of out.now) (map job_of jobs.old.items) (to_expand generation.0)) }
+{
+    if has_room(jobs, limit) && !is_expanded(out, generation) && !is_expanded(jobs, generation) {
+        jobs.push(NodeJob::Expand(generation))?;
+    }
+    Ok(())
+}
+
+// Takes on a job to judge a tree of rules at a node, unless it is out or taken on already, or there are `limit` jobs.
+fn add_judgement(
+    alloc: Global,
+    out: &[NodeJob],
+    generation: Gen,
+    rules: &Rules,
+    limit: usize,
+    jobs: &mut Vec<NodeJob>,
+) -> Result<(), Memory>
+    ensures { OnOk result (map job_of jobs.new.items ≡ with_job limit (map job_of out.now) (map job_of jobs.old.items)
+        (to_judge (node_part generation.0 (derivation_of rules.now)))) }
+{
+    if has_room(jobs, limit)
+        && !is_judged(out, generation, rules)
+        && !is_judged(jobs, generation, rules)
+    {
+        jobs.push(NodeJob::Judge(generation, rules.copy(alloc)?))?;
+    }
+    Ok(())
+}
+
+// The same, unless something is known of the tree of rules.
+fn add_unknown(
+    alloc: Global,
     pieces: &Pieces,
     out: &[NodeJob],
     generation: Gen,
-    rules: &'a Rules,
-) -> Option<NodeRules<'a>>
-    ensures { option_map (λ p. to_judge (node_part_of p)) result ≡ first_not_out (is_out (map job_of out.now))
+    rules: &Rules,
+    limit: usize,
+    jobs: &mut Vec<NodeJob>,
+) -> Result<(), Memory>
+    ensures { OnOk result (map job_of jobs.new.items ≡ taken_on (with_job limit (map job_of out.now)) (map job_of jobs.old.items)
         (map to_judge (unless_known (stored pieces.now generation.0 (derivation_of rules.now))
-        (node_part generation.0 (derivation_of rules.now)) [])) }
+        (node_part generation.0 (derivation_of rules.now)) []))) }
 {
-    if pieces.find(generation, rules).is_some() || is_judged(out, generation, rules) {
-        None
-    } else {
-        Some(NodeRules { generation, rules })
+    if pieces.find(generation, rules).is_some() {
+        return Ok(());
     }
+    add_judgement(alloc, out, generation, rules, limit, jobs)
 }
 
-/// The first part of a tree of rules, from the left, at a node of which nothing is known, and which none of these jobs judges. It takes no
-/// memory, and recurs as deep as operators nest.
-pub fn first_unjudged<'a>(
+/// Takes on a job for each part of a tree of rules, from the left, at a node of which nothing is known, unless it is out or taken on already,
+/// or there are `limit` jobs. It recurs as deep as operators nest.
+pub(crate) fn add_unjudged(
+    alloc: Global,
     pieces: &Pieces,
     out: &[NodeJob],
-    branch: &'a Branch,
-    rules: &'a Rules,
-) -> Option<NodeRules<'a>>
-    ensures first { option_map (λ p. to_judge (node_part_of p)) result ≡ first_not_out (is_out (map job_of out.now))
-        (map to_judge (missing_parts (stored pieces.now) (shape_of branch.now) (derivation_of rules.now))) }
+    branch: &Branch,
+    rules: &Rules,
+    limit: usize,
+    jobs: &mut Vec<NodeJob>,
+) -> Result<(), Memory>
+    ensures added { OnOk result (map job_of jobs.new.items ≡ taken_on (with_job limit (map job_of out.now)) (map job_of jobs.old.items)
+        (map to_judge (missing_parts (stored pieces.now) (shape_of branch.now) (derivation_of rules.now)))) }
 {
     match branch {
-        Branch::Leaf(node) => unjudged_at(pieces, out, node.generation, rules),
-        Branch::Ended => None,
+        Branch::Leaf(node) => add_unknown(alloc, pieces, out, node.generation, rules, limit, jobs),
+        Branch::Ended => Ok(()),
         Branch::Over(operator, part) => match part_under(operator, rules) {
-            None => None,
-            Some(below) => first_unjudged(pieces, out, part, below.rules),
+            None => Ok(()),
+            Some(below) => add_unjudged(alloc, pieces, out, part, below.rules, limit, jobs),
         },
         Branch::Between(operator, left, right) => match sides_under(operator, rules) {
-            Sides::Neither => None,
-            Sides::Left(side) => first_unjudged(pieces, out, left, side.rules),
-            Sides::Right(side) => first_unjudged(pieces, out, right, side.rules),
-            Sides::Both(_, one, other) => match first_unjudged(pieces, out, left, one) {
-                Some(missing) => Some(missing),
-                None => first_unjudged(pieces, out, right, other),
-            },
+            Sides::Neither => Ok(()),
+            Sides::Left(side) => add_unjudged(alloc, pieces, out, left, side.rules, limit, jobs),
+            Sides::Right(side) => add_unjudged(alloc, pieces, out, right, side.rules, limit, jobs),
+            Sides::Both(_, one, other) => {
+                add_unjudged(alloc, pieces, out, left, one, limit, jobs)?;
+                add_unjudged(alloc, pieces, out, right, other, limit, jobs)
+            }
         },
     }
 }

@@ -3,12 +3,12 @@
 ghost use Rattle.rule_model.specs.Derivations.{Derivation, derivation_of};
 ghost use Rattle.candidates.specs.Jobs as jobs;
 ghost use Rattle.candidates.specs.Models.{job_of};
-ghost use Rattle.candidates.specs.KnownTrees.{is_out_in, numbered, first_of_those, all_of_those, jobs_to_first_of, jobs_to_all_of};
+ghost use Rattle.candidates.specs.KnownTrees.{with_job_in, numbered, first_of_those, all_of_those, jobs_to_first_of, jobs_to_all_of};
 ghost use Rattle.candidates.specs.KnownTrees.{is_held_among, trees_for};
 
 use crate::job::NodeJob;
 use crate::known_tree::KnownTree;
-use decision_order::asking::{Asking, Missing};
+use decision_order::asking::{Asked, Asking};
 use decision_order::listing::{All, First, Listing, Search};
 use rule_model::rules::Rules;
 use spec_core::memory::Memory;
@@ -41,7 +41,7 @@ impl<'a> Asking for KnownTree<'a> {
 
     ghost question_of = { job_of };
 
-    ghost is_out = { is_out_in };
+    ghost take = { with_job_in };
 
     ghost missing = { λ s q. jobs_to_first_of s (numbered s q) (trees_for s (numbered s q)) };
 
@@ -49,11 +49,23 @@ impl<'a> Asking for KnownTree<'a> {
 
     ghost is_there = { λ s q. is_held_among s (numbered s q) (trees_for s (numbered s q)) };
 
-    fn first_missing(&self, alloc: Global, search: Search) -> Result<Missing<NodeJob>, Memory> {
-        self.missing_to_first(alloc, self.tree_search(search))
+    fn first_missing(
+        &self,
+        alloc: Global,
+        search: Search,
+        limit: usize,
+        jobs: &mut Vec<NodeJob>,
+    ) -> Result<Asked, Memory> {
+        self.missing_to_first(alloc, self.tree_search(search), limit, jobs)
     }
 
-    fn all_missing(&self, alloc: Global, search: Search) -> Result<Missing<NodeJob>, Memory> {
-        self.missing_to_all(alloc, self.tree_search(search))
+    fn all_missing(
+        &self,
+        alloc: Global,
+        search: Search,
+        limit: usize,
+        jobs: &mut Vec<NodeJob>,
+    ) -> Result<Asked, Memory> {
+        self.missing_to_all(alloc, self.tree_search(search), limit, jobs)
     }
 }

@@ -1,29 +1,26 @@
 // Searches among the trees of a known tree.
 
-ghost use Rattle.std.specs.Prelude.{◌≡◌, ◌∷◌, [], IfOk, map, option_map, false};
+ghost use Rattle.std.specs.Prelude.{◌≡◌, ◌∷◌, ◌||◌, [], IfOk, OnOk, length, map, nat_lt, not, option_map};
 ghost use Rattle.std.specs.List.{slice_get};
 ghost use Rattle.rule_model.specs.Derivations.{derivation_of};
 ghost use Rattle.log_states.specs.Views.{pending_of};
-ghost use Rattle.decision_trees.specs.Decisions.{judge};
-ghost use Rattle.decision_order.specs.Jobs.{not_out, Tells};
+ghost use Rattle.decision_order.specs.Jobs.{taken_on, Tells};
 ghost use Rattle.decision_order.specs.Searches as settling;
 ghost use Rattle.decision_order.specs.Searches.{first_of, all_of};
 ghost use Rattle.candidate_search.specs.Searches.{query_of};
 ghost use Rattle.node_trees.specs.Shapes.{shape_of};
-ghost use Rattle.candidate_verdicts.specs.Stored.{stored};
 ghost use Rattle.candidate_composites.specs.Tables.{windows_in};
 ghost use Rattle.candidate_composites.specs.Foremost.{IsForemost};
 ghost use Rattle.candidate_composites.specs.Known.{placed_of, placed_plans};
 ghost use Rattle.candidates.specs.Listed.{trees_sought};
-ghost use Rattle.candidates.specs.Jobs.{jobs_of};
 ghost use Rattle.spec_core.specs.Theories.{theory_of};
 ghost use Rattle.candidates.specs.Models.{job_of};
 ghost use Rattle.candidates.specs.Walks.{met_of, ahead};
-ghost use Rattle.candidates.specs.KnownTrees.{offer_in, numbered, is_out_in, first_of_those, all_of_those, left_to_first, left_to_all};
+ghost use Rattle.candidates.specs.KnownTrees.{offer_in, numbered, with_job_in, first_of_those, all_of_those, jobs_to_first_of, jobs_to_all_of};
 ghost use Rattle.candidates.specs.KnownTrees.{is_held_among, parts_along, trees_for};
 
 use crate::composites::Composites;
-use crate::job::{NodeJob, first_unjudged, is_expanded};
+use crate::job::{NodeJob, add_expansion, add_unjudged};
 use crate::known_tree::KnownTree;
 use crate::walk::{Met, Walk, kinds_sought};
 use candidate_composites::foremost::{Foremost, foremost_of};
@@ -31,7 +28,7 @@ use candidate_composites::known::sought_composites;
 use candidate_composites::part::Part;
 use candidate_search::searches::TreeSearch;
 use candidate_verdicts::asked::verdict;
-use decision_order::asking::Missing;
+use decision_order::asking::Asked;
 use decision_order::listing::{All, First, Search};
 use log_states::pending::Pending;
 use rule_model::offer::Offer;
@@ -73,41 +70,23 @@ fn first_at(
     }
 }
 
-// What is to be done so that it is known what is shown by a tree.
-fn missing_at_tree(
-    alloc: Global,
-    known: &KnownTree<'_>,
-    rules: &Rules,
-) -> Result<Missing<NodeJob>, Memory>
-    ensures { IfOk result (Tells job_of (not_out (is_out_in known.now)
-        (jobs_of (stored known.now.pieces.now) (shape_of known.now.tree.now) (judge (derivation_of rules.now)))) false) }
-{
-    match first_unjudged(known.pieces, known.out, known.tree, rules) {
-        None => Ok(Missing::Unheld),
-        Some(part) => {
-            let rules = part.rules.copy(alloc)?;
-            Ok(Missing::Job(NodeJob::Judge(part.generation, rules)))
-        }
-    }
-}
-
-// What is to be done for a query at what a walk meets, and whether it is known to hold there.
+// Takes on what is to be done for a query at what a walk meets; whether it is known to hold there.
 fn missing_at(
     alloc: Global,
     known: &KnownTree<'_>,
     search: &TreeSearch<'_>,
     met: Met,
-) -> Result<Missing<NodeJob>, Memory>
-    ensures { IfOk result (Tells job_of (left_to_all known.now (query_of search.now) (met_of met ∷ []))
-        (is_held_among known.now (query_of search.now) (met_of met ∷ []))) }
+    limit: usize,
+    jobs: &mut Vec<NodeJob>,
+) -> Result<bool, Memory>
+    ensures taken { OnOk result (map job_of jobs.new.items ≡ taken_on (with_job_in known.now limit) (map job_of jobs.old.items)
+        (jobs_to_all_of known.now (query_of search.now) (met_of met ∷ []))) }
+    ensures held { IfOk result (λ held. held ≡ is_held_among known.now (query_of search.now) (met_of met ∷ [])) }
 {
     match met {
         Met::Gap(generation) => {
-            if is_expanded(known.out, generation) {
-                Ok(Missing::Unheld)
-            } else {
-                Ok(Missing::Job(NodeJob::Expand(generation)))
-            }
+            add_expansion(known.out, generation, limit, jobs)?;
+            Ok(false)
         }
         Met::Tree(rules) => match verdict(
             alloc,
@@ -118,11 +97,35 @@ fn missing_at(
             search,
             &rules,
         )? {
-            None => missing_at_tree(alloc, known, &rules),
-            Some(true) => Ok(Missing::Held),
-            Some(false) => Ok(Missing::Unheld),
+            None => {
+                add_unjudged(
+                    alloc,
+                    known.pieces,
+                    known.out,
+                    known.tree,
+                    &rules,
+                    limit,
+                    jobs,
+                )?;
+                Ok(false)
+            }
+            Some(held) => Ok(held),
         },
     }
+}
+
+// Whether one of two is so.
+fn either(one: bool, other: bool) -> bool
+    ensures { result ≡ one || other }
+{
+    one || other
+}
+
+// Whether there are as many jobs as the number says.
+fn is_full(jobs: &[NodeJob], limit: usize) -> bool
+    ensures { result ≡ not (nat_lt (length (map job_of jobs.now)) limit) }
+{
+    jobs.len() >= limit
 }
 
 impl<'a> KnownTree<'a> {
@@ -262,78 +265,89 @@ impl<'a> KnownTree<'a> {
         Ok(All::These(those))
     }
 
-    // What the search for the first tree still asks, along those for which it may ask.
+    // Takes on what the search for the first tree still asks, along those for which it may ask.
     #[tactic(auto, using(crate::proofs::Asking::first_asked))]
     fn missing_along(
         &self,
         alloc: Global,
         search: TreeSearch<'_>,
-    ) -> Result<Missing<NodeJob>, Memory>
-        ensures { IfOk result (Tells job_of
-            (left_to_first self.now (query_of search.entry) (trees_for self.now (query_of search.entry)))
+        limit: usize,
+        jobs: &mut Vec<NodeJob>,
+    ) -> Result<Asked, Memory>
+        ensures taken { OnOk result (map job_of jobs.new.items ≡ taken_on (with_job_in self.now limit) (map job_of jobs.old.items)
+            (jobs_to_first_of self.now (query_of search.entry) (trees_for self.now (query_of search.entry)))) }
+        ensures asked { IfOk result (Tells (with_job_in self.now limit) (map job_of jobs.new.items)
             (is_held_among self.now (query_of search.entry) (trees_for self.now (query_of search.entry)))) }
     {
         let others = self.others(alloc, &search)?;
         let mut walk = self.walk(search, &others);
         while let Some(met) = walk.next(alloc)? {
-            match missing_at(alloc, self, &search, met)? {
-                Missing::Job(job) => return Ok(Missing::Job(job)),
-                Missing::Held => return Ok(Missing::Held),
-                Missing::Unheld => {}
+            if missing_at(alloc, self, &search, met, limit, jobs)? {
+                return Ok(Asked::Held);
+            }
+            if is_full(jobs, limit) {
+                return Ok(Asked::Full);
             }
         }
-        Ok(Missing::Unheld)
+        Ok(Asked::Unheld)
     }
 
-    // What the search for the first tree still asks.
-    #[tactic(auto, using(crate::proofs::StandingFirst::job_at_gap, crate::proofs::StandingFirst::none_left, crate::proofs::StandingFirst::none_held))]
+    // Takes on what the search for the first tree still asks.
+    #[tactic(auto, using(crate::proofs::StandingFirst::foremost_asked))]
     pub(crate) fn missing_to_first(
         &self,
         alloc: Global,
         search: TreeSearch<'_>,
-    ) -> Result<Missing<NodeJob>, Memory>
-        ensures { IfOk result (Tells job_of
-            (left_to_first self.now (query_of search.entry) (trees_for self.now (query_of search.entry)))
+        limit: usize,
+        jobs: &mut Vec<NodeJob>,
+    ) -> Result<Asked, Memory>
+        ensures taken { OnOk result (map job_of jobs.new.items ≡ taken_on (with_job_in self.now limit) (map job_of jobs.old.items)
+            (jobs_to_first_of self.now (query_of search.entry) (trees_for self.now (query_of search.entry)))) }
+        ensures asked { IfOk result (Tells (with_job_in self.now limit) (map job_of jobs.new.items)
             (is_held_among self.now (query_of search.entry) (trees_for self.now (query_of search.entry)))) }
     {
         match self.foremost(alloc, &search)? {
             Foremost::Gap(generation) => {
-                if is_expanded(self.out, generation) {
-                    self.missing_along(alloc, search)
+                add_expansion(self.out, generation, limit, jobs)?;
+                if is_full(jobs, limit) {
+                    Ok(Asked::Full)
                 } else {
-                    Ok(Missing::Job(NodeJob::Expand(generation)))
+                    self.missing_along(alloc, search, limit, jobs)
                 }
             }
-            Foremost::Nothing => Ok(Missing::Unheld),
-            Foremost::Untold => self.missing_along(alloc, search),
+            Foremost::Nothing => Ok(Asked::Unheld),
+            Foremost::Untold => self.missing_along(alloc, search, limit, jobs),
         }
     }
 
-    // What the search for all trees still asks.
-    #[tactic(auto, using(crate::proofs::Asking::all_more, crate::proofs::Asking::all_job, crate::proofs::Asking::held_after))]
+    // Takes on what the search for all trees still asks.
+    #[tactic(auto, using(crate::proofs::Asking::all_asked))]
     pub(crate) fn missing_to_all(
         &self,
         alloc: Global,
         search: TreeSearch<'_>,
-    ) -> Result<Missing<NodeJob>, Memory>
-        ensures { IfOk result (Tells job_of
-            (left_to_all self.now (query_of search.entry) (trees_for self.now (query_of search.entry)))
+        limit: usize,
+        jobs: &mut Vec<NodeJob>,
+    ) -> Result<Asked, Memory>
+        ensures taken { OnOk result (map job_of jobs.new.items ≡ taken_on (with_job_in self.now limit) (map job_of jobs.old.items)
+            (jobs_to_all_of self.now (query_of search.entry) (trees_for self.now (query_of search.entry)))) }
+        ensures asked { IfOk result (Tells (with_job_in self.now limit) (map job_of jobs.new.items)
             (is_held_among self.now (query_of search.entry) (trees_for self.now (query_of search.entry)))) }
     {
         let others = self.others(alloc, &search)?;
         let mut walk = self.walk(search, &others);
         let mut held = false;
         while let Some(met) = walk.next(alloc)? {
-            match missing_at(alloc, self, &search, met)? {
-                Missing::Job(job) => return Ok(Missing::Job(job)),
-                Missing::Held => held = true,
-                Missing::Unheld => {}
+            let here = missing_at(alloc, self, &search, met, limit, jobs)?;
+            held = either(held, here);
+            if is_full(jobs, limit) {
+                return Ok(Asked::Full);
             }
         }
         if held {
-            Ok(Missing::Held)
+            Ok(Asked::Held)
         } else {
-            Ok(Missing::Unheld)
+            Ok(Asked::Unheld)
         }
     }
 }

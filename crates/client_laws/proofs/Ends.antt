@@ -21,7 +21,7 @@ module _ (program : Program) (settings : Settings) (ready : IsReady program) (s 
 
   by_trees : (ending : Ending) → IsEndOfTrees program settings s ending → SaysOfSteps program s.behaviour ending
   by_trees deadlocked h =
-      no_tree_no_step program settings.values h.windows ready.executable.fits h.of_session.sized s.behaviour h.none
+      no_tree_no_step program settings.values h.windows ready.executable h.of_session.sized s.behaviour h.none
   by_trees waiting h =
       let acts = windowed_trees_act program h.windows ready.executable.fits s.behaviour None h.tree h.kind h.windowed in
       record { tree = h.tree; action = acts.0; rest = acts.1; derives = acts.2 }

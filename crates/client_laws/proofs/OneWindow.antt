@@ -84,8 +84,9 @@ module _ (theory : Theory) (sort k : ℕ) where
 
     same_completeness : a ≡ b
     same_completeness =
-        same_tests a b (λ t. j.all.1 (λ v m. subst (λ vs. Contains vs v) same_values (h.all.0 t v m)))
-        (λ t. h.all.1 (λ v m. subst (λ vs. Contains vs v) (sym same_values) (j.all.0 t v m)))
+        same_tests a b
+        (λ t. let all = h.all.0 t in j.all.1 ((λ v m. subst (λ vs. Contains vs v) same_values (all.0 v m)), all.1))
+        (λ t. let all = j.all.0 t in h.all.1 ((λ v m. subst (λ vs. Contains vs v) (sym same_values) (all.0 v m)), all.1))
 
 module _ (program : Program) (settings : Settings) (w u : Windows) (h : AreSessionWindows program settings w)
     (j : AreSessionWindows program settings u) where

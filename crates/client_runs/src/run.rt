@@ -9,6 +9,7 @@ ghost use Rattle.rule_model.specs.Logs.{events_of};
 ghost use Rattle.rule_model.specs.Wishes.{Wish};
 ghost use Rattle.rule_model.specs.States.{State};
 ghost use Rattle.rule_model.specs.WishViews.{wish_of};
+ghost use Rattle.board_core.specs.JobValues.{GivesValues};
 ghost use Rattle.board_core.specs.Views.{program, state, SameSetting};
 ghost use Rattle.client_runs.specs.Runs.{Continues, HasBegun, IsEndedRun, IsRunOn};
 ghost use Rattle.board_work.specs.Runs.{IsClientRun};
@@ -27,6 +28,7 @@ use std::alloc::Global;
 fn offer_next(alloc: Global, board: &mut Board, wish: &ClientWish) -> Result<(), Memory>
     requires open { (state board.old).open_clients ≡ 1 ∷ [] }
     requires gate { wish.now.offer.gate.0 < length (program board.old).gates }
+    requires values { GivesValues (program board.old).theory wish.now.offer }
     ensures open { OnOk result ((state board.new).open_clients ≡ 1 ∷ []) }
     ensures offered { OnOk result ((start : State) (made : List Wish) → IsRunOn start made board.old →
         IsRunOn start (made ++ wish_of wish.now ∷ []) board.new) }
@@ -64,6 +66,7 @@ fn leave(alloc: Global, board: &mut Board) -> Result<(), Memory>
 fn offer_all(alloc: Global, board: &mut Board, wishes: &[ClientWish]) -> Result<(), Memory>
     requires open { (state board.old).open_clients ≡ 1 ∷ [] }
     requires gates { Each (λ w. w.offer.gate.0 < length (program board.old).gates) (map wish_of wishes.now) }
+    requires values { Each (λ w. GivesValues (program board.old).theory w.offer) (map wish_of wishes.now) }
     ensures open { OnOk result ((state board.new).open_clients ≡ []) }
     ensures offered { OnOk result ((start : State) (made : List Wish) → IsRunOn start made board.old →
         IsRunOn start (made ++ map wish_of wishes.now) board.new) }
@@ -127,6 +130,7 @@ fn run_client(
     requires ready { IsReady (program_of checked) }
     requires some { wishes.now ≡ [] → ⊥ }
     requires gates { Each (λ w. w.offer.gate.0 < length (program_of checked).gates) (map wish_of wishes.now) }
+    requires values { Each (λ w. GivesValues (program_of checked).theory w.offer) (map wish_of wishes.now) }
     ensures { IfOk result (λ r. IsClientRun (program_of checked) settings (map wish_of wishes.now) (events_of r.0) (ending_of r.1)) }
 {
     let mut board = begin(alloc, checked, settings, 1)?;
@@ -134,8 +138,8 @@ fn run_client(
     finish(alloc, board)
 }
 
-/// The session of a specification with one client, which makes these offers in order and leaves, or with none, where it makes no offer: its
-/// log, and how it ends.
+/// The session of a specification with one client, which makes these offers in order, whose fields give values, and leaves, or with none,
+/// where it makes no offer: its log, and how it ends.
 pub fn client_run(
     alloc: Global,
     checked: Checked,
@@ -144,6 +148,7 @@ pub fn client_run(
 ) -> Result<(Log, End), Memory>
     requires ready { IsReady (program_of checked) }
     requires gates { Each (λ w. w.offer.gate.0 < length (program_of checked).gates) (map wish_of wishes.now) }
+    requires values { Each (λ w. GivesValues (program_of checked).theory w.offer) (map wish_of wishes.now) }
     ensures run { IfOk result (λ r. IsClientRun (program_of checked) settings (map wish_of wishes.now) (events_of r.0) (ending_of r.1)) }
 {
     if wishes.is_empty() {

@@ -6,7 +6,7 @@ ghost use Rattle.board_work.specs.Going.{GoesOn};
 ghost use Rattle.client_runs.specs.Runs.{Continues, IsSettledOn};
 
 use board_core::board::Board;
-use board_work::working::work;
+use board_work::working::work_on;
 use spec_core::memory::Memory;
 use std::alloc::Global;
 
@@ -17,14 +17,15 @@ fn is_as_before(before: bool, after: bool) -> bool
     before == after
 }
 
-// One entry, or one job; whether nothing was left.
-fn settle_once(alloc: Global, board: &mut Board) -> Result<bool, Memory>
+// One entry, or one job, and up to so many others with it; whether nothing was left.
+fn settle_once(alloc: Global, board: &mut Board, more: &mut usize) -> Result<bool, Memory>
     ensures continues { OnOk result (Continues board.old board.new) }
     ensures goes_on { OnOk result (GoesOn board.old board.new) }
     ensures settled { IfOk result (λ done. IsTrue done → IsSettledOn board.new) }
     ensures session { SameSession board.old board.new }
 {
     if board.settle(alloc)?.is_some() {
+        *more = 0;
         return Ok(false);
     }
     board.give_back_all();
@@ -36,7 +37,7 @@ fn settle_once(alloc: Global, board: &mut Board) -> Result<bool, Memory>
             Ok(is_as_before(before, after))
         }
         Some(job) => {
-            work(alloc, board, job)?;
+            *more = work_on(alloc, board, job, *more)?;
             Ok(false)
         }
     }
@@ -49,8 +50,9 @@ pub fn settle_all(alloc: Global, board: &mut Board) -> Result<(), Memory>
     ensures settled { OnOk result (IsSettledOn board.new) }
     ensures session { SameSession board.old board.new }
 {
+    let mut more = 0;
     for _ in 0..u64::MAX {
-        if settle_once(alloc, board)? {
+        if settle_once(alloc, board, &mut more)? {
             return Ok(());
         }
     }

@@ -6,6 +6,10 @@ use Rattle.spec_core.specs.Lists.{Each}
 use Rattle.spec_core.specs.declared.memory.Memory.{Memory}
 use Rattle.spec_core.specs.declared.settings.Settings.{Settings}
 use Rattle.spec_core.specs.Code.{Program}
+use Rattle.spec_core.specs.Theories.{Theory}
+use Rattle.spec_core.proofs.Lists.{each_implied}
+use Rattle.rule_model.specs.declared.offer.Field.{Field}
+use Rattle.rule_model.specs.declared.offer.Field.TheVariants.{Give, Take}
 use Rattle.spec_core.specs.Ready.{IsReady}
 use Rattle.spec_core.proofs.Members.{contains_none}
 use Rattle.rule_model.specs.Answering.{name_of, numbered, AnswersEach}
@@ -18,6 +22,8 @@ use Rattle.symbolic_rules.specs.Windows.{Windows}
 use Rattle.client_laws.specs.Next.{AreSessionWindows}
 use Rattle.rule_model.specs.declared.wish.ClientWish.{ClientWish}
 use Rattle.script_offers.specs.Valued.{all_wishes_of}
+use Rattle.script_offers.specs.Valued as valued
+use Rattle.session_threads.specs.JobValues.{FieldGivesValue, GivesValues}
 use Rattle.client_laws.specs.Laws.{ClientRunsAnswerEach}
 use Rattle.client_laws.specs.Runs.{IsClientRun}
 use Rattle.session_laws.specs.Answers.{names_of, numbered_for, of_client, AnswersClient}
@@ -26,6 +32,19 @@ use Rattle.session_laws.specs.Sessions.{IsWholeSession}
 use Rattle.session_laws.specs.AnswerLaws.{ClientsAloneOffer, SessionsOfOneAreClientRuns}
 use Rattle.session_threads.specs.Runs.{AnswersClients}
 use Rattle.command_run.specs.Runs.{wishes_of_one, IsSessionWith}
+
+-- what the offers of clients give are values
+
+field_gives : (theory : Theory) (f : Field) → valued.FieldGivesValue theory f → FieldGivesValue theory f
+field_gives theory (Give v) h = h
+field_gives theory (Take sort) h = tt
+
+pub offers_give : (theory : Theory) (clients : List (List Wish)) → Each (Each (valued.GivesValues theory)) clients →
+    Each (Each (λ (w : Wish). GivesValues theory w.offer)) clients
+offers_give theory clients =
+    each_implied (Each (valued.GivesValues theory)) (Each (λ (w : Wish). GivesValues theory w.offer)) clients
+    (λ ws. each_implied (valued.GivesValues theory) (λ (w : Wish). GivesValues theory w.offer) ws
+    (λ w. each_implied (valued.FieldGivesValue theory) (FieldGivesValue theory) w.offer.fields (field_gives theory)))
 
 -- the offers of client 1 alone are those of client 1
 

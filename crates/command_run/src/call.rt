@@ -10,6 +10,7 @@ ghost use Rattle.rule_model.specs.WishViews.{wish_of};
 ghost use Rattle.script_offers.specs.Valued.{all_wishes_of};
 ghost use Rattle.script_text.specs.Scripts.{WishFits};
 ghost use Rattle.script_text.specs.Wishes.{script_of};
+ghost use Rattle.session_threads.specs.JobValues.{GivesValues};
 ghost use Rattle.command_run.specs.Runs.{wishes_of_one, Comes, IsSessionWith, WishesCome};
 
 use crate::answer::Answer;
@@ -61,6 +62,7 @@ fn run_clients<R: Threads + Wait + Sync, P: Probe + Sync>(
     requires clients { length clients.now ≤ 64 }
     requires workers { workers ≤ 64 }
     requires gates { Each (Each (λ w. w.offer.gate.0 < length (program_of checked.now).gates)) (map all_wishes_of clients.now) }
+    requires values { Each (Each (λ w. GivesValues (program_of checked.now).theory w.offer)) (map all_wishes_of clients.now) }
     ensures { IfOk result (λ r. IsSessionWith (program_of checked.now) settings (map all_wishes_of clients.now) (events_of r.0) (ending_of r.1)) }
 {
     client_runs_are_sessions();

@@ -215,10 +215,3 @@ answers theory f d declared fits o rows ar n i start e (Ok None) h =
 answers theory f d declared fits o rows ar n i start e (Ok (Some q)) h =
     (tt, record { defined = n; inhabited = i; rows = rows; are_rows = ar; found = subst (λ s. Finds theory rows s (Some (arguments_of q))) e h })
 answers theory f d declared fits o rows ar n i start e (Err m) h = (tt, tt)
-
--- an operation with an uncovered pattern isn't covered
-pub not_covered : (theory : Theory) (f : ℕ) (d : Operation) → slice_get theory.operations f ≡ Some d → FitsData theory →
-    IsOrthogonal theory → (q : TermTrees) → IsUncoveredBy theory f d q → IsCoveredOperation theory f d → ⊥
-not_covered theory f d declared fits o q u c =
-    let r = uncovers theory f d declared fits o u.rows u.are_rows q u.found u.inhabited in
-    r.3 (c r.0 u.defined r.1 r.2)

@@ -1,4 +1,4 @@
 pub mod Covering
-pub mod Numbering
+pub mod Marking
 pub mod Occurring
-pub mod Refusing
+pub mod Opening

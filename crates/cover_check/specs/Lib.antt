@@ -1,4 +1,4 @@
 pub mod Cases
-pub mod PatternTexts
-pub mod Refused
+pub mod Marks
+pub mod Opening
 pub mod Rows

@@ -1,10 +1,10 @@
-// Whether each call over values is decided by a group of equations.
+// Which operations are partial: whether each call over ground constructor terms is decided by a group of equations; and which sorts are open.
 #![tactic(auto)]
 
-mod check;
-mod pattern_text;
+mod cases;
+mod partial;
 mod rows;
-mod uncovered;
+mod sorts;
 
-pub use check::check_cover;
-pub use cover_groups::fits_data;
+pub use partial::uncovered;
+pub use sorts::open_sorts;

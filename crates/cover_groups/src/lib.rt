@@ -7,5 +7,4 @@ mod group;
 mod premises;
 mod renaming;
 
-pub use data_fits::fits_data;
 pub use group::has_full_group;

@@ -44,7 +44,7 @@ false_true e = cc
 pub not_headed : (f : ℕ) (e : ConditionalEquation) → is_headed f e ≡ false → Heads f e → ⊥
 not_headed f e other h = false_true (sym other ∙ ap (is_application f) h.1 ∙ eq-eqb f f refl)
 
-is_applied : (f : ℕ) (t : TermTree) → is_application f t ≡ true → (ts : TermTrees) × (t ≡ apply f ts)
+pub is_applied : (f : ℕ) (t : TermTree) → is_application f t ≡ true → (ts : TermTrees) × (t ≡ apply f ts)
 is_applied f (variable x) h = absurd (false_true h)
 is_applied f (apply g ts) h = (ts, ap (λ k. apply k ts) (sym (eqb-true f g h)))
 

@@ -18,7 +18,7 @@ use Rattle.data_laws.proofs.Sorted.{keeps_sort}
 use Rattle.spec_core.proofs.Instances.{on_map, instance_sort}
 use Rattle.spec_core.proofs.Members.{each_one}
 use Rattle.data_laws.proofs.Fit.{IsFit, Fits, fits_sorted, fit_values, on_use}
-use Rattle.data_laws.proofs.Exists.{Settles, CallSettles, constructor_stays, constructor_is_final, constructor_refutes}
+use Rattle.data_laws.proofs.Exists.{Settles, CallSettles, constructor_stays, constructor_may_stay, constructor_refutes}
 use Rattle.data_laws.proofs.Conditions.{headed_of, bare_of, sorted_of, declared}
 use Rattle.data_laws.proofs.Given.{Meet, PremiseMeets, given_value}
 use Rattle.data_laws.proofs.Renaming.{after}
@@ -137,11 +137,10 @@ module _ (theory : Theory) (ex : IsExecutable theory)
       pattern_is_still : (p : TermTree) → IsPattern theory p → ((x : ℕ) → Occurs x p → IsStill theory (z x)) → IsStill theory (instance z p)
       pattern_is_still (variable x) h k = k x refl
       pattern_is_still (apply f ps) h k =
-          let c = bare_of theory ex f h.0 in
-          let i = constructor_is_final theory f h.0 in (
+          let c = bare_of theory ex f h.0 in (
             patterns_are_still ps h.1 k,
-            i,
-            (0, constructor_stays theory theory.equations f (instances z ps) (headed_of theory ex) c i),
+            constructor_may_stay theory f h.0,
+            (0, constructor_stays theory theory.equations f (instances z ps) (headed_of theory ex) c),
             constructor_refutes theory theory.equations f (instances z ps) (headed_of theory ex) c,
           )
 
@@ -221,7 +220,7 @@ module _ (theory : Theory) (ex : IsExecutable theory)
     mutual
       chosen : {es : List ConditionalEquation} {f : ℕ} {vs : TermTrees} {v : TermTree} {k : ℕ} → Tries theory es f vs v k → IsOneOf e es →
           AllApart theory es → Each HasNoLooseVariables es → instance s e.left ≡ apply f vs → v ≡ w
-      chosen (final i p q) o a t g = absurd o
+      chosen (final p q) o a t g = absurd o
       chosen (unlike {f = f} {vs = vs} h r) (inl q) a t g = absurd (h s (subst (λ d. instance s d.left ≡ apply f vs) q g))
       chosen (unlike h r) (inr o) a t g = chosen r o a.1 t.1 g
       chosen (like {e = d} z q b) (inl p) a t g = same_one z t.0 p (g ∙ sym q) b

@@ -67,7 +67,7 @@ below_length (d ∷ ds) zero P h = omega arith
 below_length (d ∷ ds) (suc f) P h = let r = below_length ds f P h in omega (arith, r)
 
 module _ (theory : Theory) (vars : ℕ → Option ℕ) where
-  as_many : (ts : TermTrees) (sorts : List ℕ) → HaveSorts theory vars ts sorts → width ts ≡ length sorts
+  pub as_many : (ts : TermTrees) (sorts : List ℕ) → HaveSorts theory vars ts sorts → width ts ≡ length sorts
   as_many no_terms [] h = refl
   as_many no_terms (c ∷ sorts) h = absurd h
   as_many (and_term t ts) [] h = absurd h

@@ -6,12 +6,11 @@ use Rattle.spec_core.specs.Theories.{Premise, premise, ConditionalEquation, Theo
 use Rattle.spec_core.specs.Constructors.{HeadsNone, IsConstructor}
 use Rattle.spec_core.specs.Orthogonality.{HasNoLooseVariables}
 use Rattle.spec_core.specs.Evaluation.{Evaluates, EvaluatesAll, Tries, Asks, called, none, more, final, unlike, like, used, holds, fails}
-use Rattle.spec_core.specs.Evaluation.{IsFinal}
 use Rattle.spec_core.specs.Order.{IsInsideAny, IsSmaller, DependsOn, itself, onward, IsAbove, IsLevel, IsBelow, AreBelow, PremiseIsBelow}
 use Rattle.spec_core.specs.Order.{Decreases}
 use Rattle.data_laws.proofs.Sorted.{IsSorted, PremiseHasSort}
 use Rattle.data_laws.proofs.Fit.{IsFit, Fits, FitAll, fit_values, fits_sorted, side_fits}
-use Rattle.data_laws.proofs.Still.{AllFail, IsRefuted, IsStill, AreStill, own_value, part_any, inside_instances, smaller_values}
+use Rattle.data_laws.proofs.Still.{AllFail, IsRefuted, MayStay, IsStill, AreStill, own_value, part_any, inside_instances, smaller_values}
 use Rattle.data_laws.proofs.Matching.{Tells, matches, same_term}
 use Rattle.data_laws.proofs.Narrow.{IsNarrow, AreNarrow, PremiseIsNarrow, EquationIsNarrow}
 use Rattle.data_laws.proofs.Smaller.{IsLow, low, all_low}
@@ -48,15 +47,14 @@ above_level theory f g h l a = (reaches_on theory f g h l.0 a.0, λ b. a.1 (reac
 pub level_level : (theory : Theory) (f g h : ℕ) → IsLevel theory f g → IsLevel theory g h → IsLevel theory f h
 level_level theory f g h l a = (reaches_on theory f g h l.0 a.0, reaches_on theory h g f a.1 l.1)
 
--- until operations may be partial the two are the same
-pub constructor_is_final : (theory : Theory) (f : ℕ) → IsConstructor theory f → IsFinal theory f
-constructor_is_final theory f c = c
+pub constructor_may_stay : (theory : Theory) (f : ℕ) → IsConstructor theory f → MayStay theory f
+constructor_may_stay theory f c = λ sort given closed. c
 
 pub constructor_stays : (theory : Theory) (es : List ConditionalEquation) (f : ℕ) (vs : TermTrees) →
     Each (λ e. (s : ℕ → TermTree) (f : ℕ) (vs : TermTrees) → instance s e.left ≡ apply f vs → (ps : TermTrees) × (e.left ≡ apply f ps)) es
-    → Each (λ e. Heads f e → ⊥) es → IsFinal theory f → Tries theory es f vs (apply f vs) 0
-constructor_stays theory [] f vs h c i = final i refl refl
-constructor_stays theory (e ∷ es) f vs h c i = unlike (λ s q. c.0 (h.0 s f vs q)) (constructor_stays theory es f vs h.1 c.1 i)
+    → Each (λ e. Heads f e → ⊥) es → Tries theory es f vs (apply f vs) 0
+constructor_stays theory [] f vs h c = final refl refl
+constructor_stays theory (e ∷ es) f vs h c = unlike (λ s q. c.0 (h.0 s f vs q)) (constructor_stays theory es f vs h.1 c.1)
 
 pub constructor_refutes : (theory : Theory) (es : List ConditionalEquation) (f : ℕ) (vs : TermTrees) →
     Each (λ e. (s : ℕ → TermTree) (f : ℕ) (vs : TermTrees) → instance s e.left ≡ apply f vs → (ps : TermTrees) × (e.left ≡ apply f ps)) es
@@ -97,8 +95,8 @@ module _ (theory : Theory) (n : ℕ) (tight : Each HasNoLooseVariables theory.eq
 
   made : (g : ℕ) → IsConstructor theory g → (vs : TermTrees) → AreStill theory vs → CallSettles theory g vs
   made g c vs h =
-      let t = constructor_stays theory theory.equations g vs headed (bare g c) (constructor_is_final theory g c) in
-      (apply g vs, 0, t, (h, constructor_is_final theory g c, (0, t), constructor_refutes theory theory.equations g vs headed (bare g c)))
+      let t = constructor_stays theory theory.equations g vs headed (bare g c) in
+      (apply g vs, 0, t, (h, constructor_may_stay theory g c, (0, t), constructor_refutes theory theory.equations g vs headed (bare g c)))
 
   by_head : (g : ℕ) (ts : TermTrees) → width ts ≤ n → IsFit theory g (instances s ts) → SettleAll theory (instances s ts) →
       IsConstructor theory g ⊎ IsAbove theory f g ⊎ IsLevel theory f g × IsSmaller ts ps → Settles theory (apply g (instances s ts))
@@ -151,11 +149,11 @@ PremiseSettles theory s (premise a b) = Settles theory (instance s a) × Settles
 -- what is known once some equations are tried: the value, which is still, or the call itself
 abbrev pub TrySettles : Theory → List ConditionalEquation → ℕ → TermTrees → Type 0
 TrySettles theory es f vs = (v : TermTree) × (k : ℕ) × Tries theory es f vs v k ×
-    (IsStill theory v ⊎ ((v ≡ apply f vs) × IsFinal theory f) × Each (IsRefuted theory f vs) es)
+    (IsStill theory v ⊎ ((v ≡ apply f vs) × MayStay theory f) × Each (IsRefuted theory f vs) es)
 
 abbrev pub AskSettles : Theory → List ConditionalEquation → ℕ → TermTrees → (ℕ → TermTree) → TermTree → List Premise → Type 0
 AskSettles theory es f vs s r ps = (v : TermTree) × (k : ℕ) × Asks theory ps r s es f vs v k ×
-    (IsStill theory v ⊎ ((v ≡ apply f vs) × IsFinal theory f) × AllFail theory s ps × Each (IsRefuted theory f vs) es)
+    (IsStill theory v ⊎ ((v ≡ apply f vs) × MayStay theory f) × AllFail theory s ps × Each (IsRefuted theory f vs) es)
 
 module _ (theory : Theory) (s : ℕ → TermTree) (f : ℕ) (vs : TermTrees) where
   -- the premises in order, and then the right side, where all that is asked has a value
@@ -164,15 +162,15 @@ module _ (theory : Theory) (s : ℕ → TermTree) (f : ℕ) (vs : TermTrees) whe
   ask [] r es h last next = (last.0, last.1 + 1, used last.1 last.2 refl, inl last.3)
   ask (premise a b ∷ ps) r es h last next = compare (same_term h.0.0.0 h.0.1.0) (ask ps r es h.1 last (λ g. next (inr g)))
     where
-      later : {v : TermTree} → IsStill theory v ⊎ ((v ≡ apply f vs) × IsFinal theory f) × AllFail theory s ps ×
+      later : {v : TermTree} → IsStill theory v ⊎ ((v ≡ apply f vs) × MayStay theory f) × AllFail theory s ps ×
           Each (IsRefuted theory f vs) es →
-          IsStill theory v ⊎ ((v ≡ apply f vs) × IsFinal theory f) × AllFail theory s (premise a b ∷ ps) × Each (IsRefuted theory f vs) es
+          IsStill theory v ⊎ ((v ≡ apply f vs) × MayStay theory f) × AllFail theory s (premise a b ∷ ps) × Each (IsRefuted theory f vs) es
       later (inl x) = inl x
       later (inr x) = inr (x.0, inr x.1, x.2)
 
       now : {v : TermTree} → (h.0.0.0 ≡ h.0.1.0 → ⊥) →
-          IsStill theory v ⊎ ((v ≡ apply f vs) × IsFinal theory f) × Each (IsRefuted theory f vs) es →
-          IsStill theory v ⊎ ((v ≡ apply f vs) × IsFinal theory f) × AllFail theory s (premise a b ∷ ps) × Each (IsRefuted theory f vs) es
+          IsStill theory v ⊎ ((v ≡ apply f vs) × MayStay theory f) × Each (IsRefuted theory f vs) es →
+          IsStill theory v ⊎ ((v ≡ apply f vs) × MayStay theory f) × AllFail theory s (premise a b ∷ ps) × Each (IsRefuted theory f vs) es
       now d (inl x) = inl x
       now d (inr x) = inr (x.0, inl (h.0.0.0, h.0.1.0, h.0.0.1, h.0.1.1, h.0.0.2, h.0.1.2, d), x.1)
 
@@ -187,15 +185,15 @@ module _ (theory : Theory) (s : ℕ → TermTree) (f : ℕ) (vs : TermTrees) whe
           let z = next (inl (h.0.0.0, h.0.1.0, h.0.0.1, h.0.1.1, h.0.0.2, h.0.1.2, d)) in
           (z.0, h.0.0.1 + h.0.1.1 + z.1, fails h.0.0.0 h.0.1.0 h.0.0.1 h.0.1.1 z.1 h.0.0.2 h.0.1.2 d z.2 refl, now d z.3)
 
--- whatever the equations before say, an operation to which none applies is final
 -- an equation that was asked and doesn't apply: its premises' sides have values
 abbrev pub IsPassed : Theory → ℕ → TermTrees → ConditionalEquation → Type 0
 IsPassed theory f vs e = ((s : ℕ → TermTree) → instance s e.left ≡ apply f vs → ⊥) ⊎
     ((s : ℕ → TermTree) × (instance s e.left ≡ apply f vs) × Each (PremiseSettles theory s) e.premises × AllFail theory s e.premises)
 
+-- an operation to which no equation applies may stay
 abbrev pub Ends : Theory → Type 0
 Ends theory = (f : ℕ) (vs : TermTrees) → IsFit theory f vs → AreStill theory vs → Each (IsPassed theory f vs) theory.equations →
-    IsFinal theory f
+    MayStay theory f
 
 module _ (theory : Theory) (n : ℕ) (tight : Each HasNoLooseVariables theory.equations) (sorted : Each (IsSorted theory) theory.equations)
     (headed : Each Headed theory.equations) (bare : (g : ℕ) → IsConstructor theory g → HeadsNone theory g) (ends : Ends theory) (f : ℕ)
@@ -216,20 +214,20 @@ module _ (theory : Theory) (n : ℕ) (tight : Each HasNoLooseVariables theory.eq
       ((side ps s e x j.0.0 w.0.0 b.0.0, side ps s e y j.0.1 w.0.1 b.0.1), sides ps s e asked j.1 w.1 b.1)
 
   -- the equations in order
-  try : (es : List ConditionalEquation) → Each (Owes theory n) es → (Each (IsPassed theory f vs) es → IsFinal theory f) →
+  try : (es : List ConditionalEquation) → Each (Owes theory n) es → (Each (IsPassed theory f vs) es → MayStay theory f) →
       TrySettles theory es f vs
-  try [] o last = (apply f vs, 0, final (last tt) refl refl, inr ((refl, last tt), tt))
+  try [] o last = (apply f vs, 0, final refl refl, inr ((refl, last tt), tt))
   try (e ∷ es) o last = on (matches e.left (apply f vs)) (λ r. try es o.1 (λ rs. last (r, rs)))
     where
       past : {v : TermTree} → IsRefuted theory f vs e →
-          IsStill theory v ⊎ ((v ≡ apply f vs) × IsFinal theory f) × Each (IsRefuted theory f vs) es →
-          IsStill theory v ⊎ ((v ≡ apply f vs) × IsFinal theory f) × Each (IsRefuted theory f vs) (e ∷ es)
+          IsStill theory v ⊎ ((v ≡ apply f vs) × MayStay theory f) × Each (IsRefuted theory f vs) es →
+          IsStill theory v ⊎ ((v ≡ apply f vs) × MayStay theory f) × Each (IsRefuted theory f vs) (e ∷ es)
       past r (inl x) = inl x
       past r (inr x) = inr (x.0, (r, x.1))
 
       through : {v : TermTree} (s : ℕ → TermTree) → instance s e.left ≡ apply f vs →
-          IsStill theory v ⊎ ((v ≡ apply f vs) × IsFinal theory f) × AllFail theory s e.premises × Each (IsRefuted theory f vs) es →
-          IsStill theory v ⊎ ((v ≡ apply f vs) × IsFinal theory f) × Each (IsRefuted theory f vs) (e ∷ es)
+          IsStill theory v ⊎ ((v ≡ apply f vs) × MayStay theory f) × AllFail theory s e.premises × Each (IsRefuted theory f vs) es →
+          IsStill theory v ⊎ ((v ≡ apply f vs) × MayStay theory f) × Each (IsRefuted theory f vs) (e ∷ es)
       through s q (inl x) = inl x
       through s q (inr x) = inr (x.0, (inr (s, q, x.1), x.2))
 
@@ -260,7 +258,7 @@ module _ (theory : Theory) (n : ℕ) (owed : Each (Owes theory n) theory.equatio
   finish f vs h x = last x.0 x.1 x.2 x.3
     where
       last : (v : TermTree) (k : ℕ) → Tries theory theory.equations f vs v k →
-          IsStill theory v ⊎ ((v ≡ apply f vs) × IsFinal theory f) × Each (IsRefuted theory f vs) theory.equations →
+          IsStill theory v ⊎ ((v ≡ apply f vs) × MayStay theory f) × Each (IsRefuted theory f vs) theory.equations →
           CallSettles theory f vs
       last v k t (inl s) = (v, k, t, s)
       last v k t (inr e) =

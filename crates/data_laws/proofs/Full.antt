@@ -7,12 +7,11 @@ use Rattle.spec_core.specs.Sorts.{HasSort}
 use Rattle.spec_core.specs.Evaluation.{Evaluates}
 use Rattle.spec_core.specs.Cover.{IsConstant, HasConstants, BeginWithConstants, IsAfter, IsFull, empty_one, by_constants}
 use Rattle.spec_core.specs.Executable.{IsExecutable}
-use Rattle.data_laws.proofs.Exists.{Settles, PremiseSettles}
-use Rattle.data_laws.proofs.Given.{PremiseMeets, meets, side}
+use Rattle.data_laws.proofs.Given.{Makes, PremiseMakes, PremiseMeets, meets, side}
 
 module _ (theory : Theory) (ex : IsExecutable theory) (vars : ℕ → Option ℕ) (z : ℕ → TermTree)
     (constant_of : (t : TermTree) (sort : ℕ) → HasSort theory vars t sort → HasConstants theory sort →
-    Settles theory (instance z t) →
+    Makes theory (instance z t) →
     (c : ℕ) × IsConstant theory sort c × ((k : ℕ) × Evaluates theory (instance z t) (constant c) k)) where
   -- whether a premise gives a constant needn't be decided, since what is shown is that something can't be
   after : (t : TermTree) (c : ℕ) (ls : List (List Premise)) → BeginWithConstants theory t ls →
@@ -23,7 +22,7 @@ module _ (theory : Theory) (ex : IsExecutable theory) (vars : ℕ → Option ℕ
       after t c ls b.1 (λ rest a. k rest (inr ((λ g. k (ps ∷ rest) (inl (g, (rest, refl, a)))), a)))
 
   back : (t : TermTree) (c k : ℕ) (ls rest : List (List Premise)) → IsAfter theory t c ls rest →
-      Evaluates theory (instance z t) (constant c) k → Each (Each (PremiseSettles theory z)) ls → (l : List Premise) →
+      Evaluates theory (instance z t) (constant c) k → Each (Each (PremiseMakes theory z)) ls → (l : List Premise) →
       OneOf (λ x. l ≡ x) rest → Each (PremiseMeets theory z) l →
       (m : List Premise) × OneOf (λ x. m ≡ x) ls × Each (PremiseMeets theory z) m
   back t c k [] rest a e known l i h = absurd (subst (λ r. OneOf (λ x. l ≡ x) r) a i)
@@ -45,19 +44,19 @@ module _ (theory : Theory) (ex : IsExecutable theory) (vars : ℕ → Option ℕ
   empty_meets (l ∷ ls) (inr i) = let m = empty_meets ls i in (m.0, inr m.1, m.2)
 
   known_after : (t : TermTree) (c : ℕ) (ls rest : List (List Premise)) → IsAfter theory t c ls rest →
-      Each (Each (PremiseSettles theory z)) ls → Each (Each (PremiseSettles theory z)) rest
-  known_after t c [] rest a k = subst (Each (Each (PremiseSettles theory z))) (sym a) tt
+      Each (Each (PremiseMakes theory z)) ls → Each (Each (PremiseMakes theory z)) rest
+  known_after t c [] rest a k = subst (Each (Each (PremiseMakes theory z))) (sym a) tt
   known_after t c ([] ∷ ls) rest a k = absurd a
   known_after t c ((p ∷ ps) ∷ ls) rest (inl a) k =
-      subst (Each (Each (PremiseSettles theory z))) (sym a.1.1) (k.0.1, known_after t c ls a.1.0 a.1.2 k.1)
+      subst (Each (Each (PremiseMakes theory z))) (sym a.1.1) (k.0.1, known_after t c ls a.1.0 a.1.2 k.1)
   known_after t c ((p ∷ ps) ∷ ls) rest (inr a) k = known_after t c ls rest a.1 k.1
 
   first_side : (t : TermTree) (l : List Premise) (ls : List (List Premise)) → BeginWithConstants theory t (l ∷ ls) →
-      Each (PremiseSettles theory z) l → Settles theory (instance z t)
+      Each (PremiseMakes theory z) l → Makes theory (instance z t)
   first_side t [] ls b k = absurd b
   first_side t (p ∷ ps) ls b k = side theory ex z p t b.0.0 b.0.1 k.0
 
-  pub one_applies : {ls : List (List Premise)} → IsFull theory vars ls → Each (Each (PremiseSettles theory z)) ls →
+  pub one_applies : {ls : List (List Premise)} → IsFull theory vars ls → Each (Each (PremiseMakes theory z)) ls →
       ((m : List Premise) → OneOf (λ x. m ≡ x) ls → Each (PremiseMeets theory z) m → ⊥) → ⊥
   one_applies {ls} (empty_one i) known k = let m = empty_meets ls i in k m.0 m.1 m.2
   one_applies (by_constants {l = l} {ls = ls} t sort h q b full) known k =

@@ -1,6 +1,5 @@
 pub mod Classes
 pub mod Conditions
-pub mod Covered
 pub mod Depth
 pub mod Evaluated
 pub mod Exists
@@ -10,9 +9,12 @@ pub mod Given
 pub mod Matching
 pub mod Narrow
 pub mod Renaming
+pub mod Settled
 pub mod Smaller
 pub mod Sorted
 pub mod Sorts
+pub mod Staying
 pub mod Still
+pub mod Values
 pub mod Whole
 pub mod Words

@@ -1,10 +1,10 @@
 -- Evaluation keeps sorts.
-use Rattle.std.proofs.Common.{ℕ, ◌≡◌, List, [], ◌∷◌, refl, sym, ap, subst, ◌∙◌, inl, inr, Option, Some, None}
+use Rattle.std.proofs.Common.{ℕ, ◌≡◌, List, [], ◌∷◌, sym, subst, ◌∙◌, Option}
 use Rattle.std.specs.List.{slice_get}
 use Rattle.spec_core.specs.Lists.{Each}
-use Rattle.spec_core.specs.Terms.{TermTree, TermTrees, variable, apply, no_terms, and_term, instance, instances, Occurs, OccursInAny}
+use Rattle.spec_core.specs.Terms.{TermTree, TermTrees, apply, instance}
 use Rattle.spec_core.specs.Theories.{Premise, premise, ConditionalEquation, Theory}
-use Rattle.spec_core.specs.Sorts.{OnSome, HasSort, HaveSorts, no_variables}
+use Rattle.spec_core.specs.Sorts.{HasSort, HaveSorts, no_variables}
 use Rattle.spec_core.specs.Orthogonality.{HasNoLooseVariables}
 use Rattle.spec_core.proofs.Instances.{on_both, on_map, bound_sort, instance_sort}
 use Rattle.spec_core.specs.Evaluation.{Evaluates, EvaluatesAll, Tries, Asks, called, none, more, final, unlike, like, used, holds, fails}
@@ -52,7 +52,7 @@ module _ (theory : Theory) (tight : Each HasNoLooseVariables theory.equations) (
     keeps_try : {es : List ConditionalEquation} {f : ℕ} {vs : TermTrees} {v : TermTree} {n : ℕ} → Tries theory es f vs v n →
         Each HasNoLooseVariables es → Each (IsSorted theory) es → (sort : ℕ) → HasSort theory no_variables (apply f vs) sort →
         HasSort theory no_variables v sort
-    keeps_try (final i e k) t w sort h = subst (λ u. HasSort theory no_variables u sort) (sym e) h
+    keeps_try (final e k) t w sort h = subst (λ u. HasSort theory no_variables u sort) (sym e) h
     keeps_try (unlike x a) t w sort h = keeps_try a t.1 w.1 sort h
     keeps_try (like {e = e} {f = f} {vs = vs} s q a) t w sort h =
         let l = subst (λ u. HasSort theory no_variables u sort) (sym q) h in

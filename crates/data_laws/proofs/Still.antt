@@ -4,7 +4,9 @@ use Rattle.spec_core.specs.Lists.{Each}
 use Rattle.spec_core.specs.Terms.{TermTree, TermTrees, variable, apply, no_terms, and_term, instance, instances}
 use Rattle.spec_core.specs.Theories.{Premise, premise, ConditionalEquation, Theory}
 use Rattle.spec_core.specs.Orthogonality.{HasNoLooseVariables}
-use Rattle.spec_core.specs.Evaluation.{Evaluates, EvaluatesAll, Tries, called, none, more, IsFinal}
+use Rattle.spec_core.specs.Evaluation.{Evaluates, EvaluatesAll, Tries, called, none, more}
+use Rattle.spec_core.specs.Constructors.{IsConstructor}
+use Rattle.spec_core.specs.OpenSorts.{GivesSort, IsOpen}
 use Rattle.spec_core.specs.Order.{IsInside, IsInsideAny, IsSmaller}
 use Rattle.spec_core.proofs.OneValue.{one_value}
 
@@ -19,10 +21,14 @@ abbrev pub IsRefuted : Theory → ℕ → TermTrees → ConditionalEquation → 
 IsRefuted theory f vs e = ((s : ℕ → TermTree) → instance s e.left ≡ apply f vs → ⊥) ⊎
     ((s : ℕ → TermTree) × (instance s e.left ≡ apply f vs) × AllFail theory s e.premises)
 
+-- the operation may stay over values: it is a constructor, unless its sort is open
+abbrev pub MayStay : Theory → ℕ → Type 0
+MayStay theory f = (sort : ℕ) → GivesSort theory f sort → (IsOpen theory sort → ⊥) → IsConstructor theory f
+
 abbrev mutual
   pub IsStill : Theory → TermTree → Type 0
   IsStill theory (variable x) = ⊥
-  IsStill theory (apply f vs) = AreStill theory vs × IsFinal theory f × ((k : ℕ) × Tries theory theory.equations f vs (apply f vs) k) ×
+  IsStill theory (apply f vs) = AreStill theory vs × MayStay theory f × ((k : ℕ) × Tries theory theory.equations f vs (apply f vs) k) ×
       Each (IsRefuted theory f vs) theory.equations
 
   pub AreStill : Theory → TermTrees → Type 0

@@ -1,8 +1,8 @@
 -- The laws of executable data.
-use Rattle.std.proofs.Common.{ℕ, ◌≡◌, List, [], ◌∷◌, sym, subst, ◌∙◌, inl, inr, Option, Some, length}
+use Rattle.std.proofs.Common.{ℕ, ◌≡◌, List, [], ◌∷◌, refl, sym, subst, ◌∙◌, inl, inr, Option, Some}
 use Rattle.std.specs.List.{slice_get}
 use Rattle.spec_core.specs.Lists.{Each, IsOneOf}
-use Rattle.spec_core.specs.Terms.{TermTree, TermTrees, instance, Occurs}
+use Rattle.spec_core.specs.Terms.{TermTree, instance, Occurs, preorder}
 use Rattle.spec_core.specs.Theories.{Premise, premise, ConditionalEquation, Theory}
 use Rattle.spec_core.specs.Sorts.{HasSort, no_variables, FitsGround, EquationFits}
 use Rattle.spec_core.specs.Evaluation.{Evaluates}
@@ -10,49 +10,33 @@ use Rattle.spec_core.specs.Equality.{Equal, IsGroundFor, by_reflexivity, by_symm
 use Rattle.spec_core.specs.Executable.{IsExecutable}
 use Rattle.spec_core.proofs.OneValue.{one_value}
 use Rattle.spec_core.specs.Values.{HasValue}
-use Rattle.spec_core.proofs.Sound.{evaluation_gives_values}
-use Rattle.spec_core.proofs.Definitions.{values_evaluate_to_themselves}
 use Rattle.data_laws.specs.Laws.{EachGroundTermEvaluates, EachGroundTermHasOneValue, EvaluationReachesValues, EqualityIsOfValues}
 use Rattle.data_laws.specs.Laws.{HaveOneValue, PremiseHasOneValue, TermsHaveOneValueAndCost, SubstitutionsGoByValues}
 use Rattle.data_laws.specs.Laws.{ValuesHaveThemselves, EquationSidesHaveOneValue}
+use Rattle.data_laws.specs.Laws.{ConstructorTermsAreValues, ValuesOfClosedSorts, CompleteWindowsHoldAllValues}
 use Rattle.data_laws.proofs.Sorted.{keeps_sort}
 use Rattle.spec_core.proofs.Instances.{instance_sort}
 use Rattle.spec_core.proofs.Members.{each_one}
-use Rattle.data_laws.proofs.Still.{AreStill}
-use Rattle.data_laws.proofs.Fit.{IsFit, Fits, fits_sorted}
-use Rattle.data_laws.proofs.Exists.{Settles, CallSettles, settles, by_operation}
-use Rattle.data_laws.proofs.Depth.{all_end}
-use Rattle.data_laws.proofs.Conditions.{widest, headed_of, bare_of, sorted_of, owed_of, numbered_of}
-use Rattle.data_laws.proofs.Covered.{covered_ends}
-use Rattle.data_laws.proofs.Classes.{SameValue, PremiseIsSame, one_class, through, by_values}
+use Rattle.data_laws.proofs.Fit.{fits_sorted}
+use Rattle.data_laws.proofs.Conditions.{sorted_of}
+use Rattle.data_laws.proofs.Classes.{SameValue, PremiseIsSame, through, by_values}
+use Rattle.data_laws.proofs.Settled.{own_value, evaluation_gives_values, constructor_term_is_value, value_of_closed_sort}
+use Rattle.data_laws.proofs.Values.{value_of, call_of, class_of}
 
 module _ (theory : Theory) (ex : IsExecutable theory) where
-  value_of : (t : TermTree) → Fits theory t → Settles theory t
-  value_of t fits = settles theory (widest theory.operations) (owed_of theory ex) ex.orthogonal.closed (sorted_of theory ex)
-      (headed_of theory ex) (bare_of theory ex) (covered_ends theory ex)
-      (all_end theory (length theory.operations) (numbered_of theory ex)) t fits
-
-  call_of : (f : ℕ) (vs : TermTrees) → IsFit theory f vs → AreStill theory vs → CallSettles theory f vs
-  call_of f vs fit still = by_operation theory (widest theory.operations) (owed_of theory ex) ex.orthogonal.closed (sorted_of theory ex)
-      (headed_of theory ex) (bare_of theory ex) (covered_ends theory ex) f
-      (all_end theory (length theory.operations) (numbered_of theory ex) f) vs fit still
-
-  class_of : (a b : TermTree) → Equal theory a b → SameValue theory a b
-  class_of a b e = one_class theory ex value_of call_of e
-
   evaluates : (t : TermTree) → FitsGround theory t → (v : TermTree) × (n : ℕ) × Evaluates theory t v n
-  evaluates t f = let s = value_of t (fits_sorted theory t f.0 f.1) in (s.0, s.1, s.2)
+  evaluates t f = let s = value_of theory ex t (fits_sorted theory t f.0 f.1) in (s.0, s.1, s.2)
 
   -- what is equal to a term evaluates to the term's value
   reaches : (a v : TermTree) → HasValue theory a v → (n : ℕ) × Evaluates theory a v n
   reaches a v h =
-      let s = class_of a v h.equal in
-      let same = (one_value theory ex.orthogonal.closed s.right (values_evaluate_to_themselves theory ex v h.is_value)).0 in
+      let s = class_of theory ex a v h.equal in
+      let same = (one_value theory ex.orthogonal.closed s.right (own_value theory ex v h.is_value).1).0 in
       (s.cost, subst (λ u. Evaluates theory a u s.cost) same s.left)
 
   one_normal_form : (a b v w : TermTree) → Equal theory a b → HasValue theory a v → HasValue theory b w → v ≡ w
   one_normal_form a b v w e h k =
-      let s = class_of a b e in
+      let s = class_of theory ex a b e in
       let x = reaches a v h in
       let y = reaches b w k in
       (one_value theory ex.orthogonal.closed x.1 s.left).0 ∙ (one_value theory ex.orthogonal.closed s.right y.1).0
@@ -66,7 +50,7 @@ module _ (theory : Theory) (ex : IsExecutable theory) where
   )
 
   of_value : (a b : TermTree) → HaveOneValue theory a b → SameValue theory a b
-  of_value a b h = class_of a b (by_transitivity h.0 h.1.equal (by_symmetry h.2.equal))
+  of_value a b h = class_of theory ex a b (by_transitivity h.0 h.1.equal (by_symmetry h.2.equal))
 
   premises_of_value : (s : ℕ → TermTree) (ps : List Premise) → Each (PremiseHasOneValue theory s) ps → Each (PremiseIsSame theory s) ps
   premises_of_value s [] h = tt
@@ -84,7 +68,7 @@ module _ (theory : Theory) (ex : IsExecutable theory) where
         to_value (instance s t) (instance z t)
         (sort, instance_sort theory vars s t sort h sorts)
         (sort, instance_sort theory vars z t sort h value_sort)
-        (through theory ex value_of call_of vars s z t sort h (λ x o. class_of (s x) (z x) (have x o).equal) sorts)
+        (through theory ex (value_of theory ex) (call_of theory ex) vars s z t sort h (λ x o. class_of theory ex (s x) (z x) (have x o).equal) sorts)
 
   module _ (e : ConditionalEquation) (s : ℕ → TermTree) (i : IsOneOf e theory.equations) (ground : IsGroundFor theory e s)
       (held : Each (PremiseHasOneValue theory s) e.premises) where
@@ -94,7 +78,7 @@ module _ (theory : Theory) (ex : IsExecutable theory) where
         to_value (instance s e.left) (instance s e.right)
         (fit.sides.0, instance_sort theory (slice_get e.sorts) s e.left fit.sides.0 fit.sides.1 (λ x a o q. ground x a (inl o) q))
         (fit.sides.0, instance_sort theory (slice_get e.sorts) s e.right fit.sides.0 fit.sides.2 (λ x a o q. ground x a (inr (inl o)) q))
-        (by_values theory ex value_of call_of e i s ground (premises_of_value s e.premises held))
+        (by_values theory ex (value_of theory ex) (call_of theory ex) e i s ground (premises_of_value s e.premises held))
 
 pub each_ground_term_evaluates : EachGroundTermEvaluates
 each_ground_term_evaluates theory ex t f =
@@ -123,7 +107,17 @@ pub substitutions_go_by_values : SubstitutionsGoByValues
 substitutions_go_by_values theory ex vars s z t sort h sorts have = by_the_values theory ex vars s z t sort h sorts have
 
 pub values_have_themselves : ValuesHaveThemselves
-values_have_themselves theory ex v h = (0, values_evaluate_to_themselves theory ex v h)
+values_have_themselves theory ex v h = own_value theory ex v h
 
 pub equation_sides_have_one_value : EquationSidesHaveOneValue
 equation_sides_have_one_value theory ex e s i ground held = by_the_equation theory ex e s i ground held
+
+pub constructor_terms_are_values : ConstructorTermsAreValues
+constructor_terms_are_values theory ex t fits c = constructor_term_is_value theory ex t fits c
+
+pub values_of_closed_sorts : ValuesOfClosedSorts
+values_of_closed_sorts theory ex v sort h fits closed = value_of_closed_sort theory ex v sort h fits closed
+
+pub complete_windows_hold_all_values : CompleteWindowsHoldAllValues
+complete_windows_hold_all_values theory ex sort k values complete window told v h fits =
+    let a = window.all.0 told in a.0 (preorder v) (v, refl, fits, value_of_closed_sort theory ex v sort h fits a.1)

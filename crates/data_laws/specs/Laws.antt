@@ -1,13 +1,17 @@
 -- Laws of executable data: each ground term has one value, and ground terms are equal exactly where they have the same value.
-use Rattle.std.specs.Prelude.{ℕ, ◌≡◌, ◌↔◌, Option, Some}
+use Rattle.std.specs.Prelude.{ℕ, ◌≡◌, ◌↔◌, List, Bool, IsTrue, Option, Some}
+use Rattle.std.specs.List.{Contains}
 use Rattle.spec_core.specs.Lists.{Each, IsOneOf}
-use Rattle.spec_core.specs.Terms.{TermTree, instance, Occurs}
+use Rattle.spec_core.specs.Terms.{TermTree, instance, Occurs, preorder}
 use Rattle.spec_core.specs.Theories.{Premise, premise, ConditionalEquation, Theory}
 use Rattle.spec_core.specs.Sorts.{HasSort, FitsGround, no_variables}
+use Rattle.spec_core.specs.Constructors.{IsConstructed}
+use Rattle.spec_core.specs.OpenSorts.{IsOpen}
 use Rattle.spec_core.specs.Equality.{Equal, IsGroundFor}
 use Rattle.spec_core.specs.Values.{IsValue, HasValue}
 use Rattle.spec_core.specs.Evaluation.{Evaluates}
 use Rattle.spec_core.specs.Executable.{IsExecutable}
+use Rattle.spec_core.specs.Windows.{IsWindow}
 
 -- each ground term evaluates to exactly one value, at one cost
 abbrev pub EachGroundTermEvaluates : Type 0
@@ -89,3 +93,32 @@ EquationSidesHaveOneValue =
     IsGroundFor theory e s →
     Each (PremiseHasOneValue theory s) e.premises →
     HaveOneValue theory (instance s e.left) (instance s e.right)
+
+-- a ground constructor term is a value
+abbrev pub ConstructorTermsAreValues : Type 0
+ConstructorTermsAreValues =
+    (theory : Theory) → IsExecutable theory → (t : TermTree) → FitsGround theory t → IsConstructed theory t → IsValue theory t
+
+-- a value of a sort that isn't open is a ground constructor term
+abbrev pub ValuesOfClosedSorts : Type 0
+ValuesOfClosedSorts =
+    (theory : Theory) →
+    IsExecutable theory →
+    (v : TermTree) (sort : ℕ) →
+    IsValue theory v →
+    HasSort theory no_variables v sort →
+    (IsOpen theory sort → ⊥) →
+    IsConstructed theory v
+
+-- a complete window of a sort holds each value of the sort
+abbrev pub CompleteWindowsHoldAllValues : Type 0
+CompleteWindowsHoldAllValues =
+    (theory : Theory) →
+    IsExecutable theory →
+    (sort k : ℕ) (values : List (List ℕ)) (complete : Bool) →
+    IsWindow theory sort k values complete →
+    IsTrue complete →
+    (v : TermTree) →
+    IsValue theory v →
+    HasSort theory no_variables v sort →
+    Contains values (preorder v)

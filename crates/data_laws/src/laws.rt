@@ -2,7 +2,8 @@
 
 ghost use Rattle.data_laws.specs.Laws.{EachGroundTermEvaluates, EachGroundTermHasOneValue, EvaluationReachesValues, EqualityIsOfValues};
 ghost use Rattle.data_laws.specs.Laws.{TermsHaveOneValueAndCost, SubstitutionsGoByValues, ValuesHaveThemselves};
-ghost use Rattle.data_laws.specs.Laws.{EquationSidesHaveOneValue};
+ghost use Rattle.data_laws.specs.Laws.{EquationSidesHaveOneValue, ConstructorTermsAreValues, ValuesOfClosedSorts};
+ghost use Rattle.data_laws.specs.Laws.{CompleteWindowsHoldAllValues};
 
 /// A ground term of executable data evaluates to exactly one value, at one number of uses.
 pub fn each_ground_term_evaluates()
@@ -42,4 +43,19 @@ pub fn values_have_themselves()
 /// The two sides of an equation's instance have one value where the sides of each of its premises have.
 pub fn equation_sides_have_one_value()
     ensures { EquationSidesHaveOneValue }
+{}
+
+/// A ground constructor term is a value.
+pub fn constructor_terms_are_values()
+    ensures { ConstructorTermsAreValues }
+{}
+
+/// A value of a sort that isn't open is a ground constructor term.
+pub fn values_of_closed_sorts()
+    ensures { ValuesOfClosedSorts }
+{}
+
+/// A complete window of a sort holds each value of the sort.
+pub fn complete_windows_hold_all_values()
+    ensures { CompleteWindowsHoldAllValues }
 {}

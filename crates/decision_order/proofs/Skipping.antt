@@ -1,28 +1,29 @@
--- The first question that isn't out, behind a search and what the rules ask then.
-use Rattle.std.proofs.Common.{◌≡◌, ◌++◌, List, [], ◌∷◌, ap, ◌∙◌, Some, Bool, true, false, not}
-use Rattle.std.proofs.lemmas.List.Elements.{filter-append}
-use Rattle.decision_trees.specs.Lazy.{first}
+-- What is taken on for a search, and then for what the rules ask behind it.
+use Rattle.std.proofs.Common.{◌≡◌, ◌++◌, List, [], refl, sym, ap, ◌∙◌, Bool, true, false}
+use Rattle.std.proofs.lemmas.List.Sums.{fold-append}
 use Rattle.decision_trees.specs.Rules.{when}
-use Rattle.decision_order.specs.Jobs.{not_out}
+use Rattle.decision_order.specs.Jobs.{taken_on}
 
-first_of_both : {Q : Type 0} (xs ys : List Q) (q : Q) → first xs ≡ Some q → first (xs ++ ys) ≡ Some q
-first_of_both [] ys q e = absurd cc
-first_of_both (x ∷ xs) ys q e = e
+module _ {Q : Type 0} (take : List Q → Q → List Q) (old new xs : List Q) (search : new ≡ taken_on take old xs) where
+  then : (ys : List Q) → taken_on take old (xs ++ ys) ≡ taken_on take new ys
+  then ys = fold-append take old xs ys ∙ ap (λ l. taken_on take l ys) (sym search)
 
-module _ {Q : Type 0} (is_out : Q → Bool) (xs : List Q) where
-  pub asked_first : (ys : List Q) (q : Q) → first (not_out is_out xs) ≡ Some q → first (not_out is_out (xs ++ ys)) ≡ Some q
-  asked_first ys q e =
-      ap first (filter-append (λ q. not (is_out q)) xs ys) ∙ first_of_both (not_out is_out xs) (not_out is_out ys) q e
+  -- no more is taken on
+  pub then_full : (ys : List Q) → ((questions : List Q) → taken_on take new questions ≡ new) → new ≡ taken_on take old (xs ++ ys)
+  then_full ys full = sym (then ys ∙ full ys)
 
-  behind : (ys : List Q) → not_out is_out xs ≡ [] → not_out is_out (xs ++ ys) ≡ not_out is_out ys
-  behind ys e = filter-append (λ q. not (is_out q)) xs ys ∙ ap (λ l. l ++ not_out is_out ys) e
+  -- a candidate is known to hold, or none is
+  pub then_held : (b : Bool) (ys zs last : List Q) → b ≡ true → last ≡ taken_on take new ys → last ≡ taken_on take old (xs ++ when b ys zs)
+  then_held b ys zs last t e = e ∙ sym (then (when b ys zs) ∙ ap (λ c. taken_on take new (when c ys zs)) t)
 
-  pub behind_held : (b : Bool) (ys zs : List Q) → not_out is_out xs ≡ [] → b ≡ true →
-      first (not_out is_out (xs ++ when b ys zs)) ≡ first (not_out is_out ys)
-  behind_held b ys zs e t = ap first (behind (when b ys zs) e) ∙ ap (λ c. first (not_out is_out (when c ys zs))) t
+  pub then_unheld : (b : Bool) (ys zs last : List Q) → b ≡ false → last ≡ taken_on take new zs →
+      last ≡ taken_on take old (xs ++ when b ys zs)
+  then_unheld b ys zs last t e = e ∙ sym (then (when b ys zs) ∙ ap (λ c. taken_on take new (when c ys zs)) t)
 
-  pub behind_unheld : (b : Bool) (ys zs : List Q) → not_out is_out xs ≡ [] → b ≡ false →
-      first (not_out is_out (xs ++ when b ys zs)) ≡ first (not_out is_out zs)
-  behind_unheld b ys zs e t = ap first (behind (when b ys zs) e) ∙ ap (λ c. first (not_out is_out (when c ys zs))) t
+  pub then_none : (b : Bool) (ys : List Q) → b ≡ true → new ≡ taken_on take old (xs ++ when b [] ys)
+  then_none b ys t = then_held b [] ys new t refl
 
-pub ruleset skipping = (asked_first, behind_held, behind_unheld)
+  pub then_no_more : (b : Bool) (ys : List Q) → b ≡ false → new ≡ taken_on take old (xs ++ when b ys [])
+  then_no_more b ys t = then_unheld b ys [] new t refl
+
+pub ruleset skipping = (then_full, then_held, then_unheld, then_none, then_no_more)

@@ -1,22 +1,22 @@
 // Searches among candidates, and what they still ask.
 
-ghost use Rattle.std.specs.Prelude.{ℕ, ◌≡◌, IfOk, List, Bool};
+ghost use Rattle.std.specs.Prelude.{ℕ, ◌≡◌, IfOk, OnOk, List, Bool, map};
 ghost use Rattle.decision_trees.specs.Rules.{Query};
 ghost use Rattle.decision_order.specs.Searches.{query_of};
-ghost use Rattle.decision_order.specs.Jobs.{not_out, Tells};
+ghost use Rattle.decision_order.specs.Jobs.{taken_on, Tells};
 
 use crate::listing::Search;
 use spec_core::memory::Memory;
 use std::alloc::Global;
 
-/// What a search still asks.
-#[derive(Drop)]
-pub enum Missing<J> {
-    /// This job, and maybe others behind it.
-    Job(J),
-    /// Nothing that isn't out already; a candidate is known to hold.
+/// What came of a search for what is still asked.
+#[derive(Clone, Copy)]
+pub enum Asked {
+    /// So many jobs are taken on that no more are.
+    Full,
+    /// All that it asks is taken on that isn't out; a candidate is known to hold.
     Held,
-    /// Nothing that isn't out already; no candidate is known to hold.
+    /// All that it asks is taken on that isn't out; no candidate is known to hold.
     Unheld,
 }
 
@@ -30,7 +30,9 @@ pub trait Asking {
 
     ghost question_of: { Self.Job → Question };
 
-    ghost is_out: { Self → Question → Bool };
+    /// What is taken on with one more question: nothing more where the question is out or taken on already, or where there are as many as the
+    /// number says.
+    ghost take: { Self → ℕ → List Question → Question → List Question };
 
     ghost missing: { Self → Query ℕ → List Question };
 
@@ -38,15 +40,27 @@ pub trait Asking {
 
     ghost is_there: { Self → Query ℕ → Bool };
 
-    /// What the search for the first candidate that holds still asks.
-    fn first_missing(&self, alloc: Global, search: Search) -> Result<Missing<Self::Job>, Memory>
-        ensures { IfOk result (Tells question_of
-            (not_out (is_out self.now) (missing self.now (query_of search)))
-            (is_there self.now (query_of search))) };
+    /// Takes on what the search for the first candidate that holds still asks, up to `limit` jobs in all.
+    fn first_missing(
+        &self,
+        alloc: Global,
+        search: Search,
+        limit: usize,
+        jobs: &mut Vec<Self::Job>,
+    ) -> Result<Asked, Memory>
+        ensures taken { OnOk result (map question_of jobs.new.items ≡
+            taken_on (take self.now limit) (map question_of jobs.old.items) (missing self.now (query_of search))) }
+        ensures asked { IfOk result (Tells (take self.now limit) (map question_of jobs.new.items) (is_there self.now (query_of search))) };
 
-    /// What the search for all candidates that hold still asks.
-    fn all_missing(&self, alloc: Global, search: Search) -> Result<Missing<Self::Job>, Memory>
-        ensures { IfOk result (Tells question_of
-            (not_out (is_out self.now) (every_missing self.now (query_of search)))
-            (is_there self.now (query_of search))) };
+    /// Takes on what the search for all candidates that hold still asks, up to `limit` jobs in all.
+    fn all_missing(
+        &self,
+        alloc: Global,
+        search: Search,
+        limit: usize,
+        jobs: &mut Vec<Self::Job>,
+    ) -> Result<Asked, Memory>
+        ensures taken { OnOk result (map question_of jobs.new.items ≡
+            taken_on (take self.now limit) (map question_of jobs.old.items) (every_missing self.now (query_of search))) }
+        ensures asked { IfOk result (Tells (take self.now limit) (map question_of jobs.new.items) (is_there self.now (query_of search))) };
 }

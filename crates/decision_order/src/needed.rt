@@ -1,13 +1,13 @@
-// What is to be done next, by the rules. Each function asks what one rule asks, and then those behind it.
+// What is to be done next, by the rules. Each function takes on what one rule asks, and then what those behind it ask.
 
-ghost use Rattle.std.specs.Prelude.{ℕ, ◌≡◌, IfOk, [], option_map};
+ghost use Rattle.std.specs.Prelude.{ℕ, ◌≡◌, OnOk, IfOk, [], length, map};
 ghost use Rattle.decision_trees.specs.Rules.{meeting, beyond_or_unseen};
 ghost use Rattle.decision_order.specs.Needed.{first_needed, unseen_needed, waiting_needed, asked_needed, marked_needed, unmet_needed};
 ghost use Rattle.decision_order.specs.Needed.{next_needed};
 ghost use Rattle.decision_order.specs.Searches.{waiting_of};
-ghost use Rattle.decision_order.specs.Jobs.{first_not_out};
+ghost use Rattle.decision_order.specs.Jobs.{taken_on};
 
-use crate::asking::{Asking, Missing};
+use crate::asking::{Asked, Asking};
 use crate::listing::{OffersByNumber, Search};
 use spec_core::memory::Memory;
 use std::alloc::Global;
@@ -18,17 +18,23 @@ fn beyond<L: Asking>(
     alloc: Global,
     listing: &L,
     offers: &OffersByNumber,
-) -> Result<Option<L::Job>, Memory>
-    ensures { IfOk result (λ job. option_map L.question_of job ≡ first_not_out (L.is_out listing.now)
+    limit: usize,
+    jobs: &mut Vec<L::Job>,
+) -> Result<(), Memory>
+    ensures { OnOk result (map L.question_of jobs.new.items ≡ taken_on (L.take listing.now limit) (map L.question_of jobs.old.items)
         (first_needed (L.missing listing.now) (L.every_missing listing.now) (L.is_there listing.now) (waiting_of offers.now)
         beyond_or_unseen those.now [])) }
 {
     match those {
-        [] => Ok(None),
-        [offer, rest @ ..] => match listing.first_missing(alloc, Search::BeyondOrUnseen(*offer))? {
-            Missing::Job(job) => Ok(Some(job)),
-            Missing::Held => Ok(None),
-            Missing::Unheld => beyond(rest, alloc, listing, offers),
+        [] => Ok(()),
+        [offer, rest @ ..] => match listing.first_missing(
+            alloc,
+            Search::BeyondOrUnseen(*offer),
+            limit,
+            jobs,
+        )? {
+            Asked::Full | Asked::Held => Ok(()),
+            Asked::Unheld => beyond(rest, alloc, listing, offers, limit, jobs),
         },
     }
 }
@@ -38,14 +44,15 @@ fn unseen<L: Asking>(
     alloc: Global,
     listing: &L,
     offers: &OffersByNumber,
-) -> Result<Option<L::Job>, Memory>
-    ensures { IfOk result (λ job. option_map L.question_of job ≡ first_not_out (L.is_out listing.now)
+    limit: usize,
+    jobs: &mut Vec<L::Job>,
+) -> Result<(), Memory>
+    ensures { OnOk result (map L.question_of jobs.new.items ≡ taken_on (L.take listing.now limit) (map L.question_of jobs.old.items)
         (unseen_needed (L.missing listing.now) (L.every_missing listing.now) (L.is_there listing.now) (waiting_of offers.now))) }
 {
-    match listing.all_missing(alloc, Search::Unseen)? {
-        Missing::Job(job) => Ok(Some(job)),
-        Missing::Held => Ok(None),
-        Missing::Unheld => beyond(&offers.by_client, alloc, listing, offers),
+    match listing.all_missing(alloc, Search::Unseen, limit, jobs)? {
+        Asked::Full | Asked::Held => Ok(()),
+        Asked::Unheld => beyond(&offers.by_client, alloc, listing, offers, limit, jobs),
     }
 }
 
@@ -54,14 +61,16 @@ fn waiting<L: Asking>(
     alloc: Global,
     listing: &L,
     offers: &OffersByNumber,
-) -> Result<Option<L::Job>, Memory>
-    ensures { IfOk result (λ job. option_map L.question_of job ≡ first_not_out (L.is_out listing.now)
+    limit: usize,
+    jobs: &mut Vec<L::Job>,
+) -> Result<(), Memory>
+    ensures { OnOk result (map L.question_of jobs.new.items ≡ taken_on (L.take listing.now limit) (map L.question_of jobs.old.items)
         (waiting_needed (L.missing listing.now) (L.every_missing listing.now) (L.is_there listing.now) (waiting_of offers.now))) }
 {
     if offers.all_wait {
-        unseen(alloc, listing, offers)
+        unseen(alloc, listing, offers, limit, jobs)
     } else {
-        Ok(None)
+        Ok(())
     }
 }
 
@@ -70,17 +79,19 @@ fn asked<L: Asking>(
     alloc: Global,
     listing: &L,
     offers: &OffersByNumber,
-) -> Result<Option<L::Job>, Memory>
-    ensures { IfOk result (λ job. option_map L.question_of job ≡ first_not_out (L.is_out listing.now)
+    limit: usize,
+    jobs: &mut Vec<L::Job>,
+) -> Result<(), Memory>
+    ensures { OnOk result (map L.question_of jobs.new.items ≡ taken_on (L.take listing.now limit) (map L.question_of jobs.old.items)
         (asked_needed (L.missing listing.now) (L.every_missing listing.now) (L.is_there listing.now) (waiting_of offers.now)
         offers.now.asks.items)) }
 {
     match offers.asks.as_slice() {
-        [] => waiting(alloc, listing, offers),
-        [offer, ..] => match listing.first_missing(alloc, Search::Beyond(*offer))? {
-            Missing::Job(job) => Ok(Some(job)),
-            Missing::Held | Missing::Unheld => Ok(None),
-        },
+        [] => waiting(alloc, listing, offers, limit, jobs),
+        [offer, ..] => {
+            listing.first_missing(alloc, Search::Beyond(*offer), limit, jobs)?;
+            Ok(())
+        }
     }
 }
 
@@ -89,14 +100,15 @@ fn marked<L: Asking>(
     alloc: Global,
     listing: &L,
     offers: &OffersByNumber,
-) -> Result<Option<L::Job>, Memory>
-    ensures { IfOk result (λ job. option_map L.question_of job ≡ first_not_out (L.is_out listing.now)
+    limit: usize,
+    jobs: &mut Vec<L::Job>,
+) -> Result<(), Memory>
+    ensures { OnOk result (map L.question_of jobs.new.items ≡ taken_on (L.take listing.now limit) (map L.question_of jobs.old.items)
         (marked_needed (L.missing listing.now) (L.every_missing listing.now) (L.is_there listing.now) (waiting_of offers.now))) }
 {
-    match listing.first_missing(alloc, Search::AnyBeyond)? {
-        Missing::Job(job) => Ok(Some(job)),
-        Missing::Held => asked(alloc, listing, offers),
-        Missing::Unheld => Ok(None),
+    match listing.first_missing(alloc, Search::AnyBeyond, limit, jobs)? {
+        Asked::Full | Asked::Unheld => Ok(()),
+        Asked::Held => asked(alloc, listing, offers, limit, jobs),
     }
 }
 
@@ -105,14 +117,16 @@ fn unmet<L: Asking>(
     alloc: Global,
     listing: &L,
     offers: &OffersByNumber,
-) -> Result<Option<L::Job>, Memory>
-    ensures { IfOk result (λ job. option_map L.question_of job ≡ first_not_out (L.is_out listing.now)
+    limit: usize,
+    jobs: &mut Vec<L::Job>,
+) -> Result<(), Memory>
+    ensures { OnOk result (map L.question_of jobs.new.items ≡ taken_on (L.take listing.now limit) (map L.question_of jobs.old.items)
         (unmet_needed (L.missing listing.now) (L.every_missing listing.now) (L.is_there listing.now) (waiting_of offers.now))) }
 {
-    match listing.first_missing(alloc, Search::Any)? {
-        Missing::Job(job) => Ok(Some(job)),
-        Missing::Held => asked(alloc, listing, offers),
-        Missing::Unheld => marked(alloc, listing, offers),
+    match listing.first_missing(alloc, Search::Any, limit, jobs)? {
+        Asked::Full => Ok(()),
+        Asked::Held => asked(alloc, listing, offers, limit, jobs),
+        Asked::Unheld => marked(alloc, listing, offers, limit, jobs),
     }
 }
 
@@ -122,30 +136,40 @@ fn taken<L: Asking>(
     alloc: Global,
     listing: &L,
     offers: &OffersByNumber,
-) -> Result<Option<L::Job>, Memory>
-    ensures { IfOk result (λ job. option_map L.question_of job ≡ first_not_out (L.is_out listing.now)
+    limit: usize,
+    jobs: &mut Vec<L::Job>,
+) -> Result<(), Memory>
+    ensures { OnOk result (map L.question_of jobs.new.items ≡ taken_on (L.take listing.now limit) (map L.question_of jobs.old.items)
         (first_needed (L.missing listing.now) (L.every_missing listing.now) (L.is_there listing.now) (waiting_of offers.now)
         meeting those.now
         (unmet_needed (L.missing listing.now) (L.every_missing listing.now) (L.is_there listing.now) (waiting_of offers.now)))) }
 {
     match those {
-        [] => unmet(alloc, listing, offers),
-        [offer, rest @ ..] => match listing.first_missing(alloc, Search::Meeting(*offer))? {
-            Missing::Job(job) => Ok(Some(job)),
-            Missing::Held => Ok(None),
-            Missing::Unheld => taken(rest, alloc, listing, offers),
+        [] => unmet(alloc, listing, offers, limit, jobs),
+        [offer, rest @ ..] => match listing.first_missing(
+            alloc,
+            Search::Meeting(*offer),
+            limit,
+            jobs,
+        )? {
+            Asked::Full | Asked::Held => Ok(()),
+            Asked::Unheld => taken(rest, alloc, listing, offers, limit, jobs),
         },
     }
 }
 
-/// The first job that the next entry still needs and that isn't out; None where all that it needs, as far as what is known, is out.
-pub fn next_job<L: Asking>(
+/// The first jobs that the next entry still needs and that aren't out, each once, at most `limit`; none where all that it needs, as far as what
+/// is known, is out.
+pub fn next_jobs<L: Asking>(
     alloc: Global,
     listing: &L,
     offers: &OffersByNumber,
-) -> Result<Option<L::Job>, Memory>
-    ensures job { IfOk result (λ job. option_map L.question_of job ≡ first_not_out (L.is_out listing.now)
+    limit: usize,
+) -> Result<Vec<L::Job>, Memory>
+    ensures jobs { IfOk result (λ jobs. map L.question_of jobs.items ≡ taken_on (L.take listing.now limit) []
         (next_needed (L.missing listing.now) (L.every_missing listing.now) (L.is_there listing.now) (waiting_of offers.now))) }
 {
-    taken(&offers.pending, alloc, listing, offers)
+    let mut jobs = Vec::new(alloc);
+    taken(&offers.pending, alloc, listing, offers, limit, &mut jobs)?;
+    Ok(jobs)
 }

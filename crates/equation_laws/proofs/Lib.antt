@@ -1,6 +1,4 @@
-mod Cover
 mod Decrease
 mod Faults
 mod Firsts
-mod Search
 mod Shape

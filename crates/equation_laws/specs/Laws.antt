@@ -1,12 +1,9 @@
 -- What holds of the first refusals of data: there is at most one, and only where the data aren't as they are asked to be.
 use Rattle.std.specs.Prelude.{◌≡◌}
 use Rattle.lotos_ast.specs.declared.refusal.Refusal.{Refusal}
-use Rattle.spec_core.specs.Cover.{IsCovered}
 use Rattle.spec_core.specs.Order.{IsDecreasing}
 use Rattle.spec_core.specs.Orthogonality.{IsOrthogonal}
-use Rattle.spec_core.specs.Sorts.{FitsData}
 use Rattle.spec_core.specs.Theories.{Theory}
-use Rattle.cover_check.specs.Refused as cover
 use Rattle.equation_check.specs.Shape as equations
 use Rattle.path_order.specs.Decrease as order
 
@@ -20,8 +17,3 @@ ShapeHasOneAnswer = (theory : Theory) → HasOneAnswer (IsOrthogonal theory) (eq
 
 abbrev pub DecreaseHasOneAnswer : Type 0
 DecreaseHasOneAnswer = (theory : Theory) → HasOneAnswer (IsDecreasing theory) (order.IsFirstRefusal theory)
-
--- cover is asked of orthogonal data alone
-abbrev pub CoverHasOneAnswer : Type 0
-CoverHasOneAnswer = (theory : Theory) → FitsData theory → IsOrthogonal theory →
-    HasOneAnswer (IsCovered theory) (cover.IsFirstRefusal theory)

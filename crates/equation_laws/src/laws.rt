@@ -1,6 +1,6 @@
 // Laws of the definitions: a call does nothing, and its contract is the law.
 
-ghost use Rattle.equation_laws.specs.Laws.{ShapeHasOneAnswer, DecreaseHasOneAnswer, CoverHasOneAnswer};
+ghost use Rattle.equation_laws.specs.Laws.{ShapeHasOneAnswer, DecreaseHasOneAnswer};
 
 /// Of data whose equations aren't as orthogonal data have them one refusal is the first, and orthogonal data have none.
 #[tactic(auto, using(crate::proofs::Shape::shape_one))]
@@ -12,10 +12,4 @@ pub fn shape_has_one_answer()
 #[tactic(auto, using(crate::proofs::Decrease::decrease_one))]
 pub fn decrease_has_one_answer()
     ensures { DecreaseHasOneAnswer }
-{}
-
-/// Of orthogonal data whose operations aren't all covered one refusal is the first, and covered data have none.
-#[tactic(auto, using(crate::proofs::Cover::cover_one))]
-pub fn cover_has_one_answer()
-    ensures { CoverHasOneAnswer }
 {}

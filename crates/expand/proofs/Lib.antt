@@ -6,5 +6,4 @@ pub mod Choosing
 pub mod Calling
 pub mod Showing
 pub mod Walking
-pub mod Few
 pub mod Top

@@ -1,6 +1,7 @@
 -- What the windows of a table let a choice of a value choose.
 use Rattle.std.proofs.Common.{ℕ, zero, suc, ◌≡◌, List, [], ◌∷◌, refl, sym, ap, subst, ◌∙◌, arith, Option, Some, None, Contains, false}
 use Rattle.std.specs.List.{slice_get}
+use Rattle.spec_core.specs.Executable.{IsExecutable}
 use Rattle.spec_core.specs.Lists.{Each}
 use Rattle.spec_core.specs.Terms.{preorder}
 use Rattle.spec_core.specs.Theories.{Theory}
@@ -12,7 +13,7 @@ use Rattle.rule_origins.specs.Values.{term_spelled}
 use Rattle.rule_origins.proofs.Reading.{values_are_read}
 use Rattle.symbolic_rules.specs.Windows.{Windows, sort_of_value}
 use Rattle.symbolic_rules.specs.MarkedTerms.{plain, mark}
-use Rattle.symbolic_rules.proofs.Sorts.{sort_of_ground}
+use Rattle.symbolic_rules.proofs.Sorts.{sort_of_ground, member_is_spelled}
 use Rattle.node_values.specs.declared.scope.Given.TheVariants.{Value}
 use Rattle.node_values.specs.Scopes.{marked_of}
 use Rattle.expand.specs.Choosing.{IsChoice}
@@ -24,7 +25,8 @@ each_listed P [] x h (i, l, e) = absurd (omega arith)
 each_listed P (y ∷ xs) x h (zero, l, e) = subst P e h.0
 each_listed P (y ∷ xs) x h (suc i, l, e) = each_listed P xs x h.1 (i, omega arith, e)
 
-module _ (theory : Theory) (k : ℕ) (table : List Window) (rows : AreBySorts theory k table) (sort : ℕ) where
+module _ (theory : Theory) (executable : IsExecutable theory) (k : ℕ) (table : List Window) (rows : AreBySorts theory k table)
+    (sort : ℕ) where
   member : (o : Option Window) → slice_get table sort ≡ o → (v : List ℕ) → Contains (values_of o) v → IsMember theory sort v
   member None e v (i, l, h) = absurd (omega arith)
   member (Some window) e v h = each_listed (IsMember theory sort) window.values.items v (rows sort window e).members h
@@ -33,7 +35,7 @@ module _ (theory : Theory) (k : ℕ) (table : List Window) (rows : AreBySorts th
       IsChoice theory (windows_in table) sort (Of v) (marked_of theory x (Value v))
   listed_choice x v h =
       let t = member (slice_get table sort) refl v h in
-      let spells : Spells theory v t.0 sort = record { spelled = t.1; of_sort = t.2; is_value = t.3 } in
+      let spells : Spells theory v t.0 sort = member_is_spelled theory executable v sort t in
       let read : term_spelled theory x v ≡ t.0 = values_are_read theory x v t.0 sort spells in
       let same : preorder (term_spelled theory x v) ≡ v = ap preorder read ∙ sym t.1 in
       let of : sort_of_value theory (preorder (term_spelled theory x v)) ≡ sort =

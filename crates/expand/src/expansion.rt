@@ -96,7 +96,7 @@ pub fn expand_within(
 }
 
 // The same with the first values of each sort.
-#[tactic(auto, using(crate::proofs::Few::few_operations, crate::proofs::Few::few_sorts, crate::proofs::Memory::memory))]
+#[tactic(auto, using(crate::proofs::Memory::memory))]
 fn expand_source(
     alloc: Global,
     prepared: &Prepared,

@@ -13,7 +13,6 @@ use Rattle.lotos_ast.specs.Reads.{Tree}
 use Rattle.lotos_ast.specs.TokenLaws.{NotBoth, OneTokenList, OneRefusal}
 use Rattle.lotos_ast.specs.TokenMarks.{mark_of}
 use Rattle.lotos_ast.specs.Tokenizes.{IsUnreadable}
-use Rattle.spec_core.specs.Cover.{IsCovered}
 use Rattle.spec_core.specs.Order.{IsDecreasing}
 use Rattle.spec_core.specs.Orthogonality.{IsOrthogonal}
 use Rattle.spec_core.specs.Sorts.{FitsData}
@@ -26,12 +25,11 @@ use Rattle.type_data.specs.Data.{data_of}
 use Rattle.static_presentation.specs.Laws.{OwnEquationsAreOne}
 use Rattle.equation_laws.specs.Shape as equations
 use Rattle.equation_laws.specs.Decrease as order
-use Rattle.equation_laws.specs.Refused as cover
-use Rattle.equation_laws.specs.Laws.{ShapeHasOneAnswer, DecreaseHasOneAnswer, CoverHasOneAnswer}
+use Rattle.equation_laws.specs.Laws.{ShapeHasOneAnswer, DecreaseHasOneAnswer}
 use Rattle.syntax_laws.specs.Alike.{AreAlike, AreTypesAlike}
 use Rattle.static_uniqueness.specs.Types.{SameIsRefused, SameIsRead, SameIsPresented}
 use Rattle.lotos_front.specs.Accepted.{IsExecutableIn}
-use Rattle.lotos_front.specs.FirstRefusals.{IsFirstDataRefusal, lexing, parsing, flattening, overloads, shape, decrease, covering}
+use Rattle.lotos_front.specs.FirstRefusals.{IsFirstDataRefusal, lexing, parsing, flattening, overloads, shape, decrease}
 use Rattle.lotos_front.specs.Parsed.{IsLexed, in_text, IsUnparsed, unparsed}
 use Rattle.lotos_front.specs.Types.{AreTypesOf}
 use Rattle.front_laws.specs.Accepted.{DataAnswersAreOne}
@@ -47,11 +45,8 @@ IsRefusedBy a P = (r : Refusal) × (a ≡ inr r) × P r
 
 -- from each part of the front end on
 
-abbrev AtCover : Theory → Answer → Type 0
-AtCover theory a = IsRefusedBy a (cover.IsFirstRefusal theory) ⊎ ((a ≡ inl theory) × IsCovered theory)
-
 abbrev AtDecrease : Theory → Answer → Type 0
-AtDecrease theory a = IsRefusedBy a (order.IsFirstRefusal theory) ⊎ (IsDecreasing theory × AtCover theory a)
+AtDecrease theory a = IsRefusedBy a (order.IsFirstRefusal theory) ⊎ ((a ≡ inl theory) × IsDecreasing theory)
 
 abbrev AtShape : Theory → Answer → Type 0
 AtShape theory a = IsRefusedBy a (equations.IsFirstRefusal theory) ⊎ (IsOrthogonal theory × AtDecrease theory a)
@@ -86,14 +81,12 @@ refused-at text r (shape theory d h) =
     inr (d.read.tokens, d.read.lexed, inr (d.types, d.read.read, inr (d.of_types.unrefused, inr (theory, d.of_types.presented, d.of_types.fits, inl (r, refl, h)))))
 refused-at text r (decrease theory d o h) =
     inr (d.read.tokens, d.read.lexed, inr (d.types, d.read.read, inr (d.of_types.unrefused, inr (theory, d.of_types.presented, d.of_types.fits, inr (o, inl (r, refl, h))))))
-refused-at text r (covering theory d o c h) =
-    inr (d.read.tokens, d.read.lexed, inr (d.types, d.read.read, inr (d.of_types.unrefused, inr (theory, d.of_types.presented, d.of_types.fits, inr (o, inr (c, inl (r, refl, h)))))))
 
 executable-at : (text : List ℕ) (theory : Theory) → IsExecutableIn text theory → AtLexing text (inl theory)
 executable-at text theory h =
     let d = h.data_of in
     let x = h.executable in
-    inr (d.read.tokens, d.read.lexed, inr (d.types, d.read.read, inr (d.of_types.unrefused, inr (theory, d.of_types.presented, d.of_types.fits, inr (x.orthogonal, inr (x.decreasing, inr (refl, x.covered)))))))
+    inr (d.read.tokens, d.read.lexed, inr (d.types, d.read.read, inr (d.of_types.unrefused, inr (theory, d.of_types.presented, d.of_types.fits, inr (x.orthogonal, inr (refl, x.decreasing))))))
 
 -- a part refuses one, or hands one on
 either-one : (P : Refusal → Type 0) (Q : Answer → Type 0) (a b : Answer) → ((r s : Refusal) → P r → P s → r ≡ s) → ((r : Refusal) (c : Answer) → P r → Q c → ⊥) → (Q a → Q b → a ≡ b) →
@@ -103,15 +96,13 @@ either-one P Q a b one not both (inl h) (inr k) = absurd (not h.0 b h.2 k)
 either-one P Q a b one not both (inr h) (inl k) = absurd (not k.0 a k.2 h)
 either-one P Q a b one not both (inr h) (inr k) = both h k
 
-module _ (shape_one : ShapeHasOneAnswer) (decrease_one : DecreaseHasOneAnswer) (cover_one : CoverHasOneAnswer) where
-  shape-one : (theory : Theory) → FitsData theory → (a b : Answer) → AtShape theory a → AtShape theory b → a ≡ b
-  shape-one theory fits a b =
+module _ (shape_one : ShapeHasOneAnswer) (decrease_one : DecreaseHasOneAnswer) where
+  shape-one : (theory : Theory) (a b : Answer) → AtShape theory a → AtShape theory b → a ≡ b
+  shape-one theory a b =
       let s = shape_one theory in
       let d = decrease_one theory in
       either-one (equations.IsFirstRefusal theory) (λ c. IsOrthogonal theory × AtDecrease theory c) a b s.one_refusal (λ r c h k. s.not_both r h k.0) (λ h k.
-      let c = cover_one theory fits h.0 in
-      either-one (order.IsFirstRefusal theory) (λ c. IsDecreasing theory × AtCover theory c) a b d.one_refusal (λ r c h k. d.not_both r h k.0) (λ h k.
-      either-one (cover.IsFirstRefusal theory) (λ c. (c ≡ inl theory) × IsCovered theory) a b c.one_refusal (λ r e h k. c.not_both r h k.1) (λ h k. h.0 ∙ sym k.0) h.1 k.1) h.1 k.1)
+      either-one (order.IsFirstRefusal theory) (λ c. (c ≡ inl theory) × IsDecreasing theory) a b d.one_refusal (λ r c h k. d.not_both r h k.1) (λ h k. h.0 ∙ sym k.0) h.1 k.1)
 
   module _ (own_one : OwnEquationsAreOne) where
     overloads-one : (types : List TypeDef) (a b : Answer) → AtOverloads types a → AtOverloads types b → a ≡ b
@@ -127,7 +118,7 @@ module _ (shape_one : ShapeHasOneAnswer) (decrease_one : DecreaseHasOneAnswer) (
         presented h k =
             let own = (own_one types h.1.own k.1.own [] [] h.1.read k.1.read).0 in
             let same = h.1.presented ∙ ap (data_of types) own ∙ sym k.1.presented in
-            shape-one k.0 k.2 a b (subst (λ t. AtShape t a) same h.3) k.3
+            shape-one k.0 a b (subst (λ t. AtShape t a) same h.3) k.3
 
     flattening-one : (types : List TypeDef) (a b : Answer) → AtFlattening types a → AtFlattening types b → a ≡ b
     flattening-one types a b =

@@ -3,7 +3,7 @@
 ghost use Rattle.front_laws.specs.Accepted.{AcceptedIsReady, AnswersAreOne, DataAnswersAreOne};
 
 use crate::named::{specifications_are_named, text_types_are_named};
-use equation_laws::laws::{cover_has_one_answer, decrease_has_one_answer, shape_has_one_answer};
+use equation_laws::laws::{decrease_has_one_answer, shape_has_one_answer};
 use lotos_ast::laws::{reading_has_at_most_one_result, tokens_are_determined};
 use static_laws::presentation::presentations_are_named;
 use static_laws::specification as specifications;
@@ -35,7 +35,6 @@ pub fn data_answers_are_one()
     reading_has_at_most_one_result();
     shape_has_one_answer();
     decrease_has_one_answer();
-    cover_has_one_answer();
     own_equations_are_one();
     the_same_is_refused();
     the_same_is_read();

@@ -6,7 +6,7 @@ use Rattle.lotos_ast.specs.declared.refusal.RefusalKind.TheVariants.{UnknownType
 use Rattle.lotos_ast.specs.declared.refusal.RefusalKind.TheVariants.{BadRenaming, BadActual, UnknownName, NoReading}
 use Rattle.lotos_ast.specs.declared.refusal.RefusalKind.TheVariants.{Ambiguous, ConstructorHasEquation}
 use Rattle.lotos_ast.specs.declared.refusal.RefusalKind.TheVariants.{PatternHasDefined, NotLeftLinear, LooseVariable}
-use Rattle.lotos_ast.specs.declared.refusal.RefusalKind.TheVariants.{Overlap, NotDecreasing, NotCovered, UnknownGate}
+use Rattle.lotos_ast.specs.declared.refusal.RefusalKind.TheVariants.{Overlap, NotDecreasing, UnknownGate}
 use Rattle.lotos_ast.specs.declared.refusal.RefusalKind.TheVariants.{UnknownProcess, WrongCount, WrongFunctionality}
 use Rattle.lotos_ast.specs.declared.refusal.RefusalKind.TheVariants.{Unguarded, External}
 use Rattle.lotos_ast.specs.declared.refusal.Refusal.{Refusal}
@@ -34,7 +34,6 @@ number_of NotLeftLinear = 17
 number_of LooseVariable = 18
 number_of Overlap = 19
 number_of NotDecreasing = 20
-number_of NotCovered = 21
 number_of UnknownGate = 22
 number_of UnknownProcess = 23
 number_of WrongCount = 24
@@ -64,7 +63,6 @@ name_of NotLeftLinear = codes "NotLeftLinear"
 name_of LooseVariable = codes "LooseVariable"
 name_of Overlap = codes "Overlap"
 name_of NotDecreasing = codes "NotDecreasing"
-name_of NotCovered = codes "NotCovered"
 name_of UnknownGate = codes "UnknownGate"
 name_of UnknownProcess = codes "UnknownProcess"
 name_of WrongCount = codes "WrongCount"

@@ -31,7 +31,6 @@ pub enum RefusalKind {
     LooseVariable,
     Overlap,
     NotDecreasing,
-    NotCovered,
     UnknownGate,
     UnknownProcess,
     WrongCount,
@@ -41,7 +40,7 @@ pub enum RefusalKind {
 }
 
 impl RefusalKind {
-    /// The number by which a refusal of this kind is printed, from 1 to 27. It takes no memory.
+    /// The number by which a refusal of this kind is printed, from 1 to 27; none has the number 21. It takes no memory.
     pub fn number(self) -> u8
         ensures { result ≡ number_of self }
     {
@@ -66,7 +65,6 @@ impl RefusalKind {
             RefusalKind::LooseVariable => 18,
             RefusalKind::Overlap => 19,
             RefusalKind::NotDecreasing => 20,
-            RefusalKind::NotCovered => 21,
             RefusalKind::UnknownGate => 22,
             RefusalKind::UnknownProcess => 23,
             RefusalKind::WrongCount => 24,
@@ -101,7 +99,6 @@ impl RefusalKind {
             RefusalKind::LooseVariable => "LooseVariable",
             RefusalKind::Overlap => "Overlap",
             RefusalKind::NotDecreasing => "NotDecreasing",
-            RefusalKind::NotCovered => "NotCovered",
             RefusalKind::UnknownGate => "UnknownGate",
             RefusalKind::UnknownProcess => "UnknownProcess",
             RefusalKind::WrongCount => "WrongCount",
@@ -124,7 +121,7 @@ pub struct Refusal {
 }
 
 impl Refusal {
-    /// The number by which the refusal is printed, from 1 to 27. It takes no memory.
+    /// The number by which the refusal is printed, from 1 to 27; none has the number 21. It takes no memory.
     pub fn number(&self) -> u8
         ensures { result ≡ number_of self.now.kind }
     {

@@ -9,7 +9,6 @@ use Rattle.lotos_ast.specs.SpecTrees.{spec_tree}
 use Rattle.lotos_ast.specs.TypeTrees.{type_def_tree}
 use Rattle.lotos_ast.specs.Tokenizes.{IsUnreadable}
 use Rattle.spec_core.specs.Executable.{IsExecutable}
-use Rattle.spec_core.specs.Order.{IsDecreasing}
 use Rattle.spec_core.specs.Orthogonality.{IsOrthogonal}
 use Rattle.spec_core.specs.Theories.{Theory}
 use Rattle.behaviour_parser.specs.Specifications.{IsNoSpecification}
@@ -17,13 +16,12 @@ use Rattle.flattening.specs.Refusals.{refusals_of}
 use Rattle.static_presentation.specs.Presentations as presentation
 use Rattle.equation_check.specs.Shape as equations
 use Rattle.path_order.specs.Decrease as order
-use Rattle.cover_check.specs.Refused as cover
 use Rattle.spec_core.specs.Code.{Program}
 use Rattle.static_check.specs.Compiled.{IsCompiled}
 use Rattle.static_check.specs.Compiled as static
 use Rattle.lotos_front.specs.Accepted.{IsExecutableIn}
 use Rattle.lotos_front.specs.Answers.{IsAccepted, IsFirstRefusal, of_data, of_behaviour}
-use Rattle.lotos_front.specs.FirstRefusals.{IsFirstDataRefusal, lexing, parsing, flattening, overloads, shape, decrease, covering}
+use Rattle.lotos_front.specs.FirstRefusals.{IsFirstDataRefusal, lexing, parsing, flattening, overloads, shape, decrease}
 use Rattle.lotos_front.specs.Libraries.{AreWithLibrary}
 use Rattle.lotos_front.specs.Parsed.{IsSpecification, IsLexed, IsUnparsed, unparsed, in_text}
 use Rattle.lotos_front.specs.Stages.{AreTypesIn, IsDataOf, IsDataIn}
@@ -57,14 +55,13 @@ misshapen theory r h text i = shape theory i h
 pub not_decreasing : (theory : Theory) (r : Refusal) → IsOrthogonal theory → order.IsFirstRefusal theory r → (text : List ℕ) → IsDataIn text theory → IsFirstDataRefusal text r
 not_decreasing theory r orthogonal h text i = decrease theory i orthogonal h
 
-pub not_covered : (theory : Theory) (r : Refusal) → IsOrthogonal theory → IsDecreasing theory → cover.IsFirstRefusal theory r → (text : List ℕ) → IsDataIn text theory → IsFirstDataRefusal text r
-not_covered theory r orthogonal decreasing h text i = covering theory i orthogonal decreasing h
-
 pub data_in : (text : List ℕ) (tokens : List Token) (types : List TypeDef) (theory : Theory) → IsLexed text tokens → AreTypesOf tokens types → IsDataOf types theory → IsDataIn text theory
 data_in text tokens types theory lexed read of_types = record { types = types; read = types_in text tokens types lexed read; of_types = of_types }
 
-pub executable_in : (text : List ℕ) (tokens : List Token) (types : List TypeDef) (theory : Theory) → IsLexed text tokens → AreTypesOf tokens types → IsDataOf types theory → IsExecutable theory → IsExecutableIn text theory
-executable_in text tokens types theory lexed read of_types executable = record { data_of = data_in text tokens types theory lexed read of_types; executable = executable }
+pub executable_in : (text : List ℕ) (tokens : List Token) (types : List TypeDef) (theory : Theory) → IsLexed text tokens → AreTypesOf tokens types → IsDataOf types theory →
+    IsExecutable theory → IsExecutableIn text theory
+executable_in text tokens types theory lexed read of_types executable =
+    record { data_of = data_in text tokens types theory lexed read of_types; executable = executable }
 
 pub ruleset stages = (not_parsed, types_in, data_in, executable_in)
 

@@ -1,20 +1,17 @@
 -- The first refusal of a text (this profile): the first part of the front end that refuses it answers, and in that part the earliest place,
--- then the lowest number. The parts are lexing, parsing, flattening of types, overloads of equations, and of the data shape, decrease and
--- cover.
+-- then the lowest number. The parts are lexing, parsing, flattening of types, overloads of equations, and of the data shape and decrease.
 use Rattle.std.specs.Prelude.{ℕ, ◌≡◌, List, [], Some}
 use Rattle.lotos_ast.specs.declared.refusal.Refusal.{Refusal}
 use Rattle.lotos_ast.specs.declared.token.Token.{Token}
 use Rattle.lotos_ast.specs.declared.types.TypeDef.{TypeDef}
 use Rattle.lotos_ast.specs.FirstRefusals.{first_refusal}
 use Rattle.lotos_ast.specs.Tokenizes.{IsUnreadable}
-use Rattle.spec_core.specs.Order.{IsDecreasing}
 use Rattle.spec_core.specs.Orthogonality.{IsOrthogonal}
 use Rattle.spec_core.specs.Theories.{Theory}
 use Rattle.flattening.specs.Refusals.{refusals_of}
 use Rattle.static_presentation.specs.Presentations as presentation
 use Rattle.equation_check.specs.Shape as equations
 use Rattle.path_order.specs.Decrease as order
-use Rattle.cover_check.specs.Refused as cover
 use Rattle.lotos_front.specs.Parsed.{IsLexed, IsUnparsed}
 use Rattle.lotos_front.specs.Stages.{AreTypesIn, IsDataIn}
 
@@ -35,6 +32,3 @@ pub data IsFirstDataRefusal (text : List ℕ) : Refusal → Type 0 where
   -- an equation isn't decreasing
   decrease : {r : Refusal} (theory : Theory) → IsDataIn text theory → IsOrthogonal theory → order.IsFirstRefusal theory r →
       IsFirstDataRefusal text r
-  -- an operation isn't covered
-  covering : {r : Refusal} (theory : Theory) → IsDataIn text theory → IsOrthogonal theory → IsDecreasing theory →
-      cover.IsFirstRefusal theory r → IsFirstDataRefusal text r

@@ -64,7 +64,7 @@ fn compiled(alloc: Global, text: &[u8], tokens: &[Token]) -> Result<Checked, Fro
 }
 
 /// The program that a text is compiled to. Or its first refusal: the parts of the front end judge it one after another, lexing, parsing,
-/// flattening of types, overloads of equations, the data's shape, decrease and cover, and last the behaviour; the first part that refuses
+/// flattening of types, overloads of equations, the data's shape and decrease, and last the behaviour; the first part that refuses
 /// it answers, and in that part the earliest place, then the smallest number. Want of memory is answered, too, where there are 2^32 or
 /// more of anything.
 #[tactic(auto, using(crate::proofs::Refusing::answers))]

@@ -10,7 +10,7 @@ ghost use Rattle.lotos_front.specs.Stages.{AreTypesIn, IsDataOf};
 
 use crate::check::check;
 use crate::types::types_of;
-use cover_check::fits_data;
+use data_fits::fits_data;
 use flattening::flatten::flatten;
 use lotos_ast::refusal::FrontFault;
 use lotos_ast::token::Token;

@@ -3,15 +3,15 @@ use Rattle.std.proofs.Common.{ℕ, ◌≡◌, ◌+◌, ◌-◌, ◌<◌, ◌≤�
 use Rattle.std.proofs.Common.{◌∙◌, arith, append_assoc}
 use Rattle.std.proofs.lemmas.List.{length-map, length-take-le, map-append, take-append-drop, take_all, reverse-append}
 use Rattle.spec_core.specs.Budgets.{IsBeyond}
-use Rattle.spec_core.specs.Constructors.{AreConstructed}
 use Rattle.spec_core.specs.Executable.{IsExecutable}
 use Rattle.spec_core.specs.declared.items.Op.{Op}
 use Rattle.spec_core.specs.Lists.{Each}
-use Rattle.spec_core.specs.Terms.{TermTree, apply, no_terms, terms, IsGround}
+use Rattle.spec_core.specs.Terms.{TermTree, apply, no_terms, terms, instance, IsGround}
 use Rattle.spec_core.specs.Theories.{Theory, Heads}
 use Rattle.spec_core.proofs.Lists.{each_take}
 use Rattle.value_nodes.specs.declared.node.Node.{Node}
-use Rattle.value_nodes.specs.Nodes.{tree_at, IsNode, IsLonger, AreSmall, AreValues}
+use Rattle.value_nodes.specs.Nodes.{tree_at, IsNode, IsLonger, AreSmall}
+use Rattle.value_nodes.specs.Own.{AreOwnValues}
 use Rattle.value_nodes.specs.Sizes.{IsTooLarge}
 use Rattle.value_nodes.proofs.Nodes.{longer_itself, same_trees, still_nodes}
 use Rattle.rewriter.specs.declared.fault.Eval.{Eval}
@@ -20,18 +20,20 @@ use Rattle.rewriter.specs.declared.step.Step.{Step}
 use Rattle.rewriter.specs.declared.step.Step.TheVariants.{Call}
 use Rattle.rewriter.specs.Answers.{MeetsTooLarge}
 use Rattle.rewriter.specs.Calls.{arguments_of}
-use Rattle.rewriter.specs.Machine.{Outcome, Evaluating, Trying, Through, Task, call, plan, top, Comes, Keeps, Exceeds}
+use Rattle.rewriter.specs.Machine.{Evaluating, Trying, Through, Task, call, plan, top, Comes, Keeps, Exceeds, ComesTo, AreCounted}
 use Rattle.rewriter.specs.Runs.{Coming, IsReady, MeetsLarge}
 use Rattle.rewriter.specs.Steps.{equation_at, task_of, IsStep}
-use Rattle.rewriter.proofs.Calls.{is_constructor, pending_made, same_tasks, still_steps}
+use Rattle.rewriter.proofs.Calling.{begins_call, calling_skips, calling_built}
+use Rattle.rewriter.proofs.Calls.{match_heads, pending_skips, pending_stays, same_tasks, still_steps}
 use Rattle.rewriter.proofs.Following.{all_held}
 use Rattle.rewriter.proofs.Loop.{one_of_map}
+use Rattle.rewriter.proofs.Moves.{keep_on}
 use Rattle.rewriter.proofs.Tops.{top_terms, drop_map, each_reversed, each_under}
-use Rattle.rewriter.proofs.Turns.{begin}
+use Rattle.rewriter.proofs.Turns.{begin, begin_counted}
 use Rattle.match_code.specs.declared.frames.Frame.{Frame}
 use Rattle.match_code.specs.declared.memo.Entry.{Entry}
 use Rattle.match_code.specs.declared.state.Store.{Store}
-use Rattle.match_code.specs.Entries.{ComesTo, IsEntry, IsRemembered}
+use Rattle.match_code.specs.Entries.{IsEntry, IsRemembered}
 use Rattle.match_code.specs.Frames.{Waiting, Holds}
 use Rattle.match_code.specs.States.{waiting_of, IsFrame, IsState, IsEnd, IsStore}
 use Rattle.match_code.proofs.Runs.{in_order, remembered, remembered_spent, runs_step, runs_open, runs_close, runs_spent, runs_large, runs_ended}
@@ -45,11 +47,6 @@ order_terms rows args =
     ∙ ap (λ us. terms (map (tree_at rows) (reverse us))) (take_all (length args) args (omega arith))
 
 module _ (theory : Theory) where
-  pub all_constructed : (rows : List Node) (args : List ℕ) → AreValues theory rows → Each (IsNode rows) args →
-      AreConstructed theory (terms (map (tree_at rows) args))
-  all_constructed rows [] values e = tt
-  all_constructed rows (i ∷ args) values e = (values i e.0, all_constructed rows args values e.1)
-
   abbrev pub with_parts : Frame → List TermTree → List Task → List TermTree → Waiting
   with_parts frame args todo there =
       record { op = frame.op.0; args = args; start = frame.start; todo = todo; there = there }
@@ -84,12 +81,14 @@ module _ (theory : Theory) where
     still_entry : (e : Entry) → IsEntry theory old e → IsEntry theory new e
     still_entry e h =
         let a = same_trees old new longer (reverse e.args) (each_reversed (IsNode old) e.args h.args) in
-        let b = subst (λ us. ComesTo theory e.op.0 (terms us) (tree_at old e.value) e.uses) (sym a) h.known.comes in
+        let b = subst (λ us. ComesTo (Trying theory theory.equations e.op.0 (terms us)) (tree_at old e.value) e.uses) (sym a)
+        h.known.comes in
         record {
           args = still_nodes old new longer e.args h.args;
           known = record {
             there = omega (arith, longer.at_least, h.known.there);
-            comes = subst (λ v. ComesTo theory e.op.0 (terms (map (tree_at new) (reverse e.args))) v e.uses)
+            comes = subst (λ v.
+                ComesTo (Trying theory theory.equations e.op.0 (terms (map (tree_at new) (reverse e.args)))) v e.uses)
                 (sym (longer.same e.value h.known.there)) b;
           };
         }
@@ -112,7 +111,7 @@ with_values op start {args} {as_args} {todo} {as_todo} {values} {as_values} e f 
 -- a store without nodes
 pub none_kept : (theory : Theory) (store : Store) → store.nodes ≡ [] → store.memo.entries.items ≡ [] → IsStore theory store
 none_kept theory store e f = record {
-  values = λ i h. absurd (let n = ap length e in omega (arith, h, n));
+  own = λ i h. absurd (let n = ap length e in omega (arith, h, n));
   small = λ i h. absurd (let n = ap length e in omega (arith, h, n));
   remembers = subst (Each (IsEntry theory store.nodes)) (sym f) tt;
 }
@@ -136,10 +135,19 @@ at_equal theory t budget rows frames gs todo steps there us uses n s e f g h =
     (subst (λ x. IsState theory t budget rows frames todo x n) (sym g)
     (subst (λ x. IsState theory t budget rows frames todo there x) (sym h) s)))
 
+-- what is counted is counted over what stands for the same in another table
+pub counted_copies : (theory : Theory) (rows new : List Node) (todo steps : List Step) (there us : List ℕ) (uses : ℕ) →
+    map (task_of theory new) steps ≡ map (task_of theory rows) todo → map (tree_at new) us ≡ map (tree_at rows) there →
+    AreCounted theory uses (map (task_of theory rows) todo) (map (tree_at rows) there) →
+    AreCounted theory uses (map (task_of theory new) steps) (map (tree_at new) us)
+counted_copies theory rows new todo steps there us uses e f c =
+    subst (λ tasks. AreCounted theory uses tasks (map (tree_at new) us)) (sym e)
+    (subst (AreCounted theory uses (map (task_of theory rows) todo)) (sym f) c)
+
 -- the same over nodes of another table that stand for the same
 pub at_copies : (theory : Theory) (t : TermTree) (budget : ℕ) (rows new : List Node) (frames gs : List Frame) (todo steps : List Step)
     (there us : List ℕ) (uses : ℕ) →
-    IsState theory t budget rows frames todo there uses → IsReady theory new steps us → Each (IsFrame theory new) gs →
+    IsState theory t budget rows frames todo there uses → IsReady theory new steps us uses → Each (IsFrame theory new) gs →
     map (waiting_of theory new) gs ≡ map (waiting_of theory rows) frames → map (task_of theory new) steps ≡ map (task_of theory rows) todo →
     map (tree_at new) us ≡ map (tree_at rows) there → IsState theory t budget new gs steps us uses
 at_copies theory t budget rows new frames gs todo steps there us uses s ready held e f g = record {
@@ -153,12 +161,18 @@ at_copies theory t budget rows new frames gs todo steps there us uses s ready he
 
 module _ (theory : Theory) (ex : IsExecutable theory) (t : TermTree) (budget : ℕ) where
   -- at the start
-  pub state_begun : (rows : List Node) (todo : List Step) (s : ℕ → TermTree) → AreValues theory rows → AreSmall rows → IsGround t →
+  pub state_begun : (rows : List Node) (todo : List Step) (s : ℕ → TermTree) → AreOwnValues theory rows → AreSmall rows → IsGround t →
       map (task_of theory rows) todo ≡ plan s t [] → Each (IsStep theory rows) todo → IsState theory t budget rows [] todo [] 0
-  state_begun rows todo s values small ground e steps =
-      let k = subst (λ tasks. Keeps (Evaluating theory t) 0 (Comes theory tasks []) 0) (sym e) (begin theory ex t ground s) in
+  state_begun rows todo s own small ground e steps =
+      let k = subst (λ tasks. Keeps (Evaluating theory t) 0 (Comes theory tasks []) 0) (sym e) (begin theory t ground s) in
       record {
-        ready = record { steps = steps; values = tt; constructed = values; small = small };
+        ready = record {
+          steps = steps;
+          values = tt;
+          own = own;
+          small = small;
+          counted = subst (λ tasks. AreCounted theory 0 tasks []) (sym e) (begin_counted theory t ground ex.orthogonal.closed s);
+        };
         frames = tt;
         holds = record { waiting = tt; kept = record { back = k.back; on = k.on; met = k.met; large = k.large } };
         within = omega arith;
@@ -167,7 +181,7 @@ module _ (theory : Theory) (ex : IsExecutable theory) (t : TermTree) (budget : �
   module _ (rows : List Node) (frames : List Frame) where
     -- a step of the machine
     pub state_stepped : (new : List Node) (todo after : List Step) (there now : List ℕ) (uses u : ℕ) →
-        IsState theory t budget rows frames todo there uses → IsLonger rows new → IsReady theory new after now → u ≤ budget →
+        IsState theory t budget rows frames todo there uses → IsLonger rows new → IsReady theory new after now u → u ≤ budget →
         Keeps (Coming theory rows todo there) uses (Coming theory new after now) u → IsState theory t budget new frames after now u
     state_stepped new todo after there now uses u s longer ready within k = record {
       ready = ready;
@@ -202,20 +216,12 @@ module _ (theory : Theory) (ex : IsExecutable theory) (t : TermTree) (budget : �
 
     module _ (op : Op) (k : ℕ) (todo : List Step) (there : List ℕ) (uses : ℕ)
         (s : IsState theory t budget rows frames (Call op k ∷ todo) there uses) where
-      args_constructed : AreConstructed theory (terms (map (tree_at rows) (reverse (take k there))))
-      args_constructed =
-          all_constructed theory rows (reverse (take k there)) s.ready.constructed
-          (each_reversed (IsNode rows) (take k there) (each_take (IsNode rows) k there s.ready.values))
-
-      Rest : TermTree → Outcome → Type 0
-      Rest w o = Comes theory (map (task_of theory rows) todo) (w ∷ drop k (map (tree_at rows) there)) o
-
       -- a remembered call is used
       pub state_used : (v c : ℕ) → IsRemembered theory rows op.0 (reverse (take k there)) v c → uses + c ≤ budget →
           IsState theory t budget rows frames todo (v ∷ drop k there) (uses + c)
       state_used v c r within =
           let q = remembered theory ex op.0 (terms (map (tree_at rows) (reverse (take k there)))) (tree_at rows v) c
-          (λ w o. Comes theory (map (task_of theory rows) todo) (w ∷ drop k (map (tree_at rows) there)) o) uses args_constructed r.comes in
+          (λ w o. Comes theory (map (task_of theory rows) todo) (w ∷ drop k (map (tree_at rows) there)) o) uses r.comes in
           let a = subst (λ us. Keeps (Through (Trying theory theory.equations op.0 us)
           (λ w o. Comes theory (map (task_of theory rows) todo) (w ∷ drop k (map (tree_at rows) there)) o)) uses
           (Comes theory (map (task_of theory rows) todo) (tree_at rows v ∷ drop k (map (tree_at rows) there))) (uses + c))
@@ -223,12 +229,16 @@ module _ (theory : Theory) (ex : IsExecutable theory) (t : TermTree) (budget : �
           let b = subst (λ vals. Keeps (Comes theory (call op.0 k ∷ map (task_of theory rows) todo) (map (tree_at rows) there)) uses
           (Comes theory (map (task_of theory rows) todo) (tree_at rows v ∷ vals)) (uses + c))
           (sym (drop_map (tree_at rows) k there)) (record { back = a.back; on = a.on; met = a.met; large = a.large }) in
+          let comes = subst (λ us. ComesTo (Trying theory theory.equations op.0 us) (tree_at rows v) c)
+          (sym (top_terms (tree_at rows) k there)) r.comes in
           state_stepped rows (Call op k ∷ todo) todo there (v ∷ drop k there) uses (uses + c) s (longer_itself rows)
           (record {
             steps = s.ready.steps.1;
             values = (r.there, each_under (IsNode rows) k there s.ready.values);
-            constructed = s.ready.constructed;
+            own = s.ready.own;
             small = s.ready.small;
+            counted = subst (λ vals. AreCounted theory (uses + c) (map (task_of theory rows) todo) (tree_at rows v ∷ vals))
+                (sym (drop_map (tree_at rows) k there)) (s.ready.counted (tree_at rows v) c comes);
           }) within (record { back = b.back; on = b.on; met = b.met; large = b.large })
 
       -- and where its cost is too much
@@ -236,8 +246,7 @@ module _ (theory : Theory) (ex : IsExecutable theory) (t : TermTree) (budget : �
           IsBeyond theory t budget
       state_refused v c r over =
           let q = remembered_spent theory ex op.0 (terms (map (tree_at rows) (reverse (take k there)))) (tree_at rows v) c
-          (λ w o. Comes theory (map (task_of theory rows) todo) (w ∷ drop k (map (tree_at rows) there)) o) uses budget
-          args_constructed r.comes over in
+          (λ w o. Comes theory (map (task_of theory rows) todo) (w ∷ drop k (map (tree_at rows) there)) o) uses budget r.comes over in
           let a = subst (λ us. Exceeds (Through (Trying theory theory.equations op.0 us)
           (λ w o. Comes theory (map (task_of theory rows) todo) (w ∷ drop k (map (tree_at rows) there)) o)) uses budget)
           (sym (top_terms (tree_at rows) k there)) q in
@@ -250,17 +259,22 @@ module _ (theory : Theory) (ex : IsExecutable theory) (t : TermTree) (budget : �
       state_found n none there_is is =
           let e : tree_at rows n ≡ apply op.0 (arguments_of rows k there) = is ∙ ap (apply op.0) (sym (top_terms (tree_at rows) k there)) in
           let small : IsTooLarge (apply op.0 (arguments_of rows k there)) → ⊥ = λ b. s.ready.small n there_is (subst IsTooLarge (sym e) b) in
-          let q = pending_made theory ex rows 0 op.0 k todo there rows (n ∷ drop k there) uses refl (is_constructor theory ex op.0 none)
-          small (longer_itself rows) s.ready.steps.1
-          (ap (λ v. v ∷ map (tree_at rows) (drop k there)) e
-          ∙ ap (λ vs. apply op.0 (arguments_of rows k there) ∷ vs) (drop_map (tree_at rows) k there)) in
+          let all = length theory.equations in
+          let never : (j : ℕ) → 0 ≤ j → j < all → j < all → (z : ℕ → TermTree) →
+          instance z (equation_at theory j).left ≡ apply op.0 (arguments_of rows k there) → ⊥ =
+          λ j a b l z i. none j l (match_heads theory ex j op.0 (arguments_of rows k there) z l i) in
+          let built : map (tree_at rows) (n ∷ drop k there) ≡ apply op.0 (arguments_of rows k there) ∷ drop k (map (tree_at rows) there) =
+          ap (λ v. v ∷ map (tree_at rows) (drop k there)) e
+          ∙ ap (λ vs. apply op.0 (arguments_of rows k there) ∷ vs) (drop_map (tree_at rows) k there) in
+          let q = keep_on uses uses uses (pending_skips theory rows 0 all op.0 k todo there uses (omega arith) never)
+          (pending_stays theory ex rows all op.0 k todo there rows (n ∷ drop k there) uses (omega arith) small (longer_itself rows)
+          s.ready.steps.1 built) in
+          let c = calling_skips theory rows op.0 k uses 0 all todo there uses (omega arith) never
+          (begins_call theory rows op k todo there uses s.ready) in
           state_stepped rows (Call op k ∷ todo) todo there (n ∷ drop k there) uses uses s (longer_itself rows)
-          (record {
-            steps = s.ready.steps.1;
-            values = (there_is, each_under (IsNode rows) k there s.ready.values);
-            constructed = s.ready.constructed;
-            small = s.ready.small;
-          }) s.within (record { back = q.back; on = q.on; met = q.met; large = q.large })
+          (calling_built theory rows op.0 k uses all todo there uses (omega arith) c rows (n ∷ drop k there) (longer_itself rows)
+          (there_is, each_under (IsNode rows) k there s.ready.values) s.ready.own s.ready.small small built)
+          s.within (record { back = q.back; on = q.on; met = q.met; large = q.large })
 
       -- the call is run by itself
       pub state_opened : k ≤ length there →
@@ -283,13 +297,17 @@ module _ (theory : Theory) (ex : IsExecutable theory) (t : TermTree) (budget : �
             todo = map (task_of theory rows) todo;
             there = map (tree_at rows) (drop k there);
           } in
-          let o = runs_open theory ex t w ws b in
+          let d = subst (AreCounted theory uses (call op.0 k ∷ map (task_of theory rows) todo)) j s.ready.counted in
+          let n = subst (λ i. AreCounted theory uses (call op.0 i ∷ map (task_of theory rows) todo)
+          (args ++ map (tree_at rows) (drop k there))) (sym l) d in
+          let o = runs_open theory ex t w ws b n in
           record {
             ready = record {
-              steps = (tt, tt);
+              steps = (s.ready.steps.0, tt);
               values = each_take (IsNode rows) k there s.ready.values;
-              constructed = s.ready.constructed;
+              own = s.ready.own;
               small = s.ready.small;
+              counted = λ v c p. tt;
             };
             frames = (
               record {
@@ -310,29 +328,29 @@ module _ (theory : Theory) (ex : IsExecutable theory) (t : TermTree) (budget : �
       IsState theory t budget rows frames frame.todo (n ∷ frame.values) uses
   state_closed rows frame frames n uses s =
       let e = order_terms rows frame.args in
-      let c = all_constructed theory rows (reverse frame.args) s.ready.constructed
-      (each_reversed (IsNode rows) frame.args s.frames.0.args) in
-      let r = runs_close theory ex t (waiting_of theory rows frame) (map (waiting_of theory rows) frames) (tree_at rows n) uses
-      (subst (AreConstructed theory) (sym e) c) s.holds in
+      let r = runs_close theory ex t (waiting_of theory rows frame) (map (waiting_of theory rows) frames) (tree_at rows n) uses s.holds in
       let i : r.0 ≡ uses - frame.start = omega (arith, r.2) in
-      let comes = subst (λ vs. ComesTo theory frame.op.0 vs (tree_at rows n) r.0) e r.1 in (
+      let comes = subst (λ vs. ComesTo (Trying theory theory.equations frame.op.0 vs) (tree_at rows n) r.0) e r.1 in (
         omega (arith, r.2),
         record {
           args = s.frames.0.args;
           known = record {
             there = s.ready.values.0;
-            comes = subst (λ m. ComesTo theory frame.op.0 (terms (map (tree_at rows) (reverse frame.args))) (tree_at rows n) m) i comes;
+            comes = subst (λ m.
+                ComesTo (Trying theory theory.equations frame.op.0 (terms (map (tree_at rows) (reverse frame.args)))) (tree_at rows n) m)
+                i comes;
           };
         },
         record {
           ready = record {
             steps = s.frames.0.steps;
             values = (s.ready.values.0, s.frames.0.values);
-            constructed = s.ready.constructed;
+            own = s.ready.own;
             small = s.ready.small;
+            counted = r.3;
           };
           frames = s.frames.1;
-          holds = r.3;
+          holds = r.4;
           within = s.within;
         },
       )

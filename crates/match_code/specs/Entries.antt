@@ -1,24 +1,17 @@
 -- Calls whose values are known.
 use Rattle.std.specs.Prelude.{ℕ, List, reverse, map}
-use Rattle.spec_core.specs.Evaluation.{Tries, TriesMeet}
 use Rattle.spec_core.specs.Lists.{Each}
-use Rattle.spec_core.specs.Terms.{TermTree, TermTrees, terms}
+use Rattle.spec_core.specs.Terms.{terms}
 use Rattle.spec_core.specs.Theories.{Theory}
 use Rattle.value_nodes.specs.declared.node.Node.{Node}
 use Rattle.value_nodes.specs.Nodes.{tree_at, IsNode}
-use Rattle.value_nodes.specs.Sizes.{IsTooLarge}
+use Rattle.rewriter.specs.Machine.{Trying, ComesTo}
 use Rattle.match_code.specs.declared.memo.Entry.{Entry}
 
--- the operation over these values comes to this value after so many uses of equations, and meets nothing that is too large on its way
-pub record ComesTo (theory : Theory) (f : ℕ) (vs : TermTrees) (v : TermTree) (uses : ℕ) : Type 0 where
-  pub tries : Tries theory theory.equations f vs v uses
-  pub small : IsTooLarge v → ⊥
-  pub small_way : (w : TermTree) → IsTooLarge w → TriesMeet theory theory.equations f vs w → ⊥
-
--- the operation over what these nodes stand for comes to what this node stands for
+-- the operation over what these nodes stand for comes to what this node stands for, after so many uses beside those of its arguments
 pub record IsRemembered (theory : Theory) (rows : List Node) (f : ℕ) (args : List ℕ) (value uses : ℕ) : Type 0 where
   pub there : IsNode rows value
-  pub comes : ComesTo theory f (terms (map (tree_at rows) args)) (tree_at rows value) uses
+  pub comes : ComesTo (Trying theory theory.equations f (terms (map (tree_at rows) args))) (tree_at rows value) uses
 
 -- an entry of a table
 pub record IsEntry (theory : Theory) (rows : List Node) (entry : Entry) : Type 0 where

@@ -8,7 +8,7 @@ use Rattle.value_nodes.specs.declared.node.Node.{Node}
 use Rattle.rewriter.specs.Calls.{arguments_of, HasRoom}
 use Rattle.rewriter.specs.Index.{IsIndex}
 use Rattle.rewriter.specs.Machine.{Task, put, call, plan}
-use Rattle.rewriter.specs.Steps.{equation_at, IsMatch}
+use Rattle.rewriter.specs.Steps.{equation_at, IsMatch, IsWithinArity}
 use Rattle.match_code.specs.declared.rights.Symbol.{Symbol}
 use Rattle.match_code.specs.declared.rights.Symbol.TheVariants.{Variable, Operation}
 use Rattle.match_code.specs.declared.rights.Right.{Right}
@@ -24,16 +24,22 @@ abbrev pub OnVariable : (ℕ → Type 0) → Symbol → Type 0
 OnVariable P (Variable x) = P x
 OnVariable P (Operation op count) = Unit {0}
 
+-- the symbol's operation, where it is one, is such a one over so many arguments
+abbrev pub OnOperation : (ℕ → ℕ → Type 0) → Symbol → Type 0
+OnOperation P (Variable x) = Unit {0}
+OnOperation P (Operation op count) = P op.0 count
+
 -- the term in postfix order, these variables first: its symbols, one after another, are the tasks that evaluate it
 pub record IsPostfix (t : TermTree) (first : List ℕ) (rest : List Symbol) : Type 0 where
   pub planned : (s : ℕ → TermTree) → map (λ x. put (s x)) first ++ map (task_by s) rest ≡ plan s t []
   pub first_there : Each (λ x. Occurs x t) first
   pub rest_there : Each (OnVariable (λ x. Occurs x t)) rest
 
--- the right side of an equation in postfix order
+-- the right side of an equation in postfix order, in which no operation has more arguments than it is declared with
 pub record IsRight (theory : Theory) (right : Right) : Type 0 where
   pub there : right.place < length theory.equations
   pub postfix : IsPostfix (equation_at theory right.place).right right.first.items right.rest
+  pub arities : Each (OnOperation (IsWithinArity theory)) right.rest
 
 -- no equation of the operation has a premise
 abbrev pub IsUnconditional : Theory → ℕ → Type 0

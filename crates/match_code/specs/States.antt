@@ -6,7 +6,8 @@ use Rattle.spec_core.specs.Lists.{Each}
 use Rattle.spec_core.specs.Terms.{TermTree}
 use Rattle.spec_core.specs.Theories.{Theory, theory_of}
 use Rattle.value_nodes.specs.declared.node.Node.{Node}
-use Rattle.value_nodes.specs.Nodes.{tree_at, IsNode, AreSmall, AreValues}
+use Rattle.value_nodes.specs.Nodes.{tree_at, IsNode, AreSmall}
+use Rattle.value_nodes.specs.Own.{AreOwnValues}
 use Rattle.rewriter.specs.declared.fault.Eval.{Eval}
 use Rattle.rewriter.specs.declared.fault.Eval.TheVariants.{Spent, TooLarge}
 use Rattle.rewriter.specs.declared.step.Step.{Step}
@@ -42,7 +43,7 @@ pub record IsFrame (theory : Theory) (rows : List Node) (frame : Frame) : Type 0
 -- so far
 pub record IsState (theory : Theory) (t : TermTree) (budget : ℕ) (rows : List Node) (running : List Frame) (todo : List Step)
     (there : List ℕ) (uses : ℕ) : Type 0 where
-  pub ready : IsReady theory rows todo there
+  pub ready : IsReady theory rows todo there uses
   pub frames : Each (IsFrame theory rows) running
   pub holds : Holds theory t (map (waiting_of theory rows) running) (map (task_of theory rows) todo) (map (tree_at rows) there) uses
   pub within : uses ≤ budget
@@ -71,7 +72,7 @@ pub record IsCause (theory : Theory) (t : TermTree) (budget : ℕ) (cause : Eval
 
 -- what is kept from one evaluation to the next
 pub record IsStore (theory : Theory) (store : Store) : Type 0 where
-  pub values : AreValues theory store.nodes
+  pub own : AreOwnValues theory store.nodes
   pub small : AreSmall store.nodes
   pub remembers : Remembers theory store
 

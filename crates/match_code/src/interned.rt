@@ -15,12 +15,12 @@ fn has_arguments(nodes: &Nodes, node: u32, args: &[u32]) -> bool
 {
     match args {
         [] => match nodes.at(node) {
-            Node::Constant(_) => true,
+            Node::Constant(..) => true,
             Node::One { .. } => false,
             Node::More { .. } => false,
         },
         [first, others @ ..] => match nodes.at(node) {
-            Node::Constant(_) => false,
+            Node::Constant(..) => false,
             Node::One { arg, .. } => arg == *first && others.is_empty(),
             Node::More { arg, rest, .. } => arg == *first && has_arguments(nodes, rest, others),
         },

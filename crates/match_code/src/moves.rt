@@ -156,7 +156,7 @@ fn rewrite(
 {
     match rule_for(algebra, forms, &store.nodes, &runs.values, bound, op, count) {
         Some(right) => {
-            use_right(runs, bound, right, count, budget)?;
+            use_right(&store.nodes, runs, bound, right, count, budget)?;
             Ok(())
         }
         None => plainly(

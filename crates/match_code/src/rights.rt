@@ -7,8 +7,8 @@ ghost use Rattle.spec_core.specs.Lists.{Each};
 ghost use Rattle.spec_core.specs.Terms.{TermTree, Occurs, OccursInAny, terms, term_of};
 ghost use Rattle.spec_core.specs.Theories.{Theory, Heads, theory_of};
 ghost use Rattle.rewriter.specs.Machine.{plan, plan_all, put};
-ghost use Rattle.rewriter.specs.Steps.{equation_at};
-ghost use Rattle.match_code.specs.Rights.{task_by, OnVariable, IsRight, IsUnconditional, IsNoted, AreUnconditional, AreForms};
+ghost use Rattle.rewriter.specs.Steps.{equation_at, IsWithinArity, AreWithinArity, AllWithinArity};
+ghost use Rattle.match_code.specs.Rights.{task_by, OnVariable, OnOperation, IsRight, IsUnconditional, IsNoted, AreUnconditional, AreForms};
 
 use crate::trees::Trees;
 use rewriter::equations::{head_of, most_variables, numbered};
@@ -107,6 +107,10 @@ fn flatten(symbols: &mut Postfix, term: &Term) -> Result<(), AllocError>
         ((u : TermTree) →
         ((x : ℕ) → Occurs x (term_of term.now) → Occurs x u) → Each (OnVariable (λ x. Occurs x u)) symbols.old →
         Each (OnVariable (λ x. Occurs x u)) symbols.new) }
+    ensures arities { OnOk result
+        ((theory : Theory) →
+        AreWithinArity theory (term_of term.now) → Each (OnOperation (IsWithinArity theory)) symbols.old →
+        Each (OnOperation (IsWithinArity theory)) symbols.new) }
 {
     match term {
         Term::Var(x) => symbols.push(Symbol::Variable(*x)),
@@ -128,6 +132,10 @@ fn flatten_all(symbols: &mut Postfix, all: &[Term]) -> Result<(), AllocError>
         ((x : ℕ) → OccursInAny x (terms (map term_of all.now)) → Occurs x u) →
         Each (OnVariable (λ x. Occurs x u)) symbols.old →
         Each (OnVariable (λ x. Occurs x u)) symbols.new) }
+    ensures arities { OnOk result
+        ((theory : Theory) →
+        AllWithinArity theory (terms (map term_of all.now)) → Each (OnOperation (IsWithinArity theory)) symbols.old →
+        Each (OnOperation (IsWithinArity theory)) symbols.new) }
 {
     match all {
         [] => Ok(()),
@@ -145,6 +153,8 @@ fn take_variables(alloc: Global, symbols: &mut Postfix) -> Result<Vec<u32>, Allo
     ensures there { IfOk result (λ first. (u : TermTree) →
         Each (OnVariable (λ x. Occurs x u)) symbols.old →
         Each (λ x. Occurs x u) first.items × Each (OnVariable (λ x. Occurs x u)) symbols.new) }
+    ensures arities { IfOk result (λ first. (theory : Theory) →
+        Each (OnOperation (IsWithinArity theory)) symbols.old → Each (OnOperation (IsWithinArity theory)) symbols.new) }
 {
     let mut first = Vec::new(alloc);
     for _turn in 0..u64::MAX {
@@ -162,6 +172,7 @@ fn take_variables(alloc: Global, symbols: &mut Postfix) -> Result<Vec<u32>, Allo
 
 // The right side of an equation in postfix order.
 fn right_of(alloc: Global, algebra: &DataSpec, place: usize) -> Result<Right, AllocError>
+    requires executable { IsExecutable (theory_of algebra.now) }
     requires there { place < length (theory_of algebra.now).equations }
     ensures right { IfOk result (IsRight (theory_of algebra.now)) }
 {

@@ -1,26 +1,29 @@
 // Uses of equations by their right sides in postfix order.
 
-ghost use Rattle.std.specs.Prelude.{ℕ, ◌≡◌, ◌<◌, ◌≤◌, ◌+◌, ◌++◌, List, IfErr, OnOk, length, map, drop, reverse};
+ghost use Rattle.std.specs.Prelude.{ℕ, ◌≡◌, ◌<◌, ◌≤◌, ◌+◌, ◌++◌, List, IfOk, IfErr, OnOk, length, map, drop, reverse};
 ghost use Rattle.spec_core.specs.Lists.{Each};
 ghost use Rattle.spec_core.specs.Theories.{Theory};
 ghost use Rattle.value_nodes.specs.declared.node.Node.{Node};
-ghost use Rattle.value_nodes.specs.Nodes.{IsNode};
-ghost use Rattle.rewriter.specs.Steps.{bound_at, put_by, task_of, IsStep};
-ghost use Rattle.match_code.specs.Rights.{task_by, OnVariable};
+ghost use Rattle.value_nodes.specs.Nodes.{all_costs, IsNode};
+ghost use Rattle.rewriter.specs.Steps.{bound_at, put_by, task_of, IsStep, IsWithinArity};
+ghost use Rattle.match_code.specs.Rights.{task_by, OnVariable, OnOperation};
 
 use crate::rights::{Right, Symbol};
 use crate::state::Runs;
 use rewriter::Eval;
+use rewriter::run::put;
 use rewriter::step::{Step, Todo};
 use rewriter::values::Values;
 use std::alloc::AllocError;
+use value_nodes::node::Nodes;
 
 // The step of an evaluation that a symbol is, where these nodes stand for the variables.
 fn step_of(bound: &[u32], symbol: Symbol) -> Step
     requires room { OnVariable (λ x. x < length bound.now) symbol }
     ensures task { (theory : Theory) (rows : List Node) → task_of theory rows result ≡ task_by (put_by rows bound.now) symbol }
     ensures step { (theory : Theory) (rows : List Node) →
-        OnVariable (λ x. IsNode rows (bound_at bound.now x)) symbol → IsStep theory rows result }
+        OnVariable (λ x. IsNode rows (bound_at bound.now x)) symbol → OnOperation (IsWithinArity theory) symbol →
+        IsStep theory rows result }
 {
     match symbol {
         Symbol::Variable(x) => Step::Put(bound[x as usize]),
@@ -38,6 +41,7 @@ fn push_symbols(todo: &mut Todo, bound: &[u32], symbols: &[Symbol]) -> Result<()
     ensures steps { OnOk result
         ((theory : Theory) (rows : List Node) →
         Each (OnVariable (λ x. IsNode rows (bound_at bound.now x))) symbols.now →
+        Each (OnOperation (IsWithinArity theory)) symbols.now →
         Each (IsStep theory rows) todo.old →
         Each (IsStep theory rows) todo.new) }
 {
@@ -47,19 +51,37 @@ fn push_symbols(todo: &mut Todo, bound: &[u32], symbols: &[Symbol]) -> Result<()
     Ok(())
 }
 
-// Puts what variables stand for on the values that are there, the first one first.
-fn put_variables(values: &mut Values, bound: &[u32], first: &[u32]) -> Result<(), AllocError>
+// Puts what variables stand for on the values that are there, the first one first, which takes the uses that it costs to evaluate each of
+// them again, and gives the number of uses after it.
+fn put_variables(
+    nodes: &Nodes,
+    values: &mut Values,
+    bound: &[u32],
+    first: &[u32],
+    uses: u64,
+    budget: u64,
+) -> Result<u64, Eval>
     requires room { Each (λ x. x < length bound.now) first.now }
-    ensures put { OnOk result (values.new ≡ reverse (map (bound_at bound.now) first.now) ++ values.old) }
+    requires there { Each (λ x. IsNode nodes.now (bound_at bound.now x)) first.now }
+    requires within { uses ≤ budget }
+    ensures put { IfOk result (λ u. values.new ≡ reverse (map (bound_at bound.now) first.now) ++ values.old) }
+    ensures counted { IfOk result (λ u. u ≡ uses + all_costs nodes.now (map (bound_at bound.now) first.now)) }
+    ensures within { IfOk result (λ u. u ≤ budget) }
+    ensures spent { IfErr result (λ e.
+        e ≡ Eval.Spent → budget < uses + all_costs nodes.now (map (bound_at bound.now) first.now)) }
+    ensures small { IfErr result (λ e. e ≡ Eval.TooLarge → ⊥) }
 {
+    let mut used = uses;
     for x in first {
-        values.push(bound[*x as usize])?;
+        used = put(nodes, values, bound[*x as usize], used, budget)?;
     }
-    Ok(())
+    Ok(used)
 }
 
-/// Has the steps of a right side in the place of a call over so many values, by one use of its equation; `Spent` where none is left.
+/// Has the steps of a right side in the place of a call over so many values, by one use of its equation, beside what it costs to evaluate
+/// again what its leading variables stand for; `Spent` where too few are left.
 pub fn use_right(
+    nodes: &Nodes,
     runs: &mut Runs,
     bound: &[u32],
     right: &Right,
@@ -67,6 +89,7 @@ pub fn use_right(
     budget: u64,
 ) -> Result<(), Eval>
     requires first { Each (λ x. x < length bound.now) right.now.first.items }
+    requires there { Each (λ x. IsNode nodes.now (bound_at bound.now x)) right.now.first.items }
     requires rest { Each (OnVariable (λ x. x < length bound.now)) right.now.rest }
     ensures frames { OnOk result (runs.new.frames ≡ runs.old.frames) }
     ensures planned { OnOk result
@@ -76,21 +99,31 @@ pub fn use_right(
     ensures steps { OnOk result
         ((theory : Theory) (rows : List Node) →
         Each (OnVariable (λ x. IsNode rows (bound_at bound.now x))) right.now.rest →
+        Each (OnOperation (IsWithinArity theory)) right.now.rest →
         Each (IsStep theory rows) runs.old.todo →
         Each (IsStep theory rows) runs.new.todo) }
     ensures values { OnOk result
         (runs.new.values ≡ reverse (map (bound_at bound.now) right.now.first.items) ++ drop count runs.old.values) }
-    ensures uses { OnOk result (runs.new.uses ≡ runs.old.uses + 1) }
-    ensures within { OnOk result (runs.old.uses + 1 ≤ budget) }
-    ensures spent { IfErr result (λ e. e ≡ Eval.Spent → budget ≤ runs.old.uses) }
+    ensures uses { OnOk result
+        (runs.new.uses ≡ runs.old.uses + 1 + all_costs nodes.now (map (bound_at bound.now) right.now.first.items)) }
+    ensures within { OnOk result (runs.new.uses ≤ budget) }
+    ensures spent { IfErr result (λ e.
+        e ≡ Eval.Spent →
+        budget < runs.old.uses + 1 + all_costs nodes.now (map (bound_at bound.now) right.now.first.items)) }
     ensures small { IfErr result (λ e. e ≡ Eval.TooLarge → ⊥) }
 {
     if runs.uses >= budget {
         return Err(Eval::Spent);
     }
     runs.values.forget(count);
-    put_variables(&mut runs.values, bound, &right.first)?;
+    runs.uses = put_variables(
+        nodes,
+        &mut runs.values,
+        bound,
+        &right.first,
+        runs.uses + 1,
+        budget,
+    )?;
     push_symbols(&mut runs.todo, bound, right.rest.all())?;
-    runs.uses = runs.uses + 1;
     Ok(())
 }

@@ -5,6 +5,7 @@ use Rattle.spec_core.specs.Code.{Variable, ExitValue, exit_given, exit_any, Acti
 use Rattle.spec_core.specs.Executable.{IsExecutable}
 use Rattle.spec_core.specs.Terms.{TermTree, preorder}
 use Rattle.spec_core.specs.Theories.{Theory}
+use Rattle.spec_core.specs.Values.{IsValue}
 use Rattle.rule_model.specs.declared.rules.Slot.{Slot}
 use Rattle.rule_model.specs.declared.rules.Slot.TheVariants.{Of, Mark, Blank}
 use Rattle.rule_model.specs.Fields.{Spells}
@@ -23,7 +24,10 @@ use Rattle.node_values.specs.Scopes.{marked_of, marks_of}
 use Rattle.symbolic_actions.specs.declared.shown.Shown.{Shown}
 use Rattle.symbolic_actions.specs.Models.{show_of}
 use Rattle.symbolic_actions.specs.Shows.{Show}
-use Rattle.node_verdict.specs.Found.{IsChosen, told_field, chosen_field}
+use Rattle.value_terms.specs.Spelled.{SpellsTerm}
+use Rattle.value_terms.proofs.Enough.{one_term, sorted_arguments}
+use Rattle.node_verdict.specs.Choosing.{ChoosesValue}
+use Rattle.node_verdict.specs.Found.{IsChosen, ChoosesNothing, told_field, chosen_field}
 use Rattle.node_verdict.specs.Judged.{Made}
 
 -- what a rule makes, where the part shows something
@@ -31,16 +35,35 @@ pub made_some : (f : Show → Option Show) (p q : Result (Option Shown) Stop) (s
     option_map show_of o ≡ f (show_of s) → Made f p q
 made_some f p q s o is are made = subst (λ z. Made f z q) (sym is) (subst (Made f (Ok (Some s))) (sym are) made)
 
+-- where a list of operations spells a value, the term of a sort that it spells is this value
+spells_chosen : (theory : Theory) (v : List ℕ) (t : TermTree) (sort : ℕ) → SpellsTerm theory v t sort → ChoosesValue theory (Of v) →
+    Spells theory v t sort
+spells_chosen theory v t sort h (n, spelled, value) = record {
+  spelled = h.spelled;
+  of_sort = h.of_sort;
+  is_value =
+      subst (IsValue theory)
+      (one_term theory n t (sorted_arguments theory n value.fits.0 value.fits.1) (sorted_arguments theory t sort h.of_sort)
+      (sym spelled ∙ h.spelled)) value;
+}
+
 -- a value of the sort is what its slot chooses
 pub value_chosen : (theory : Theory) (w : Windows) (slot : Slot) (v u : List ℕ) (t : TermTree) (sort : ℕ) → slot ≡ Of v → u ≡ v →
-    Spells theory v t sort → IsChosen theory w slot sort (Value u)
-value_chosen theory w slot v u t sort is same h =
+    SpellsTerm theory v t sort → ChoosesValue theory (Of v) → IsChosen theory w slot sort (Value u)
+value_chosen theory w slot v u t sort is same spells value =
+    let h = spells_chosen theory v t sort spells value in
     subst (λ z. IsChosen theory w z sort (Value u)) (sym is)
     (subst (λ z. IsChosen theory w (Of v) sort (Value z)) (sym same)
     (record {
       chooses = λ x. (t, h, ap plain (values_are_read theory x v t sort h));
       field = λ x. ap (λ z. chosen (preorder z)) (values_are_read theory x v t sort h) ∙ ap chosen (sym h.spelled);
     }))
+
+-- where the list spells no term of the sort, the slot chooses nothing
+pub none_chosen : (theory : Theory) (w : Windows) (v : List ℕ) (sort : ℕ) → ((t : TermTree) → SpellsTerm theory v t sort → ⊥) →
+    ChoosesNothing theory w (Of v) sort
+none_chosen theory w v sort none =
+    record { none = λ k h. none h.0 (record { spelled = h.1.spelled; of_sort = h.1.of_sort }) }
 
 -- an expression that has this value makes this field
 told_so : (theory : Theory) (k : MarkedTerm) (g : Given) → IsValueOf theory k g → told_by (marked_of theory 0 g) ≡ told_field g

@@ -4,3 +4,4 @@ pub mod Rows
 pub mod Putting
 pub mod Asked
 pub mod Top
+pub use Rattle.symbolic_rules.proofs.Sorts

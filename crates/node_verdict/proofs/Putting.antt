@@ -1,6 +1,6 @@
 -- What a behaviour with terms put in may do, and is asked, by a tree is what the code with these terms for its variables may do, and is.
 use Rattle.std.proofs.Common.{◌↔◌, List, [], ◌∷◌, map, refl, sym, subst, Option, Some, None}
-use Rattle.spec_core.specs.Terms.{TermTree, variable, instance}
+use Rattle.spec_core.specs.Terms.{TermTree, variable}
 use Rattle.spec_core.specs.Theories.{Premise, Theory}
 use Rattle.spec_core.specs.Code.{Program, ExitValue, exit_given, exit_any, ActionField, give, accept}
 use Rattle.spec_core.specs.Functionality.{accepted, bound_variables}
@@ -19,7 +19,7 @@ use Rattle.symbolic_rules.specs.MarkedTerms.{GuardMayHold}
 use Rattle.symbolic_rules.specs.MarkedFields.{MarkedField, FieldsMayHave, ExitMayHave}
 use Rattle.symbolic_rules.specs.MayDerive.{MayDeriveWith}
 use Rattle.symbolic_composites.proofs.Origins.{Leads, with_one_bound, closing_leads}
-use Rattle.node_values.specs.Reached.{FieldAsks, ExitAsks, BindingAsks, ArgumentAsks}
+use Rattle.node_values.specs.Reached.{FieldAsks, ExitAsks, BindingAsks}
 use Rattle.node_values.proofs.Reaching.{either_way, both_ways, one_of_images, asked, premise_asked, guard_asked, field_asked, exit_asked}
 use Rattle.node_values.proofs.Reaching.{premise_holds, value_there, bindings_to, bindings_from, arguments_same, call_asked}
 use Rattle.node_verdict.specs.Asking.{TreeAsks}

@@ -1,11 +1,9 @@
 -- What comes of code with values for its variables, under a relabelling.
-use Rattle.std.proofs.Common.{ℕ, ◌≡◌, List, [], ◌∷◌, refl, ap, subst, ◌∙◌, Option, Result}
+use Rattle.std.proofs.Common.{ℕ, ◌≡◌, List, [], ap, subst, ◌∙◌, Option, Result}
 use Rattle.spec_core.specs.Code.{Program, Relabelling}
-use Rattle.rule_model.specs.Actions.{after}
-use Rattle.rule_model.specs.Behaviours.{Behaviour, stop, exit, inner, action, choice, guarded, bound, value_choice, gate_choice, parallel}
-use Rattle.rule_model.specs.Behaviours.{hide, enable, disable, call, relabel}
+use Rattle.rule_model.specs.Behaviours.{Behaviour}
 use Rattle.rule_model.specs.Derivations.{Derivation}
-use Rattle.rule_model.specs.Substitution.{Assignment, put, tidied}
+use Rattle.rule_model.specs.Substitution.{Assignment, put}
 use Rattle.rule_origins.specs.Values.{assignment}
 use Rattle.rule_origins.proofs.Reading.{values_close}
 use Rattle.symbolic_rules.specs.Windows.{Windows}

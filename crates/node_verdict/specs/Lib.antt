@@ -1,4 +1,5 @@
 pub mod Asking
+pub mod Choosing
 pub mod Found
 pub mod Judged
 pub mod Laws

@@ -2,7 +2,7 @@
 
 ghost use Rattle.std.specs.Prelude.{◌≡◌, ◌∷◌, ◌↔◌, List, IfOk, IfErr, IfSome, IfNone, IsTrue, map};
 ghost use Rattle.spec_core.specs.Code.{action_field_of, exit_value_of, guard_of, program_of};
-ghost use Rattle.spec_core.specs.Lists.{OneOf};
+ghost use Rattle.spec_core.specs.Lists.{Each, OneOf};
 ghost use Rattle.spec_core.specs.Ready.{IsReady};
 ghost use Rattle.spec_core.specs.Theories.{theory_of};
 ghost use Rattle.rule_model.specs.declared.rules.Slot.TheVariants.{Of, Mark};
@@ -15,6 +15,7 @@ ghost use Rattle.symbolic_rules.specs.Tables.{windows_in};
 ghost use Rattle.symbolic_actions.specs.Deciding as tests;
 ghost use Rattle.symbolic_actions.specs.Models.{marked_field_of};
 ghost use Rattle.node_values.specs.Prepared.{program_in};
+ghost use Rattle.node_verdict.specs.Choosing.{ChoosesValue};
 ghost use Rattle.node_verdict.specs.Found.{IsChosen, ChoosesNothing, told_field, chosen_field};
 
 use node_values::Prepared;
@@ -33,10 +34,10 @@ use std::alloc::Global;
 use symbolic_actions::field::ShownField;
 use symbolic_actions::meeting::is_in_window;
 use symbolic_rules::is_complete;
-use value_terms::spelled;
+use value_terms::term_of_sort;
 
 // A value, if it is one of the sort.
-#[tactic(auto, using(crate::proofs::Filling::value_chosen))]
+#[tactic(auto, using(crate::proofs::Filling::value_chosen, crate::proofs::Filling::none_chosen))]
 fn value_chosen(
     alloc: Global,
     checked: &Checked,
@@ -44,12 +45,13 @@ fn value_chosen(
     value: &Value,
     sort: Sort,
 ) -> Result<Option<Given>, Memory>
+    requires value { ChoosesValue (program_of checked.now).theory (Of value.now) }
     ensures some { IfOk result (λ o. IfSome o
         (IsChosen (program_of checked.now).theory (windows_in windows.now) (Of value.now) sort.0)) }
     ensures none { IfOk result (λ o. IfNone o
         (ChoosesNothing (program_of checked.now).theory (windows_in windows.now) (Of value.now) sort.0)) }
 {
-    match spelled(alloc, &checked.algebra, value, sort)? {
+    match term_of_sort(alloc, &checked.algebra, value, sort)? {
         None => Ok(None),
         Some(_) => Ok(Some(Given::Value(value.copy(alloc)?))),
     }
@@ -75,6 +77,7 @@ pub fn chosen(
     slot: &Slot,
     sort: Sort,
 ) -> Result<Option<Given>, Memory>
+    requires value { ChoosesValue (program_of checked.now).theory slot.now }
     ensures some { IfOk result (λ o. IfSome o
         (IsChosen (program_of checked.now).theory (windows_in windows.now) slot.now sort.0)) }
     ensures none { IfOk result (λ o. IfNone o
@@ -159,6 +162,7 @@ pub fn filled_fields(
     budget: u64,
 ) -> Result<Option<Filled>, Stop>
     requires ready { IsReady (program_in prepared.now) }
+    requires values { Each (ChoosesValue (program_in prepared.now).theory) slots.now }
     ensures some { IfOk result (λ o. IfSome o (λ x. FieldsMayHave (program_in prepared.now).theory (windows_in windows.now)
         (marks_of (program_in prepared.now).theory outer.now) (marks_of (program_in prepared.now).theory inner.items)
         (map action_field_of fields.now) slots.now (map marked_field_of x.fields.items)
@@ -220,6 +224,7 @@ pub fn filled_exit(
     budget: u64,
 ) -> Result<Option<Vec<ShownField>>, Stop>
     requires ready { IsReady (program_in prepared.now) }
+    requires values { Each (ChoosesValue (program_in prepared.now).theory) slots.now }
     ensures some { IfOk result (λ o. IfSome o (λ fs. ExitMayHave (program_in prepared.now).theory (windows_in windows.now)
         (marks_of (program_in prepared.now).theory scope.now) (map exit_value_of fields.now) slots.now
         (map marked_field_of fs.items))) }

@@ -2,6 +2,7 @@
 
 ghost use Rattle.std.specs.Prelude.{ℕ};
 ghost use Rattle.spec_core.specs.Code.{program_of};
+ghost use Rattle.spec_core.specs.Lists.{Each};
 ghost use Rattle.spec_core.specs.Ready.{IsReady};
 ghost use Rattle.rule_model.specs.Derivations.{pre, int, exiting};
 ghost use Rattle.symbolic_rules.specs.Windows.{Windows};
@@ -10,6 +11,7 @@ ghost use Rattle.rule_origins.specs.Parts.{behaviour_at};
 ghost use Rattle.node_values.specs.Scopes.{marks_of};
 ghost use Rattle.symbolic_rules.specs.Tables.{windows_in};
 ghost use Rattle.node_values.specs.Prepared.{program_in};
+ghost use Rattle.node_verdict.specs.Choosing.{ChoosesValue};
 ghost use Rattle.node_verdict.specs.Judged.{Judged};
 
 use crate::choosing::{Filled, filled_exit, filled_fields, guard_may_hold};
@@ -35,6 +37,7 @@ pub fn acts(
     budget: u64,
 ) -> Result<Option<Shown>, Stop>
     requires ready { IsReady (program_in prepared.now) }
+    requires values { Each (ChoosesValue (program_in prepared.now).theory) slots.now }
     ensures judged { Judged (program_in prepared.now) (windows_in windows.now) budget
         (marks_of (program_in prepared.now).theory scope.now) (behaviour_at (program_in prepared.now) node) (pre slots.now) result }
 {
@@ -92,6 +95,7 @@ pub fn terminates(
     budget: u64,
 ) -> Result<Option<Shown>, Stop>
     requires ready { IsReady (program_in prepared.now) }
+    requires values { Each (ChoosesValue (program_in prepared.now).theory) slots.now }
     ensures judged { Judged (program_in prepared.now) (windows_in windows.now) budget
         (marks_of (program_in prepared.now).theory scope.now) (behaviour_at (program_in prepared.now) node) (exiting slots.now) result }
 {

@@ -12,6 +12,7 @@ ghost use Rattle.symbolic_actions.specs.Models.{show_of};
 ghost use Rattle.symbolic_actions.specs.Shows.{Shows};
 ghost use Rattle.node_values.specs.Prepared.{program_in};
 ghost use Rattle.node_verdict.specs.Asking.{TreeAsks};
+ghost use Rattle.node_verdict.specs.Choosing.{ChoosesValues};
 ghost use Rattle.node_verdict.specs.Judged.{Judged};
 
 use crate::relabelled::judge_relabelled;
@@ -38,6 +39,7 @@ fn judge_source(
     budget: u64,
 ) -> Result<Option<Shown>, Stop>
     requires ready { IsReady (program_in prepared.now) }
+    requires values { ChoosesValues (program_in prepared.now).theory (derivation_of rules.now) }
     ensures judged { Judged (program_in prepared.now) (windows_in windows.now) budget unmarked
         (relabelled_by (map relabelling_of pairs.now) (scoped (program_in prepared.now) node values.now)) (derivation_of rules.now) result }
 {
@@ -61,6 +63,7 @@ pub fn shown_by(
     budget: u64,
 ) -> Result<Option<Shown>, Stop>
     requires ready { IsReady (program_in prepared.now) }
+    requires values { ChoosesValues (program_in prepared.now).theory (derivation_of rules.now) }
     ensures shows { IfOk result (λ o. Shows (program_in prepared.now) (windows_in windows.now)
         (meaning (program_in prepared.now) (source_of origin.now)) (derivation_of rules.now) (option_map show_of o)) }
     ensures stop { IfErr result (Stops (program_in prepared.now).theory budget (TreeAsks (program_in prepared.now) (windows_in windows.now)

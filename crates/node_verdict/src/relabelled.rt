@@ -13,6 +13,7 @@ ghost use Rattle.node_values.specs.Scopes.{marks_of};
 ghost use Rattle.node_trees.specs.Origins.{relabelled_by};
 ghost use Rattle.symbolic_rules.specs.Tables.{windows_in};
 ghost use Rattle.node_values.specs.Prepared.{program_in};
+ghost use Rattle.node_verdict.specs.Choosing.{ChoosesValues};
 ghost use Rattle.node_verdict.specs.Judged.{Judged};
 
 use crate::walking::{called, walk, walk_renamed};
@@ -42,6 +43,7 @@ fn judge_call(
     budget: u64,
 ) -> Result<Option<Shown>, Stop>
     requires ready { IsReady (program_in prepared.now) }
+    requires values { ChoosesValues (program_in prepared.now).theory (derivation_of rules.now) }
     ensures judged { Judged (program_in prepared.now) (windows_in windows.now) budget
         (marks_of (program_in prepared.now).theory scope.now) (call process (map gate_number gates.now) (map term_of terms.now))
         (derivation_of rules.now) result }
@@ -86,6 +88,7 @@ pub fn judge_tidied(
     budget: u64,
 ) -> Result<Option<Shown>, Stop>
     requires ready { IsReady (program_in prepared.now) }
+    requires values { ChoosesValues (program_in prepared.now).theory (derivation_of rules.now) }
     ensures judged { Judged (program_in prepared.now) (windows_in windows.now) budget
         (marks_of (program_in prepared.now).theory scope.now)
         (tidied (map relabelling_of pairs.now) (behaviour_at (program_in prepared.now) node)) (derivation_of rules.now) result }
@@ -118,6 +121,7 @@ pub fn judge_relabelled(
     budget: u64,
 ) -> Result<Option<Shown>, Stop>
     requires ready { IsReady (program_in prepared.now) }
+    requires values { ChoosesValues (program_in prepared.now).theory (derivation_of rules.now) }
     ensures judged { Judged (program_in prepared.now) (windows_in windows.now) budget
         (marks_of (program_in prepared.now).theory scope.now)
         (relabelled_by (map relabelling_of pairs.now) (behaviour_at (program_in prepared.now) node)) (derivation_of rules.now) result }

@@ -12,6 +12,7 @@ ghost use Rattle.rule_origins.specs.Parts.{behaviour_at};
 ghost use Rattle.node_values.specs.Scopes.{marks_of};
 ghost use Rattle.symbolic_rules.specs.Tables.{windows_in};
 ghost use Rattle.node_values.specs.Prepared.{program_in};
+ghost use Rattle.node_verdict.specs.Choosing.{ChoosesValue, ChoosesValues};
 ghost use Rattle.node_verdict.specs.Judged.{Judged};
 
 use crate::choosing::{chosen, lies_within};
@@ -62,6 +63,7 @@ fn left_chosen(
     budget: u64,
 ) -> Result<Option<Shown>, Stop>
     requires ready { IsReady (program_in prepared.now) }
+    requires values { ChoosesValues (program_in prepared.now).theory (derivation_of part.now) }
     ensures judged { Judged (program_in prepared.now) (windows_in windows.now) budget
         (marks_of (program_in prepared.now).theory scope.now) (behaviour_at (program_in prepared.now) node)
         (chl (derivation_of part.now)) result }
@@ -84,6 +86,7 @@ fn right_chosen(
     budget: u64,
 ) -> Result<Option<Shown>, Stop>
     requires ready { IsReady (program_in prepared.now) }
+    requires values { ChoosesValues (program_in prepared.now).theory (derivation_of part.now) }
     ensures judged { Judged (program_in prepared.now) (windows_in windows.now) budget
         (marks_of (program_in prepared.now).theory scope.now) (behaviour_at (program_in prepared.now) node)
         (chr (derivation_of part.now)) result }
@@ -107,6 +110,8 @@ fn value_chosen(
     budget: u64,
 ) -> Result<Option<Shown>, Stop>
     requires ready { IsReady (program_in prepared.now) }
+    requires value { ChoosesValue (program_in prepared.now).theory slot.now }
+    requires values { ChoosesValues (program_in prepared.now).theory (derivation_of part.now) }
     ensures judged { Judged (program_in prepared.now) (windows_in windows.now) budget
         (marks_of (program_in prepared.now).theory scope.now) (behaviour_at (program_in prepared.now) node)
         (val slot.now (derivation_of part.now)) result }
@@ -139,6 +144,7 @@ fn gate_chosen(
     budget: u64,
 ) -> Result<Option<Shown>, Stop>
     requires ready { IsReady (program_in prepared.now) }
+    requires values { ChoosesValues (program_in prepared.now).theory (derivation_of part.now) }
     ensures judged { Judged (program_in prepared.now) (windows_in windows.now) budget
         (marks_of (program_in prepared.now).theory scope.now) (behaviour_at (program_in prepared.now) node)
         (gate place (derivation_of part.now)) result }
@@ -169,6 +175,7 @@ fn guarded(
     budget: u64,
 ) -> Result<Option<Shown>, Stop>
     requires ready { IsReady (program_in prepared.now) }
+    requires values { ChoosesValues (program_in prepared.now).theory (derivation_of part.now) }
     ensures judged { Judged (program_in prepared.now) (windows_in windows.now) budget
         (marks_of (program_in prepared.now).theory scope.now) (behaviour_at (program_in prepared.now) node)
         (guard (derivation_of part.now)) result }
@@ -197,6 +204,7 @@ fn bound(
     budget: u64,
 ) -> Result<Option<Shown>, Stop>
     requires ready { IsReady (program_in prepared.now) }
+    requires values { ChoosesValues (program_in prepared.now).theory (derivation_of part.now) }
     ensures judged { Judged (program_in prepared.now) (windows_in windows.now) budget
         (marks_of (program_in prepared.now).theory scope.now) (behaviour_at (program_in prepared.now) node)
         (letting (derivation_of part.now)) result }
@@ -225,6 +233,7 @@ fn left_alone(
     budget: u64,
 ) -> Result<Option<Shown>, Stop>
     requires ready { IsReady (program_in prepared.now) }
+    requires values { ChoosesValues (program_in prepared.now).theory (derivation_of part.now) }
     ensures judged { Judged (program_in prepared.now) (windows_in windows.now) budget
         (marks_of (program_in prepared.now).theory scope.now) (behaviour_at (program_in prepared.now) node)
         (parl (derivation_of part.now)) result }
@@ -250,6 +259,7 @@ fn right_alone(
     budget: u64,
 ) -> Result<Option<Shown>, Stop>
     requires ready { IsReady (program_in prepared.now) }
+    requires values { ChoosesValues (program_in prepared.now).theory (derivation_of part.now) }
     ensures judged { Judged (program_in prepared.now) (windows_in windows.now) budget
         (marks_of (program_in prepared.now).theory scope.now) (behaviour_at (program_in prepared.now) node)
         (parr (derivation_of part.now)) result }
@@ -276,6 +286,7 @@ fn together(
     budget: u64,
 ) -> Result<Option<Shown>, Stop>
     requires ready { IsReady (program_in prepared.now) }
+    requires values { ChoosesValues (program_in prepared.now).theory (both (derivation_of first.now) (derivation_of second.now)) }
     ensures judged { Judged (program_in prepared.now) (windows_in windows.now) budget
         (marks_of (program_in prepared.now).theory scope.now) (behaviour_at (program_in prepared.now) node)
         (both (derivation_of first.now) (derivation_of second.now)) result }
@@ -312,6 +323,7 @@ fn hidden(
     budget: u64,
 ) -> Result<Option<Shown>, Stop>
     requires ready { IsReady (program_in prepared.now) }
+    requires values { ChoosesValues (program_in prepared.now).theory (derivation_of part.now) }
     ensures judged { Judged (program_in prepared.now) (windows_in windows.now) budget
         (marks_of (program_in prepared.now).theory scope.now) (behaviour_at (program_in prepared.now) node)
         (hiding (derivation_of part.now)) result }
@@ -337,6 +349,7 @@ fn passed(
     budget: u64,
 ) -> Result<Option<Shown>, Stop>
     requires ready { IsReady (program_in prepared.now) }
+    requires values { ChoosesValues (program_in prepared.now).theory (derivation_of part.now) }
     ensures judged { Judged (program_in prepared.now) (windows_in windows.now) budget
         (marks_of (program_in prepared.now).theory scope.now) (behaviour_at (program_in prepared.now) node)
         (pass (derivation_of part.now)) result }
@@ -362,6 +375,7 @@ fn before_end(
     budget: u64,
 ) -> Result<Option<Shown>, Stop>
     requires ready { IsReady (program_in prepared.now) }
+    requires values { ChoosesValues (program_in prepared.now).theory (derivation_of part.now) }
     ensures judged { Judged (program_in prepared.now) (windows_in windows.now) budget
         (marks_of (program_in prepared.now).theory scope.now) (behaviour_at (program_in prepared.now) node)
         (enstep (derivation_of part.now)) result }
@@ -387,6 +401,7 @@ fn handed_on(
     budget: u64,
 ) -> Result<Option<Shown>, Stop>
     requires ready { IsReady (program_in prepared.now) }
+    requires values { ChoosesValues (program_in prepared.now).theory (derivation_of part.now) }
     ensures judged { Judged (program_in prepared.now) (windows_in windows.now) budget
         (marks_of (program_in prepared.now).theory scope.now) (behaviour_at (program_in prepared.now) node)
         (enend (derivation_of part.now)) result }
@@ -412,6 +427,7 @@ fn undisabled(
     budget: u64,
 ) -> Result<Option<Shown>, Stop>
     requires ready { IsReady (program_in prepared.now) }
+    requires values { ChoosesValues (program_in prepared.now).theory (derivation_of part.now) }
     ensures judged { Judged (program_in prepared.now) (windows_in windows.now) budget
         (marks_of (program_in prepared.now).theory scope.now) (behaviour_at (program_in prepared.now) node)
         (disstep (derivation_of part.now)) result }
@@ -437,6 +453,7 @@ fn ended(
     budget: u64,
 ) -> Result<Option<Shown>, Stop>
     requires ready { IsReady (program_in prepared.now) }
+    requires values { ChoosesValues (program_in prepared.now).theory (derivation_of part.now) }
     ensures judged { Judged (program_in prepared.now) (windows_in windows.now) budget
         (marks_of (program_in prepared.now).theory scope.now) (behaviour_at (program_in prepared.now) node)
         (disend (derivation_of part.now)) result }
@@ -462,6 +479,7 @@ fn disabling(
     budget: u64,
 ) -> Result<Option<Shown>, Stop>
     requires ready { IsReady (program_in prepared.now) }
+    requires values { ChoosesValues (program_in prepared.now).theory (derivation_of part.now) }
     ensures judged { Judged (program_in prepared.now) (windows_in windows.now) budget
         (marks_of (program_in prepared.now).theory scope.now) (behaviour_at (program_in prepared.now) node)
         (distake (derivation_of part.now)) result }
@@ -486,6 +504,7 @@ pub fn called(
     budget: u64,
 ) -> Result<Option<Shown>, Stop>
     requires ready { IsReady (program_in prepared.now) }
+    requires values { ChoosesValues (program_in prepared.now).theory (derivation_of part.now) }
     ensures judged { Judged (program_in prepared.now) (windows_in windows.now) budget
         (marks_of (program_in prepared.now).theory scope.now) (call process (map gate_number gates.now) (map term_of terms.now))
         (calling (derivation_of part.now)) result }
@@ -519,6 +538,7 @@ fn call_acts(
     budget: u64,
 ) -> Result<Option<Shown>, Stop>
     requires ready { IsReady (program_in prepared.now) }
+    requires values { ChoosesValues (program_in prepared.now).theory (derivation_of part.now) }
     ensures judged { Judged (program_in prepared.now) (windows_in windows.now) budget
         (marks_of (program_in prepared.now).theory scope.now) (behaviour_at (program_in prepared.now) node)
         (calling (derivation_of part.now)) result }
@@ -543,6 +563,7 @@ fn renamed(
     budget: u64,
 ) -> Result<Option<Shown>, Stop>
     requires ready { IsReady (program_in prepared.now) }
+    requires values { ChoosesValues (program_in prepared.now).theory (derivation_of part.now) }
     ensures judged { Judged (program_in prepared.now) (windows_in windows.now) budget
         (marks_of (program_in prepared.now).theory scope.now) (behaviour_at (program_in prepared.now) node)
         (rel (derivation_of part.now)) result }
@@ -569,6 +590,7 @@ pub fn walk_renamed(
     budget: u64,
 ) -> Result<Option<Shown>, Stop>
     requires ready { IsReady (program_in prepared.now) }
+    requires values { ChoosesValues (program_in prepared.now).theory (derivation_of rules.now) }
     ensures judged { Judged (program_in prepared.now) (windows_in windows.now) budget
         (marks_of (program_in prepared.now).theory scope.now)
         (relabel (map relabelling_of pairs.now) (behaviour_at (program_in prepared.now) node)) (derivation_of rules.now) result }
@@ -614,6 +636,7 @@ pub fn walk(
     budget: u64,
 ) -> Result<Option<Shown>, Stop>
     requires ready { IsReady (program_in prepared.now) }
+    requires values { ChoosesValues (program_in prepared.now).theory (derivation_of rules.now) }
     ensures judged { Judged (program_in prepared.now) (windows_in windows.now) budget
         (marks_of (program_in prepared.now).theory scope.now) (behaviour_at (program_in prepared.now) node)
         (derivation_of rules.now) result }

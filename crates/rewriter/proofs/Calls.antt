@@ -9,22 +9,20 @@ use Rattle.spec_core.specs.Lists.{Each}
 use Rattle.spec_core.specs.Terms.{TermTree, TermTrees, variable, apply, no_terms, width, instance, instances, Occurs, term_of}
 use Rattle.spec_core.specs.Theories.{Premise, premise, ConditionalEquation, Theory, Heads, OccursInPremises, premise_of, equation_of}
 use Rattle.spec_core.specs.Theories.{theory_of}
-use Rattle.spec_core.specs.Constructors.{IsConstructor, IsConstructed}
 use Rattle.spec_core.specs.Orthogonality.{HasNoLooseVariables, HasPatterns, IsLinear}
 use Rattle.spec_core.specs.Executable.{IsExecutable}
 use Rattle.data_laws.proofs.Exists.{width_instances}
 use Rattle.value_nodes.specs.declared.node.Node.{Node}
 use Rattle.rewriter.specs.declared.step.Step.{Step}
 use Rattle.rewriter.specs.declared.step.Step.TheVariants.{Put, Call, Decide}
-use Rattle.value_nodes.specs.Nodes.{tree_at, IsNode, IsLonger, AreSmall, AreValues}
+use Rattle.value_nodes.specs.Nodes.{tree_at, IsNode, IsLonger}
 use Rattle.value_nodes.specs.Sizes.{IsTooLarge}
-use Rattle.value_nodes.specs.Sizes.{symbols}
-use Rattle.rewriter.specs.Machine.{gives, Trying, Asking, Deciding, Through, put, call, decide, plan, top, Comes, Keeps, Exceeds}
+use Rattle.rewriter.specs.Machine.{gives, meets, Trying, Asking, Deciding, Through, put, call, decide, plan, top, Comes, Keeps, Exceeds}
 use Rattle.rewriter.specs.Steps.{IsHeld, no_equation, equation_at, bound_at, put_by, task_of, IsStep, IsMatch}
 use Rattle.rewriter.specs.Runs.{Coming, MeetsLarge}
-use Rattle.rewriter.specs.Calls.{arguments_of, Pending, Wanting, IsCallOf, ArePlanned, Decided, Choosing}
+use Rattle.rewriter.specs.Calls.{arguments_of, Pending, Wanting, IsCallOf, ArePlanned, Decided, Choosing, Left, Asked}
 use Rattle.rewriter.proofs.Plans.{planned}
-use Rattle.rewriter.proofs.Moves.{same, keep_on, through, passed, matched, used_once, spent, stuck, made, made_met, asks}
+use Rattle.rewriter.proofs.Moves.{same, keep_on, through, passed, matched, used_once, spent, stayed, stayed_met, asks}
 use Rattle.rewriter.proofs.Turns.{opened, decided_alike, decided_unalike}
 use Rattle.rewriter.proofs.Tops.{top_width}
 use Rattle.rewriter.proofs.Following.{all_held}
@@ -46,7 +44,7 @@ mapped_at f [] i x d h e = absurd (omega arith)
 mapped_at f (y ∷ xs) zero x d h e = ap f (sym e)
 mapped_at f (y ∷ xs) (suc i) x d h e = mapped_at f xs i x d (omega arith) e
 
-still_occurs : (x n : ℕ) (ps : List Premise) → OccursInPremises x (drop n ps) → OccursInPremises x ps
+pub still_occurs : (x n : ℕ) (ps : List Premise) → OccursInPremises x (drop n ps) → OccursInPremises x ps
 still_occurs x zero ps o = o
 still_occurs x (suc n) [] o = o
 still_occurs x (suc n) (premise a b ∷ ps) o = inr (inr (still_occurs x n ps o))
@@ -95,14 +93,14 @@ pub still_steps : (theory : Theory) (old new : List Node) → IsLonger old new �
     Each (IsStep theory new) todo
 still_steps theory old new h [] e = tt
 still_steps theory old new h (Put i ∷ todo) e = (omega (arith, h.at_least, e.0), still_steps theory old new h todo e.1)
-still_steps theory old new h (Call op k ∷ todo) e = (tt, still_steps theory old new h todo e.1)
-still_steps theory old new h (Decide i k ∷ todo) e = (e.0, still_steps theory old new h todo e.1)
+still_steps theory old new h (Call op k ∷ todo) e = (e.0, still_steps theory old new h todo e.1)
+still_steps theory old new h (Decide i k start ∷ todo) e = (e.0, still_steps theory old new h todo e.1)
 
 pub still_held : (old new : List Node) → IsLonger old new → (todo : List Step) → Each (IsHeld old) todo → Each (IsHeld new) todo
 still_held old new h [] e = tt
 still_held old new h (Put i ∷ todo) e = (omega (arith, h.at_least, e.0), still_held old new h todo e.1)
 still_held old new h (Call op k ∷ todo) e = (tt, still_held old new h todo e.1)
-still_held old new h (Decide i k ∷ todo) e = (tt, still_held old new h todo e.1)
+still_held old new h (Decide i k start ∷ todo) e = (tt, still_held old new h todo e.1)
 
 pub same_tasks : (theory : Theory) (old new : List Node) → IsLonger old new → (todo : List Step) → Each (IsHeld old) todo →
     map (task_of theory new) todo ≡ map (task_of theory old) todo
@@ -112,10 +110,10 @@ same_tasks theory old new h (Put i ∷ todo) e =
     let b = same_tasks theory old new h todo e.1 in
     ap (λ t. put t ∷ map (task_of theory new) todo) a ∙ ap (λ ts. put (tree_at old i) ∷ ts) b
 same_tasks theory old new h (Call op k ∷ todo) e = ap (λ ts. call op.0 k ∷ ts) (same_tasks theory old new h todo e.1)
-same_tasks theory old new h (Decide i k ∷ todo) e = ap (λ ts. task_of theory new (Decide i k) ∷ ts) (same_tasks theory old new h todo e.1)
+same_tasks theory old new h (Decide i k start ∷ todo) e = ap (λ ts. task_of theory new (Decide i k start) ∷ ts) (same_tasks theory old new h todo e.1)
 
 module _ (theory : Theory) where
-  skips : (f : ℕ) (vs : TermTrees) (a : ℕ) (es : List ConditionalEquation) (from place : ℕ) → from ≤ place →
+  pub skips : (f : ℕ) (vs : TermTrees) (a : ℕ) (es : List ConditionalEquation) (from place : ℕ) → from ≤ place →
       ((j : ℕ) → from ≤ j → j < place → j < length es → (s : ℕ → TermTree) →
       instance s (slice_index_or es j no_equation).left ≡ apply f vs → ⊥) →
       Keeps (Trying theory (drop from es) f vs) a (Trying theory (drop place es) f vs) a
@@ -168,83 +166,64 @@ module _ (theory : Theory) where
         let c : variable x ≡ apply p.0 p.1 = sym q ∙ p.2 in
         let n : ⊥ = cc in n
 
-    pub is_defined : (place f : ℕ) → place < length theory.equations → Heads f (equation_at theory place) → IsConstructor theory f → ⊥
-    is_defined place f h hd (inl none) = at_place (λ e. Heads f e → ⊥) theory.equations place none h hd
-    is_defined place f h hd (inr marked) = at_place _ theory.equations place ex.orthogonal.unmarked h f hd marked
-
-    nothing_headed : (f : ℕ) (es : List ConditionalEquation) → ((j : ℕ) → j < length es → Heads f (slice_index_or es j no_equation) → ⊥) →
-        Each (λ e. Heads f e → ⊥) es
-    nothing_headed f [] h = tt
-    nothing_headed f (e ∷ es) h = (h 0 (omega arith), nothing_headed f es (λ j l. h (suc j) (omega (arith, l))))
-
-    pub is_constructor : (f : ℕ) → ((j : ℕ) → j < length theory.equations → Heads f (equation_at theory j) → ⊥) → IsConstructor theory f
-    is_constructor f h = inl (nothing_headed f theory.equations h)
-
     module _ (rows : List Node) (place f k : ℕ) (todo : List Step) (there : List ℕ) where
-      -- an equation that matches
-      pub pending_found : (bound : List ℕ) (uses : ℕ) → place < length theory.equations →
+      -- an equation that matches is asked
+      pub left_asked : (bound : List ℕ) (uses : ℕ) → place < length theory.equations →
           IsMatch rows bound (equation_at theory place).left (apply f (arguments_of rows k there)) →
-          Keeps (Pending theory rows place f k todo there) uses (Wanting theory rows bound place 0 f k todo there) uses
-      pending_found bound uses h m =
+          Keeps (Left theory rows place f k there) uses (Asked theory rows bound place 0 f k there) uses
+      left_asked bound uses h m =
           let e = equation_at theory place in
           let vs = arguments_of rows k there in
           let t = matched theory e (drop (suc place) theory.equations) f vs (put_by rows bound) uses (tight_at place h) m.fits in
           let u = subst (λ es. Keeps (Trying theory es f vs) uses
           (Asking theory e.premises e.right (put_by rows bound) (drop (suc place) theory.equations) f vs) uses)
           (sym (split_at theory.equations place no_equation h)) t in
-          let q = through (λ w. Comes theory (map (task_of theory rows) todo) (w ∷ drop k (map (tree_at rows) there))) uses uses u in
+          record { back = u.back; on = u.on; met = u.met; large = u.large }
+
+      pub pending_found : (bound : List ℕ) (uses : ℕ) → place < length theory.equations →
+          IsMatch rows bound (equation_at theory place).left (apply f (arguments_of rows k there)) →
+          Keeps (Pending theory rows place f k todo there) uses (Wanting theory rows bound place 0 f k todo there) uses
+      pending_found bound uses h m =
+          let q = through (λ w. Comes theory (map (task_of theory rows) todo) (w ∷ drop k (map (tree_at rows) there))) uses uses
+          (left_asked bound uses h m) in
           record { back = q.back; on = q.on; met = q.met; large = q.large }
 
       -- no equation is left
-      pub pending_stuck : (uses budget : ℕ) → length theory.equations ≤ place → (IsConstructor theory f → ⊥) →
-          Exceeds (Pending theory rows place f k todo there) uses budget
-      pending_stuck uses budget h c v n l =
-          stuck theory f (arguments_of rows k there)
-          (λ w. Comes theory (map (task_of theory rows) todo) (w ∷ drop k (map (tree_at rows) there))) uses budget c v n
-          (subst (λ es. Through (Trying theory es f (arguments_of rows k there))
-          (λ w. Comes theory (map (task_of theory rows) todo) (w ∷ drop k (map (tree_at rows) there))) (gives v n))
-          (drop_all place theory.equations h) l)
-
-      -- a constructor's value
-      pub pending_made : (new : List Node) (after : List ℕ) (uses : ℕ) → place ≡ 0 → IsConstructor theory f →
+      pub pending_stays : (new : List Node) (after : List ℕ) (uses : ℕ) → length theory.equations ≤ place →
           (IsTooLarge (apply f (arguments_of rows k there)) → ⊥) → IsLonger rows new → Each (IsStep theory rows) todo →
           map (tree_at new) after ≡ apply f (arguments_of rows k there) ∷ drop k (map (tree_at rows) there) →
           Keeps (Pending theory rows place f k todo there) uses (Coming theory new todo after) uses
-      pending_made new after uses z c small longer steps e =
-          let q = made theory ex f (arguments_of rows k there)
-          (λ w. Comes theory (map (task_of theory rows) todo) (w ∷ drop k (map (tree_at rows) there))) uses c small in
-          subst (λ p. Keeps (Pending theory rows p f k todo there) uses (Coming theory new todo after) uses) (sym z)
-          (subst (λ vals. Keeps (Pending theory rows 0 f k todo there) uses (Comes theory (map (task_of theory new) todo) vals) uses)
-          (sym e)
-          (subst (λ tasks. Keeps (Pending theory rows 0 f k todo there) uses
+      pending_stays new after uses h small longer steps e =
+          let rest = λ (w : TermTree). Comes theory (map (task_of theory rows) todo) (w ∷ drop k (map (tree_at rows) there)) in
+          let q = stayed theory f (arguments_of rows k there) rest uses small in
+          let i = subst (λ es. Keeps (Through (Trying theory es f (arguments_of rows k there)) rest) uses
+          (Comes theory (map (task_of theory rows) todo) (apply f (arguments_of rows k there) ∷ drop k (map (tree_at rows) there))) uses)
+          (sym (drop_all place theory.equations h)) (record { back = q.back; on = q.on; met = q.met; large = q.large }) in
+          let j = subst (λ tasks. Keeps (Pending theory rows place f k todo there) uses
           (Comes theory tasks (apply f (arguments_of rows k there) ∷ drop k (map (tree_at rows) there))) uses)
           (sym (same_tasks theory rows new longer todo (all_held theory rows todo steps)))
-          (record { back = q.back; on = q.on; met = q.met; large = q.large })))
+          (record { back = i.back; on = i.on; met = i.met; large = i.large }) in
+          let l = subst (λ vals. Keeps (Pending theory rows place f k todo there) uses (Comes theory (map (task_of theory new) todo) vals)
+          uses) (sym e) j in
+          record { back = l.back; on = l.on; met = l.met; large = l.large }
 
-      pub pending_large : place ≡ 0 → IsConstructor theory f → 65536 < symbols (apply f (arguments_of rows k there)) →
+      pub pending_large : length theory.equations ≤ place → IsTooLarge (apply f (arguments_of rows k there)) →
           MeetsLarge (Pending theory rows place f k todo there)
-      pending_large z c h =
-          subst (λ p. MeetsLarge (Pending theory rows p f k todo there)) (sym z) (
+      pending_large h big =
+          let rest = λ (w : TermTree). Comes theory (map (task_of theory rows) todo) (w ∷ drop k (map (tree_at rows) there)) in (
             apply f (arguments_of rows k there),
-            made_met theory ex f (arguments_of rows k there)
-                (λ w. Comes theory (map (task_of theory rows) todo) (w ∷ drop k (map (tree_at rows) there))) c,
-            h,
+            subst (λ es. Through (Trying theory es f (arguments_of rows k there)) rest (meets (apply f (arguments_of rows k there))))
+                (sym (drop_all place theory.equations h)) (stayed_met theory f (arguments_of rows k there) rest),
+            big,
           )
 
     module _ (rows : List Node) (bound : List ℕ) (place next f k : ℕ) (todo : List Step) (there : List ℕ)
         (h : place < length theory.equations)
         (m : IsMatch rows bound (equation_at theory place).left (apply f (arguments_of rows k there))) where
-      constructed : AreValues theory rows → (x : ℕ) → Occurs x (equation_at theory place).left → IsConstructed theory (put_by rows bound x)
-      constructed c x o = c (bound_at bound x) (m.nodes x o)
-
-      small : AreSmall rows → (x : ℕ) → Occurs x (equation_at theory place).left → IsTooLarge (put_by rows bound x) → ⊥
-      small a x o = a (bound_at bound x) (m.nodes x o)
-
       -- a premise is asked
-      pub wanting_asks : (new : List Step) (uses : ℕ) → AreValues theory rows → AreSmall rows →
-          ArePlanned theory rows bound place next todo new →
+      pub wanting_asks : (new : List Step) (start uses : ℕ) → ArePlanned theory rows bound place next start todo new →
           Keeps (Wanting theory rows bound place next f k todo there) uses (Coming theory rows new there) uses
-      wanting_asks new uses c rs p =
+      wanting_asks new start uses p =
           let e = equation_at theory place in
           let s = put_by rows bound in
           let vals = map (tree_at rows) there in
@@ -254,20 +233,19 @@ module _ (theory : Theory) where
           let t = top_width k (width shape.1) vals w in
           let inside : (x : ℕ) → OccursInPremises x (premise p.left p.right ∷ drop (next + 1) e.premises) →
           OccursInPremises x e.premises = λ x o. still_occurs x next e.premises (subst (OccursInPremises x) (sym p.asks) o) in
-          let q = asks theory ex e p.left p.right (drop (next + 1) e.premises) s (drop (suc place) theory.equations) f shape.1
-          (arguments_of rows k there) (map (task_of theory rows) todo) vals uses hd.0 t.0 m.fits (tight_at place h) inside
-          (constructed c) (small rs) in
+          let q = asks theory ex.orthogonal.closed e p.left p.right (drop (next + 1) e.premises) s (drop (suc place) theory.equations) f
+          (arguments_of rows k there) m.fits (tight_at place h) inside shape.1 (map (task_of theory rows) todo) vals start uses hd.0 t.0 in
           let r = subst (λ d. Keeps (Through
           (Asking theory (premise p.left p.right ∷ drop (next + 1) e.premises) e.right s (drop (suc place) theory.equations) f
           (arguments_of rows k there)) (λ w. Comes theory (map (task_of theory rows) todo) (w ∷ d))) uses
           (Comes theory (plan s p.left (plan s p.right
-          (decide e (drop (next + 1) e.premises) (drop (suc place) theory.equations) ∷ map (task_of theory rows) todo))) vals) uses)
+          (decide e (drop (next + 1) e.premises) (drop (suc place) theory.equations) start ∷ map (task_of theory rows) todo))) vals) uses)
           (sym t.1) q in
           let i = subst (λ ps. Keeps (Through
           (Asking theory ps e.right s (drop (suc place) theory.equations) f (arguments_of rows k there))
           (λ w. Comes theory (map (task_of theory rows) todo) (w ∷ drop k vals))) uses
           (Comes theory (plan s p.left (plan s p.right
-          (decide e (drop (next + 1) e.premises) (drop (suc place) theory.equations) ∷ map (task_of theory rows) todo))) vals) uses)
+          (decide e (drop (next + 1) e.premises) (drop (suc place) theory.equations) start ∷ map (task_of theory rows) todo))) vals) uses)
           (sym p.asks) r in
           let j = subst (λ tasks. Keeps (Through
           (Asking theory (drop next e.premises) e.right s (drop (suc place) theory.equations) f (arguments_of rows k there))
@@ -276,19 +254,18 @@ module _ (theory : Theory) where
           record { back = j.back; on = j.on; met = j.met; large = j.large }
 
       -- the equation is used
-      pub wanting_uses : (new : List Step) (after : List ℕ) (uses : ℕ) → AreValues theory rows → AreSmall rows →
+      pub wanting_uses : (new : List Step) (after : List ℕ) (uses : ℕ) →
           length (equation_at theory place).premises ≤ next →
           map (task_of theory rows) new ≡ plan (put_by rows bound) (equation_at theory place).right (map (task_of theory rows) todo) →
           map (tree_at rows) after ≡ drop k (map (tree_at rows) there) →
           Keeps (Wanting theory rows bound place next f k todo there) uses (Coming theory rows new after) (uses + 1)
-      wanting_uses new after uses c rs n steps vals =
+      wanting_uses new after uses n steps vals =
           let e = equation_at theory place in
           let s = put_by rows bound in
           let rest = λ (w : TermTree). Comes theory (map (task_of theory rows) todo) (w ∷ drop k (map (tree_at rows) there)) in
           let a = through rest uses (uses + 1)
           (used_once theory e.right s (drop (suc place) theory.equations) f (arguments_of rows k there) uses) in
-          let b = planned theory ex s e.right (λ x o. constructed c x ((tight_at place h).right x o))
-          (λ x o. small rs x ((tight_at place h).right x o)) (map (task_of theory rows) todo)
+          let b = planned theory s e.right (map (task_of theory rows) todo)
           (drop k (map (tree_at rows) there)) (uses + 1) in
           let d = keep_on uses (uses + 1) (uses + 1) a b in
           let i = subst (λ ps. Keeps (Through
@@ -319,20 +296,20 @@ module _ (theory : Theory) where
       right_nodes x o = m.nodes x ((tight_at place h).right x o)
 
     module _ (rows : List Node) (place next f k : ℕ) (todo : List Step) (there : List ℕ) (a b : TermTree)
-        (h : place < length theory.equations) (head : IsCallOf theory place f k) where
+        (start : ℕ) (h : place < length theory.equations) (head : IsCallOf theory place f k) where
       -- the two values are equal
       pub decided_holds : (bound : List ℕ) (uses : ℕ) →
           IsMatch rows bound (equation_at theory place).left (apply f (arguments_of rows k there)) → a ≡ b →
-          Keeps (Decided theory rows place next a b todo there) uses (Wanting theory rows bound place next f k todo there) uses
+          Keeps (Decided theory rows place next start a b todo there) uses (Wanting theory rows bound place next f k todo there) uses
       decided_holds bound uses m alike =
           let e = equation_at theory place in
           let vals = map (tree_at rows) there in
           let over : arguments_of rows k there ≡ top (width head.0) vals no_terms = ap (λ i. top i vals no_terms) head.2 in
           let q = decided_alike theory e (drop next e.premises) (drop (suc place) theory.equations) f head.0 (arguments_of rows k there)
-          (map (task_of theory rows) todo) vals a b head.1 over (put_by rows bound) uses m.fits (tight_at place h)
+          (map (task_of theory rows) todo) vals a b start head.1 over (put_by rows bound) uses m.fits (tight_at place h)
           (λ x o. still_occurs x next e.premises o) alike in
           let r = subst (λ i. Keeps (Comes theory
-          (decide e (drop next e.premises) (drop (suc place) theory.equations) ∷ map (task_of theory rows) todo) (b ∷ a ∷ vals)) uses
+          (decide e (drop next e.premises) (drop (suc place) theory.equations) start ∷ map (task_of theory rows) todo) (b ∷ a ∷ vals)) uses
           (Through (Asking theory (drop next e.premises) e.right (put_by rows bound) (drop (suc place) theory.equations) f
           (arguments_of rows k there)) (λ w. Comes theory (map (task_of theory rows) todo) (w ∷ drop i vals))) uses) (sym head.2)
           (record { back = q.back; on = q.on; met = q.met; large = q.large }) in
@@ -341,13 +318,13 @@ module _ (theory : Theory) where
       -- no match, which can't be
       pub decided_nothing : (uses budget : ℕ) →
           ((s : ℕ → TermTree) → instance s (equation_at theory place).left ≡ apply f (arguments_of rows k there) → ⊥) → a ≡ b →
-          Exceeds (Decided theory rows place next a b todo there) uses budget
+          Exceeds (Decided theory rows place next start a b todo there) uses budget
       decided_nothing uses budget never alike v n l =
           let e = equation_at theory place in
           let vals = map (tree_at rows) there in
           let over : arguments_of rows k there ≡ top (width head.0) vals no_terms = ap (λ i. top i vals no_terms) head.2 in
           let o = opened theory e (drop next e.premises) (drop (suc place) theory.equations) f head.0 (arguments_of rows k there)
-          (map (task_of theory rows) todo) vals a b head.1 over (gives v n) l in
+          (map (task_of theory rows) todo) vals a b start head.1 over (gives v n) l in
           absurd (by_case o.3)
         where
           by_case : {w : TermTree} {c : ℕ} →
@@ -358,15 +335,15 @@ module _ (theory : Theory) where
 
       -- the two values differ
       pub decided_fails : (uses : ℕ) → (a ≡ b → ⊥) →
-          Keeps (Decided theory rows place next a b todo there) uses (Pending theory rows (suc place) f k todo there) uses
+          Keeps (Decided theory rows place next start a b todo there) uses (Pending theory rows (suc place) f k todo there) uses
       decided_fails uses differ =
           let e = equation_at theory place in
           let vals = map (tree_at rows) there in
           let over : arguments_of rows k there ≡ top (width head.0) vals no_terms = ap (λ i. top i vals no_terms) head.2 in
           let q = decided_unalike theory e (drop next e.premises) (drop (suc place) theory.equations) f head.0 (arguments_of rows k there)
-          (map (task_of theory rows) todo) vals a b head.1 over uses differ in
+          (map (task_of theory rows) todo) vals a b start head.1 over uses differ in
           let r = subst (λ i. Keeps (Comes theory
-          (decide e (drop next e.premises) (drop (suc place) theory.equations) ∷ map (task_of theory rows) todo) (b ∷ a ∷ vals)) uses
+          (decide e (drop next e.premises) (drop (suc place) theory.equations) start ∷ map (task_of theory rows) todo) (b ∷ a ∷ vals)) uses
           (Through (Trying theory (drop (suc place) theory.equations) f (arguments_of rows k there))
           (λ w. Comes theory (map (task_of theory rows) todo) (w ∷ drop i vals))) uses) (sym head.2)
           (record { back = q.back; on = q.on; met = q.met; large = q.large }) in
@@ -399,11 +376,11 @@ skip_more theory ex f vs from place next hd before here between j a b m s q = by
     by_place (inr (inr h)) = between j h b m (match_heads theory ex j f vs s m q)
 
 -- two values are on top
-pub chosen : (theory : Theory) (rows : List Node) (place next : ℕ) (todo : List Step) (there mid rest : List ℕ) (left right uses : ℕ) →
+pub chosen : (theory : Theory) (rows : List Node) (place next start : ℕ) (todo : List Step) (there mid rest : List ℕ) (left right uses : ℕ) →
     there ≡ right ∷ mid → mid ≡ left ∷ rest →
-    Keeps (Choosing theory rows place next todo there) uses
-    (Decided theory rows place next (tree_at rows left) (tree_at rows right) todo rest) uses
-chosen theory rows place next todo there mid rest left right uses e q =
-    subst (λ vs. Keeps (Choosing theory rows place next todo vs) uses
-    (Decided theory rows place next (tree_at rows left) (tree_at rows right) todo rest) uses) (sym (e ∙ ap (λ vs. right ∷ vs) q))
+    Keeps (Choosing theory rows place next start todo there) uses
+    (Decided theory rows place next start (tree_at rows left) (tree_at rows right) todo rest) uses
+chosen theory rows place next start todo there mid rest left right uses e q =
+    subst (λ vs. Keeps (Choosing theory rows place next start todo vs) uses
+    (Decided theory rows place next start (tree_at rows left) (tree_at rows right) todo rest) uses) (sym (e ∙ ap (λ vs. right ∷ vs) q))
     (record { back = λ v n l. (n, l, refl); on = λ v n l. (n, l, refl); met = λ w l. l; large = λ w b l. l })

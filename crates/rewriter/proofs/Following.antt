@@ -4,10 +4,10 @@ use Rattle.std.proofs.Common.{subst, ◌∙◌}
 use Rattle.std.proofs.lemmas.List.{map-append, reverse-reverse, take_all}
 use Rattle.spec_core.specs.Lists.{Each}
 use Rattle.spec_core.specs.Theories.{Theory}
-use Rattle.spec_core.specs.Values.{IsValue}
 use Rattle.spec_core.proofs.Lists.{map_reverse, take_next}
 use Rattle.value_nodes.specs.declared.node.Node.{Node}
-use Rattle.value_nodes.specs.Nodes.{tree_at, AreSmall, AreValues, IsNode}
+use Rattle.value_nodes.specs.Nodes.{tree_at, cost_at, AreSmall, IsNode}
+use Rattle.value_nodes.specs.Own.{IsOwnValue, AreOwnValues}
 use Rattle.value_nodes.specs.Sizes.{IsTooLarge}
 use Rattle.rewriter.specs.declared.step.Step.{Step}
 use Rattle.rewriter.specs.declared.step.Step.TheVariants.{Put, Call, Decide}
@@ -39,19 +39,19 @@ pub all_held : (theory : Theory) (rows : List Node) (todo : List Step) → Each 
 all_held theory rows [] e = tt
 all_held theory rows (Put i ∷ todo) e = (e.0, all_held theory rows todo e.1)
 all_held theory rows (Call op k ∷ todo) e = (tt, all_held theory rows todo e.1)
-all_held theory rows (Decide i k ∷ todo) e = (tt, all_held theory rows todo e.1)
+all_held theory rows (Decide i k start ∷ todo) e = (tt, all_held theory rows todo e.1)
 
 -- where no node stands for what is too large, no copy does
-pub copied_small : (old new : List Node) → ((n : ℕ) → IsNode new n → (i : ℕ) × IsNode old i × (tree_at new n ≡ tree_at old i)) →
-    AreSmall old → AreSmall new
+pub copied_small : (old new : List Node) → ((n : ℕ) → IsNode new n →
+    (i : ℕ) × IsNode old i × (tree_at new n ≡ tree_at old i) × (cost_at new n ≡ cost_at old i)) → AreSmall old → AreSmall new
 copied_small old new others small n h big =
     let k = others n h in
     small k.0 k.1 (subst IsTooLarge k.2 big)
 
--- where nodes stand for values, so do their copies
-pub copied_values : (theory : Theory) (old new : List Node) →
-    ((n : ℕ) → IsNode new n → (i : ℕ) × IsNode old i × (tree_at new n ≡ tree_at old i)) →
-    AreValues theory old → AreValues theory new
-copied_values theory old new others values n h =
+-- where nodes stand for their own values, so do their copies
+pub copied_own : (theory : Theory) (old new : List Node) → ((n : ℕ) → IsNode new n →
+    (i : ℕ) × IsNode old i × (tree_at new n ≡ tree_at old i) × (cost_at new n ≡ cost_at old i)) →
+    AreOwnValues theory old → AreOwnValues theory new
+copied_own theory old new others own n h =
     let k = others n h in
-    subst (IsValue theory) (sym k.2) (values k.0 k.1)
+    subst (λ t. IsOwnValue theory t (cost_at new n)) (sym k.2) (subst (IsOwnValue theory (tree_at old k.0)) (sym k.3) (own k.0 k.1))

@@ -1,10 +1,12 @@
+pub mod Arities
+pub mod Calling
 pub mod Calls
 pub mod Causes
+pub mod Counted
 pub mod Following
 pub mod Links
 pub mod Loop
 pub mod Matches
-pub mod Meets
 pub mod Moves
 pub mod Outcomes
 pub mod Plans

@@ -2,19 +2,14 @@
 use Rattle.std.proofs.Common.{ℕ, ◌≡◌, ◌+◌, ◌<◌, List, [], ◌∷◌, refl, sym, subst, ◌∙◌, arith, drop, inl, inr, ◌⊎◌}
 use Rattle.spec_core.specs.Lists.{Each}
 use Rattle.spec_core.specs.Terms.{TermTree, TermTrees, apply, no_terms, width, instance, Occurs}
-use Rattle.spec_core.specs.Theories.{Premise, premise, ConditionalEquation, Theory, Heads, OccursInPremises}
-use Rattle.spec_core.specs.Constructors.{IsConstructor, IsConstructed}
+use Rattle.spec_core.specs.Theories.{Premise, premise, ConditionalEquation, Theory, OccursInPremises}
 use Rattle.spec_core.specs.Orthogonality.{HasNoLooseVariables}
-use Rattle.spec_core.specs.Executable.{IsExecutable}
 use Rattle.spec_core.specs.Evaluation.{Evaluates, Tries, Asks, final, unlike, like, used, holds, fails, EvaluationMeets, AsksMeet, TriesMeet}
 use Rattle.spec_core.specs.Evaluation.{passed_over, asked, in_right, in_left_side, in_right_side, after_equal, after_unequal}
-use Rattle.spec_core.proofs.OneValue.{agree, same_instance}
+use Rattle.spec_core.proofs.OneValue.{one_value, agree, same_instance}
 use Rattle.value_nodes.specs.Sizes.{IsTooLarge}
-use Rattle.data_laws.proofs.Exists.{Headed, constructor_stays}
-use Rattle.data_laws.proofs.Conditions.{headed_of, bare_of}
 use Rattle.rewriter.specs.Machine.{Outcome, gives, meets, Evaluating, Trying, Asking, Deciding, Through, Task, decide, plan, top, OnCall}
-use Rattle.rewriter.specs.Machine.{Comes, Keeps, Exceeds}
-use Rattle.rewriter.proofs.Meets.{never_asked}
+use Rattle.rewriter.specs.Machine.{Comes, Keeps, Exceeds, ComesTo}
 use Rattle.rewriter.proofs.Plans.{plan_back, plan_on, plan_met, plan_reaches, plan_meets}
 
 pub same : {P : Outcome → Type 0} (a : ℕ) → Keeps P a P a
@@ -149,127 +144,143 @@ module _ (theory : Theory) where
       go : (w : TermTree) (c m : ℕ) → Asks theory [] r s es f vs w c → n ≡ c + m → budget < budget + n
       go w c m (used k t q) e = omega (arith, q, e)
 
-  -- an operation that heads an equation has no value where none is left
-  pub stuck : (f : ℕ) (vs : TermTrees) (Q : TermTree → Outcome → Type 0) (a budget : ℕ) → (IsConstructor theory f → ⊥) →
-      Exceeds (Through (Trying theory [] f vs) Q) a budget
-  stuck f vs Q a budget h v n l = go l.0 l.1 l.3
+  -- where no equation is left, the call stays; it isn't too large
+  pub stayed : (f : ℕ) (vs : TermTrees) (Q : TermTree → Outcome → Type 0) (a : ℕ) → (IsTooLarge (apply f vs) → ⊥) →
+      Keeps (Through (Trying theory [] f vs) Q) a (Q (apply f vs)) a
+  stayed f vs Q a small = record {
+    back = λ v n q. (n, (apply f vs, 0, n, final refl refl, q, omega arith), refl);
+    on = λ v n l. go v n l.0 l.1 l.2 l.3 l.4 l.5;
+    met = λ u q. inr (apply f vs, 0, final refl refl, inr q);
+    large = λ u b l. rest u b l;
+  }
     where
-      go : (w : TermTree) (c : ℕ) → Tries theory [] f vs w c → budget < a + n
-      go w c (final i e k) = absurd (h i)
+      none_meet : {u : TermTree} {es : List ConditionalEquation} → TriesMeet theory es f vs u → es ≡ [] → ⊥
+      none_meet (passed_over h t) e = let n : ⊥ = cc in n
+      none_meet (asked s q t) e = let n : ⊥ = cc in n
 
-  module _ (ex : IsExecutable theory) where
-    tries_once : (f : ℕ) (vs : TermTrees) → IsConstructor theory f → Tries theory theory.equations f vs (apply f vs) 0
-    tries_once f vs c = constructor_stays theory theory.equations f vs (headed_of theory ex) (bare_of theory ex f c) c
+      rest : (u : TermTree) → IsTooLarge u → Through (Trying theory [] f vs) Q (meets u) → Q (apply f vs) (meets u)
+      rest u b (inl t) = absurd (none_meet t refl)
+      rest u b (inr (w, k, final e z, inl q)) = absurd (small (subst IsTooLarge (q ∙ e) b))
+      rest u b (inr (w, k, final e z, inr q)) = subst (λ v. Q v (meets u)) e q
 
-    only_itself : {es : List ConditionalEquation} {f : ℕ} {vs : TermTrees} {w : TermTree} {k : ℕ} → Tries theory es f vs w k →
-        Each Headed es → Each (λ e. Heads f e → ⊥) es → (w ≡ apply f vs) × (k ≡ 0)
-    only_itself (final i e k) h b = (e, k)
-    only_itself (unlike u t) h b = only_itself t h.1 b.1
-    only_itself (like {f = f} {vs = vs} s q a) h b = absurd (b.0 (h.0 s f vs q))
+      go : (v : TermTree) (n : ℕ) (w : TermTree) (k m : ℕ) → Tries theory [] f vs w k → Q w (gives v m) → n ≡ k + m →
+          (i : ℕ) × Q (apply f vs) (gives v i) × (a + n ≡ a + i)
+      go v n w k m (final e z) q h = (m, subst (λ u. Q u (gives v m)) e q, omega (arith, z, h))
 
-    -- a constructor over values is the value, which isn't too large
-    pub made : (f : ℕ) (vs : TermTrees) (Q : TermTree → Outcome → Type 0) (a : ℕ) → IsConstructor theory f →
-        (IsTooLarge (apply f vs) → ⊥) → Keeps (Through (Trying theory theory.equations f vs) Q) a (Q (apply f vs)) a
-    made f vs Q a c small = record {
-      back = λ v n q. (n, (apply f vs, 0, n, tries_once f vs c, q, omega arith), refl);
-      on = λ v n l. go v n l.0 l.1 l.2 l.3 l.4 l.5;
-      met = λ u q. inr (apply f vs, 0, tries_once f vs c, inr q);
-      large = λ u b l. rest u b l;
+  -- and it is met
+  pub stayed_met : (f : ℕ) (vs : TermTrees) (Q : TermTree → Outcome → Type 0) → Through (Trying theory [] f vs) Q (meets (apply f vs))
+  stayed_met f vs Q = inr (apply f vs, 0, final refl refl, inl refl)
+
+  -- a premise of an equation that matches by s
+  module _ (tights : Each HasNoLooseVariables theory.equations) (e : ConditionalEquation) (a b : TermTree) (ps : List Premise)
+      (s : ℕ → TermTree) (es : List ConditionalEquation) (f : ℕ) (vs : TermTrees) (fit : instance s e.left ≡ apply f vs)
+      (tight : HasNoLooseVariables e)
+      (inside : (x : ℕ) → OccursInPremises x (premise a b ∷ ps) → OccursInPremises x e.premises) where
+    to_this : {w : TermTree} {k : ℕ} (z : ℕ → TermTree) → instance z e.left ≡ apply f vs → Asks theory ps e.right z es f vs w k →
+        Asks theory ps e.right s es f vs w k
+    to_this z q t =
+        let g : instance z e.left ≡ instance s e.left = q ∙ sym fit in
+        same_asks z s (λ x o. agree z s e.left g x (tight.right x o))
+        (λ x o. agree z s e.left g x (tight.premises x (inside x (inr (inr o))))) t
+
+    to_this_met : {u : TermTree} (z : ℕ → TermTree) → instance z e.left ≡ apply f vs → AsksMeet theory ps e.right z es f vs u →
+        AsksMeet theory ps e.right s es f vs u
+    to_this_met z q t =
+        let g : instance z e.left ≡ instance s e.left = q ∙ sym fit in
+        same_meets z s (λ x o. agree z s e.left g x (tight.right x o))
+        (λ x o. agree z s e.left g x (tight.premises x (inside x (inr (inr o))))) t
+
+    answered : (x y w : TermTree) (i j k : ℕ) → Evaluates theory (instance s a) x i → Evaluates theory (instance s b) y j →
+        Deciding theory e ps es f vs x y (gives w k) → Asks theory (premise a b ∷ ps) e.right s es f vs w (i + j + k)
+    answered x y w i j k p q (inl (alike, (z, g, t))) =
+        holds x i j k p (subst (λ v. Evaluates theory (instance s b) v j) (sym alike) q) (to_this z g t) refl
+    answered x y w i j k p q (inr (differ, t)) = fails x y i j k p q differ t refl
+
+    answered_met : (x y u : TermTree) (i j : ℕ) → Evaluates theory (instance s a) x i → Evaluates theory (instance s b) y j →
+        Deciding theory e ps es f vs x y (meets u) → AsksMeet theory (premise a b ∷ ps) e.right s es f vs u
+    answered_met x y u i j p q (inl (alike, (z, g, t))) =
+        after_equal p (subst (λ v. Evaluates theory (instance s b) v j) (sym alike) q) (to_this_met z g t)
+    answered_met x y u i j p q (inr (differ, t)) = after_unequal p q differ t
+
+    -- once both sides have come to their values, the premise is to be decided
+    pub sided : (x y : TermTree) (i j c : ℕ) → ComesTo (Evaluating theory (instance s a)) x i →
+        ComesTo (Evaluating theory (instance s b)) y j →
+        Keeps (Asking theory (premise a b ∷ ps) e.right s es f vs) c (Deciding theory e ps es f vs x y) (c + i + j)
+    sided x y i j c p q = record {
+      back = λ w k d. (i + j + k, answered x y w i j k p.value q.value d, omega arith);
+      on = λ w n t. on w n t;
+      met = λ u d. answered_met x y u i j p.value q.value d;
+      large = λ u big t. large u big t;
     }
       where
-        rest : (u : TermTree) → IsTooLarge u → Through (Trying theory theory.equations f vs) Q (meets u) → Q (apply f vs) (meets u)
-        rest u b (inl t) = absurd (never_asked theory ex t (headed_of theory ex) (bare_of theory ex f c))
-        rest u b (inr (w, k, t, inl q)) =
-            let o = only_itself t (headed_of theory ex) (bare_of theory ex f c) in
-            absurd (small (subst IsTooLarge (q ∙ o.0) b))
-        rest u b (inr (w, k, t, inr q)) =
-            let o = only_itself t (headed_of theory ex) (bare_of theory ex f c) in
-            subst (λ v. Q v (meets u)) o.0 q
+        on : (w : TermTree) (n : ℕ) → Asks theory (premise a b ∷ ps) e.right s es f vs w n →
+            (k : ℕ) × Deciding theory e ps es f vs x y (gives w k) × (c + n ≡ c + i + j + k)
+        on w n (holds v i' j' l p' q' t r) =
+            let g = one_value theory tights p' p.value in
+            let h = one_value theory tights q' q.value in
+            (l, inl (sym g.0 ∙ h.0, (s, fit, t)), omega (arith, g.1, h.1, r))
+        on w n (fails v u i' j' l p' q' d t r) =
+            let g = one_value theory tights p' p.value in
+            let h = one_value theory tights q' q.value in
+            (l, inr ((λ same. d (g.0 ∙ same ∙ sym h.0)), t), omega (arith, g.1, h.1, r))
 
-        go : (v : TermTree) (n : ℕ) (w : TermTree) (k m : ℕ) → Tries theory theory.equations f vs w k → Q w (gives v m) → n ≡ k + m →
-            (i : ℕ) × Q (apply f vs) (gives v i) × (a + n ≡ a + i)
-        go v n w k m t q e =
-            let o = only_itself t (headed_of theory ex) (bare_of theory ex f c) in
-            (m, subst (λ u. Q u (gives v m)) o.0 q, omega (arith, o.1, e))
-
-    -- and it is met
-    pub made_met : (f : ℕ) (vs : TermTrees) (Q : TermTree → Outcome → Type 0) → IsConstructor theory f →
-        Through (Trying theory theory.equations f vs) Q (meets (apply f vs))
-    made_met f vs Q c = inr (apply f vs, 0, tries_once f vs c, inl refl)
+        large : (u : TermTree) → IsTooLarge u → AsksMeet theory (premise a b ∷ ps) e.right s es f vs u →
+            Deciding theory e ps es f vs x y (meets u)
+        large u big (in_left_side m) = absurd (p.small u m big)
+        large u big (in_right_side p' m) = absurd (q.small u m big)
+        large u big (after_equal p' q' t) =
+            let g = one_value theory tights p' p.value in
+            let h = one_value theory tights q' q.value in
+            inl (sym g.0 ∙ h.0, (s, fit, t))
+        large u big (after_unequal p' q' d t) =
+            let g = one_value theory tights p' p.value in
+            let h = one_value theory tights q' q.value in
+            inr ((λ same. d (g.0 ∙ same ∙ sym h.0)), t)
 
     -- a premise is asked: its sides are planned, the left one first, over the arguments
-    pub asks : (e : ConditionalEquation) (a b : TermTree) (ps : List Premise) (s : ℕ → TermTree) (es : List ConditionalEquation) (f : ℕ)
-        (pats vs : TermTrees) (todo : List Task) (vals : List TermTree) (c : ℕ) →
-        e.left ≡ apply f pats → vs ≡ top (width pats) vals no_terms → instance s e.left ≡ apply f vs → HasNoLooseVariables e →
-        ((x : ℕ) → OccursInPremises x (premise a b ∷ ps) → OccursInPremises x e.premises) →
-        ((x : ℕ) → Occurs x e.left → IsConstructed theory (s x)) → ((x : ℕ) → Occurs x e.left → IsTooLarge (s x) → ⊥) →
+    pub asks : (pats : TermTrees) (todo : List Task) (vals : List TermTree) (start c : ℕ) →
+        e.left ≡ apply f pats → vs ≡ top (width pats) vals no_terms →
         Keeps (Through (Asking theory (premise a b ∷ ps) e.right s es f vs) (λ w. Comes theory todo (w ∷ drop (width pats) vals))) c
-        (Comes theory (plan s a (plan s b (decide e ps es ∷ todo))) vals) c
-    asks e a b ps s es f pats vs todo vals c left over fit tight inside values small = record {
+        (Comes theory (plan s a (plan s b (decide e ps es start ∷ todo))) vals) c
+    asks pats todo vals start c left over = record {
       back = λ v n l. back v n l;
       on = λ v n l. on v n l.0 l.1 l.2 l.3 l.4 l.5;
       met = λ u l. met u l;
       large = λ u big l. large u big l;
     }
       where
-        ha : (x : ℕ) → Occurs x a → IsConstructed theory (s x)
-        ha x o = values x (tight.premises x (inside x (inl o)))
-
-        hb : (x : ℕ) → Occurs x b → IsConstructed theory (s x)
-        hb x o = values x (tight.premises x (inside x (inr (inl o))))
-
-        opened : (x y : TermTree) (o : Outcome) → Comes theory (decide e ps es ∷ todo) (y ∷ x ∷ vals) o →
+        opened : (x y : TermTree) (o : Outcome) → Comes theory (decide e ps es start ∷ todo) (y ∷ x ∷ vals) o →
             Through (Deciding theory e ps es f vs x y) (RestOf theory todo pats vals) o
         opened x y o l = subst (λ us. Through (Deciding theory e ps es f us x y) (RestOf theory todo pats vals) o) (sym over)
             (subst (λ t. OnCall t (λ f pats. Through (Deciding theory e ps es f (top (width pats) vals no_terms) x y)
             (λ w. Comes theory todo (w ∷ drop (width pats) vals)) o)) left l)
 
         closed : (x y : TermTree) (o : Outcome) → Through (Deciding theory e ps es f vs x y) (RestOf theory todo pats vals) o →
-            Comes theory (decide e ps es ∷ todo) (y ∷ x ∷ vals) o
+            Comes theory (decide e ps es start ∷ todo) (y ∷ x ∷ vals) o
         closed x y o l = subst (λ t. OnCall t
             (λ f pats. Through (Deciding theory e ps es f (top (width pats) vals no_terms) x y)
             (λ w. Comes theory todo (w ∷ drop (width pats) vals)) o)) (sym left)
             (subst (λ us. Through (Deciding theory e ps es f us x y) (RestOf theory todo pats vals) o) over l)
 
-        to_this : {w : TermTree} {k : ℕ} (z : ℕ → TermTree) → instance z e.left ≡ apply f vs → Asks theory ps e.right z es f vs w k →
-            Asks theory ps e.right s es f vs w k
-        to_this z q t =
-            let g : instance z e.left ≡ instance s e.left = q ∙ sym fit in
-            same_asks z s (λ x o. agree z s e.left g x (tight.right x o))
-            (λ x o. agree z s e.left g x (tight.premises x (inside x (inr (inr o))))) t
-
-        to_this_met : {u : TermTree} (z : ℕ → TermTree) → instance z e.left ≡ apply f vs → AsksMeet theory ps e.right z es f vs u →
-            AsksMeet theory ps e.right s es f vs u
-        to_this_met z q t =
-            let g : instance z e.left ≡ instance s e.left = q ∙ sym fit in
-            same_meets z s (λ x o. agree z s e.left g x (tight.right x o))
-            (λ x o. agree z s e.left g x (tight.premises x (inside x (inr (inr o))))) t
-
-        answered : (x y w : TermTree) (i j k : ℕ) → Evaluates theory (instance s a) x i → Evaluates theory (instance s b) y j →
-            Deciding theory e ps es f vs x y (gives w k) → Asks theory (premise a b ∷ ps) e.right s es f vs w (i + j + k)
-        answered x y w i j k p q (inl (alike, (z, g, t))) =
-            holds x i j k p (subst (λ v. Evaluates theory (instance s b) v j) (sym alike) q) (to_this z g t) refl
-        answered x y w i j k p q (inr (differ, t)) = fails x y i j k p q differ t refl
-
-        back : (v : TermTree) (n : ℕ) → Comes theory (plan s a (plan s b (decide e ps es ∷ todo))) vals (gives v n) →
+        back : (v : TermTree) (n : ℕ) → Comes theory (plan s a (plan s b (decide e ps es start ∷ todo))) vals (gives v n) →
             (m : ℕ) × Through (Asking theory (premise a b ∷ ps) e.right s es f vs) (RestOf theory todo pats vals) (gives v m) ×
             (c + m ≡ c + n)
         back v n l =
-            let x = plan_on theory ex s a ha (plan s b (decide e ps es ∷ todo)) vals v n l in
-            let y = plan_on theory ex s b hb (decide e ps es ∷ todo) (x.0 ∷ vals) v x.2 x.4 in
+            let x = plan_on theory s a (plan s b (decide e ps es start ∷ todo)) vals v n l in
+            let y = plan_on theory s b (decide e ps es start ∷ todo) (x.0 ∷ vals) v x.2 x.4 in
             let d = opened x.0 y.0 (gives v y.2) y.4 in
             (n, (d.0, x.1 + y.1 + d.1, d.2, answered x.0 y.0 d.0 x.1 y.1 d.1 x.3 y.3 d.3, d.4, omega (arith, x.5, y.5, d.5)), refl)
 
         planned_sides : (v x y : TermTree) (n i j k w_more : ℕ) → Evaluates theory (instance s a) x i →
-            Evaluates theory (instance s b) y j → Comes theory (decide e ps es ∷ todo) (y ∷ x ∷ vals) (gives v (k + w_more)) →
-            n ≡ i + j + k + w_more → Comes theory (plan s a (plan s b (decide e ps es ∷ todo))) vals (gives v n)
+            Evaluates theory (instance s b) y j → Comes theory (decide e ps es start ∷ todo) (y ∷ x ∷ vals) (gives v (k + w_more)) →
+            n ≡ i + j + k + w_more → Comes theory (plan s a (plan s b (decide e ps es start ∷ todo))) vals (gives v n)
         planned_sides v x y n i j k m p q l total =
-            plan_back theory ex s a ha (plan s b (decide e ps es ∷ todo)) vals x v i (j + (k + m)) n p
-            (plan_back theory ex s b hb (decide e ps es ∷ todo) (x ∷ vals) y v j (k + m) (j + (k + m)) q l refl) (omega (arith, total))
+            plan_back theory s a (plan s b (decide e ps es start ∷ todo)) vals x v i (j + (k + m)) n p
+            (plan_back theory s b (decide e ps es start ∷ todo) (x ∷ vals) y v j (k + m) (j + (k + m)) q l refl) (omega (arith, total))
 
         on : (v : TermTree) (n : ℕ) (w : TermTree) (k m : ℕ) → Asks theory (premise a b ∷ ps) e.right s es f vs w k →
             RestOf theory todo pats vals w (gives v m) → n ≡ k + m →
-            (i : ℕ) × Comes theory (plan s a (plan s b (decide e ps es ∷ todo))) vals (gives v i) × (c + n ≡ c + i)
+            (i : ℕ) × Comes theory (plan s a (plan s b (decide e ps es start ∷ todo))) vals (gives v i) × (c + n ≡ c + i)
         on v n w k m (holds x i j l p q t r) rest h = (
           n,
           planned_sides v x x n i j l m p q (closed x x (gives v (l + m)) (w, l, m, inl (refl, (s, fit, t)), rest, refl))
@@ -282,63 +293,55 @@ module _ (theory : Theory) where
           refl,
         )
 
-        sa : (x : ℕ) → Occurs x a → IsTooLarge (s x) → ⊥
-        sa x o = small x (tight.premises x (inside x (inl o)))
-
-        sb : (x : ℕ) → Occurs x b → IsTooLarge (s x) → ⊥
-        sb x o = small x (tight.premises x (inside x (inr (inl o))))
-
         sides_meet : (u x y : TermTree) (i j : ℕ) → Evaluates theory (instance s a) x i → Evaluates theory (instance s b) y j →
             Through (Deciding theory e ps es f vs x y) (RestOf theory todo pats vals) (meets u) →
-            Comes theory (plan s a (plan s b (decide e ps es ∷ todo))) vals (meets u)
+            Comes theory (plan s a (plan s b (decide e ps es start ∷ todo))) vals (meets u)
         sides_meet u x y i j p q l =
-            plan_reaches theory ex s a ha (plan s b (decide e ps es ∷ todo)) vals x u i p
-            (plan_reaches theory ex s b hb (decide e ps es ∷ todo) (x ∷ vals) y u j q (closed x y (meets u) l))
+            plan_reaches theory s a (plan s b (decide e ps es start ∷ todo)) vals x u i p
+            (plan_reaches theory s b (decide e ps es start ∷ todo) (x ∷ vals) y u j q (closed x y (meets u) l))
 
         asked_large : (u : TermTree) → IsTooLarge u → AsksMeet theory (premise a b ∷ ps) e.right s es f vs u →
-            Comes theory (plan s a (plan s b (decide e ps es ∷ todo))) vals (meets u)
-        asked_large u big (in_left_side m) = plan_meets theory ex s a ha sa (plan s b (decide e ps es ∷ todo)) vals u big m
+            Comes theory (plan s a (plan s b (decide e ps es start ∷ todo))) vals (meets u)
+        asked_large u big (in_left_side m) = plan_meets theory s a (plan s b (decide e ps es start ∷ todo)) vals u m
         asked_large u big (in_right_side {v = x} {n = i} p m) =
-            plan_reaches theory ex s a ha (plan s b (decide e ps es ∷ todo)) vals x u i p
-            (plan_meets theory ex s b hb sb (decide e ps es ∷ todo) (x ∷ vals) u big m)
+            plan_reaches theory s a (plan s b (decide e ps es start ∷ todo)) vals x u i p
+            (plan_meets theory s b (decide e ps es start ∷ todo) (x ∷ vals) u m)
         asked_large u big (after_equal {v = x} {n = i} {m = j} p q t) = sides_meet u x x i j p q (inl (inl (refl, (s, fit, t))))
         asked_large u big (after_unequal {v = x} {u = y} {n = i} {m = j} p q d t) = sides_meet u x y i j p q (inl (inr (d, t)))
 
         valued_large : (u w : TermTree) (k : ℕ) → Asks theory (premise a b ∷ ps) e.right s es f vs w k →
             (u ≡ w) ⊎ RestOf theory todo pats vals w (meets u) →
-            Comes theory (plan s a (plan s b (decide e ps es ∷ todo))) vals (meets u)
+            Comes theory (plan s a (plan s b (decide e ps es start ∷ todo))) vals (meets u)
         valued_large u w k (holds x i j l p q t r) rest = sides_meet u x x i j p q (inr (w, l, inl (refl, (s, fit, t)), rest))
         valued_large u w k (fails x y i j l p q d t r) rest = sides_meet u x y i j p q (inr (w, l, inr (d, t), rest))
 
         large : (u : TermTree) → IsTooLarge u → Through (Asking theory (premise a b ∷ ps) e.right s es f vs)
             (RestOf theory todo pats vals) (meets u) →
-            Comes theory (plan s a (plan s b (decide e ps es ∷ todo))) vals (meets u)
+            Comes theory (plan s a (plan s b (decide e ps es start ∷ todo))) vals (meets u)
         large u big (inl t) = asked_large u big t
         large u big (inr (w, k, t, rest)) = valued_large u w k t rest
 
-        met : (u : TermTree) → Comes theory (plan s a (plan s b (decide e ps es ∷ todo))) vals (meets u) →
+        met : (u : TermTree) → Comes theory (plan s a (plan s b (decide e ps es start ∷ todo))) vals (meets u) →
             Through (Asking theory (premise a b ∷ ps) e.right s es f vs) (RestOf theory todo pats vals) (meets u)
-        met u l = in_left (plan_met theory ex s a ha (plan s b (decide e ps es ∷ todo)) vals u l)
+        met u l = in_left (plan_met theory s a (plan s b (decide e ps es start ∷ todo)) vals u l)
           where
             decided : (x y : TermTree) (i j : ℕ) → Evaluates theory (instance s a) x i → Evaluates theory (instance s b) y j →
                 Through (Deciding theory e ps es f vs x y) (RestOf theory todo pats vals) (meets u) →
                 Through (Asking theory (premise a b ∷ ps) e.right s es f vs) (RestOf theory todo pats vals) (meets u)
-            decided x y i j p q (inl (inl (alike, (z, g, t)))) =
-                inl (after_equal p (subst (λ v. Evaluates theory (instance s b) v j) (sym alike) q) (to_this_met z g t))
-            decided x y i j p q (inl (inr (differ, t))) = inl (after_unequal p q differ t)
+            decided x y i j p q (inl d) = inl (answered_met x y u i j p q d)
             decided x y i j p q (inr (w, k, d, r)) = inr (w, i + j + k, answered x y w i j k p q d, r)
 
             in_right_one : (x : TermTree) (i : ℕ) → Evaluates theory (instance s a) x i →
                 EvaluationMeets theory (instance s b) u ⊎
                 ((y : TermTree) × (j : ℕ) × Evaluates theory (instance s b) y j ×
-                Comes theory (decide e ps es ∷ todo) (y ∷ x ∷ vals) (meets u)) →
+                Comes theory (decide e ps es start ∷ todo) (y ∷ x ∷ vals) (meets u)) →
                 Through (Asking theory (premise a b ∷ ps) e.right s es f vs) (RestOf theory todo pats vals) (meets u)
             in_right_one x i p (inl q) = inl (in_right_side p q)
             in_right_one x i p (inr (y, j, q, l)) = decided x y i j p q (opened x y (meets u) l)
 
             in_left : EvaluationMeets theory (instance s a) u ⊎
                 ((x : TermTree) × (i : ℕ) × Evaluates theory (instance s a) x i ×
-                Comes theory (plan s b (decide e ps es ∷ todo)) (x ∷ vals) (meets u)) →
+                Comes theory (plan s b (decide e ps es start ∷ todo)) (x ∷ vals) (meets u)) →
                 Through (Asking theory (premise a b ∷ ps) e.right s es f vs) (RestOf theory todo pats vals) (meets u)
             in_left (inl p) = inl (in_left_side p)
-            in_left (inr (x, i, p, l)) = in_right_one x i p (plan_met theory ex s b hb (decide e ps es ∷ todo) (x ∷ vals) u l)
+            in_left (inr (x, i, p, l)) = in_right_one x i p (plan_met theory s b (decide e ps es start ∷ todo) (x ∷ vals) u l)

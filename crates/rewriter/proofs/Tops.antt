@@ -71,3 +71,12 @@ pub each_under : (P : ℕ → Type 0) (k : ℕ) (xs : List ℕ) → Each P xs �
 each_under P zero xs e = e
 each_under P (suc k) [] e = tt
 each_under P (suc k) (x ∷ xs) e = each_under P k xs e.1
+
+few_taken : (k : ℕ) (xs : List ℕ) → length (take k xs) ≤ k
+few_taken zero xs = omega arith
+few_taken (suc k) [] = omega arith
+few_taken (suc k) (x ∷ xs) = let h = few_taken k xs in omega (arith, h)
+
+-- there are no more on top than are asked for
+pub few_top : (k : ℕ) (xs : List ℕ) → length (reverse (take k xs)) ≤ k
+few_top k xs = omega (arith, few_taken k xs, length-reverse (take k xs))

@@ -4,45 +4,27 @@ use Rattle.spec_core.specs.Terms.{TermTree, TermTrees, variable, apply, no_terms
 use Rattle.spec_core.specs.Terms.{OccursInAny, IsGround, AreGround}
 use Rattle.spec_core.specs.Theories.{Premise, ConditionalEquation, Theory, OccursInPremises}
 use Rattle.spec_core.specs.Orthogonality.{HasNoLooseVariables}
-use Rattle.spec_core.specs.Executable.{IsExecutable}
+use Rattle.spec_core.specs.Lists.{Each}
 use Rattle.spec_core.specs.Evaluation.{Evaluates, Tries, Asks, EvaluationMeets, TriesMeet, AsksMeet, its_value}
 use Rattle.spec_core.proofs.OneValue.{agree}
 use Rattle.rewriter.specs.Machine.{Outcome, gives, meets, Evaluating, Trying, Asking, Deciding, Through, Task, decide, plan, top, OnCall}
-use Rattle.rewriter.specs.Machine.{Comes, Keeps}
+use Rattle.rewriter.specs.Machine.{Comes, Keeps, AreCounted}
+use Rattle.rewriter.proofs.Counted.{counted_plan}
 use Rattle.rewriter.proofs.Plans.{planned}
 use Rattle.rewriter.proofs.Moves.{keep_on, through, same_asks, same_meets, RestOf}
 
-module _ (theory : Theory) (e : ConditionalEquation) (ps : List Premise) (es : List ConditionalEquation) (f : ℕ) (pats vs : TermTrees)
-    (todo : List Task) (vals : List TermTree) (a b : TermTree) (left : e.left ≡ apply f pats)
-    (over : vs ≡ top (width pats) vals no_terms) where
-  pub opened : (o : Outcome) → Comes theory (decide e ps es ∷ todo) (b ∷ a ∷ vals) o →
-      Through (Deciding theory e ps es f vs a b) (RestOf theory todo pats vals) o
-  opened o l = subst (λ us. Through (Deciding theory e ps es f us a b) (RestOf theory todo pats vals) o) (sym over)
-      (subst (λ t. OnCall t (λ f pats. Through (Deciding theory e ps es f (top (width pats) vals no_terms) a b)
-      (λ w. Comes theory todo (w ∷ drop (width pats) vals)) o)) left l)
-
-  closed : (o : Outcome) → Through (Deciding theory e ps es f vs a b) (RestOf theory todo pats vals) o →
-      Comes theory (decide e ps es ∷ todo) (b ∷ a ∷ vals) o
-  closed o l = subst (λ t. OnCall t
-      (λ f pats. Through (Deciding theory e ps es f (top (width pats) vals no_terms) a b)
-      (λ w. Comes theory todo (w ∷ drop (width pats) vals)) o)) (sym left)
-      (subst (λ us. Through (Deciding theory e ps es f us a b) (RestOf theory todo pats vals) o) over l)
-
-  taken_up : (c : ℕ) → Keeps (Comes theory (decide e ps es ∷ todo) (b ∷ a ∷ vals)) c
-      (Through (Deciding theory e ps es f vs a b) (RestOf theory todo pats vals)) c
-  taken_up c = record {
-    back = λ v n l. (n, closed (gives v n) l, refl);
-    on = λ v n l. (n, opened (gives v n) l, refl);
-    met = λ w l. closed (meets w) l;
-    large = λ w b l. opened (meets w) l;
-  }
-
-  -- equal sides: the next premises, by the substitution of any match
-  pub decided_alike : (s : ℕ → TermTree) (c : ℕ) → instance s e.left ≡ apply f vs → HasNoLooseVariables e →
+module _ (theory : Theory) (e : ConditionalEquation) (ps : List Premise) (es : List ConditionalEquation) (f : ℕ) (vs : TermTrees)
+    (a b : TermTree) where
+  -- where the sides of a premise have one value, the next premises are left
+  pub alike_asks : (s : ℕ → TermTree) (c : ℕ) → instance s e.left ≡ apply f vs → HasNoLooseVariables e →
       ((x : ℕ) → OccursInPremises x ps → OccursInPremises x e.premises) → a ≡ b →
-      Keeps (Comes theory (decide e ps es ∷ todo) (b ∷ a ∷ vals)) c
-      (Through (Asking theory ps e.right s es f vs) (RestOf theory todo pats vals)) c
-  decided_alike s c fit tight inside alike = keep_on c c c (taken_up c) (through (RestOf theory todo pats vals) c c by_case)
+      Keeps (Deciding theory e ps es f vs a b) c (Asking theory ps e.right s es f vs) c
+  alike_asks s c fit tight inside alike = record {
+    back = λ v n t. (n, inl (alike, (s, fit, t)), refl);
+    on = λ v n t. (n, goes_on t, refl);
+    met = λ w t. inl (alike, (s, fit, t));
+    large = λ w big t. still_met t;
+  }
     where
       goes_on : {v : TermTree} {n : ℕ} → Deciding theory e ps es f vs a b (gives v n) → Asks theory ps e.right s es f vs v n
       goes_on (inl (q, (z, g, t))) =
@@ -56,18 +38,14 @@ module _ (theory : Theory) (e : ConditionalEquation) (ps : List Premise) (es : L
           same_meets z s (λ x o. agree z s e.left h x (tight.right x o)) (λ x o. agree z s e.left h x (tight.premises x (inside x o))) t
       still_met (inr (d, t)) = absurd (d alike)
 
-      by_case : Keeps (Deciding theory e ps es f vs a b) c (Asking theory ps e.right s es f vs) c
-      by_case = record {
-        back = λ v n t. (n, inl (alike, (s, fit, t)), refl);
-        on = λ v n t. (n, goes_on t, refl);
-        met = λ w t. inl (alike, (s, fit, t));
-        large = λ w big t. still_met t;
-      }
-
-  -- unequal sides: the next equations
-  pub decided_unalike : (c : ℕ) → (a ≡ b → ⊥) →
-      Keeps (Comes theory (decide e ps es ∷ todo) (b ∷ a ∷ vals)) c (Through (Trying theory es f vs) (RestOf theory todo pats vals)) c
-  decided_unalike c differ = keep_on c c c (taken_up c) (through (RestOf theory todo pats vals) c c by_case)
+  -- where they have two values, the next equations are left
+  pub unalike_tries : (c : ℕ) → (a ≡ b → ⊥) → Keeps (Deciding theory e ps es f vs a b) c (Trying theory es f vs) c
+  unalike_tries c differ = record {
+    back = λ v n t. (n, inr (differ, t), refl);
+    on = λ v n t. (n, goes_on t, refl);
+    met = λ w t. inr (differ, t);
+    large = λ w big t. still_met t;
+  }
     where
       goes_on : {v : TermTree} {n : ℕ} → Deciding theory e ps es f vs a b (gives v n) → Tries theory es f vs v n
       goes_on (inl (q, rest)) = absurd (differ q)
@@ -77,13 +55,45 @@ module _ (theory : Theory) (e : ConditionalEquation) (ps : List Premise) (es : L
       still_met (inl (q, rest)) = absurd (differ q)
       still_met (inr (d, t)) = t
 
-      by_case : Keeps (Deciding theory e ps es f vs a b) c (Trying theory es f vs) c
-      by_case = record {
-        back = λ v n t. (n, inr (differ, t), refl);
-        on = λ v n t. (n, goes_on t, refl);
-        met = λ w t. inr (differ, t);
-        large = λ w big t. still_met t;
-      }
+module _ (theory : Theory) (e : ConditionalEquation) (ps : List Premise) (es : List ConditionalEquation) (f : ℕ) (pats vs : TermTrees)
+    (todo : List Task) (vals : List TermTree) (a b : TermTree) (start : ℕ) (left : e.left ≡ apply f pats)
+    (over : vs ≡ top (width pats) vals no_terms) where
+  pub opened : (o : Outcome) → Comes theory (decide e ps es start ∷ todo) (b ∷ a ∷ vals) o →
+      Through (Deciding theory e ps es f vs a b) (RestOf theory todo pats vals) o
+  opened o l = subst (λ us. Through (Deciding theory e ps es f us a b) (RestOf theory todo pats vals) o) (sym over)
+      (subst (λ t. OnCall t (λ f pats. Through (Deciding theory e ps es f (top (width pats) vals no_terms) a b)
+      (λ w. Comes theory todo (w ∷ drop (width pats) vals)) o)) left l)
+
+  closed : (o : Outcome) → Through (Deciding theory e ps es f vs a b) (RestOf theory todo pats vals) o →
+      Comes theory (decide e ps es start ∷ todo) (b ∷ a ∷ vals) o
+  closed o l = subst (λ t. OnCall t
+      (λ f pats. Through (Deciding theory e ps es f (top (width pats) vals no_terms) a b)
+      (λ w. Comes theory todo (w ∷ drop (width pats) vals)) o)) (sym left)
+      (subst (λ us. Through (Deciding theory e ps es f us a b) (RestOf theory todo pats vals) o) over l)
+
+  taken_up : (c : ℕ) → Keeps (Comes theory (decide e ps es start ∷ todo) (b ∷ a ∷ vals)) c
+      (Through (Deciding theory e ps es f vs a b) (RestOf theory todo pats vals)) c
+  taken_up c = record {
+    back = λ v n l. (n, closed (gives v n) l, refl);
+    on = λ v n l. (n, opened (gives v n) l, refl);
+    met = λ w l. closed (meets w) l;
+    large = λ w b l. opened (meets w) l;
+  }
+
+  -- equal sides: the next premises, by the substitution of any match
+  pub decided_alike : (s : ℕ → TermTree) (c : ℕ) → instance s e.left ≡ apply f vs → HasNoLooseVariables e →
+      ((x : ℕ) → OccursInPremises x ps → OccursInPremises x e.premises) → a ≡ b →
+      Keeps (Comes theory (decide e ps es start ∷ todo) (b ∷ a ∷ vals)) c
+      (Through (Asking theory ps e.right s es f vs) (RestOf theory todo pats vals)) c
+  decided_alike s c fit tight inside alike =
+      keep_on c c c (taken_up c)
+      (through (RestOf theory todo pats vals) c c (alike_asks theory e ps es f vs a b s c fit tight inside alike))
+
+  -- unequal sides: the next equations
+  pub decided_unalike : (c : ℕ) → (a ≡ b → ⊥) →
+      Keeps (Comes theory (decide e ps es start ∷ todo) (b ∷ a ∷ vals)) c (Through (Trying theory es f vs) (RestOf theory todo pats vals)) c
+  decided_unalike c differ =
+      keep_on c c c (taken_up c) (through (RestOf theory todo pats vals) c c (unalike_tries theory e ps es f vs a b c differ))
 
 mutual
   ground_instance : (s : ℕ → TermTree) (t : TermTree) → IsGround t → instance s t ≡ t
@@ -110,7 +120,7 @@ mutual
 head_one : {a b : TermTree} → a ∷ [] ≡ b ∷ [] → a ≡ b
 head_one e = cc
 
-module _ (theory : Theory) (ex : IsExecutable theory) (t : TermTree) (ground : IsGround t) where
+module _ (theory : Theory) (t : TermTree) (ground : IsGround t) where
   alone : Keeps (Evaluating theory t) 0 (Through (Evaluating theory t) (λ w. Comes theory [] (w ∷ []))) 0
   alone = record {
     back = λ v n l. (n, last v n l.0 l.1 l.2 l.3 l.4 l.5, refl);
@@ -135,4 +145,8 @@ module _ (theory : Theory) (ex : IsExecutable theory) (t : TermTree) (ground : I
       keep_on 0 0 0 alone
       (subst (λ u. Keeps (Through (Evaluating theory u) (λ w. Comes theory [] (w ∷ []))) 0 (Comes theory (plan s t []) []) 0)
       (ground_instance s t ground)
-      (planned theory ex s t (λ x o. absurd (no_variable t ground x o)) (λ x o. absurd (no_variable t ground x o)) [] [] 0))
+      (planned theory s t [] [] 0))
+
+  -- and all is counted
+  pub begin_counted : Each HasNoLooseVariables theory.equations → (s : ℕ → TermTree) → AreCounted theory 0 (plan s t []) []
+  begin_counted tights s = counted_plan theory tights s t [] [] 0 (λ w c p. tt)

@@ -40,12 +40,13 @@ Through P Q (meets u) = P (meets u) ⊎ ((w : TermTree) × (c : ℕ) × P (gives
 
 -- a task of the machine, which works over a list of values, the last one first
 pub data Task : Type 0 where
-  -- a value
+  -- a value, which is evaluated again
   put : TermTree → Task
   -- an operation over so many values from the top
   call : ℕ → ℕ → Task
-  -- the two values from the top are those of a premise's sides; these premises of the equation, or else these equations, come next
-  decide : ConditionalEquation → List Premise → List ConditionalEquation → Task
+  -- the two values from the top are those of a premise's sides; these premises of the equation, or else these equations, come next, in a
+  -- call that began after so many uses
+  decide : ConditionalEquation → List Premise → List ConditionalEquation → ℕ → Task
 
 -- the tasks that evaluate a term under what its variables stand for, before those that follow
 abbrev mutual
@@ -72,12 +73,12 @@ OnCall (apply f ps) P = P f ps
 abbrev pub Comes : Theory → List Task → List TermTree → Outcome → Type 0
 Comes theory [] vals (gives v n) = (vals ≡ v ∷ []) × (n ≡ 0)
 Comes theory [] vals (meets u) = ⊥
-Comes theory (put a ∷ todo) vals o = Comes theory todo (a ∷ vals) o
+Comes theory (put a ∷ todo) vals o = Through (Evaluating theory a) (λ w. Comes theory todo (w ∷ vals)) o
 Comes theory (call f k ∷ todo) vals o =
     Through (Trying theory theory.equations f (top k vals no_terms)) (λ w. Comes theory todo (w ∷ drop k vals)) o
-Comes theory (decide e ps es ∷ todo) [] o = ⊥
-Comes theory (decide e ps es ∷ todo) (b ∷ []) o = ⊥
-Comes theory (decide e ps es ∷ todo) (b ∷ a ∷ vals) o =
+Comes theory (decide e ps es start ∷ todo) [] o = ⊥
+Comes theory (decide e ps es start ∷ todo) (b ∷ []) o = ⊥
+Comes theory (decide e ps es start ∷ todo) (b ∷ a ∷ vals) o =
     OnCall e.left (λ f pats.
     Through (Deciding theory e ps es f (top (width pats) vals no_terms) a b) (λ w. Comes theory todo (w ∷ drop (width pats) vals)) o)
 
@@ -88,6 +89,35 @@ pub record Keeps (P : Outcome → Type 0) (a : ℕ) (Q : Outcome → Type 0) (b 
   pub on : (v : TermTree) (m : ℕ) → P (gives v m) → (n : ℕ) × Q (gives v n) × (a + m ≡ b + n)
   pub met : (w : TermTree) → Q (meets w) → P (meets w)
   pub large : (w : TermTree) → IsTooLarge w → P (meets w) → Q (meets w)
+
+-- it comes to this value after so many uses, and meets nothing too large
+pub record ComesTo (P : Outcome → Type 0) (w : TermTree) (c : ℕ) : Type 0 where
+  pub value : P (gives w c)
+  pub small : (u : TermTree) → P (meets u) → IsTooLarge u → ⊥
+  pub fits : IsTooLarge w → ⊥
+
+-- Where tasks decide a premise of a call, what is left of the call keeps what the whole of it comes to, with the uses counted from those
+-- after which it began: so, after so many uses now, with tasks over values.
+abbrev pub AreCounted : Theory → ℕ → List Task → List TermTree → Type 0
+AreCounted theory uses [] vals = Unit {0}
+AreCounted theory uses (put a ∷ todo) vals =
+    (w : TermTree) (c : ℕ) → ComesTo (Evaluating theory a) w c → AreCounted theory (uses + c) todo (w ∷ vals)
+AreCounted theory uses (call f k ∷ todo) vals =
+    (w : TermTree) (c : ℕ) → ComesTo (Trying theory theory.equations f (top k vals no_terms)) w c →
+    AreCounted theory (uses + c) todo (w ∷ drop k vals)
+AreCounted theory uses (decide e ps es start ∷ todo) [] = Unit {0}
+AreCounted theory uses (decide e ps es start ∷ todo) (b ∷ []) = Unit {0}
+AreCounted theory uses (decide e ps es start ∷ todo) (b ∷ a ∷ vals) =
+    OnCall e.left (λ f pats.
+    Keeps (Trying theory theory.equations f (top (width pats) vals no_terms)) start
+    (Deciding theory e ps es f (top (width pats) vals no_terms) a b) uses ×
+    ((w : TermTree) (c : ℕ) → ComesTo (Deciding theory e ps es f (top (width pats) vals no_terms) a b) w c →
+    AreCounted theory (uses + c) todo (w ∷ drop (width pats) vals)))
+
+-- so once it has come to a value, with these tasks over the value and others
+abbrev pub AreCountedAfter : Theory → (Outcome → Type 0) → ℕ → List Task → List TermTree → Type 0
+AreCountedAfter theory P uses todo vals =
+    (w : TermTree) (c : ℕ) → ComesTo P w c → AreCounted theory (uses + c) todo (w ∷ vals)
 
 -- whatever comes of it after a uses takes more uses than the budget
 abbrev pub Exceeds : (Outcome → Type 0) → ℕ → ℕ → Type 0

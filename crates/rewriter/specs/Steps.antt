@@ -1,8 +1,8 @@
 -- The program's steps as the machine's tasks, and matches by which nodes stand for variables.
-use Rattle.std.specs.Prelude.{ℕ, suc, ◌≡◌, ◌<◌, List, [], drop, length}
-use Rattle.std.specs.List.{slice_index_or}
-use Rattle.spec_core.specs.Terms.{TermTree, TermTrees, variable, instance, instances, Occurs, OccursInAny}
-use Rattle.spec_core.specs.Theories.{ConditionalEquation, Theory}
+use Rattle.std.specs.Prelude.{ℕ, suc, ◌≡◌, ◌<◌, ◌≤◌, List, [], drop, length, Some}
+use Rattle.std.specs.List.{slice_get, slice_index_or}
+use Rattle.spec_core.specs.Terms.{TermTree, TermTrees, variable, apply, no_terms, and_term, width, instance, instances, Occurs, OccursInAny}
+use Rattle.spec_core.specs.Theories.{Operation, ConditionalEquation, Theory}
 use Rattle.value_nodes.specs.declared.node.Node.{Node}
 use Rattle.value_nodes.specs.Nodes.{tree_at, IsNode}
 use Rattle.rewriter.specs.declared.step.Step.{Step}
@@ -29,20 +29,34 @@ put_by rows bound x = tree_at rows (bound_at bound x)
 abbrev pub task_of : Theory → List Node → Step → Task
 task_of theory rows (Put i) = put (tree_at rows i)
 task_of theory rows (Call op count) = call op.0 count
-task_of theory rows (Decide place next) =
-    decide (equation_at theory place) (drop next (equation_at theory place).premises) (drop (suc place) theory.equations)
+task_of theory rows (Decide place next start) =
+    decide (equation_at theory place) (drop next (equation_at theory place).premises) (drop (suc place) theory.equations) start
 
--- the step's numbers are those of nodes and of equations
+-- the operation is declared with no fewer arguments than these, if it is declared
+abbrev pub IsWithinArity : Theory → ℕ → ℕ → Type 0
+IsWithinArity theory f k = (d : Operation) → slice_get theory.operations f ≡ Some d → k ≤ length d.args
+
+-- each operation of the term
+abbrev mutual
+  pub AreWithinArity : Theory → TermTree → Type 0
+  AreWithinArity theory (variable x) = Unit {0}
+  AreWithinArity theory (apply f ts) = IsWithinArity theory f (width ts) × AllWithinArity theory ts
+
+  pub AllWithinArity : Theory → TermTrees → Type 0
+  AllWithinArity theory no_terms = Unit {0}
+  AllWithinArity theory (and_term t ts) = AreWithinArity theory t × AllWithinArity theory ts
+
+-- the step's numbers are those of nodes and of equations, and an operation has no more arguments than it is declared with
 abbrev pub IsStep : Theory → List Node → Step → Type 0
 IsStep theory rows (Put i) = IsNode rows i
-IsStep theory rows (Call op count) = Unit {0}
-IsStep theory rows (Decide place next) = place < length theory.equations
+IsStep theory rows (Call op count) = IsWithinArity theory op.0 count
+IsStep theory rows (Decide place next start) = place < length theory.equations
 
 -- the step's node, where it has one, is of the table
 abbrev pub IsHeld : List Node → Step → Type 0
 IsHeld rows (Put i) = IsNode rows i
 IsHeld rows (Call op count) = Unit {0}
-IsHeld rows (Decide place next) = Unit {0}
+IsHeld rows (Decide place next start) = Unit {0}
 
 -- a pattern becomes a term, and its variables stand for nodes
 pub record IsMatch (rows : List Node) (bound : List ℕ) (p t : TermTree) : Type 0 where

@@ -1,15 +1,17 @@
 // Calls of operations: their equations in order, the equations' premises, and their uses.
 
 ghost use Rattle.std.specs.Prelude.{ℕ, ◌≡◌, ◌<◌, ◌≤◌, ◌∷◌, List, IfOk, IfErr, OnOk, IsTrue, IsFalse, length, map, drop};
-ghost use Rattle.spec_core.specs.Constructors.{IsConstructor};
 ghost use Rattle.spec_core.specs.Executable.{IsExecutable};
 ghost use Rattle.spec_core.specs.Lists.{Each};
 ghost use Rattle.spec_core.specs.Terms.{TermTree, instance, apply};
 ghost use Rattle.spec_core.specs.Theories.{Heads, theory_of};
 ghost use Rattle.value_nodes.specs.declared.node.Node.{Node};
-ghost use Rattle.value_nodes.specs.Nodes.{tree_at, IsNode, IsLonger, AreSmall, AreValues};
+ghost use Rattle.value_nodes.specs.Nodes.{tree_at, IsNode, IsLonger, AreSmall};
+ghost use Rattle.value_nodes.specs.Own.{AreOwnValues, StaysOver, StaysShort};
 ghost use Rattle.value_nodes.specs.Sizes.{IsTooLarge};
 ghost use Rattle.rewriter.specs.Calls.{arguments_of, Pending, Wanting, HasRoom, AreNodes, ArePlanned, Decided, Choosing};
+ghost use Rattle.rewriter.specs.Calls.{IsCallOf, Left, Asked, Judged, IsCalling};
+ghost use Rattle.rewriter.specs.declared.step.Step.TheVariants.{Call, Decide};
 ghost use Rattle.rewriter.specs.Index.{IsIndex};
 ghost use Rattle.rewriter.specs.Machine.{Keeps, Exceeds};
 ghost use Rattle.rewriter.specs.Runs.{Coming, IsReady, MeetsLarge};
@@ -101,18 +103,19 @@ fn push_premise(
     bound: &[u32],
     place: usize,
     next: usize,
+    start: u64,
 ) -> Result<(), AllocError>
     requires executable { IsExecutable (theory_of algebra.now) }
     requires there { place < length (theory_of algebra.now).equations }
     requires premise { next < length (equation_at (theory_of algebra.now) place).premises }
     requires room { HasRoom (theory_of algebra.now) (length bound.now) }
-    ensures planned { OnOk result ((rows : List Node) → ArePlanned (theory_of algebra.now) rows bound.now place next todo.old todo.new) }
+    ensures planned { OnOk result ((rows : List Node) → ArePlanned (theory_of algebra.now) rows bound.now place next start todo.old todo.new) }
     ensures steps { OnOk result
         ((rows : List Node) → AreNodes (theory_of algebra.now) rows bound.now place →
         Each (IsStep (theory_of algebra.now) rows) todo.old → Each (IsStep (theory_of algebra.now) rows) todo.new) }
 {
     let sides = numbered_premise(algebra, place, next);
-    todo.push(Step::Decide(place as u32, next + 1))?;
+    todo.push(Step::Decide(place as u32, next + 1, start))?;
     push_instance(todo, bound, &sides.1)?;
     push_instance(todo, bound, &sides.0)
 }
@@ -128,6 +131,7 @@ fn ask(
     next: usize,
     op: Op,
     count: usize,
+    start: u64,
     uses: u64,
     budget: u64,
 ) -> Result<u64, Eval>
@@ -135,10 +139,11 @@ fn ask(
     requires within { uses ≤ budget }
     requires there { place < length (theory_of algebra.now).equations }
     requires room { HasRoom (theory_of algebra.now) (length bound.now) }
-    requires ready { IsReady (theory_of algebra.now) nodes.now todo.old values.old }
+    requires calling { IsCalling (theory_of algebra.now) nodes.now op.0 count start
+        (Asked (theory_of algebra.now) nodes.now bound.now place next op.0 count values.old) todo.old values.old uses }
     requires fit { IsMatch nodes.now bound.now (equation_at (theory_of algebra.now) place).left
         (apply op.0 (arguments_of nodes.now count values.old)) }
-    ensures ready { IfOk result (λ u. IsReady (theory_of algebra.now) nodes.now todo.new values.new) }
+    ensures ready { IfOk result (λ u. IsReady (theory_of algebra.now) nodes.now todo.new values.new u) }
     ensures within { IfOk result (λ u. u ≤ budget) }
     ensures kept { IfOk result (λ u.
         Keeps (Wanting (theory_of algebra.now) nodes.now bound.now place next op.0 count todo.old values.old) uses
@@ -150,7 +155,7 @@ fn ask(
 {
     let equation = numbered(algebra, place);
     if next < equation.premises.len() {
-        push_premise(algebra, todo, bound, place, next)?;
+        push_premise(algebra, todo, bound, place, next, start)?;
         return Ok(uses);
     }
     if uses >= budget {
@@ -161,61 +166,23 @@ fn ask(
     Ok(uses + 1)
 }
 
-// Takes up the equations from this one on.
-fn try_from(
-    algebra: &DataSpec,
-    heads: &FirstEquations,
-    nodes: &Nodes,
-    todo: &mut Todo,
-    values: &mut Values,
-    bound: &mut [u32],
-    op: Op,
-    count: usize,
-    from: usize,
-    uses: u64,
-    budget: u64,
-) -> Result<u64, Eval>
-    requires executable { IsExecutable (theory_of algebra.now) }
-    requires indexed { IsIndex (theory_of algebra.now) heads.now }
-    requires within { uses ≤ budget }
-    requires room { HasRoom (theory_of algebra.now) (length bound.old) }
-    requires ready { IsReady (theory_of algebra.now) nodes.now todo.old values.old }
-    requires headed { from < length (theory_of algebra.now).equations → Heads op.0 (equation_at (theory_of algebra.now) from) }
-    requires defined { IsConstructor (theory_of algebra.now) op.0 → ⊥ }
-    ensures room { length bound.new ≡ length bound.old }
-    ensures ready { IfOk result (λ u. IsReady (theory_of algebra.now) nodes.now todo.new values.new) }
-    ensures within { IfOk result (λ u. u ≤ budget) }
-    ensures kept { IfOk result (λ u.
-        Keeps (Pending (theory_of algebra.now) nodes.now from op.0 count todo.old values.old) uses
-        (Coming (theory_of algebra.now) nodes.now todo.new values.new) u) }
-    ensures spent { IfErr result (λ e.
-        e ≡ Eval.Spent → Exceeds (Pending (theory_of algebra.now) nodes.now from op.0 count todo.old values.old) uses budget) }
-    ensures small { IfErr result (λ e. e ≡ Eval.TooLarge → ⊥) }
-{
-    let place = find(algebra, heads, nodes, values, bound, op, count, from);
-    if place < algebra.equations.len() {
-        ask(
-            algebra, nodes, todo, values, bound, place, 0, op, count, uses, budget,
-        )
-    } else {
-        Err(Eval::Spent)
-    }
-}
-
-// Makes a constructor's value.
+// Makes the value of a call that stays, which costs so many uses of its own.
 fn build(
     algebra: &DataSpec,
     nodes: &mut Nodes,
     values: &mut Values,
     op: Op,
     count: usize,
+    own: u64,
 ) -> Result<(), Eval>
-    requires constructor { IsConstructor (theory_of algebra.now) op.0 }
+    requires executable { IsExecutable (theory_of algebra.now) }
     requires values { Each (IsNode nodes.old) values.old }
-    requires constructed { AreValues (theory_of algebra.now) nodes.old }
+    requires own { AreOwnValues (theory_of algebra.now) nodes.old }
+    requires stays { StaysOver (theory_of algebra.now) op.0 (arguments_of nodes.old count values.old) own }
+    requires short { StaysShort (theory_of algebra.now) op.0 count }
     ensures longer { IfOk result (λ u. IsLonger nodes.old nodes.new) }
     ensures values { IfOk result (λ u. Each (IsNode nodes.new) values.new) }
-    ensures constructed { IfOk result (λ u. AreValues (theory_of algebra.now) nodes.new) }
+    ensures own { IfOk result (λ u. AreOwnValues (theory_of algebra.now) nodes.new) }
     ensures all_small { OnOk result (AreSmall nodes.new) }
     ensures built { IfOk result (λ u.
         map (tree_at nodes.new) values.new ≡
@@ -224,10 +191,62 @@ fn build(
     ensures large { IfErr result (λ e. e ≡ Eval.TooLarge → IsTooLarge (apply op.0 (arguments_of nodes.old count values.old))) }
     ensures unspent { IfErr result (λ e. e ≡ Eval.Spent → ⊥) }
 {
-    let node = nodes.make(op, values.top(count))?;
+    let node = nodes.make(op, values.top(count), own)?;
     values.forget(count);
     values.push(node)?;
     Ok(())
+}
+
+// Takes up the equations from this one on, in a call that began after so many uses; where none applies, the call stays.
+fn try_from(
+    algebra: &DataSpec,
+    heads: &FirstEquations,
+    nodes: &mut Nodes,
+    todo: &mut Todo,
+    values: &mut Values,
+    bound: &mut [u32],
+    op: Op,
+    count: usize,
+    from: usize,
+    start: u64,
+    uses: u64,
+    budget: u64,
+) -> Result<u64, Eval>
+    requires executable { IsExecutable (theory_of algebra.now) }
+    requires indexed { IsIndex (theory_of algebra.now) heads.now }
+    requires within { uses ≤ budget }
+    requires room { HasRoom (theory_of algebra.now) (length bound.old) }
+    requires calling { IsCalling (theory_of algebra.now) nodes.old op.0 count start
+        (Left (theory_of algebra.now) nodes.old from op.0 count values.old) todo.old values.old uses }
+    requires headed { from < length (theory_of algebra.now).equations → Heads op.0 (equation_at (theory_of algebra.now) from) }
+    ensures room { length bound.new ≡ length bound.old }
+    ensures longer { IfOk result (λ u. IsLonger nodes.old nodes.new) }
+    ensures ready { IfOk result (λ u. IsReady (theory_of algebra.now) nodes.new todo.new values.new u) }
+    ensures within { IfOk result (λ u. u ≤ budget) }
+    ensures kept { IfOk result (λ u.
+        Keeps (Pending (theory_of algebra.now) nodes.old from op.0 count todo.old values.old) uses
+        (Coming (theory_of algebra.now) nodes.new todo.new values.new) u) }
+    ensures spent { IfErr result (λ e.
+        e ≡ Eval.Spent → Exceeds (Pending (theory_of algebra.now) nodes.old from op.0 count todo.old values.old) uses budget) }
+    ensures large { IfErr result (λ e.
+        e ≡ Eval.TooLarge → MeetsLarge (Pending (theory_of algebra.now) nodes.old from op.0 count todo.old values.old)) }
+{
+    let place = find(algebra, heads, nodes, values, bound, op, count, from);
+    if place < algebra.equations.len() {
+        ask(
+            algebra, nodes, todo, values, bound, place, 0, op, count, start, uses, budget,
+        )
+    } else {
+        build(
+            algebra,
+            nodes,
+            values,
+            op,
+            count,
+            uses.saturating_sub(start),
+        )?;
+        Ok(uses)
+    }
 }
 
 /// Performs a call.
@@ -247,10 +266,10 @@ pub fn call(
     requires indexed { IsIndex (theory_of algebra.now) heads.now }
     requires within { uses ≤ budget }
     requires room { HasRoom (theory_of algebra.now) (length bound.old) }
-    requires ready { IsReady (theory_of algebra.now) nodes.old todo.old values.old }
+    requires ready { IsReady (theory_of algebra.now) nodes.old (Call op count ∷ todo.old) values.old uses }
     ensures room { length bound.new ≡ length bound.old }
     ensures longer { IfOk result (λ u. IsLonger nodes.old nodes.new) }
-    ensures ready { IfOk result (λ u. IsReady (theory_of algebra.now) nodes.new todo.new values.new) }
+    ensures ready { IfOk result (λ u. IsReady (theory_of algebra.now) nodes.new todo.new values.new u) }
     ensures within { IfOk result (λ u. u ≤ budget) }
     ensures kept { IfOk result (λ u.
         Keeps (Pending (theory_of algebra.now) nodes.old 0 op.0 count todo.old values.old) uses
@@ -261,13 +280,9 @@ pub fn call(
         e ≡ Eval.TooLarge → MeetsLarge (Pending (theory_of algebra.now) nodes.old 0 op.0 count todo.old values.old)) }
 {
     let place = heads.first(algebra, op);
-    if place < algebra.equations.len() {
-        return try_from(
-            algebra, heads, nodes, todo, values, bound, op, count, place, uses, budget,
-        );
-    }
-    build(algebra, nodes, values, op, count)?;
-    Ok(uses)
+    try_from(
+        algebra, heads, nodes, todo, values, bound, op, count, place, uses, uses, budget,
+    )
 }
 
 // Goes on after a premise whose sides have one value.
@@ -279,6 +294,7 @@ fn hold(
     bound: &mut [u32],
     place: usize,
     next: usize,
+    start: u64,
     uses: u64,
     budget: u64,
 ) -> Result<u64, Eval>
@@ -286,22 +302,27 @@ fn hold(
     requires within { uses ≤ budget }
     requires there { place < length (theory_of algebra.now).equations }
     requires room { HasRoom (theory_of algebra.now) (length bound.old) }
-    requires ready { IsReady (theory_of algebra.now) nodes.now todo.old values.old }
+    requires values { Each (IsNode nodes.now) values.old }
+    requires calling { (f k : ℕ) →
+        IsCallOf (theory_of algebra.now) place f k →
+        (a : TermTree) ×
+        IsCalling (theory_of algebra.now) nodes.now f k start
+        (Judged (theory_of algebra.now) nodes.now place next f k a a values.old) todo.old values.old uses }
     ensures room { length bound.new ≡ length bound.old }
-    ensures ready { IfOk result (λ u. IsReady (theory_of algebra.now) nodes.now todo.new values.new) }
+    ensures ready { IfOk result (λ u. IsReady (theory_of algebra.now) nodes.now todo.new values.new u) }
     ensures within { IfOk result (λ u. u ≤ budget) }
     ensures kept { IfOk result (λ u.
-        (a : TermTree) → Keeps (Decided (theory_of algebra.now) nodes.now place next a a todo.old values.old) uses
+        (a : TermTree) → Keeps (Decided (theory_of algebra.now) nodes.now place next start a a todo.old values.old) uses
         (Coming (theory_of algebra.now) nodes.now todo.new values.new) u) }
     ensures spent { IfErr result (λ e.
         e ≡ Eval.Spent → (a : TermTree) →
-        Exceeds (Decided (theory_of algebra.now) nodes.now place next a a todo.old values.old) uses budget) }
+        Exceeds (Decided (theory_of algebra.now) nodes.now place next start a a todo.old values.old) uses budget) }
     ensures small { IfErr result (λ e. e ≡ Eval.TooLarge → ⊥) }
 {
     let (op, count) = head_of(algebra, place);
     if fits(algebra, nodes, values, bound, place, op, count) {
         ask(
-            algebra, nodes, todo, values, bound, place, next, op, count, uses, budget,
+            algebra, nodes, todo, values, bound, place, next, op, count, start, uses, budget,
         )
     } else {
         Err(Eval::Spent)
@@ -312,11 +333,12 @@ fn hold(
 fn fail(
     algebra: &DataSpec,
     heads: &FirstEquations,
-    nodes: &Nodes,
+    nodes: &mut Nodes,
     todo: &mut Todo,
     values: &mut Values,
     bound: &mut [u32],
     place: usize,
+    start: u64,
     uses: u64,
     budget: u64,
 ) -> Result<u64, Eval>
@@ -325,23 +347,30 @@ fn fail(
     requires within { uses ≤ budget }
     requires there { place < length (theory_of algebra.now).equations }
     requires room { HasRoom (theory_of algebra.now) (length bound.old) }
-    requires ready { IsReady (theory_of algebra.now) nodes.now todo.old values.old }
+    requires calling { (f k : ℕ) →
+        IsCallOf (theory_of algebra.now) place f k →
+        (next : ℕ) × (a b : TermTree) × (a ≡ b → ⊥) ×
+        IsCalling (theory_of algebra.now) nodes.old f k start
+        (Judged (theory_of algebra.now) nodes.old place next f k a b values.old) todo.old values.old uses }
     ensures room { length bound.new ≡ length bound.old }
-    ensures ready { IfOk result (λ u. IsReady (theory_of algebra.now) nodes.now todo.new values.new) }
+    ensures longer { IfOk result (λ u. IsLonger nodes.old nodes.new) }
+    ensures ready { IfOk result (λ u. IsReady (theory_of algebra.now) nodes.new todo.new values.new u) }
     ensures within { IfOk result (λ u. u ≤ budget) }
     ensures kept { IfOk result (λ u.
         (next : ℕ) (a b : TermTree) → (a ≡ b → ⊥) →
-        Keeps (Decided (theory_of algebra.now) nodes.now place next a b todo.old values.old) uses
-        (Coming (theory_of algebra.now) nodes.now todo.new values.new) u) }
+        Keeps (Decided (theory_of algebra.now) nodes.old place next start a b todo.old values.old) uses
+        (Coming (theory_of algebra.now) nodes.new todo.new values.new) u) }
     ensures spent { IfErr result (λ e.
         e ≡ Eval.Spent → (next : ℕ) (a b : TermTree) → (a ≡ b → ⊥) →
-        Exceeds (Decided (theory_of algebra.now) nodes.now place next a b todo.old values.old) uses budget) }
-    ensures small { IfErr result (λ e. e ≡ Eval.TooLarge → ⊥) }
+        Exceeds (Decided (theory_of algebra.now) nodes.old place next start a b todo.old values.old) uses budget) }
+    ensures large { IfErr result (λ e.
+        e ≡ Eval.TooLarge → (next : ℕ) (a b : TermTree) → (a ≡ b → ⊥) →
+        MeetsLarge (Decided (theory_of algebra.now) nodes.old place next start a b todo.old values.old)) }
 {
     let (op, count) = head_of(algebra, place);
     let from = heads.after(algebra, place);
     try_from(
-        algebra, heads, nodes, todo, values, bound, op, count, from, uses, budget,
+        algebra, heads, nodes, todo, values, bound, op, count, from, start, uses, budget,
     )
 }
 
@@ -350,12 +379,13 @@ pub fn decide(
     alloc: Global,
     algebra: &DataSpec,
     heads: &FirstEquations,
-    nodes: &Nodes,
+    nodes: &mut Nodes,
     todo: &mut Todo,
     values: &mut Values,
     bound: &mut [u32],
     place: usize,
     next: usize,
+    start: u64,
     uses: u64,
     budget: u64,
 ) -> Result<u64, Eval>
@@ -364,16 +394,18 @@ pub fn decide(
     requires within { uses ≤ budget }
     requires there { place < length (theory_of algebra.now).equations }
     requires room { HasRoom (theory_of algebra.now) (length bound.old) }
-    requires ready { IsReady (theory_of algebra.now) nodes.now todo.old values.old }
+    requires ready { IsReady (theory_of algebra.now) nodes.old (Decide place next start ∷ todo.old) values.old uses }
     ensures room { length bound.new ≡ length bound.old }
-    ensures ready { IfOk result (λ u. IsReady (theory_of algebra.now) nodes.now todo.new values.new) }
+    ensures longer { IfOk result (λ u. IsLonger nodes.old nodes.new) }
+    ensures ready { IfOk result (λ u. IsReady (theory_of algebra.now) nodes.new todo.new values.new u) }
     ensures within { IfOk result (λ u. u ≤ budget) }
     ensures kept { IfOk result (λ u.
-        Keeps (Choosing (theory_of algebra.now) nodes.now place next todo.old values.old) uses
-        (Coming (theory_of algebra.now) nodes.now todo.new values.new) u) }
+        Keeps (Choosing (theory_of algebra.now) nodes.old place next start todo.old values.old) uses
+        (Coming (theory_of algebra.now) nodes.new todo.new values.new) u) }
     ensures spent { IfErr result (λ e.
-        e ≡ Eval.Spent → Exceeds (Choosing (theory_of algebra.now) nodes.now place next todo.old values.old) uses budget) }
-    ensures small { IfErr result (λ e. e ≡ Eval.TooLarge → ⊥) }
+        e ≡ Eval.Spent → Exceeds (Choosing (theory_of algebra.now) nodes.old place next start todo.old values.old) uses budget) }
+    ensures large { IfErr result (λ e.
+        e ≡ Eval.TooLarge → MeetsLarge (Choosing (theory_of algebra.now) nodes.old place next start todo.old values.old)) }
 {
     match values.pop() {
         None => Err(Eval::Spent),
@@ -382,11 +414,11 @@ pub fn decide(
             Some(left) => {
                 if same_value(alloc, nodes, left, right)? {
                     hold(
-                        algebra, nodes, todo, values, bound, place, next, uses, budget,
+                        algebra, nodes, todo, values, bound, place, next, start, uses, budget,
                     )
                 } else {
                     fail(
-                        algebra, heads, nodes, todo, values, bound, place, uses, budget,
+                        algebra, heads, nodes, todo, values, bound, place, start, uses, budget,
                     )
                 }
             }

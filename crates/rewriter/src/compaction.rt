@@ -1,6 +1,6 @@
 // A table with those nodes alone of which something is still made.
 
-ghost use Rattle.std.specs.Prelude.{◌≡◌, ◌≤◌, ◌<◌, IfOk, OnOk, length, map};
+ghost use Rattle.std.specs.Prelude.{ℕ, ◌≡◌, ◌≤◌, ◌<◌, IfOk, OnOk, length, map};
 ghost use Rattle.spec_core.specs.Theories.{theory_of};
 ghost use Rattle.value_nodes.specs.Nodes.{tree_at};
 ghost use Rattle.rewriter.specs.Runs.{IsReady};
@@ -28,8 +28,11 @@ pub fn tidy(
     values: &mut Values,
     limit: usize,
 ) -> Result<usize, Memory>
-    requires ready { IsReady (theory_of algebra.now) nodes.old todo.old values.old }
-    ensures ready { IfOk result (λ l. IsReady (theory_of algebra.now) nodes.new todo.new values.new) }
+    requires ready { (uses : ℕ) × IsReady (theory_of algebra.now) nodes.old todo.old values.old uses }
+    ensures ready { IfOk result (λ l.
+        (uses : ℕ) →
+        IsReady (theory_of algebra.now) nodes.old todo.old values.old uses →
+        IsReady (theory_of algebra.now) nodes.new todo.new values.new uses) }
     ensures tasks { IfOk result (λ l.
         map (task_of (theory_of algebra.now) nodes.new) todo.new ≡ map (task_of (theory_of algebra.now) nodes.old) todo.old) }
     ensures values { IfOk result (λ l. map (tree_at nodes.new) values.new ≡ map (tree_at nodes.old) values.old) }
@@ -57,8 +60,11 @@ fn compact(
     todo: &mut Todo,
     values: &mut Values,
 ) -> Result<(), Memory>
-    requires ready { IsReady (theory_of algebra.now) nodes.old todo.old values.old }
-    ensures ready { OnOk result (IsReady (theory_of algebra.now) nodes.new todo.new values.new) }
+    requires ready { (uses : ℕ) × IsReady (theory_of algebra.now) nodes.old todo.old values.old uses }
+    ensures ready { OnOk result
+        ((uses : ℕ) →
+        IsReady (theory_of algebra.now) nodes.old todo.old values.old uses →
+        IsReady (theory_of algebra.now) nodes.new todo.new values.new uses) }
     ensures tasks { OnOk result
         (map (task_of (theory_of algebra.now) nodes.new) todo.new ≡ map (task_of (theory_of algebra.now) nodes.old) todo.old) }
     ensures values { OnOk result (map (tree_at nodes.new) values.new ≡ map (tree_at nodes.old) values.old) }

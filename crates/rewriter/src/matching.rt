@@ -49,12 +49,12 @@ fn match_parts(nodes: &Nodes, patterns: &[Term], node: u32, bound: &mut [u32]) -
 {
     match patterns {
         [] => match nodes.at(node) {
-            Node::Constant(_) => true,
+            Node::Constant(..) => true,
             Node::One { .. } => false,
             Node::More { .. } => false,
         },
         [pattern, others @ ..] => match nodes.at(node) {
-            Node::Constant(_) => false,
+            Node::Constant(..) => false,
             Node::One { arg, .. } => others.is_empty() && match_term(nodes, pattern, arg, bound),
             Node::More { arg, rest, .. } => {
                 match_term(nodes, pattern, arg, bound) && match_parts(nodes, others, rest, bound)

@@ -1,12 +1,12 @@
 // The main loop.
 
-ghost use Rattle.std.specs.Prelude.{ℕ, ◌≡◌, ◌≤◌, ◌∷◌, [], IfOk, IfErr, OnOk, length};
+ghost use Rattle.std.specs.Prelude.{ℕ, ◌≡◌, ◌<◌, ◌≤◌, ◌+◌, ◌∷◌, [], IfOk, IfErr, OnOk, length};
 ghost use Rattle.spec_core.specs.Budgets.{IsBeyond};
 ghost use Rattle.spec_core.specs.Evaluation.{Evaluates};
 ghost use Rattle.spec_core.specs.Executable.{IsExecutable};
 ghost use Rattle.spec_core.specs.Terms.{term_of};
 ghost use Rattle.spec_core.specs.Theories.{theory_of};
-ghost use Rattle.value_nodes.specs.Nodes.{tree_at, IsNode, IsLonger};
+ghost use Rattle.value_nodes.specs.Nodes.{tree_at, cost_at, IsNode, IsLonger};
 ghost use Rattle.rewriter.specs.Answers.{MeetsTooLarge};
 ghost use Rattle.rewriter.specs.Calls.{HasRoom};
 ghost use Rattle.rewriter.specs.Index.{IsIndex};
@@ -41,10 +41,10 @@ pub fn perform(
     requires indexed { IsIndex (theory_of algebra.now) heads.now }
     requires within { uses ≤ budget }
     requires room { HasRoom (theory_of algebra.now) (length bound.old) }
-    requires ready { IsReady (theory_of algebra.now) nodes.old (step ∷ todo.old) values.old }
+    requires ready { IsReady (theory_of algebra.now) nodes.old (step ∷ todo.old) values.old uses }
     ensures room { length bound.new ≡ length bound.old }
     ensures longer { IfOk result (λ u. IsLonger nodes.old nodes.new) }
-    ensures ready { IfOk result (λ u. IsReady (theory_of algebra.now) nodes.new todo.new values.new) }
+    ensures ready { IfOk result (λ u. IsReady (theory_of algebra.now) nodes.new todo.new values.new u) }
     ensures within { IfOk result (λ u. u ≤ budget) }
     ensures kept { IfOk result (λ u.
         Keeps (Coming (theory_of algebra.now) nodes.old (step ∷ todo.old) values.old) uses
@@ -55,11 +55,11 @@ pub fn perform(
         e ≡ Eval.TooLarge → MeetsLarge (Coming (theory_of algebra.now) nodes.old (step ∷ todo.old) values.old)) }
 {
     match step {
-        Step::Put(node) => put(values, node, uses),
+        Step::Put(node) => put(nodes, values, node, uses, budget),
         Step::Call(op, count) => call(
             algebra, heads, nodes, todo, values, bound, op, count, uses, budget,
         ),
-        Step::Decide(place, next) => decide(
+        Step::Decide(place, next, start) => decide(
             alloc,
             algebra,
             heads,
@@ -69,20 +69,35 @@ pub fn perform(
             bound,
             place as usize,
             next,
+            start,
             uses,
             budget,
         ),
     }
 }
 
-// Puts a value on those that are there.
-fn put(values: &mut Values, node: u32, uses: u64) -> Result<u64, Eval>
+/// Puts a value on those that are there, which takes the uses that it costs to evaluate it again, and gives the number of uses after it.
+pub fn put(
+    nodes: &Nodes,
+    values: &mut Values,
+    node: u32,
+    uses: u64,
+    budget: u64,
+) -> Result<u64, Eval>
+    requires there { IsNode nodes.now node }
+    requires within { uses ≤ budget }
     ensures pushed { IfOk result (λ u. values.new ≡ node ∷ values.old) }
-    ensures free { IfOk result (λ u. u ≡ uses) }
-    ensures fault { IfErr result (λ e. e ≡ Eval.Memory) }
+    ensures counted { IfOk result (λ u. u ≡ uses + cost_at nodes.now node) }
+    ensures within { IfOk result (λ u. u ≤ budget) }
+    ensures spent { IfErr result (λ e. e ≡ Eval.Spent → budget < uses + cost_at nodes.now node) }
+    ensures small { IfErr result (λ e. e ≡ Eval.TooLarge → ⊥) }
 {
+    let cost = nodes.cost(node);
+    if cost > budget - uses {
+        return Err(Eval::Spent);
+    }
     values.push(node)?;
-    Ok(uses)
+    Ok(uses + cost)
 }
 
 /// The one value that is there. `Spent` where there is none, or more than one.
@@ -113,7 +128,7 @@ pub fn run(
     budget: u64,
 ) -> Result<u32, Eval>
     requires executable { IsExecutable (theory_of algebra.now) }
-    requires ready { IsReady (theory_of algebra.now) nodes.old todo.old values.old }
+    requires ready { IsReady (theory_of algebra.now) nodes.old todo.old values.old 0 }
     requires indexed { IsIndex (theory_of algebra.now) heads.now }
     requires room { HasRoom (theory_of algebra.now) (length bound.old) }
     requires begun { Keeps (Evaluating (theory_of algebra.now) (term_of term.now)) 0

@@ -8,7 +8,7 @@ ghost use Rattle.value_nodes.specs.declared.node.Node.{Node};
 ghost use Rattle.value_nodes.specs.Copies.{AreCopies};
 ghost use Rattle.value_nodes.specs.Nodes.{IsNode, IsLonger};
 ghost use Rattle.rewriter.specs.Machine.{plan, plan_all};
-ghost use Rattle.rewriter.specs.Steps.{task_of, put_by, bound_at, IsStep, IsHeld};
+ghost use Rattle.rewriter.specs.Steps.{task_of, put_by, bound_at, IsStep, IsHeld, AreWithinArity, AllWithinArity};
 
 use spec_core::items::Op;
 use spec_core::memory::Memory;
@@ -25,8 +25,9 @@ pub enum Step {
     Put(u32),
     /// An operation over so many values.
     Call(Op, usize),
-    /// Two values are those of the sides of a premise of this equation; the premises from this one on come next.
-    Decide(u32, usize),
+    /// Two values are those of the sides of a premise of this equation; the premises from this one on come next, in a call that began after
+    /// so many uses.
+    Decide(u32, usize, u64),
 }
 
 /// The steps that are left. A contract sees them as a list, the next one first.
@@ -118,7 +119,7 @@ fn follow_step(
             Ok(Step::Put(copy))
         }
         Step::Call(op, count) => Ok(Step::Call(op, count)),
-        Step::Decide(place, next) => Ok(Step::Decide(place, next)),
+        Step::Decide(place, next, start) => Ok(Step::Decide(place, next, start)),
     }
 }
 
@@ -133,6 +134,7 @@ pub fn push_instance(todo: &mut Todo, bound: &[u32], term: &Term) -> Result<(), 
         plan (put_by rows bound.now) (term_of term.now) (map (task_of theory rows) todo.old)) }
     ensures steps { OnOk result
         ((theory : Theory) (rows : List Node) →
+        AreWithinArity theory (term_of term.now) →
         ((x : ℕ) → Occurs x (term_of term.now) → IsNode rows (bound_at bound.now x)) →
         Each (IsStep theory rows) todo.old →
         Each (IsStep theory rows) todo.new) }
@@ -156,6 +158,7 @@ fn push_instances(todo: &mut Todo, bound: &[u32], all: &[Term]) -> Result<(), Al
         plan_all (put_by rows bound.now) (terms (map term_of all.now)) (map (task_of theory rows) todo.old)) }
     ensures steps { OnOk result
         ((theory : Theory) (rows : List Node) →
+        AllWithinArity theory (terms (map term_of all.now)) →
         ((x : ℕ) → OccursInAny x (terms (map term_of all.now)) → IsNode rows (bound_at bound.now x)) →
         Each (IsStep theory rows) todo.old →
         Each (IsStep theory rows) todo.new) }

@@ -6,3 +6,4 @@ pub mod OneStep
 pub mod Putting
 pub mod Returning
 pub mod Rows
+pub mod Spelling

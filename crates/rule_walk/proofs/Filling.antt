@@ -1,22 +1,25 @@
 -- Why fields, bindings and arguments have no values, where one of those before has one.
 use Rattle.std.proofs.Common.{ℕ, ◌≡◌, ◌≤◌, List, [], ◌∷◌, length, map, take, drop, get_or, ◌-◌, arith, Result, IfErr, sym, ap, subst, ◌∙◌}
-use Rattle.std.proofs.Common.{inr}
+use Rattle.std.proofs.Common.{inl, inr, refl}
 use Rattle.std.proofs.Math.Seq.{drop-cons}
 use Rattle.std.proofs.lemmas.List.{length-drop, take_all}
 use Rattle.std.proofs.lemmas.Result.{IfErr-weaker}
-use Rattle.spec_core.specs.Code.{Variable, Binding, ActionField, accept}
+use Rattle.spec_core.specs.Code.{Variable, Binding, ExitValue, exit_any, ActionField, accept}
 use Rattle.spec_core.specs.Executable.{IsExecutable}
+use Rattle.spec_core.specs.Lists.{Each}
 use Rattle.spec_core.specs.Terms.{TermTree, instance}
 use Rattle.spec_core.specs.Theories.{Theory}
 use Rattle.spec_core.specs.Values.{HasValue}
 use Rattle.rule_laws.proofs.OneStep.{one_value, one_spelled}
 use Rattle.rule_model.specs.declared.rules.Slot.{Slot}
-use Rattle.rule_model.specs.declared.rules.Slot.TheVariants.{Of}
-use Rattle.rule_model.specs.Fields.{Spells, FieldsHave, BindingsHave, ArgumentsHave, IsHandedOn}
+use Rattle.rule_model.specs.declared.rules.Slot.TheVariants.{Of, Mark, Blank}
+use Rattle.rule_model.specs.Fields.{Spells, FieldsHave, ExitHas, BindingsHave, ArgumentsHave, IsHandedOn}
 use Rattle.rule_model.specs.Substitution.{Assignment, with_term}
 use Rattle.rule_walk.specs.declared.fault.FireFault.{FireFault}
-use Rattle.rule_walk.specs.Asking.{FieldsAsk, BindingsAsk, ArgumentsAsk}
-use Rattle.rule_walk.specs.Faults.{Explains, Here, IsMisfit, HasNoFields, HasNoBindings, HasNoArguments, HandsOnNothing}
+use Rattle.rule_walk.specs.Asking.{ChoiceAsks, FieldsAsk, ExitAsks, BindingsAsk, ArgumentsAsk}
+use Rattle.rule_walk.specs.Bounds.{FaultBounds}
+use Rattle.rule_walk.specs.Faults.{Explains, Here, IsMisfit, HasNoFields, HasNoExit, HasNoBindings, HasNoArguments, HandsOnNothing}
+use Rattle.rule_walk.proofs.Bounds.{unexplained}
 use Rattle.rule_walk.proofs.Faults.{explains_on, misfit_on}
 
 -- the others, after the first element of a list
@@ -37,6 +40,10 @@ mapped_at g xs d there = ap (map g) (first_and_others xs d there)
 pub mapped : {A B : Type 0} (g : A → B) (xs : List A) (x y : A) → 1 ≤ length xs → x ≡ get_or xs 0 x → x ≡ y →
     map g xs ≡ g y ∷ map g (others xs)
 mapped g xs x y there is same = ap (map g) (split_at xs x y there is same)
+
+-- what holds of each element holds of the first and of each of the others
+pub each_split : {A : Type 0} (P : A → Type 0) (xs : List A) (x : A) → 1 ≤ length xs → x ≡ get_or xs 0 x → Each P xs → P x × Each P (others xs)
+each_split P xs x there is = subst (Each P) (split_at xs x x there is refl)
 
 module _ (theory : Theory) (executable : IsExecutable theory) where
   accepted_rest : (s t : Assignment) (x : Variable) (fields : List ActionField) (w : List ℕ) (slots : List Slot) (n : TermTree) →
@@ -60,8 +67,107 @@ module _ (theory : Theory) (executable : IsExecutable theory) where
         (explains_on theory budget (Here (HasNoFields theory s (with_term x n t) fields slots))
         (Here (HasNoFields theory s t (accept x ∷ fields) (Of w ∷ slots))) (FieldsAsk theory s fields slots)
         (FieldsAsk theory s (accept x ∷ fields) (Of w ∷ slots)) f
-        (λ path k. (k.0, accepted_rest s t x fields w slots n spells k.1)) (λ y k. ((n, spells), k))
+        (λ path k. (k.0, accepted_rest s t x fields w slots n spells k.1)) (λ y k. inr ((n, spells), k))
         (subst (λ (q : Assignment). NoFields s q fields slots f) bound h)))
+
+    -- no value of the sort is chosen for a variable
+    abbrev pub NoChoice : ℕ → Slot → List ℕ → Type 0
+    NoChoice sort slot = Here ((w : List ℕ) (n : TermTree) → slot ≡ Of w → Spells theory w n sort → ⊥)
+
+    unchosen : (s t : Assignment) (x : Variable) (fields : List ActionField) (slot : Slot) (slots : List Slot) →
+        ((w : List ℕ) (n : TermTree) → slot ≡ Of w → Spells theory w n x.sort → ⊥) →
+        HasNoFields theory s t (accept x ∷ fields) (slot ∷ slots)
+    unchosen s t x fields (Of w) slots none [] u h = h
+    unchosen s t x fields (Of w) slots none (v ∷ values) u h = none w h.1 refl h.2
+    unchosen s t x fields Mark slots none values u h = h
+    unchosen s t x fields Blank slots none values u h = h
+
+    choice_asked : (s : Assignment) (x : Variable) (fields : List ActionField) (slot : Slot) (slots : List Slot) (y : TermTree) →
+        ChoiceAsks theory x.sort slot y → FieldsAsk theory s (accept x ∷ fields) (slot ∷ slots) y
+    choice_asked s x fields (Of w) slots y h = inl h
+    choice_asked s x fields Mark slots y h = absurd h
+    choice_asked s x fields Blank slots y h = absurd h
+
+    pub fields_unchosen : (s t : Assignment) (x : Variable) (all fields : List ActionField) (slot : Slot) (chosen slots : List Slot)
+        (f : FireFault) → all ≡ accept x ∷ fields → chosen ≡ slot ∷ slots →
+        Explains theory budget (NoChoice x.sort slot) (ChoiceAsks theory x.sort slot) f → NoFields s t all chosen f
+    fields_unchosen s t x all fields slot chosen slots f is has h =
+        subst (λ (l : List ActionField). NoFields s t l chosen f) (sym is)
+        (subst (λ (l : List Slot). NoFields s t (accept x ∷ fields) l f) (sym has)
+        (explains_on theory budget (NoChoice x.sort slot) (Here (HasNoFields theory s t (accept x ∷ fields) (slot ∷ slots)))
+        (ChoiceAsks theory x.sort slot) (FieldsAsk theory s (accept x ∷ fields) (slot ∷ slots)) f
+        (λ path k. (k.0, unchosen s t x fields slot slots k.1)) (choice_asked s x fields slot slots) h))
+
+    -- and what is known of the chosen term is known of all that the fields ask
+    unbounded : (s : Assignment) (x : Variable) (fields : List ActionField) (slot : Slot) (slots : List Slot) (f : FireFault) →
+        Explains theory budget (NoChoice x.sort slot) (ChoiceAsks theory x.sort slot) f →
+        ((y : TermTree) → ChoiceAsks theory x.sort slot y → FaultBounds theory budget f y) → (y : TermTree) →
+        FieldsAsk theory s (accept x ∷ fields) (slot ∷ slots) y → FaultBounds theory budget f y
+    unbounded s x fields (Of w) slots f why own y (inl h) = own y h
+    unbounded s x fields (Of w) slots f why own y (inr h) =
+        unexplained theory budget f (NoChoice x.sort (Of w)) (ChoiceAsks theory x.sort (Of w)) y why
+        (λ path none. none.1 w h.0.0 refl h.0.1)
+    unbounded s x fields Mark slots f why own y h = absurd h
+    unbounded s x fields Blank slots f why own y h = absurd h
+
+    pub fields_unbounded : (s : Assignment) (x : Variable) (all fields : List ActionField) (slot : Slot) (chosen slots : List Slot)
+        (f : FireFault) → all ≡ accept x ∷ fields → chosen ≡ slot ∷ slots →
+        Explains theory budget (NoChoice x.sort slot) (ChoiceAsks theory x.sort slot) f →
+        ((y : TermTree) → ChoiceAsks theory x.sort slot y → FaultBounds theory budget f y) → (y : TermTree) →
+        FieldsAsk theory s all chosen y → FaultBounds theory budget f y
+    fields_unbounded s x all fields slot chosen slots f is has why own =
+        subst (λ (l : List ActionField). (y : TermTree) → FieldsAsk theory s l chosen y → FaultBounds theory budget f y) (sym is)
+        (subst (λ (l : List Slot). (y : TermTree) → FieldsAsk theory s (accept x ∷ fields) l y → FaultBounds theory budget f y) (sym has)
+        (unbounded s x fields slot slots f why own))
+
+    -- the same of an exit's fields
+    abbrev pub NoExit : Assignment → List ExitValue → List Slot → FireFault → Type 0
+    NoExit s fields slots = Explains theory budget (Here (HasNoExit theory s fields slots)) (ExitAsks theory s fields slots)
+
+    exit_without : (s : Assignment) (sort : ℕ) (fields : List ExitValue) (slot : Slot) (slots : List Slot) →
+        ((w : List ℕ) (n : TermTree) → slot ≡ Of w → Spells theory w n sort → ⊥) →
+        HasNoExit theory s (exit_any sort ∷ fields) (slot ∷ slots)
+    exit_without s sort fields (Of w) slots none [] h = h
+    exit_without s sort fields (Of w) slots none (v ∷ values) h = none w h.1.0 refl h.1.1
+    exit_without s sort fields Mark slots none values h = h
+    exit_without s sort fields Blank slots none values h = h
+
+    exit_choice_asked : (s : Assignment) (sort : ℕ) (fields : List ExitValue) (slot : Slot) (slots : List Slot) (y : TermTree) →
+        ChoiceAsks theory sort slot y → ExitAsks theory s (exit_any sort ∷ fields) (slot ∷ slots) y
+    exit_choice_asked s sort fields (Of w) slots y h = inl h
+    exit_choice_asked s sort fields Mark slots y h = absurd h
+    exit_choice_asked s sort fields Blank slots y h = absurd h
+
+    pub exit_unchosen : (s : Assignment) (sort : ℕ) (all fields : List ExitValue) (slot : Slot) (chosen slots : List Slot) (f : FireFault) →
+        all ≡ exit_any sort ∷ fields → chosen ≡ slot ∷ slots →
+        Explains theory budget (NoChoice sort slot) (ChoiceAsks theory sort slot) f → NoExit s all chosen f
+    exit_unchosen s sort all fields slot chosen slots f is has h =
+        subst (λ (l : List ExitValue). NoExit s l chosen f) (sym is)
+        (subst (λ (l : List Slot). NoExit s (exit_any sort ∷ fields) l f) (sym has)
+        (explains_on theory budget (NoChoice sort slot) (Here (HasNoExit theory s (exit_any sort ∷ fields) (slot ∷ slots)))
+        (ChoiceAsks theory sort slot) (ExitAsks theory s (exit_any sort ∷ fields) (slot ∷ slots)) f
+        (λ path k. (k.0, exit_without s sort fields slot slots k.1)) (exit_choice_asked s sort fields slot slots) h))
+
+    exit_open : (s : Assignment) (sort : ℕ) (fields : List ExitValue) (slot : Slot) (slots : List Slot) (f : FireFault) →
+        Explains theory budget (NoChoice sort slot) (ChoiceAsks theory sort slot) f →
+        ((y : TermTree) → ChoiceAsks theory sort slot y → FaultBounds theory budget f y) → (y : TermTree) →
+        ExitAsks theory s (exit_any sort ∷ fields) (slot ∷ slots) y → FaultBounds theory budget f y
+    exit_open s sort fields (Of w) slots f why own y (inl h) = own y h
+    exit_open s sort fields (Of w) slots f why own y (inr h) =
+        unexplained theory budget f (NoChoice sort (Of w)) (ChoiceAsks theory sort (Of w)) y why
+        (λ path none. none.1 w h.0.0 refl h.0.1)
+    exit_open s sort fields Mark slots f why own y h = absurd h
+    exit_open s sort fields Blank slots f why own y h = absurd h
+
+    pub exit_unbounded : (s : Assignment) (sort : ℕ) (all fields : List ExitValue) (slot : Slot) (chosen slots : List Slot) (f : FireFault) →
+        all ≡ exit_any sort ∷ fields → chosen ≡ slot ∷ slots →
+        Explains theory budget (NoChoice sort slot) (ChoiceAsks theory sort slot) f →
+        ((y : TermTree) → ChoiceAsks theory sort slot y → FaultBounds theory budget f y) → (y : TermTree) →
+        ExitAsks theory s all chosen y → FaultBounds theory budget f y
+    exit_unbounded s sort all fields slot chosen slots f is has why own =
+        subst (λ (l : List ExitValue). (y : TermTree) → ExitAsks theory s l chosen y → FaultBounds theory budget f y) (sym is)
+        (subst (λ (l : List Slot). (y : TermTree) → ExitAsks theory s (exit_any sort ∷ fields) l y → FaultBounds theory budget f y) (sym has)
+        (exit_open s sort fields slot slots f why own))
 
     abbrev pub NoBindings : Assignment → Assignment → List Binding → FireFault → Type 0
     NoBindings s t bindings = Explains theory budget (Here (HasNoBindings theory s t bindings)) (BindingsAsk theory s bindings)

@@ -100,6 +100,7 @@ module _ (program : Program) (s : Assignment) where
   asks_none : (b : Behaviour) (d e : Derivation) (x : TermTree) → IsOver d e → RuleAsks program x s b d → ⊥
   asks_none b (pre slots) e x over h = over
   asks_none b (exiting slots) e x over h = over
+  asks_none b (val slot d) e x over h = over
   asks_none b (guard d) e x over h = over
   asks_none b (letting d) e x over h = over
   asks_none b (calling d) e x over h = over

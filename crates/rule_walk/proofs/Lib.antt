@@ -1,4 +1,5 @@
 pub mod Bounds
+pub mod Choosing
 pub mod Faults
 pub mod Filling
 pub mod Frames

@@ -16,10 +16,10 @@ use Rattle.rule_model.specs.Code.{IsDefinition}
 use Rattle.rule_model.specs.Derivations.{Derivation, pre, chl, chr, val, gate, guard, letting, parl, parr, both, hiding, pass}
 use Rattle.rule_model.specs.Derivations.{enstep, enend, disstep, disend, distake, calling, rel}
 use Rattle.rule_model.specs.Derives.{DerivesWith}
-use Rattle.rule_model.specs.Fields.{GuardHolds, FieldsHave, ArgumentsHave, IsHandedOn}
+use Rattle.rule_model.specs.Fields.{Spells, GuardHolds, FieldsHave, ArgumentsHave, IsHandedOn}
 use Rattle.rule_model.specs.Substitution.{Assignment}
 use Rattle.rule_walk.specs.declared.fault.FireFault.{FireFault}
-use Rattle.rule_walk.specs.Asking.{GuardAsks, ArgumentsAsk, RuleAsks, Asks}
+use Rattle.rule_walk.specs.Asking.{ChoiceAsks, GuardAsks, ArgumentsAsk, RuleAsks, Asks}
 use Rattle.rule_walk.specs.Ends.{CanHandOn}
 use Rattle.rule_walk.specs.Faults.{Explains, Here, Within, IsMisfit, IsFault, HasNoArguments}
 use Rattle.rule_walk.specs.Faults.{HandsOnNothing}
@@ -133,6 +133,22 @@ module _ (program : Program) (executable : IsExecutable program.theory) (budget 
         λ k. k,
         λ k. k,
       )) (λ x k. inr (values, t, filled, k)) h)
+
+  -- the tree chooses no value of the sort
+  pub value_unchosen : (x : Variable) (body : Behaviour) (slot : Slot) (d : Derivation) → b ≡ value_choice x body →
+      Explains program.theory budget (Here ((w : List ℕ) (n : TermTree) → slot ≡ Of w → Spells program.theory w n x.sort → ⊥))
+      (ChoiceAsks program.theory x.sort slot) f → IsFault program budget s b (val slot d) f
+  value_unchosen x body slot d is h =
+      subst (λ (c : Behaviour). IsFault program budget s c (val slot d) f) (sym is)
+      (own_fault program budget s (value_choice x body) (val slot d) f
+      ((w : List ℕ) (n : TermTree) → slot ≡ Of w → Spells program.theory w n x.sort → ⊥) (ChoiceAsks program.theory x.sort slot)
+      (unchosen slot) (λ y k. k) h)
+    where
+      unchosen : (o : Slot) → ((w : List ℕ) (n : TermTree) → o ≡ Of w → Spells program.theory w n x.sort → ⊥) →
+          IsUnfit program s (value_choice x body) (val o d)
+      unchosen (Of v) none = (λ k. none v k.2.0 refl k.2.1, λ k. none v k.0 refl k.1, λ k. k)
+      unchosen Mark none = (λ k. k.2, λ k. k, λ k. k)
+      unchosen Blank none = (λ k. k.2, λ k. k, λ k. k)
 
   pub call_undefined : (p : ℕ) (actual : List ℕ) (terms : List TermTree) (d : Derivation) → b ≡ call p actual terms →
       ((formal : List ℕ) (xs : List Variable) (body : Behaviour) → IsDefinition program p formal xs body → ⊥) →

@@ -45,6 +45,7 @@ module _ (program : Program) where
   rule_fits : (x : TermTree) (s : Assignment) (d : Derivation) (b : Behaviour) → RuleAsks program x s b d → IsItsConstruct b d
   rule_fits x s (pre slots) (action g fields p rest) h = tt
   rule_fits x s (exiting slots) (exit fields) h = tt
+  rule_fits x s (val slot d) (value_choice y body) h = tt
   rule_fits x s (guard d) (guarded p body) h = tt
   rule_fits x s (letting d) (bound bindings body) h = tt
   rule_fits x s (calling d) (call p actual terms) h = tt

@@ -13,11 +13,11 @@ use Rattle.rule_model.specs.Derivations.{Derivation, pre, int, exiting, val, gat
 use Rattle.rule_model.specs.Fields.{Spells, PremiseHolds, FieldsHave, ArgumentsHave, OnGate}
 use Rattle.rule_model.specs.Substitution.{Assignment}
 use Rattle.rule_walk.specs.declared.fault.FireFault.{FireFault}
-use Rattle.rule_walk.specs.Asking.{PremiseAsks, FieldsAsk, GuardAsks, ExitAsks, BindingsAsk, ArgumentsAsk, RuleAsks, Asks}
+use Rattle.rule_walk.specs.Asking.{PremiseAsks, ChoiceAsks, FieldsAsk, GuardAsks, ExitAsks, BindingsAsk, ArgumentsAsk, RuleAsks, Asks}
 use Rattle.rule_walk.specs.Bounds.{FaultBounds}
-use Rattle.rule_walk.specs.Faults.{Explains, Here, IsMisfit, HasNoFields, HasNoBindings, HasNoArguments, Within}
+use Rattle.rule_walk.specs.Faults.{Explains, Here, HasNoFields, HasNoBindings, HasNoArguments, Within}
 use Rattle.rule_walk.specs.Parts.{HasStep, IsUnfitAt}
-use Rattle.rule_walk.proofs.Bounds.{no_misfit, unexplained}
+use Rattle.rule_walk.proofs.Bounds.{unexplained}
 use Rattle.rule_walk.proofs.NoStep.{unfit_none}
 use Rattle.rule_walk.proofs.PartBounds.{asked_at, part_asked}
 
@@ -98,16 +98,18 @@ module _ (program : Program) (executable : IsExecutable program.theory) (budget 
 
   -- the tree chooses no value of the sort
   pub choice_fails : (x : Variable) (body : Behaviour) (slot : Slot) (d : Derivation) → b ≡ value_choice x body →
-      IsMisfit ((w : List ℕ) (n : TermTree) → slot ≡ Of w → Spells program.theory w n x.sort → ⊥) f → (y : TermTree) →
-      Asks program s b (val slot d) y → Bounded y
-  choice_fails x body (Of v) d is why =
-      asked_at program executable Bounded s b (val (Of v) d) (val (Of v) d) (value_choice x body) refl is (λ y h. absurd h)
-      (λ y h. no_misfit program.theory budget f ((w : List ℕ) (n : TermTree) → Of v ≡ Of w → Spells program.theory w n x.sort → ⊥) y why
-      (λ none. none v h.0 refl h.1)) (λ y h. absurd h)
-  choice_fails x body Mark d is why =
+      Explains program.theory budget (Here ((w : List ℕ) (n : TermTree) → slot ≡ Of w → Spells program.theory w n x.sort → ⊥))
+      (ChoiceAsks program.theory x.sort slot) f →
+      ((y : TermTree) → ChoiceAsks program.theory x.sort slot y → Bounded y) → (y : TermTree) → Asks program s b (val slot d) y → Bounded y
+  choice_fails x body (Of v) d is why own =
+      asked_at program executable Bounded s b (val (Of v) d) (val (Of v) d) (value_choice x body) refl is own
+      (λ y h. unexplained program.theory budget f
+      (Here ((w : List ℕ) (n : TermTree) → Of v ≡ Of w → Spells program.theory w n x.sort → ⊥)) (ChoiceAsks program.theory x.sort (Of v)) y
+      why (λ path none. none.1 v h.0 refl h.1)) (λ y h. absurd h)
+  choice_fails x body Mark d is why own =
       asked_at program executable Bounded s b (val Mark d) (val Mark d) (value_choice x body) refl is (λ y h. absurd h) (λ y h. absurd h)
       (λ y h. absurd h)
-  choice_fails x body Blank d is why =
+  choice_fails x body Blank d is why own =
       asked_at program executable Bounded s b (val Blank d) (val Blank d) (value_choice x body) refl is (λ y h. absurd h) (λ y h. absurd h)
       (λ y h. absurd h)
 

@@ -1,21 +1,24 @@
 // Values of fields, bindings and arguments.
 
-ghost use Rattle.std.specs.Prelude.{◌≡◌, ◌∷◌, ℕ, List, IfOk, IfErr, map};
+ghost use Rattle.std.specs.Prelude.{◌≡◌, ◌∷◌, ℕ, List, IfOk, IfErr, IfSome, IfNone, map};
 ghost use Rattle.spec_core.specs.Code.{action_field_of, exit_value_of, binding_of, variable_of, program_of};
 ghost use Rattle.spec_core.specs.Executable.{IsExecutable};
+ghost use Rattle.spec_core.specs.Lists.{Each};
 ghost use Rattle.spec_core.specs.Terms.{TermTree, term_of};
 ghost use Rattle.rule_model.specs.declared.rules.Slot.TheVariants.{Of};
 ghost use Rattle.rule_model.specs.Fields.{Spells, FieldsHave, ExitHas, BindingsHave, ArgumentsHave, IsHandedOn};
 ghost use Rattle.rule_substitution.specs.Scopes.{terms_of};
 ghost use Rattle.match_code.specs.Prepared.{program_in};
-ghost use Rattle.rule_walk.specs.Asking.{FieldsAsk, ExitAsks, BindingsAsk, ArgumentsAsk};
+ghost use Rattle.rule_laws.specs.Spelled.{SpellsSome};
+ghost use Rattle.rule_walk.specs.Asking.{SpellsCall, ChoiceAsks, FieldsAsk, ExitAsks, BindingsAsk, ArgumentsAsk};
 ghost use Rattle.rule_walk.specs.Bounds.{BoundsEach};
 ghost use Rattle.rule_walk.specs.Faults.{Explains, Here, IsMisfit, HasNoFields, HasNoExit, HasNoBindings, HasNoArguments};
 ghost use Rattle.rule_walk.specs.Faults.{HandsOnNothing};
+ghost use Rattle.value_terms.specs.Spelled.{SpellsTerm};
 
 use crate::fault::{FireFault, unfit};
-use crate::judge::{operations_of, value_of};
-use match_code::Prepared;
+use crate::judge::{is_value, operations_of, value_of};
+use match_code::{Eval, Prepared};
 use rule_model::rules::Slot;
 use rule_substitution::scope::Scope;
 use spec_core::code::{ActField, Checked, ExitField};
@@ -24,7 +27,7 @@ use spec_core::memory::Memory;
 use spec_core::term::Term;
 use spec_core::value::Value;
 use std::alloc::Global;
-use value_terms::spelled;
+use value_terms::term_of_sort;
 
 /// A chosen value: as the list of its operations, and as the term that they spell.
 #[derive(Drop)]
@@ -61,28 +64,85 @@ fn before(value: Value, values: Vec<Value>) -> Result<Vec<Value>, Memory>
     }
 }
 
-/// The value that a tree chooses, where it is one of the sort.
+/// The value that a tree chooses, where it is one of the sort. A term that isn't a ground constructor term is evaluated, with at most `budget`
+/// uses of equations, to see whether it is a value.
 pub fn choose(
     alloc: Global,
-    checked: &Checked,
+    prepared: &Prepared,
     slot: &Slot,
     sort: Sort,
+    budget: u64,
 ) -> Result<Chosen, FireFault>
+    requires executable { IsExecutable (program_in prepared.now).theory }
     ensures here { IfOk result (λ c. slot.now ≡ Of c.ops) }
-    ensures spelled { IfOk result (λ c. Spells (program_of checked.now).theory c.ops (term_of c.term) sort.0) }
-    ensures misfit { IfErr result
-        (IsMisfit ((w : List ℕ) (n : TermTree) → slot.now ≡ Of w → Spells (program_of checked.now).theory w n sort.0 → ⊥)) }
+    ensures spelled { IfOk result (λ c. Spells (program_in prepared.now).theory c.ops (term_of c.term) sort.0) }
+    ensures fault { IfErr result
+        (Explains (program_in prepared.now).theory budget
+        (Here ((w : List ℕ) (n : TermTree) → slot.now ≡ Of w → Spells (program_in prepared.now).theory w n sort.0 → ⊥))
+        (ChoiceAsks (program_in prepared.now).theory sort.0 slot.now)) }
+    ensures within { BoundsEach (program_in prepared.now).theory budget
+        (ChoiceAsks (program_in prepared.now).theory sort.0 slot.now) result }
 {
     match slot {
-        Slot::Of(value) => match spelled(alloc, &checked.algebra, value, sort)? {
-            None => Err(unfit(alloc)),
-            Some(term) => Ok(Chosen {
-                ops: value.copy(alloc)?,
-                term,
-            }),
-        },
+        Slot::Of(value) => choose_value(alloc, prepared, value, sort, budget),
         Slot::Mark => Err(unfit(alloc)),
         Slot::Blank => Err(unfit(alloc)),
+    }
+}
+
+// The same of a list of operations.
+fn choose_value(
+    alloc: Global,
+    prepared: &Prepared,
+    value: &Value,
+    sort: Sort,
+    budget: u64,
+) -> Result<Chosen, FireFault>
+    requires executable { IsExecutable (program_in prepared.now).theory }
+    ensures here { IfOk result (λ c. value.now ≡ c.ops) }
+    ensures spelled { IfOk result (λ c. Spells (program_in prepared.now).theory c.ops (term_of c.term) sort.0) }
+    ensures fault { IfErr result
+        (Explains (program_in prepared.now).theory budget
+        (Here ((n : TermTree) → Spells (program_in prepared.now).theory value.now n sort.0 → ⊥))
+        (λ x. SpellsCall (program_in prepared.now).theory value.now x sort.0)) }
+    ensures within { BoundsEach (program_in prepared.now).theory budget
+        (λ x. SpellsCall (program_in prepared.now).theory value.now x sort.0) result }
+{
+    match term_of_sort(alloc, &prepared.checked.algebra, value, sort)? {
+        None => Err(unfit(alloc)),
+        Some(term) => {
+            let term = as_value(alloc, prepared, value, term, sort, budget)?;
+            let ops = value.copy(alloc)?;
+            Ok(Chosen { ops, term })
+        }
+    }
+}
+
+// The term of the sort that a list of operations spells, where it is a value.
+fn as_value(
+    alloc: Global,
+    prepared: &Prepared,
+    value: &Value,
+    term: Term,
+    sort: Sort,
+    budget: u64,
+) -> Result<Term, FireFault>
+    requires executable { IsExecutable (program_in prepared.now).theory }
+    requires spells { SpellsTerm (program_in prepared.now).theory value.now (term_of term) sort.0 }
+    ensures spelled { IfOk result (λ n. Spells (program_in prepared.now).theory value.now (term_of n) sort.0) }
+    ensures fault { IfErr result
+        (Explains (program_in prepared.now).theory budget
+        (Here ((n : TermTree) → Spells (program_in prepared.now).theory value.now n sort.0 → ⊥))
+        (λ x. SpellsCall (program_in prepared.now).theory value.now x sort.0)) }
+    ensures within { BoundsEach (program_in prepared.now).theory budget
+        (λ x. SpellsCall (program_in prepared.now).theory value.now x sort.0) result }
+{
+    match is_value(alloc, prepared, value, &term, budget) {
+        Ok(true) => Ok(term),
+        Ok(false) => Err(unfit(alloc)),
+        Err(Eval::Spent) => Err(FireFault::Spent { term }),
+        Err(Eval::TooLarge) => Err(FireFault::TooLarge { term }),
+        Err(Eval::Memory) => Err(FireFault::Memory),
     }
 }
 
@@ -126,7 +186,7 @@ pub fn fill(
             ActField::Take(x, sort) => match slots {
                 [] => Err(unfit(alloc)),
                 [slot, left @ ..] => {
-                    let found = choose(alloc, prepared.checked, slot, *sort)?;
+                    let found = choose(alloc, prepared, slot, *sort, budget)?;
                     let more = inner.with(alloc, *x, *sort, &found.term)?;
                     let others = fill(alloc, prepared, outer, &more, rest, left, budget)?;
                     Ok(in_front(found.ops, others)?)
@@ -169,7 +229,7 @@ pub fn fill_exit(
             ExitField::Any(sort) => match slots {
                 [] => Err(unfit(alloc)),
                 [slot, left @ ..] => {
-                    let found = choose(alloc, prepared.checked, slot, *sort)?;
+                    let found = choose(alloc, prepared, slot, *sort, budget)?;
                     let others = fill_exit(alloc, prepared, scope, rest, left, budget)?;
                     Ok(before(found.ops, others)?)
                 }
@@ -248,7 +308,21 @@ pub fn bind_arguments(
     }
 }
 
-/// The terms for the variables, with the values of an exit for those of `accept`.
+// The term of the sort that one of an exit's values spells.
+fn given_term(
+    alloc: Global,
+    checked: &Checked,
+    value: &Value,
+    sort: Sort,
+) -> Result<Option<Term>, Memory>
+    requires given { SpellsSome (program_of checked.now).theory value.now }
+    ensures some { IfOk result (λ o. IfSome o (λ term. Spells (program_of checked.now).theory value.now (term_of term) sort.0)) }
+    ensures none { IfOk result (λ o. IfNone o ((n : TermTree) → Spells (program_of checked.now).theory value.now n sort.0 → ⊥)) }
+{
+    term_of_sort(alloc, &checked.algebra, value, sort)
+}
+
+/// The terms for the variables, with the values of an exit that was done for those of `accept`.
 pub fn hand_on(
     alloc: Global,
     checked: &Checked,
@@ -257,6 +331,7 @@ pub fn hand_on(
     values: &[Value],
 ) -> Result<Scope, FireFault>
     requires executable { IsExecutable (program_of checked.now).theory }
+    requires given { Each (SpellsSome (program_of checked.now).theory) values.now }
     ensures handed_on { IfOk result (λ s.
         IsHandedOn (program_of checked.now).theory (terms_of inner.now) (map variable_of vars.now) values.now (terms_of s)) }
     ensures misfit { IfErr result
@@ -271,7 +346,7 @@ pub fn hand_on(
             [] => Err(unfit(alloc)),
             [value, others @ ..] => {
                 let (x, sort) = *first;
-                match spelled(alloc, &checked.algebra, value, sort)? {
+                match given_term(alloc, checked, value, sort)? {
                     None => Err(unfit(alloc)),
                     Some(term) => {
                         let more = inner.with(alloc, x, sort, &term)?;

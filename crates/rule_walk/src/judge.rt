@@ -1,13 +1,15 @@
 // Values of expressions, and whether predicates hold.
 
-ghost use Rattle.std.specs.Prelude.{◌≡◌, IfOk, IfErr, IfSome, IfNone, OnOk, map};
+ghost use Rattle.std.specs.Prelude.{◌≡◌, ◌⊎◌, ◌↔◌, IfOk, IfErr, IfSome, IfNone, OnOk, IsTrue, map};
+ghost use Rattle.spec_core.specs.Budgets.{IsBeyond};
 ghost use Rattle.spec_core.specs.Code.{guard_of, program_of};
+ghost use Rattle.spec_core.specs.Constructors.{IsConstructed};
 ghost use Rattle.spec_core.specs.Executable.{IsExecutable};
 ghost use Rattle.spec_core.specs.Sorts.{FitsGround, HasSort, no_variables};
-ghost use Rattle.spec_core.specs.Terms.{TermTree, instance, term_of};
+ghost use Rattle.spec_core.specs.Terms.{TermTree, instance, term_of, preorder};
 ghost use Rattle.spec_core.specs.Theories.{premise};
-ghost use Rattle.spec_core.specs.Values.{HasValue};
-ghost use Rattle.rewriter.specs.Answers.{IsWithin, SpellsValue};
+ghost use Rattle.spec_core.specs.Values.{IsValue, HasValue};
+ghost use Rattle.rewriter.specs.Answers.{IsWithin, MeetsTooLarge, SpellsValue};
 ghost use Rattle.rule_model.specs.Fields.{GivesValue, GuardHolds, PremiseHolds};
 ghost use Rattle.rule_substitution.specs.Scopes.{terms_of};
 ghost use Rattle.match_code.specs.Prepared.{program_in};
@@ -24,7 +26,7 @@ use spec_core::memory::Memory;
 use spec_core::term::Term;
 use spec_core::value::Value;
 use std::alloc::Global;
-use value_terms::{sort_of_ground, spelled};
+use value_terms::{are_constructors, sort_of_ground, term_of_sort};
 
 // A ground term and its sort.
 #[derive(Drop)]
@@ -135,10 +137,37 @@ fn spelled_value(
 {
     let sort = ground.sort;
     let value = evaluate(alloc, prepared, ground, budget)?;
-    match spelled(alloc, &prepared.checked.algebra, &value, sort)? {
+    match term_of_sort(alloc, &prepared.checked.algebra, &value, sort)? {
         None => unreachable!(),
         Some(term) => Ok(term),
     }
+}
+
+/// Whether the ground term that a list of operations spells is a value. A ground constructor term is one; any other is evaluated, with at
+/// most `budget` uses of equations, and compared with its value. `Spent` and `TooLarge` speak of that evaluation.
+pub fn is_value(
+    alloc: Global,
+    prepared: &Prepared,
+    value: &Value,
+    term: &Term,
+    budget: u64,
+) -> Result<bool, Eval>
+    requires executable { IsExecutable (program_in prepared.now).theory }
+    requires fits { FitsGround (program_in prepared.now).theory (term_of term.now) }
+    requires spelled { value.now ≡ preorder (term_of term.now) }
+    ensures decides { IfOk result (λ yes. IsTrue yes ↔ IsValue (program_in prepared.now).theory (term_of term.now)) }
+    ensures within { OnOk result ((IsConstructed (program_in prepared.now).theory (term_of term.now) → ⊥) →
+        IsWithin (program_in prepared.now).theory (term_of term.now) budget) }
+    ensures evaluated { IfErr result (λ e.
+        e ≡ Eval.Memory ⊎ (IsConstructed (program_in prepared.now).theory (term_of term.now) → ⊥)) }
+    ensures spent { IfErr result (λ e. e ≡ Eval.Spent → IsBeyond (program_in prepared.now).theory (term_of term.now) budget) }
+    ensures too_large { IfErr result (λ e. e ≡ Eval.TooLarge → MeetsTooLarge (program_in prepared.now).theory (term_of term.now)) }
+{
+    if are_constructors(&prepared.checked.algebra, value.as_slice()) {
+        return Ok(true);
+    }
+    let own = prepared.value(alloc, term, budget)?;
+    Ok(own.same(value))
 }
 
 /// Goes on where the two sides of a premise are equal, with the scope's terms in the places of their variables.

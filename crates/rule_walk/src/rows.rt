@@ -4,6 +4,7 @@ ghost use Rattle.std.specs.Prelude.{◌≡◌, ◌∷◌, [], true, false, IfOk,
 ghost use Rattle.spec_core.specs.Code.{program_of, relabelling_of, synchronised_of, variable_of};
 ghost use Rattle.spec_core.specs.Numbers.{gate_number};
 ghost use Rattle.spec_core.specs.Ready.{IsReady};
+ghost use Rattle.rule_laws.specs.Spelled.{HasSpelled};
 ghost use Rattle.rule_model.specs.declared.action.Action.TheVariants.{Inner};
 ghost use Rattle.rule_model.specs.Actions.{kind_of, synchronises, IsAlone, IsJoint, IsUnhidden, IsNoEnd, IsEnd};
 ghost use Rattle.rule_model.specs.Behaviours.{behaviour_of, parallel, relabel};
@@ -337,6 +338,7 @@ fn enabled(
     right: &Beh,
 ) -> Result<Step, FireFault>
     requires ready { IsReady (program_of checked.now) }
+    requires given { HasSpelled (program_of checked.now).theory done.action }
     ensures { Leaves (program_of checked.now).theory (terms_of scope.now)
         (handing (map variable_of vars.now) (behaviour_of right.now)) done result }
 {
@@ -413,6 +415,7 @@ pub fn leave(
     done: Step,
 ) -> Result<Step, FireFault>
     requires ready { IsReady (program_of checked.now) }
+    requires given { HasSpelled (program_of checked.now).theory done.action }
     ensures { Leaves (program_of checked.now).theory (terms_of scope.now) (surrounding_of frame.entry) done result }
 {
     match frame {

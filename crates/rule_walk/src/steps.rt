@@ -207,7 +207,7 @@ fn by_value(
     match from.as_value_choice() {
         None => Err(unfit(alloc)),
         Some((x, sort, body)) => {
-            let found = choose(alloc, prepared.checked, slot, sort)?;
+            let found = choose(alloc, prepared, slot, sort, budget)?;
             let more = scope.with(alloc, x, sort, &found.term)?;
             step_in(alloc, prepared, &more, body, part, budget, 0)
         }

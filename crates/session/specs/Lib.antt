@@ -4,3 +4,4 @@ pub mod Starting
 pub mod Calls
 pub mod Working
 pub mod Closing
+pub use Rattle.board_core.specs.JobValues

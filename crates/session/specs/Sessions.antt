@@ -6,6 +6,7 @@ use Rattle.spec_core.specs.declared.window.Window.{Window}
 use Rattle.spec_core.specs.Code.{program_of}
 use Rattle.spec_core.specs.Ready.{IsReady}
 use Rattle.board_core.specs.Found.{AreBySorts}
+use Rattle.board_core.specs.Working.{IsOfValues}
 use Rattle.session_board.specs.Tables.{windows_in}
 use Rattle.turn_lock.specs.Seats.{LockId, LockModel, SeatModel, IsAtRest}
 use Rattle.board_work.specs.declared.outcome.Outcome.{Outcome}
@@ -57,9 +58,9 @@ abbrev pub FitsJob : SessionView → TakenJob → Outcome → Type 0
 FitsJob s taken outcome =
     IsOutcome (program_of s.lock.fixed.checked) (windows_in s.lock.fixed.windows) s.lock.fixed.settings.budget taken.job outcome
 
--- a job needs nothing but what the session was made with
+-- a job needs nothing but what the session was made with; its tree of rules, if it has one, chooses values
 abbrev pub IsGiven : SessionView → TakenJob → Type 0
-IsGiven s taken = Unit {0}
+IsGiven s taken = IsOfValues (program_of s.lock.fixed.checked) taken.job
 
 -- each client has left, as far as the pass has seen
 abbrev pub IsOver : WorkPassView → Type 0

@@ -4,6 +4,9 @@ use Rattle.worker_drive.specs.Counts.{raised_by}
 use Rattle.session.specs.declared.desk.Did.{Did}
 use Rattle.session.specs.declared.desk.Did.TheVariants.{Job, Settled, Idle, Over}
 use Rattle.session_board.specs.declared.line.Line.{Line}
+use Rattle.session_board.specs.declared.shared.Look.{Look}
+use Rattle.session_board.specs.declared.shared.Look.TheVariants as look
+use Rattle.session_board.specs.declared.shared.TakenJob.{TakenJob}
 use Rattle.session_board.specs.declared.shared.Work.{Work}
 use Rattle.session_board.specs.declared.shared.Work.TheVariants as work
 use Rattle.session_board.specs.Lines.{AllHaveLeft}
@@ -15,6 +18,16 @@ ComesOfSeat clients old new (work.Free job) = Unit {0}
 ComesOfSeat clients old new work.Settled = length old < length new
 ComesOfSeat clients old new work.Idle = AllHaveLeft clients new → ⊥
 ComesOfSeat clients old new work.Over = AllHaveLeft clients new
+
+-- P holds of the job that a worker finds, and a client, if it finds one
+
+abbrev pub OnWork : (TakenJob → Type 0) → Work → Type 0
+OnWork P (work.Free taken) = P taken
+OnWork P _ = Unit {0}
+
+abbrev pub OnLook : (TakenJob → Type 0) → Look → Type 0
+OnLook P (look.Free taken) = P taken
+OnLook P _ = Unit {0}
 
 -- it took and put as many jobs as before
 abbrev pub SameJobs : WorkPassView → WorkPassView → Type 0

@@ -1,8 +1,10 @@
 // What a client calls.
 
 ghost use Rattle.std.specs.Prelude.{◌≡◌, ◌≤◌, IfErr, IfOk, IfSome, IsErrOf, OnErr, OnOk, false, length, true};
+ghost use Rattle.spec_core.specs.Code.{program_of};
 ghost use Rattle.rule_model.specs.Answers.{answer_of};
 ghost use Rattle.rule_model.specs.Events.{left, pended};
+ghost use Rattle.board_core.specs.JobValues.{GivesValues};
 ghost use Rattle.turn_lock.specs.Entries.{Begins};
 ghost use Rattle.turn_lock.specs.Seats.{IsAtRest};
 ghost use Rattle.session_board.specs.declared.shared.Look.TheVariants.{Answered};
@@ -12,7 +14,8 @@ ghost use Rattle.session_board.specs.Looks.{ComesOfLook};
 ghost use Rattle.session.specs.Calls.{ExplainsCall, ExplainsCallBy, ExplainsLeaving, ExplainsLeavingBy, HasItsLines, HasMade, HasSeenMore};
 ghost use Rattle.session.specs.Calls.{IsIdleSeat, MakesNone, MayCall, MayCallBy, StaysSeat};
 ghost use Rattle.session.specs.Passes.{HasHalted, HasLeft, HasLeftBy, KnowsAnswer, KnowsLeave, SamePass, knows};
-ghost use Rattle.session.specs.Sessions.{FitsJob, IsClientOf};
+ghost use Rattle.session.specs.Sessions.{FitsJob, IsClientOf, IsGiven};
+ghost use Rattle.session.specs.Working.{OnLook};
 
 use crate::pass::Pass;
 use crate::session::Session;
@@ -59,6 +62,7 @@ impl Session {
         requires client { client ≤ self.now.lock.fixed.clients }
         requires idle { IsIdleSeat seat.old client }
         requires spot { IsSpot seat.old.seen from }
+        requires values { GivesValues (program_of self.now.lock.fixed.checked).theory offer.now }
         ensures stays { StaysSeat seat.old seat.new }
         ensures own { HasItsLines seat.new }
         ensures made { IfOk result (λ r. HasMade seat.old seat.new (pended client r.0 offer.now ask)) }
@@ -99,6 +103,7 @@ impl Session {
         ensures none { HasSeenMore seat.old seat.new }
         ensures spot { IfOk result (λ r. IsSpot seat.new.seen r.0 × (spot.lines ≤ r.0.lines)) }
         ensures found { IfOk result (λ r. ComesOfLook seat.new.seen name r.0 r.1) }
+        ensures given { IfOk result (λ r. OnLook (IsGiven self.now) r.1) }
         ensures running { OnOk result (HasHalted seat.new.seen → ⊥) }
         ensures marked { OnErr result (HasHalted seat.new.seen) }
     {
@@ -135,6 +140,7 @@ impl Session {
 
     // Does a job without the turn.
     pub(crate) fn do_job(&self, taken: &TakenJob) -> Result<Outcome, Memory>
+        requires given { IsGiven self.now taken.now }
         ensures { IfOk result (FitsJob self.now taken.now) }
     {
         let prepared = Prepared {
@@ -158,6 +164,7 @@ impl Session {
         taken: TakenJob,
     ) -> Result<(), Memory>
         requires rests { IsAtRest self.now.lock.id seat.old }
+        requires given { IsGiven self.now taken }
         ensures stays { StaysSeat seat.old seat.new }
         ensures own { HasItsLines seat.new }
         ensures none { HasSeenMore seat.old seat.new }
@@ -177,6 +184,7 @@ impl Session {
     ) -> Result<Option<Reply>, Memory>
         requires rests { IsAtRest self.now.lock.id seat.old }
         requires own { HasItsLines seat.old }
+        requires given { OnLook (IsGiven self.now) look }
         ensures stays { StaysSeat seat.old seat.new }
         ensures own { HasItsLines seat.new }
         ensures none { HasSeenMore seat.old seat.new }
@@ -262,6 +270,7 @@ impl Session {
         ask: bool,
     ) -> Result<Reply, CallFault>
         requires ours { IsClientOf self.now pass.old }
+        requires values { GivesValues (program_of self.now.lock.fixed.checked).theory offer.now }
         ensures same { SamePass pass.old pass.new }
         ensures seen { Begins pass.old.seen pass.new.seen }
         ensures may { OnOk result (MayCall self.now pass.old offer.now) }
@@ -283,9 +292,10 @@ impl Session {
     }
 
     /// The client offers, and waits for the answer; meanwhile it does what jobs are there, so that a session without workers goes on. The pass
-    /// then knows a beginning of the log that ends with the entry that answers.
+    /// then knows a beginning of the log that ends with the entry that answers. What the offer gives are values.
     pub fn offer<R: Wait>(&self, rt: &R, pass: &mut Pass, offer: &Offer) -> Result<Reply, CallFault>
         requires ours { IsClientOf self.now pass.old }
+        requires values { GivesValues (program_of self.now.lock.fixed.checked).theory offer.now }
         ensures same { SamePass pass.old pass.new }
         ensures seen { Begins pass.old.seen pass.new.seen }
         ensures may { OnOk result (MayCall self.now pass.old offer.now) }
@@ -301,6 +311,7 @@ impl Session {
     /// As `offer`, but the client only asks: where its offer can't be taken now, it is told so.
     pub fn ask<R: Wait>(&self, rt: &R, pass: &mut Pass, offer: &Offer) -> Result<Reply, CallFault>
         requires ours { IsClientOf self.now pass.old }
+        requires values { GivesValues (program_of self.now.lock.fixed.checked).theory offer.now }
         ensures same { SamePass pass.old pass.new }
         ensures seen { Begins pass.old.seen pass.new.seen }
         ensures may { OnOk result (MayCall self.now pass.old offer.now) }

@@ -7,7 +7,7 @@ ghost use Rattle.worker_drive.specs.Counts.{raised_by};
 ghost use Rattle.session.specs.Calls.{HasSeenMore, StaysSeat};
 ghost use Rattle.session.specs.Passes.{HasHalted};
 ghost use Rattle.session.specs.Sessions.{FitsJob, IsGiven, IsOpen, IsOver, IsWorkerOf, Who, who_of};
-ghost use Rattle.session.specs.Working.{ComesOfDoing, ComesOfSeat, OneJobMore, SameJobs};
+ghost use Rattle.session.specs.Working.{ComesOfDoing, ComesOfSeat, OneJobMore, OnWork, SameJobs};
 
 use crate::session::Session;
 use crate::work_pass::WorkPass;
@@ -41,6 +41,7 @@ impl Session {
         ensures marked { OnErr result (HasHalted seat.new.seen) }
         ensures still { HasHalted seat.old.seen → HasHalted seat.new.seen }
         ensures work { IfOk result (ComesOfSeat self.now.lock.fixed.clients seat.old.seen seat.new.seen) }
+        ensures given { IfOk result (OnWork (IsGiven self.now)) }
     {
         let mut held = self.turns.take(rt, seat);
         let work = held.value.work(self.alloc);

@@ -2,6 +2,7 @@
 
 ghost use Rattle.std.specs.Prelude.{◌≡◌, ◌≤◌, [], IfErr, IfNone, IfOk, IfSome, IsErrOf, None, OnErr, OnOk, false, length, map};
 ghost use Rattle.rule_model.specs.Events.{left, pended};
+ghost use Rattle.board_core.specs.JobValues.{GivesValues};
 ghost use Rattle.board_core.specs.Origins.{source_of};
 ghost use Rattle.candidates.specs.Models.{job_of};
 ghost use Rattle.board_core.specs.Views.{events, program, tree, windows};
@@ -138,7 +139,7 @@ impl SharedBoard {
     }
 
     /// A client makes its next offer, or asks for it; its number, and the spot behind this, where the client stood at another one before.
-    /// Want of memory is marked.
+    /// What the offer gives are values. Want of memory is marked.
     pub fn pend(
         &mut self,
         alloc: Global,
@@ -150,6 +151,7 @@ impl SharedBoard {
         requires running { self.old.halted ≡ false }
         requires client { (1 ≤ client) × (client ≤ self.old.board.session.clients) }
         requires spot { IsSpot (lines self.old) from }
+        requires values { GivesValues (program self.old.board).theory offer.now }
         ensures pended { IfOk result (λ r. GrowsByOne self.old self.new (pended client r.0 offer.now ask)) }
         ensures spot { IfOk result (λ r. IsSpot (lines self.new) r.1 × (r.1.lines ≡ length (lines self.new))) }
         ensures none { OnErr result (GrowsByNone self.old self.new) }

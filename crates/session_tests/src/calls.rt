@@ -1,5 +1,8 @@
 // Calls of a client.
 
+ghost use Rattle.spec_core.specs.Theories.{Theory};
+ghost use Rattle.session.specs.JobValues.{GivesValues};
+
 use rule_model::offer::{Fields, Offer};
 use rule_model::reply::Reply;
 use session::calls::CallFault;
@@ -17,7 +20,9 @@ const SETTINGS: Settings = Settings {
 };
 
 // An offer at a gate, without fields.
-fn at(alloc: Global, gate: u32) -> Offer {
+fn at(alloc: Global, gate: u32) -> Offer
+    ensures { (theory : Theory) → GivesValues theory result }
+{
     Offer {
         gate: Gate(gate),
         fields: Fields::new(Vec::new(alloc)),

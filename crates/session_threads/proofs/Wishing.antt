@@ -11,7 +11,7 @@ use Rattle.rule_model.specs.Events.{Event, event_of, pended, acted, replied, sta
 use Rattle.rule_model.specs.States.{PendingOffer}
 use Rattle.rule_model.specs.Wishes.{Wish}
 use Rattle.log_states.proofs.Tests.{on_either}
-use Rattle.spec_core.specs.Lists.{IsOneOf}
+use Rattle.spec_core.specs.Lists.{Each, IsOneOf}
 use Rattle.spec_core.proofs.Members.{contains_one, contains_none}
 use Rattle.spec_core.proofs.Lists.{take_next}
 use Rattle.session_laws.specs.Answers.{offers_by}
@@ -100,6 +100,17 @@ same_client s p q ours same = record {
   first = subst (λ k. 1 ≤ k) (sym same.1) ours.first;
   last = subst (λ k. k ≤ s.lock.fixed.clients) (sym same.1) ours.last;
 }
+
+-- what holds of each of several lists, and something else that does
+
+both_hold : {A : Type 0} (P Q : A → Type 0) (xs : List A) → Each P xs → Each Q xs → Each (λ x. P x × Q x) xs
+both_hold P Q [] h k = tt
+both_hold P Q (x ∷ xs) h k = ((h.0, k.0), both_hold P Q xs h.1 k.1)
+
+pub all_hold : {A : Type 0} (P Q : A → Type 0) (lists : List (List A)) → Each (Each P) lists → Each (Each Q) lists →
+    Each (Each (λ x. P x × Q x)) lists
+all_hold P Q [] h k = tt
+all_hold P Q (xs ∷ lists) h k = (both_hold P Q xs h.0 k.0, all_hold P Q lists h.1 k.1)
 
 -- one of the wishes
 pub wish_fits : (s : SessionView) (wishes : List ClientWish) (i : ℕ) (wish : ClientWish) → FitSession s (map wish_of wishes) →

@@ -7,6 +7,7 @@ use Rattle.rule_model.specs.declared.wish.ClientWish.{ClientWish}
 use Rattle.rule_model.specs.WishViews.{wish_of}
 use Rattle.session_laws.specs.Wishes.{wishes_by}
 use Rattle.session_board.specs.Lines.{events_in}
+use Rattle.board_laws.specs.JobValues.{GivesValues}
 use Rattle.session.specs.Passes.{PassView, WorkPassView, HasLeft, SamePass}
 use Rattle.session.specs.Sessions.{SessionView, IsClientOf, IsWorkerOf, who_of}
 use Rattle.session_threads.specs.declared.rows.Row.{Row}
@@ -18,11 +19,13 @@ use Rattle.session_threads.specs.declared.rows.Row.TheVariants.{Client, Worker}
 abbrev pub wishes_made : PassView → List Wish
 wishes_made p = wishes_by p.client (events_in p.own)
 
--- each offer is at a gate of the session's specification
+-- each offer is at a gate of the session's specification, and gives values
 abbrev pub FitSession : SessionView → List Wish → Type 0
-FitSession s wishes = Each (λ (w : Wish). w.offer.gate.0 < length (program_of s.lock.fixed.checked).gates) wishes
+FitSession s wishes =
+    Each (λ (w : Wish).
+    (w.offer.gate.0 < length (program_of s.lock.fixed.checked).gates) × GivesValues (program_of s.lock.fixed.checked).theory w.offer) wishes
 
--- the client has done nothing yet, and its offers are at gates of the specification
+-- the client has done nothing yet, and its offers are at gates of the specification, and give values
 abbrev pub IsReadyClient : SessionView → PassView → List ClientWish → Type 0
 IsReadyClient s pass wishes = IsClientOf s pass × (pass.own ≡ []) × FitSession s (map wish_of wishes)
 

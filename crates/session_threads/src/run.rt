@@ -7,6 +7,7 @@ ghost use Rattle.spec_core.specs.Ready.{IsReady};
 ghost use Rattle.rule_model.specs.Events.{ending_of};
 ghost use Rattle.rule_model.specs.Logs.{events_of};
 ghost use Rattle.symbolic_rules.specs.Windows.{Windows};
+ghost use Rattle.board_laws.specs.JobValues.{GivesValues};
 ghost use Rattle.board_laws.specs.Next.{AreSessionWindows};
 ghost use Rattle.session_laws.specs.Sessions.{IsWholeSession};
 ghost use Rattle.session_threads.specs.Rows.{client_passes, worker_passes, worker_row, AreClientRows, AreServed, IsDone, IsReadyRow};
@@ -132,7 +133,7 @@ fn passes_of(alloc: Global, mut rows: Vec<Row>) -> Result<(Vec<Pass>, Vec<WorkPa
 }
 
 /// The session of clients that make these offers, each in order, and leave, with so many workers, from 0 to 64: each client and each worker
-/// in a thread of its own, as far as threads can be started. The log, and how the session ends.
+/// in a thread of its own, as far as threads can be started. What the offers give are values. The log, and how the session ends.
 pub fn run_in_threads<R: Threads + Wait + Sync, P: Probe + Sync>(
     rt: &R,
     alloc: Global,
@@ -146,6 +147,7 @@ pub fn run_in_threads<R: Threads + Wait + Sync, P: Probe + Sync>(
     requires clients { length clients.now ≤ 64 }
     requires workers { workers ≤ 64 }
     requires gates { Each (Each (λ w. w.offer.gate.0 < length (program_of checked).gates)) (map all_wishes_of clients.now) }
+    requires values { Each (Each (λ w. GivesValues (program_of checked).theory w.offer)) (map all_wishes_of clients.now) }
     ensures session { IfOk result (λ r. IsWholeSession (program_of checked) settings (length clients.now) (events_of r.0) (ending_of r.1)) }
     ensures clients { IfOk result (λ r. AnswersClients 1 (map all_wishes_of clients.now) (events_of r.0)) }
     ensures windows { IfOk result (λ r. (w : Windows) × AreSessionWindows (program_of checked) settings w) }

@@ -1,8 +1,10 @@
 // What each thread does.
 
 ghost use Rattle.std.specs.Prelude.{◌≡◌, ◌++◌, ◌∷◌, [], IfErr, IfOk, OnOk, map};
+ghost use Rattle.spec_core.specs.Code.{program_of};
 ghost use Rattle.rule_model.specs.Answers.{answer_of};
 ghost use Rattle.rule_model.specs.WishViews.{wish_of};
+ghost use Rattle.board_laws.specs.JobValues.{GivesValues};
 ghost use Rattle.session.specs.Calls.{ExplainsCall};
 ghost use Rattle.session.specs.Passes.{HasLeft, KnowsAnswer, SamePass};
 ghost use Rattle.session.specs.Sessions.{IsClientOf, IsWorkerOf, who_of};
@@ -27,6 +29,7 @@ fn call<R: Wait>(
     wish: &ClientWish,
 ) -> Result<Reply, CallFault>
     requires ours { IsClientOf session.now pass.old }
+    requires values { GivesValues (program_of session.now.lock.fixed.checked).theory wish.now.offer }
     ensures same { SamePass pass.old pass.new }
     ensures answered { IfOk result (λ reply. KnowsAnswer pass.old wish.now.offer wish.now.ask (answer_of reply) pass.new) }
     ensures fault { IfErr result (ExplainsCall session.now pass.old pass.new wish.now.offer) }

@@ -5,10 +5,14 @@ use Rattle.std.specs.List.{slice_get}
 use Rattle.spec_core.specs.declared.items.Gate.{Gate}
 use Rattle.spec_core.specs.declared.settings.Settings.{Settings}
 use Rattle.spec_core.specs.Code.{Program, program_of}
+use Rattle.spec_core.specs.Lists.{Each}
 use Rattle.spec_core.specs.Ready.{IsReady}
 use Rattle.spec_core.specs.Terms.{variable}
 use Rattle.spec_core.specs.Theories.{Theory}
+use Rattle.spec_core.proofs.Lists.{each_image}
+use Rattle.rule_laws.specs.Spelled.{SpellsSome, HasSpelled}
 use Rattle.rule_laws.proofs.Determined.{trees_determine_steps}
+use Rattle.rule_laws.proofs.Spelling.{step_spelled}
 use Rattle.rule_model.specs.declared.action.Action.{Action}
 use Rattle.rule_model.specs.declared.action.Action.TheVariants.{At}
 use Rattle.rule_model.specs.declared.offer.Field.TheVariants.{Give}
@@ -25,6 +29,7 @@ use Rattle.rule_gates.specs.Acting.{IsAt, IsOfHeading}
 use Rattle.rule_gates.specs.Laws.{ActionsAreAtGatesOfTheHeading}
 use Rattle.board_record.specs.Records.{IsSession}
 use Rattle.board_record.specs.Views.{HasActed}
+use Rattle.board_core.specs.JobValues.{FieldGivesValue, GivesValues}
 use Rattle.board_core.specs.Shapes.{stands_for}
 use Rattle.board_core.specs.Views.{BoardView, events, program, state, tree, SameLog, SameSession, SameSetting}
 use Rattle.board_laws.specs.Rules.{any}
@@ -55,6 +60,19 @@ agrees program s t n gate values offer is none e = record {
   holds =
       subst (Meets program.theory (At gate values)) (sym is) (refl, given_meet program.theory values);
 }
+
+-- where the action's values are values, the offer gives values
+pub gives_values : (theory : Theory) (gate : Gate) (values : List (List ℕ)) (offer : Offer) →
+    offer ≡ record { gate = gate; fields = map Give values } → Each (SpellsSome theory) values → GivesValues theory offer
+gives_values theory gate values offer is h =
+    subst (GivesValues theory) (sym is) (each_image (SpellsSome theory) (FieldGivesValue theory) Give values (λ v k. k) h)
+
+-- and what the behaviour that is reached does has values
+pub has_spelled : (v : BoardView) (step : Candidate) → IsCandidate (program v) (state v) (tree v) step → (a : Action) → a ≡ step.action →
+    HasSpelled (program v).theory a
+has_spelled v step is a same =
+    subst (HasSpelled (program v).theory) (sym same)
+    (step_spelled (program v) (derivation_of step.rules) (state v).behaviour variable step.action is.rest is.derives)
 
 -- what the behaviour that is reached does is at gates of the heading
 pub at_heading : (v : BoardView) (clients : ℕ) → IsReady (program v) → IsSession (program v) clients (events v) (state v) →

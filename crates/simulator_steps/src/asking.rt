@@ -4,13 +4,14 @@ ghost use Rattle.std.specs.Prelude.{ℕ, ◌-◌, ◌≡◌, ◌∷◌, ◌++◌
 ghost use Rattle.std.specs.List.{slice_get};
 ghost use Rattle.rule_model.specs.Events.{Event, event_of, pended};
 ghost use Rattle.rule_model.specs.States.{after_offer};
+ghost use Rattle.board_core.specs.JobValues.{GivesValues};
 ghost use Rattle.board_core.specs.Settled.{HasSettled};
 ghost use Rattle.board_core.specs.Views.{events, program, state, SameNodes, SameSession, SameSetting};
 ghost use Rattle.simulator_steps.specs.Asking.{ComesNext, EndsWith, IsAnswer, IsAnswered, IsAtRest, KeepsBehaviour, OnlyWaits, TellsLast, TellsOf};
 
 use board_core::board::Board;
 use board_record::PendFault;
-use board_work::working::work;
+use board_work::working::work_on;
 use rule_model::action::Action;
 use rule_model::log::Entry;
 use rule_model::offer::Offer;
@@ -27,8 +28,8 @@ pub enum Answered {
     Told(Reply),
 }
 
-// One entry, if what is known decides it, or else one job. Whether it was an entry.
-fn settle_once(alloc: Global, board: &mut Board) -> Result<bool, Memory>
+// One entry, if what is known decides it, or else one job, and up to so many others with it. Whether it was an entry.
+fn settle_once(alloc: Global, board: &mut Board, more: &mut usize) -> Result<bool, Memory>
     ensures entry { IfOk result (λ settled. IsTrue settled → HasSettled board.old board.new) }
     ensures job { IfOk result (λ settled. settled ≡ false → OnlyWaits board.old board.new) }
     ensures session { SameSession board.old board.new }
@@ -41,7 +42,7 @@ fn settle_once(alloc: Global, board: &mut Board) -> Result<bool, Memory>
     match board.take_job(alloc)? {
         None => Ok(false),
         Some(job) => {
-            work(alloc, board, job)?;
+            *more = work_on(alloc, board, job, *more)?;
             Ok(false)
         }
     }
@@ -52,18 +53,20 @@ fn settle(alloc: Global, board: &mut Board) -> Result<(), Memory>
     ensures next { OnOk result (ComesNext board.old board.new) }
     ensures session { SameSession board.old board.new }
 {
+    let mut more = 0;
     for _ in 0..u64::MAX {
-        if settle_once(alloc, board)? {
+        if settle_once(alloc, board, &mut more)? {
             return Ok(());
         }
     }
     Err(Memory)
 }
 
-/// The one client makes an offer, or only asks; the offer's number.
+/// The one client makes an offer, or only asks; the offer's number. What the offer gives are values.
 pub fn pend(alloc: Global, board: &mut Board, offer: &Offer, ask: bool) -> Result<u64, Memory>
     requires rests { IsAtRest (state board.old) }
     requires gate { offer.now.gate.0 < length (program board.old).gates }
+    requires values { GivesValues (program board.old).theory offer.now }
     ensures log { IfOk result (λ n. events board.new ≡ events board.old ++ pended 1 n offer.now ask ∷ []) }
     ensures state { IfOk result (λ n. state board.new ≡ after_offer (state board.old) 1 n offer.now ask) }
     ensures setting { SameSetting board.old board.new }
@@ -113,10 +116,12 @@ fn last_answered(alloc: Global, board: &Board) -> Result<Answered, Memory>
     }
 }
 
-/// The one client asks for an offer: the first step that meets it is done, or it is told why not. What jobs this needs are done at once.
+/// The one client asks for an offer, which gives values: the first step that meets it is done, or it is told why not. What jobs this needs
+/// are done at once.
 pub fn ask(alloc: Global, board: &mut Board, offer: &Offer) -> Result<Answered, Memory>
     requires rests { IsAtRest (state board.old) }
     requires gate { offer.now.gate.0 < length (program board.old).gates }
+    requires values { GivesValues (program board.old).theory offer.now }
     ensures answered { IfOk result (IsAnswered board.old board.new offer.now) }
     ensures behaviour { IfOk result (KeepsBehaviour board.old board.new) }
     ensures rests { OnOk result (IsAtRest (state board.new)) }

@@ -12,6 +12,7 @@ ghost use Rattle.rule_model.specs.States.{without_taken};
 ghost use Rattle.board_lists.specs.Listings.{IsCandidate, tree_in};
 ghost use Rattle.board_core.specs.Views.{events, program, state, tree, SameLog, SameSetting, SameNodes};
 ghost use Rattle.rule_gates.specs.Acting.{IsAt, IsOfHeading};
+ghost use Rattle.rule_laws.specs.Spelled.{HasSpelled};
 ghost use Rattle.simulator_steps.specs.Asking.{IsAtRest};
 ghost use Rattle.simulator_steps.specs.Choosing.{ComesOfChoice, ComesOfNumber, offered_before, taken_by};
 
@@ -65,6 +66,7 @@ fn offer_of(alloc: Global, gate: Gate, values: &Values) -> Result<Offer, Memory>
 fn offered(alloc: Global, board: &mut Board, action: &Action) -> Result<Option<(u32, u64)>, Memory>
     requires rests { IsAtRest (state board.old) }
     requires gate { IsAt (IsOfHeading (program board.old)) (kind_of action.now) }
+    requires values { HasSpelled (program board.old).theory action.now }
     ensures offered { IfOk result (λ by. (number : ℕ) × (by ≡ taken_by action.now number) ×
         (events board.new ≡ events board.old ++ offered_before action.now number)) }
     ensures agreed { IfOk result (IsAgreed (program board.new) (state board.new) action.now) }

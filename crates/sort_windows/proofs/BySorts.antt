@@ -1,5 +1,5 @@
 -- One window more, behind those of the sorts before.
-use Rattle.std.proofs.Common.{ℕ, zero, suc, ◌≡◌, ◌⊎◌, inl, inr, List, [], ◌∷◌, ◌++◌, length, refl, sym, ap, subst, Some, arith}
+use Rattle.std.proofs.Common.{ℕ, zero, suc, ◌≡◌, ◌⊎◌, inl, inr, List, [], ◌∷◌, ◌++◌, length, refl, sym, ap, subst, Some}
 use Rattle.std.specs.List.{slice_get}
 use Rattle.spec_core.specs.Theories.{Theory}
 use Rattle.spec_core.specs.Windows.{IsWindow}

@@ -1,11 +1,11 @@
 -- The first values of a closed window with room for one more.
 use Rattle.std.proofs.Common.{ℕ, zero, suc, ◌≡◌, ◌<◌, ◌≤◌, ◌+◌, ◌⊎◌, inl, inr, List, [], ◌∷◌, length, take, get_or, refl, sym, subst}
-use Rattle.std.proofs.Common.{arith, IsTrue}
-use Rattle.std.proofs.Math.Dec.{leb}
-use Rattle.std.proofs.lemmas.Bool.{leb-true, le-leb, cases_order}
+use Rattle.std.proofs.Common.{arith, Bool, IsTrue, ◌↔◌}
+use Rattle.std.proofs.lemmas.Bool.{cases_order}
 use Rattle.std.proofs.lemmas.List.{length-take, take_all}
 use Rattle.std.specs.List.{Contains}
 use Rattle.spec_core.specs.Lists.{Each, IsOneOf}
+use Rattle.spec_core.specs.OpenSorts.{IsOpen}
 use Rattle.spec_core.specs.Theories.{Theory}
 use Rattle.spec_core.specs.Windows.{IsBefore, IsInOrder, IsMember, IsWindow}
 use Rattle.spec_core.proofs.Members.{each_one}
@@ -92,22 +92,26 @@ module _ (theory : Theory) (k sort : ℕ) (windows : ℕ → List (List ℕ)) (c
       not_before r.0 (each_one (λ w. IsBefore w r.0) (take k (windows sort)) r.0 r.2 (one_of (take k (windows sort)) r.0 c.0 c.1 c.2))
 
   told : ((v : List ℕ) → IsMember theory sort v → Contains (take k (windows sort)) v) →
-      (length (windows sort) ≡ k) ⊎ ((length (windows sort) < k) ⊎ (k < length (windows sort))) → IsTrue (leb (length (windows sort)) k)
-  told all (inl e) = le-leb _ _ (omega arith)
-  told all (inr (inl l)) = le-leb _ _ (omega arith)
+      (length (windows sort) ≡ k) ⊎ ((length (windows sort) < k) ⊎ (k < length (windows sort))) → length (windows sort) ≤ k
+  told all (inl e) = omega (arith, e)
+  told all (inr (inl l)) = omega (arith, l)
   told all (inr (inr l)) = absurd (incomplete_lacks_one all l)
 
-  the_window : IsWindow theory sort k (take k (windows sort)) (leb (length (windows sort)) k)
-  the_window = record {
+  the_window : (complete : Bool) → IsTrue complete ↔ ((IsOpen theory sort → ⊥) × (length (windows sort) ≤ k)) →
+      IsWindow theory sort k (take k (windows sort)) complete
+  the_window complete decides = record {
     members = each_take (IsMember theory sort) k (windows sort) (sound.members sort);
     in_order = in_order_take k (windows sort) (sound.in_order sort);
     at_most = counted;
     first = first_values;
-    all = (λ h. complete_holds_all (leb-true _ _ h), λ all. told all (cases_order (length (windows sort)) k));
+    all = (
+      λ h. let d = decides.0 h in (complete_holds_all d.1, d.0),
+      λ all. decides.1 (all.1, told all.0 (cases_order (length (windows sort)) k)),
+    );
   }
 
-  pub window_of_closed : (values : List (List ℕ)) (n : ℕ) →
-      values ≡ take k (windows sort) → n ≡ length (windows sort) → IsWindow theory sort k values (leb n k)
-  window_of_closed values n e f =
-      subst (λ vs. IsWindow theory sort k vs (leb n k)) (sym e)
-      (subst (λ m. IsWindow theory sort k (take k (windows sort)) (leb m k)) (sym f) the_window)
+  pub window_of_closed : (values : List (List ℕ)) (n : ℕ) (complete : Bool) → values ≡ take k (windows sort) →
+      n ≡ length (windows sort) → IsTrue complete ↔ ((IsOpen theory sort → ⊥) × (n ≤ k)) → IsWindow theory sort k values complete
+  window_of_closed values n complete e f decides =
+      subst (λ vs. IsWindow theory sort k vs complete) (sym e)
+      (the_window complete (subst (λ m. IsTrue complete ↔ ((IsOpen theory sort → ⊥) × (m ≤ k))) f decides))

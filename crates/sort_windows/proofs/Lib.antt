@@ -1,5 +1,6 @@
 pub mod BySorts
 pub mod Cut
+pub mod Few
 pub mod Gained
 pub mod Order
 pub mod Reached

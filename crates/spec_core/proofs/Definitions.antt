@@ -9,7 +9,8 @@ use Rattle.spec_core.specs.Orthogonality.{HasPatterns}
 use Rattle.spec_core.specs.Order.{IsInside, IsInsideAny, IsSmaller, IsBelow, itself}
 use Rattle.spec_core.specs.Executable.{IsExecutable}
 use Rattle.spec_core.specs.Windows.{IsLess, IsBefore, IsInOrder}
-use Rattle.spec_core.specs.Laws.{ConstructorsKeepValues, ValuesEvaluateToThemselves, ValuesAreGround, PartsOfArgumentsAreBelow}
+use Rattle.spec_core.specs.Values.{IsSettled, AreSettled}
+use Rattle.spec_core.specs.Laws.{ConstructorsKeepValues, ConstructorTermsStay, ValuesAreGround, PartsOfArgumentsAreBelow}
 use Rattle.spec_core.specs.Laws.{LeftSidesAreNotBelowThemselves, WindowsHoldGroundTerms, WindowsAreInOrder}
 use Rattle.spec_core.proofs.Members.{each_one}
 use Rattle.spec_core.proofs.Lists.{each_implied}
@@ -27,15 +28,14 @@ not_like theory e f vs (g, ps, left, patterns) no_head s q =
     let same : g ≡ f = cc in
     no_head (ps, subst (λ h. e.left ≡ apply h ps) same left)
 
-tries_none : (theory : Theory) (f : ℕ) (vs : TermTrees) →
-    IsConstructor theory f → (es : List ConditionalEquation) → Each (HasPatterns theory) es → Each (λ e. Heads f e → ⊥) es →
-    Tries theory es f vs (apply f vs) 0
-tries_none theory f vs c [] ps hs = final c refl refl
-tries_none theory f vs c (e ∷ es) ps hs = unlike (not_like theory e f vs ps.0 hs.0) (tries_none theory f vs c es ps.1 hs.1)
+tries_none : (theory : Theory) (f : ℕ) (vs : TermTrees) (es : List ConditionalEquation) →
+    Each (HasPatterns theory) es → Each (λ e. Heads f e → ⊥) es → Tries theory es f vs (apply f vs) 0
+tries_none theory f vs [] ps hs = final refl refl
+tries_none theory f vs (e ∷ es) ps hs = unlike (not_like theory e f vs ps.0 hs.0) (tries_none theory f vs es ps.1 hs.1)
 
 pub constructors_keep_values : ConstructorsKeepValues
 constructors_keep_values theory ex f ts vs n c all =
-    called vs n 0 all (tries_none theory f vs c theory.equations ex.orthogonal.patterns (heads_none theory ex f c)) (omega arith)
+    called vs n 0 all (tries_none theory f vs theory.equations ex.orthogonal.patterns (heads_none theory ex f c)) (omega arith)
 
 module _ (theory : Theory) (ex : IsExecutable theory) where
   mutual
@@ -47,8 +47,8 @@ module _ (theory : Theory) (ex : IsExecutable theory) where
     own_values no_terms h = none refl
     own_values (and_term v vs) h = more 0 0 (own_value v h.0) (own_values vs h.1) (omega arith)
 
-pub values_evaluate_to_themselves : ValuesEvaluateToThemselves
-values_evaluate_to_themselves theory ex v h = own_value theory ex v h
+pub constructor_terms_stay : ConstructorTermsStay
+constructor_terms_stay theory ex v h = own_value theory ex v h
 
 module _ (theory : Theory) where
   mutual
@@ -60,8 +60,17 @@ module _ (theory : Theory) where
     constructed_all_ground no_terms h = tt
     constructed_all_ground (and_term v vs) h = (constructed_ground v h.0, constructed_all_ground vs h.1)
 
+  mutual
+    settled_ground : (v : TermTree) → IsSettled theory v → IsGround v
+    settled_ground (variable x) h = h
+    settled_ground (apply f ts) h = settled_all_ground ts h.0
+
+    settled_all_ground : (vs : TermTrees) → AreSettled theory vs → AreGround vs
+    settled_all_ground no_terms h = tt
+    settled_all_ground (and_term v vs) h = (settled_ground v h.0, settled_all_ground vs h.1)
+
 pub values_are_ground : ValuesAreGround
-values_are_ground theory v h = constructed_ground theory v h
+values_are_ground theory v h = settled_ground theory v h.settled
 
 pub parts_of_arguments_are_below : PartsOfArgumentsAreBelow
 parts_of_arguments_are_below theory f ps (variable x) h = h

@@ -46,10 +46,10 @@ module _ (theory : Theory) (tight : Each HasNoLooseVariables theory.equations) w
         let y = one_values b d in
         (cc, omega (arith, x.1, y.1))
 
-    one_try : {es : List ConditionalEquation} {f : ℕ} {vs : TermTrees} {v : TermTree} {n : ℕ} →
+    pub one_try : {es : List ConditionalEquation} {f : ℕ} {vs : TermTrees} {v : TermTree} {n : ℕ} →
         Tries theory es f vs v n → Each HasNoLooseVariables es → (us : TermTrees) → vs ≡ us → {w : TermTree} {m : ℕ} →
         Tries theory es f us w m → (v ≡ w) × (n ≡ m)
-    one_try (final i e k) t us q (final j g l) = (cc, omega arith)
+    one_try (final e k) t us q (final g l) = (cc, omega arith)
     one_try (unlike h a) t us q (unlike i b) = one_try a t.1 us q b
     one_try (unlike h a) t us q (like s i b) = absurd (h s (cc))
     one_try (like s h a) t us q (unlike i b) = absurd (i s (cc))

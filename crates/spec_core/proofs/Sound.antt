@@ -1,16 +1,15 @@
--- What a term evaluates to is its value.
+-- What a term evaluates to is provably equal to it.
 use Rattle.std.proofs.Common.{ℕ, ◌≡◌, List, [], ◌∷◌, refl, sym, ap, subst, ◌∙◌, inl, inr, Option, Some, None}
 use Rattle.std.specs.List.{slice_get}
 use Rattle.spec_core.specs.Lists.{Each, IsOneOf}
 use Rattle.spec_core.specs.Terms.{TermTree, TermTrees, apply, instance, Occurs}
 use Rattle.spec_core.specs.Theories.{Premise, ConditionalEquation, Theory, OccursInPremises}
 use Rattle.spec_core.specs.Sorts.{OnSome, HasSort, HaveSorts, no_variables, EquationFits, PremiseFits}
-use Rattle.spec_core.specs.Constructors.{IsConstructed, AreConstructed}
 use Rattle.spec_core.specs.Equality.{Equal, AreEqual, PremisesHold, IsGroundFor, by_reflexivity, by_symmetry, by_transitivity}
 use Rattle.spec_core.specs.Equality.{by_congruence, by_equation, none_equal, more_equal, none_asked, more_asked}
 use Rattle.spec_core.specs.Evaluation.{Evaluates, EvaluatesAll, Tries, Asks, called, none, more, final, unlike, like, used, holds, fails}
 use Rattle.spec_core.specs.Orthogonality.{HasNoLooseVariables, HasPatterns}
-use Rattle.spec_core.specs.Laws.{EvaluationGivesValues}
+use Rattle.spec_core.specs.Laws.{EvaluationIsSound}
 use Rattle.spec_core.proofs.Instances.{on_both, on_map, bound_sort, instance_sort}
 
 on_use : {A : Type 0} {R : Type 0} {P : A → Type 0} (o : Option A) → OnSome o P → ((d : A) → P d → R) → R
@@ -87,7 +86,7 @@ module _ (theory : Theory) where
         Tries theory es f vs v n → Each (IsSafe theory) theory.equations → (sort : ℕ) → HasSort theory no_variables (apply f vs) sort →
         ((e : ConditionalEquation) → IsOneOf e es → IsOneOf e theory.equations) → Each (IsSafe theory) es →
         Reduces theory (apply f vs) v sort
-    sound_try (final {f} {vs} i e k) safe sort h among left =
+    sound_try (final {f} {vs} e k) safe sort h among left =
         subst (λ v. Reduces theory (apply f vs) v sort) (sym e) (by_reflexivity (sort, h), h)
     sound_try (unlike x a) safe sort h among left = sound_try a safe sort h (λ d i. among d (inr i)) left.1
     sound_try (like {e = e} {f = f} {vs = vs} s q a) safe sort h among left =
@@ -122,32 +121,6 @@ module _ (theory : Theory) where
     sound_ask (fails u z n m k d1 d2 ne d3 t) safe sort h among left e i w q c ground right fit inside held =
         sound_try d3 safe sort h among left
 
-  mutual
-    constructed : {t v : TermTree} {n : ℕ} → Evaluates theory t v n → IsConstructed theory v
-    constructed (called vs n m a b k) = constructed_try b (all_constructed a)
-
-    all_constructed : {ts vs : TermTrees} {n : ℕ} → EvaluatesAll theory ts vs n → AreConstructed theory vs
-    all_constructed (none k) = tt
-    all_constructed (more n m a b k) = (constructed a, all_constructed b)
-
-    constructed_try : {es : List ConditionalEquation} {f : ℕ} {vs : TermTrees} {v : TermTree} {n : ℕ} →
-        Tries theory es f vs v n → AreConstructed theory vs → IsConstructed theory v
-    constructed_try (final i e k) h = subst (IsConstructed theory) (sym e) (i, h)
-    constructed_try (unlike x a) h = constructed_try a h
-    constructed_try (like s q a) h = constructed_ask a h
-
-    constructed_ask :
-        {ps : List Premise} {r : TermTree} {s : ℕ → TermTree} {es : List ConditionalEquation} {f : ℕ} {vs : TermTrees} {v : TermTree}
-        {n : ℕ} →
-        Asks theory ps r s es f vs v n → AreConstructed theory vs → IsConstructed theory v
-    constructed_ask (used n a k) h = constructed a
-    constructed_ask (holds u n m k d1 d2 d3 z) h = constructed_ask d3 h
-    constructed_ask (fails u w n m k d1 d2 ne d3 z) h = constructed_try d3 h
-
-pub evaluation_gives_values : EvaluationGivesValues
-evaluation_gives_values theory ex t v n fits evaluates = record {
-  is_value = constructed theory evaluates;
-  equal =
-      (sound theory evaluates (all_safe theory theory.equations ex.fits.equations ex.orthogonal.patterns ex.orthogonal.closed) fits.0
-      fits.1).0;
-}
+pub evaluation_is_sound : EvaluationIsSound
+evaluation_is_sound theory ex t v n fits evaluates =
+    (sound theory evaluates (all_safe theory theory.equations ex.fits.equations ex.orthogonal.patterns ex.orthogonal.closed) fits.0 fits.1).0

@@ -1,4 +1,4 @@
--- Sufficient completeness: each call over values is decided by a group of equations. (This profile.)
+-- Calls over ground constructor terms that a group of equations decides, and operations with others. (This profile.)
 use Rattle.std.specs.Prelude.{ℕ, ◌≡◌, ◌⊎◌, List, [], ◌∷◌, map, Option, Some}
 use Rattle.std.specs.List.{slice_get}
 use Rattle.spec_core.specs.Lists.{Each, OneOf}
@@ -65,11 +65,10 @@ pub record IsCoveredCall (theory : Theory) (call : TermTree) : Type 0 where
   pub group : IsGroup theory left lists
   pub full : IsFull theory vars lists
 
--- every tuple of ground constructor terms matches a left side of a full group
-abbrev pub IsCovered : Theory → Type 0
-IsCovered theory =
-    (f : ℕ) (vs : TermTrees) →
-    (IsConstructor theory f → ⊥) →
-    OnSome (slice_get theory.operations f) (λ d. HaveSorts theory no_variables vs d.args) →
-    AreConstructed theory vs →
-    IsCoveredCall theory (apply f vs)
+-- a partial operation: a defined one, of which some call over ground constructor terms of its argument sorts isn't covered
+pub record IsPartial (theory : Theory) (f : ℕ) : Type 0 where
+  pub defined : IsConstructor theory f → ⊥
+  pub arguments : TermTrees
+  pub sorts : OnSome (slice_get theory.operations f) (λ d. HaveSorts theory no_variables arguments d.args)
+  pub constructed : AreConstructed theory arguments
+  pub uncovered : IsCoveredCall theory (apply f arguments) → ⊥

@@ -2,11 +2,6 @@
 use Rattle.std.specs.Prelude.{ℕ, ◌≡◌, ◌+◌, ◌↔◌, List, [], ◌∷◌, Bool, IsTrue}
 use Rattle.spec_core.specs.Terms.{TermTree, TermTrees, apply, no_terms, and_term, instance}
 use Rattle.spec_core.specs.Theories.{Premise, premise, ConditionalEquation, Theory}
-use Rattle.spec_core.specs.Constructors.{IsConstructor}
-
--- an operation that is its own value over values where no equation is left to be tried: a constructor
-abbrev pub IsFinal : Theory → ℕ → Type 0
-IsFinal theory f = IsConstructor theory f
 
 mutual
   -- the term has this value, after so many uses of equations
@@ -25,9 +20,9 @@ mutual
         k ≡ n + m →
         EvaluatesAll theory (and_term t ts) (and_term v vs) k
 
-  -- the operation over values, with these equations left to be tried
+  -- the operation over values, with these equations left to be tried; where none is left, it is the value itself
   pub data Tries (theory : Theory) : List ConditionalEquation → ℕ → TermTrees → TermTree → ℕ → Type 0 where
-    final : {f : ℕ} {vs : TermTrees} {v : TermTree} {k : ℕ} → IsFinal theory f → v ≡ apply f vs → k ≡ 0 → Tries theory [] f vs v k
+    final : {f : ℕ} {vs : TermTrees} {v : TermTree} {k : ℕ} → v ≡ apply f vs → k ≡ 0 → Tries theory [] f vs v k
     unlike : {e : ConditionalEquation} {es : List ConditionalEquation} {f : ℕ} {vs : TermTrees} {v : TermTree} {k : ℕ} →
         ((s : ℕ → TermTree) → instance s e.left ≡ apply f vs → ⊥) →
         Tries theory es f vs v k →

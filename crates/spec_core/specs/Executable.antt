@@ -3,10 +3,8 @@ use Rattle.spec_core.specs.Theories.{Theory}
 use Rattle.spec_core.specs.Sorts.{FitsData}
 use Rattle.spec_core.specs.Orthogonality.{IsOrthogonal}
 use Rattle.spec_core.specs.Order.{IsDecreasing}
-use Rattle.spec_core.specs.Cover.{IsCovered}
 
 pub record IsExecutable (theory : Theory) : Type 0 where
   pub fits : FitsData theory
   pub orthogonal : IsOrthogonal theory
   pub decreasing : IsDecreasing theory
-  pub covered : IsCovered theory

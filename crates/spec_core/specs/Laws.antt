@@ -1,17 +1,18 @@
 -- Laws of the definitions.
 use Rattle.std.specs.Prelude.{ℕ, ◌≡◌, ◌↔◌, ◌⊎◌, List, [], ◌∷◌, Option, Bool}
-use Rattle.spec_core.specs.Booleans.{booleans}
+use Rattle.spec_core.specs.Booleans.{booleans, half_booleans}
 use Rattle.spec_core.specs.Lists.{Each, OneOf, IsOneOf, NoTwo}
-use Rattle.spec_core.specs.Terms.{TermTree, TermTrees, apply, constant, instance, IsGround, preorder}
+use Rattle.spec_core.specs.Terms.{TermTree, TermTrees, apply, no_terms, and_term, constant, instance, IsGround, preorder}
 use Rattle.spec_core.specs.Theories.{Premise, premise, ConditionalEquation, Theory}
 use Rattle.spec_core.specs.Sorts.{HasSort, FitsGround, no_variables}
-use Rattle.spec_core.specs.Constructors.{IsConstructor}
+use Rattle.spec_core.specs.Constructors.{IsConstructor, IsConstructed}
 use Rattle.spec_core.specs.Equality.{Equal, AreEqual, PremisesHold, IsGroundFor, EqualityProof, Concludes}
-use Rattle.spec_core.specs.Values.{IsValue, HasValue}
+use Rattle.spec_core.specs.Values.{IsValue}
 use Rattle.spec_core.specs.Evaluation.{Evaluates, EvaluatesAll}
 use Rattle.spec_core.specs.Orthogonality.{HasNoLooseVariables}
 use Rattle.spec_core.specs.Order.{IsInsideAny, IsBelow}
-use Rattle.spec_core.specs.Cover.{IsFull, IsConstant, HasConstants}
+use Rattle.spec_core.specs.Cover.{IsFull, IsConstant, HasConstants, IsPartial}
+use Rattle.spec_core.specs.OpenSorts.{IsOpen}
 use Rattle.spec_core.specs.Executable.{IsExecutable}
 use Rattle.spec_core.specs.Windows.{IsWindow, IsInOrder}
 
@@ -66,19 +67,19 @@ ConstructorsKeepValues =
     EvaluatesAll theory ts vs n →
     Evaluates theory (apply f ts) (apply f vs) n
 
--- a value evaluates to itself without a use
-abbrev pub ValuesEvaluateToThemselves : Type 0
-ValuesEvaluateToThemselves = (theory : Theory) → IsExecutable theory → (v : TermTree) → IsValue theory v → Evaluates theory v v 0
+-- a ground constructor term evaluates to itself without a use
+abbrev pub ConstructorTermsStay : Type 0
+ConstructorTermsStay = (theory : Theory) → IsExecutable theory → (v : TermTree) → IsConstructed theory v → Evaluates theory v v 0
 
--- what a term evaluates to is its value
-abbrev pub EvaluationGivesValues : Type 0
-EvaluationGivesValues =
+-- what a term evaluates to is provably equal to it
+abbrev pub EvaluationIsSound : Type 0
+EvaluationIsSound =
     (theory : Theory) →
     IsExecutable theory →
     (t v : TermTree) (n : ℕ) →
     FitsGround theory t →
     Evaluates theory t v n →
-    HasValue theory t v
+    Equal theory t v
 
 abbrev pub ValuesAreGround : Type 0
 ValuesAreGround = (theory : Theory) (v : TermTree) → IsValue theory v → IsGround v
@@ -131,3 +132,14 @@ OppositePremisesAreFull =
 -- truth values with their negation are executable data
 abbrev pub BooleansAreExecutable : Type 0
 BooleansAreExecutable = IsExecutable booleans
+
+-- none of their operations is partial, so their sort has no other values than the two constants
+abbrev pub BooleansAreClosed : Type 0
+BooleansAreClosed = (sort : ℕ) → IsOpen booleans sort → ⊥
+
+-- with one of the two equations the negation is partial, its sort is open, and not(false) is a value
+pub record HalfNegationIsPartial : Type 0 where
+  pub executable : IsExecutable half_booleans
+  pub partial : IsPartial half_booleans 2
+  pub open_sort : IsOpen half_booleans 0
+  pub value : IsValue half_booleans (apply 2 (and_term (constant 1) no_terms))

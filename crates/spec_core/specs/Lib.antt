@@ -11,6 +11,7 @@ pub mod Laws
 pub mod Lists
 pub mod Names
 pub mod Numbers
+pub mod OpenSorts
 pub mod Order
 pub mod Orthogonality
 pub mod Ready

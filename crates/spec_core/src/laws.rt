@@ -1,10 +1,11 @@
 // Laws of the definitions: a call does nothing, and its contract is the law.
 
 ghost use Rattle.spec_core.specs.Laws.{BooleansAreExecutable, OppositePremisesAreFull, EqualIsReflexive, EqualIsSymmetric};
-ghost use Rattle.spec_core.specs.Laws.{EqualIsTransitive, EqualIsCongruent, InstancesAreEqual, EqualTermsHaveProofs, EvaluationGivesValues};
-ghost use Rattle.spec_core.specs.Laws.{EvaluationIsDeterministic, ConstructorsKeepValues, ValuesEvaluateToThemselves, ValuesAreGround};
+ghost use Rattle.spec_core.specs.Laws.{EqualIsTransitive, EqualIsCongruent, InstancesAreEqual, EqualTermsHaveProofs, EvaluationIsSound};
+ghost use Rattle.spec_core.specs.Laws.{EvaluationIsDeterministic, ConstructorsKeepValues, ConstructorTermsStay, ValuesAreGround};
 ghost use Rattle.spec_core.specs.Laws.{PartsOfArgumentsAreBelow, LeftSidesAreNotBelowThemselves, UnconditionalGroupsAreFull};
 ghost use Rattle.spec_core.specs.Laws.{WindowsHoldGroundTerms, WindowsAreInOrder};
+ghost use Rattle.spec_core.specs.Laws.{BooleansAreClosed, HalfNegationIsPartial};
 
 /// A ground term over the signature is provably equal to itself.
 pub fn equal_is_reflexive()
@@ -46,14 +47,14 @@ pub fn constructors_keep_values()
     ensures { ConstructorsKeepValues }
 {}
 
-/// A value evaluates to itself without a use.
-pub fn values_evaluate_to_themselves()
-    ensures { ValuesEvaluateToThemselves }
+/// A ground constructor term evaluates to itself without a use.
+pub fn constructor_terms_stay()
+    ensures { ConstructorTermsStay }
 {}
 
-/// What a ground term over executable data evaluates to is a value, and provably equal to the term.
-pub fn evaluation_gives_values()
-    ensures { EvaluationGivesValues }
+/// What a ground term over executable data evaluates to is provably equal to the term.
+pub fn evaluation_is_sound()
+    ensures { EvaluationIsSound }
 {}
 
 /// A value has no variables.
@@ -94,4 +95,14 @@ pub fn opposite_premises_are_full()
 /// Truth values with their negation are executable data.
 pub fn booleans_are_executable()
     ensures { BooleansAreExecutable }
+{}
+
+/// No operation of truth values with their negation is partial, so their sort isn't open.
+pub fn booleans_are_closed()
+    ensures { BooleansAreClosed }
+{}
+
+/// With one of its two equations the negation is partial: its sort is open, and the call that no equation matches is a value.
+pub fn half_negation_is_partial()
+    ensures { HalfNegationIsPartial }
 {}

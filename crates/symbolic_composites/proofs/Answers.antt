@@ -84,7 +84,7 @@ module _ (program : Program) (ready : IsReady program) where
   answers = record {
     value = λ t. the_one (HasValue program.theory t) (one_value_of program.theory ready.executable t);
     equal = λ a b. holds (Equal program.theory a b) (equal_known program.theory ready.executable a b);
-    spelled = λ v sort. the_one (λ n. Spells program.theory v n sort) (one_spelled program.theory v sort);
+    spelled = λ v sort. the_one (λ n. Spells program.theory v n sort) (one_spelled program.theory ready.executable v sort);
     definition = λ p. the_one (Defines p) (one_definition program ready p);
   }
 
@@ -94,7 +94,7 @@ module _ (program : Program) (ready : IsReady program) where
     record {
       value = λ t n. answers_one (HasValue program.theory t) (one_value_of program.theory ready.executable t) n;
       equal = λ a b. answers_known (Equal program.theory a b) (equal_known program.theory ready.executable a b);
-      spelled = λ v sort n. answers_one (λ m. Spells program.theory v m sort) (one_spelled program.theory v sort) n;
+      spelled = λ v sort n. answers_one (λ m. Spells program.theory v m sort) (one_spelled program.theory ready.executable v sort) n;
       definition = λ p d. answers_one (Defines p) (one_definition program ready p) d;
     },
   )

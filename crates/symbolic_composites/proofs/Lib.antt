@@ -1,5 +1,4 @@
 pub mod Answers
-pub mod Constructed
 pub mod Exact
 pub mod Listing
 pub mod Lists
@@ -16,4 +15,5 @@ pub mod Standing
 pub mod Tests
 pub mod TreeLists
 pub mod Trees
+pub mod Valued
 pub mod Whole

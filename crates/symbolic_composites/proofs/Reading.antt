@@ -7,11 +7,12 @@ use Rattle.std.proofs.lemmas.Option.{none-some}
 use Rattle.spec_core.specs.Terms.{TermTree, TermTrees, variable, apply, no_terms, and_term, preorder, preorders}
 use Rattle.spec_core.specs.Theories.{Operation, Theory}
 use Rattle.spec_core.specs.Sorts.{OnSome, HasSort, HaveSorts, no_variables}
-use Rattle.spec_core.specs.Constructors.{IsConstructed}
+use Rattle.spec_core.specs.Executable.{IsExecutable}
+use Rattle.spec_core.specs.Values.{IsValue}
 use Rattle.rule_model.specs.Fields.{Spells}
 use Rattle.symbolic_composites.proofs.One.{IsKnown, One}
 use Rattle.symbolic_composites.proofs.Parts.{same_number_known}
-use Rattle.symbolic_composites.proofs.Constructed.{constructed_known}
+use Rattle.symbolic_composites.proofs.Valued.{value_known}
 
 first_of : (f g : ℕ) (v u : List ℕ) → f ∷ v ≡ g ∷ u → (f ≡ g) × (v ≡ u)
 first_of f g v u e = (cc, cc)
@@ -146,23 +147,23 @@ module _ (theory : Theory) where
       read_operation sort f v (λ sorts. all_read n (λ s u k. one_read n s u k) sorts v (omega (arith, l)))
       (slice_get theory.operations f) refl
 
-  pub one_spelled : (v : List ℕ) (sort : ℕ) → One (λ n. Spells theory v n sort)
-  one_spelled v sort = by_read (one_read (suc (length v)) sort v (omega arith))
+  pub one_spelled : IsExecutable theory → (v : List ℕ) (sort : ℕ) → One (λ n. Spells theory v n sort)
+  one_spelled executable v sort = by_read (one_read (suc (length v)) sort v (omega arith))
     where
       whole : (n : TermTree) → Spells theory v n sort → Reads sort v (n, [])
       whole n h = (h.spelled ∙ sym (append-nil (preorder n)), h.of_sort)
 
       by_read : One (Reads sort v) → One (λ n. Spells theory v n sort)
       by_read (inr out) = inr (λ n h. out (n, []) (whole n h))
-      by_read (inl one) = by_rest one.0.1 refl (constructed_known theory one.0.0)
+      by_read (inl one) = by_rest one.0.1 refl (value_known theory executable one.0.0 sort one.1.1)
         where
           term_is : (n : TermTree) → Spells theory v n sort → n ≡ one.0.0
           term_is n h = ap (λ (z : TermTree × List ℕ). z.0) (one.2 (n, []) (whole n h))
 
-          by_rest : (rest : List ℕ) → one.0.1 ≡ rest → IsKnown (IsConstructed theory one.0.0) → One (λ n. Spells theory v n sort)
+          by_rest : (rest : List ℕ) → one.0.1 ≡ rest → IsKnown (IsValue theory one.0.0) → One (λ n. Spells theory v n sort)
           by_rest (f ∷ rest) q c =
               inr (λ n h. none_first f rest (ap (λ (z : TermTree × List ℕ). z.1) (one.2 (n, []) (whole n h)) ∙ q))
-          by_rest [] q (inr out) = inr (λ n h. out (subst (IsConstructed theory) (term_is n h) h.is_value))
+          by_rest [] q (inr out) = inr (λ n h. out (subst (IsValue theory) (term_is n h) h.is_value))
           by_rest [] q (inl c) = inl (
             one.0.0,
             record {

@@ -46,8 +46,8 @@ lists_hold_their_trees program e w exact n b o is_seen tests = record {
     all = candidates program.theory e w n b o
 
 pub empty_lists_no_step : EmptyListsNoStep
-empty_lists_no_step program e size w exact fits windows n b o is_seen tests nests none no_beyond d a c h meets =
-    by_tree (each_step_is_seen program size w fits windows b d a c h o meets)
+empty_lists_no_step program e size w exact executable windows n b o is_seen tests nests none no_beyond d a c h meets =
+    by_tree (each_step_is_seen program size w executable windows b d a c h o meets)
   where
     lists : ListsHold program e w n b o is_seen
     lists = lists_hold_their_trees program e w exact n b o is_seen tests

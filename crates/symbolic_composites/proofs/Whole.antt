@@ -30,6 +30,6 @@ lists_decide program size w ready windows b o =
       windowed_trees program.theory answers.0 w (length program.code) b o test.0,
       beyond_trees program.theory answers.0 w (length program.code) b o test.0,
       lists_hold_all_trees program answers.0 w ready answers.1 b o test.0 test.1,
-      empty_lists_no_step program answers.0 size w answers.1 ready.executable.fits windows (length program.code) b o test.0 test.1
+      empty_lists_no_step program answers.0 size w answers.1 ready.executable windows (length program.code) b o test.0 test.1
           (calls_nest_within_the_code program ready.guarded w b o),
     )

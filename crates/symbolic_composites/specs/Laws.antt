@@ -2,7 +2,7 @@
 use Rattle.std.specs.Prelude.{ℕ, ◌≡◌, ◌↔◌, [], Option, Bool, true}
 use Rattle.spec_core.specs.Lists.{IsOneOf}
 use Rattle.spec_core.specs.Theories.{Theory}
-use Rattle.spec_core.specs.Sorts.{FitsData}
+use Rattle.spec_core.specs.Executable.{IsExecutable}
 use Rattle.spec_core.specs.Code.{Program}
 use Rattle.rule_model.specs.declared.action.Action.{Action}
 use Rattle.rule_model.specs.declared.offer.Offer.{Offer}
@@ -57,7 +57,7 @@ abbrev pub EmptyListsNoStep : Type 0
 EmptyListsNoStep =
     (program : Program) (e : Evaluation) (size : ℕ) (w : Windows) →
     IsExact program e →
-    FitsData program.theory →
+    IsExecutable program.theory →
     AreWindows program.theory size w →
     (n : ℕ) (b : Behaviour) (o : Option Offer) (is_seen : Derivation → Bool) →
     TestsSeen program w b o is_seen →

@@ -6,7 +6,6 @@ use Rattle.spec_core.specs.Lists.{Each}
 use Rattle.spec_core.specs.Terms.{TermTree, instance, preorder}
 use Rattle.spec_core.specs.Theories.{Theory}
 use Rattle.spec_core.specs.Sorts.{FitsData}
-use Rattle.spec_core.specs.Windows.{IsMember}
 use Rattle.spec_core.specs.Code.{Variable, ExitValue, exit_given, exit_any, ActionField, give, accept}
 use Rattle.spec_core.proofs.Booleans.{or_first_false, or_second_false}
 use Rattle.rule_model.specs.declared.offer.Field.{Field}
@@ -21,7 +20,7 @@ use Rattle.symbolic_rules.specs.MarkedTerms.{MarkedTerm, plain, mark, MarkedAssi
 use Rattle.symbolic_rules.specs.MarkedFields.{MarkedField, told, chosen, given, free, told_by, chosen_by, sort_of_field, Agree, AllAgree}
 use Rattle.symbolic_rules.specs.MarkedFields.{HaveSortsOf, IsWithin, Chooses, FieldsMayHave, ExitMayHave}
 use Rattle.symbolic_rules.specs.Trees.{FieldMayMeet, FieldsMayMeet, is_mark}
-use Rattle.symbolic_rules.proofs.Sorts.{sort_of_ground, sort_of_spelled, spelled_is_member}
+use Rattle.symbolic_rules.proofs.Sorts.{IsSpelled, sort_of_ground, sort_of_spelled}
 use Rattle.symbolic_rules.proofs.Standing.{StandsForTerm, StandsForAll, instance_stands, with_one_more, value_stands}
 use Rattle.symbolic_rules.proofs.Windows.{spelled_within}
 use Rattle.symbolic_composites.specs.OpenFields.{is_listed}
@@ -228,7 +227,7 @@ module _ (theory : Theory) (w : Windows) where
 -- What an action does with terms for the variables, its fields may have with what stands for these terms, where values that lie beyond
 -- their windows, and aren't given, are marks.
 module _ (theory : Theory) (fits : FitsData theory) (w : Windows)
-    (beyond : (sort : ℕ) (v : List ℕ) → IsMember theory sort v → (Contains (w.values sort) v → ⊥) → w.complete sort ≡ false) where
+    (beyond : (sort : ℕ) (v : List ℕ) → IsSpelled theory sort v → (Contains (w.values sort) v → ⊥) → w.complete sort ≡ false) where
   -- a slot, loosened, and what it chooses
   pub record Chosen (g : Bool) (slot : Slot) (v : List ℕ) (n : TermTree) (sort : ℕ) : Type 0 where
     pub term : MarkedTerm
@@ -261,7 +260,7 @@ module _ (theory : Theory) (fits : FitsData theory) (w : Windows)
           let lost = out (or_second_false g (is_listed o (w.values sort)) h) in
           record {
             term = mark sort;
-            chooses = (beyond sort o (spelled_is_member theory o n sort spells) lost, refl);
+            chooses = (beyond sort o (n, spells) lost, refl);
             stands = sort_of_ground theory n sort spells.of_sort;
             is_for = (
               ap (sort_of_value theory) (sym e) ∙ sort_of_spelled theory o n sort spells,

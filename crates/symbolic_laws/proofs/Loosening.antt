@@ -2,13 +2,12 @@
 use Rattle.std.proofs.Common.{ℕ, ◌≡◌, ◌⊎◌, List, [], ◌∷◌, refl, sym, ap, subst, inl, inr, Bool, true, false, Option, Some, None, Contains}
 use Rattle.spec_core.specs.Terms.{variable}
 use Rattle.spec_core.specs.Sorts.{FitsData}
-use Rattle.spec_core.specs.Windows.{IsMember}
-use Rattle.spec_core.specs.Code.{Program, Relabelling}
+use Rattle.spec_core.specs.Code.{Program}
 use Rattle.rule_model.specs.declared.action.Action.{Action}
 use Rattle.rule_model.specs.declared.action.Action.TheVariants.{Inner, Exit, At}
 use Rattle.rule_model.specs.declared.offer.Offer.{Offer}
 use Rattle.rule_model.specs.declared.rules.Slot.TheVariants.{Of, Mark, Blank}
-use Rattle.rule_model.specs.Actions.{Kind, at_gate, kind_of, doing, renamed_action, pairs_of}
+use Rattle.rule_model.specs.Actions.{Kind, at_gate, kind_of, doing, pairs_of}
 use Rattle.rule_model.specs.Behaviours.{Behaviour, exit, inner, action, choice, guarded, bound, value_choice, gate_choice, parallel}
 use Rattle.rule_model.specs.Behaviours.{hide, enable, disable, call, relabel}
 use Rattle.rule_model.specs.Derivations.{Derivation, pre, int, exiting, chl, chr, val, gate, guard, letting, parl, parr, both, hiding, pass}
@@ -19,11 +18,12 @@ use Rattle.rule_model.specs.Substitution.{Assignment, with_term}
 use Rattle.symbolic_rules.specs.Windows.{Windows}
 use Rattle.symbolic_rules.specs.MarkedTerms.{MarkedTerm, MarkedAssignment, unmarked, with_marked}
 use Rattle.symbolic_rules.specs.MarkedFields.{MarkedField, chosen_by, IsWithin}
-use Rattle.symbolic_rules.specs.MayDerive.{renamed_kind, MayDeriveWith}
+use Rattle.symbolic_rules.specs.MayDerive.{MayDeriveWith}
 use Rattle.symbolic_rules.specs.Trees.{MeetsIfOffered, has_mark, IsSeen, IsWindowed, IsBeyond}
 use Rattle.symbolic_rules.proofs.Standing.{StandsForAll, unmarked_stands, premise_may_hold, guard_may_hold, with_one_more}
 use Rattle.symbolic_rules.proofs.Fields.{bindings_stand, arguments_stand}
 use Rattle.symbolic_rules.proofs.Seen.{values_of, renamed_values, renamed_kinds}
+use Rattle.symbolic_rules.proofs.Sorts.{IsSpelled}
 use Rattle.symbolic_rules.proofs.Windows.{not_complete}
 use Rattle.symbolic_laws.specs.Loosened.{Marking, no_marks, marks_bound, marks_passed, told_in, told_at_exit, either_told, given_for}
 use Rattle.symbolic_laws.specs.Loosened.{loosened_slot, loosened_slots, loosened_at_exit, LoosensWith, IsLoosened}
@@ -35,7 +35,7 @@ use Rattle.symbolic_laws.proofs.Fields.{exit_loosened, told_as_many, exit_as_man
 use Rattle.symbolic_laws.proofs.One.{one_tree_is_loosened}
 
 module _ (program : Program) (fits : FitsData program.theory) (w : Windows)
-    (beyond : (sort : ℕ) (v : List ℕ) → IsMember program.theory sort v → (Contains (w.values sort) v → ⊥) → w.complete sort ≡ false) where
+    (beyond : (sort : ℕ) (v : List ℕ) → IsSpelled program.theory sort v → (Contains (w.values sort) v → ⊥) → w.complete sort ≡ false) where
   -- the tree d loosened, where these places are given, and what the behaviour may do by it
   pub record Looser (m : MarkedAssignment) (marks : Marking) (b : Behaviour) (d : Derivation) (k : Kind) (values : List (List ℕ))
       (is_given is_told : List Bool) : Type 0 where
@@ -276,7 +276,7 @@ module _ (program : Program) (fits : FitsData program.theory) (w : Windows)
   which b o e k is false t = inl (is, t)
 
 module _ (program : Program) (n : ℕ) (w : Windows) (fits : FitsData program.theory)
-    (beyond : (sort : ℕ) (v : List ℕ) → IsMember program.theory sort v → (Contains (w.values sort) v → ⊥) → w.complete sort ≡ false)
+    (beyond : (sort : ℕ) (v : List ℕ) → IsSpelled program.theory sort v → (Contains (w.values sort) v → ⊥) → w.complete sort ≡ false)
     (b : Behaviour) (d : Derivation) (a : Action) (c : Behaviour) (h : DerivesWith program variable b d a c) (o : Option Offer)
     (meets : MeetsIfOffered program.theory a o) where
   pub its_tree : (e : Derivation) × IsLoosened program w b o d e × IsSeen program w b o e (kind_of a)
@@ -285,12 +285,14 @@ module _ (program : Program) (n : ℕ) (w : Windows) (fits : FitsData program.th
       (loosen program fits w beyond d b variable unmarked no_marks a c (unmarked_stands program.theory) none_agrees h) o meets
 
 pub each_step_has_its_tree : EachStepHasItsTree
-each_step_has_its_tree program n w fits windows b d a c h o meets =
-    let r = its_tree program n w fits (not_complete program.theory fits n w windows) b d a c h o meets in (r.0, r.1)
+each_step_has_its_tree program n w executable windows b d a c h o meets =
+    let beyond = not_complete program.theory executable n w windows in
+    let r = its_tree program n w executable.fits beyond b d a c h o meets in (r.0, r.1)
 
 pub each_step_is_seen_by_its_tree : EachStepIsSeenByItsTree
-each_step_is_seen_by_its_tree program n w fits windows b d a c h o meets e is =
-    let beyond = not_complete program.theory fits n w windows in
+each_step_is_seen_by_its_tree program n w executable windows b d a c h o meets e is =
+    let fits = executable.fits in
+    let beyond = not_complete program.theory executable n w windows in
     let r = its_tree program n w fits beyond b d a c h o meets in
     let same : r.0 ≡ e = one_tree_is_loosened program w b o d r.0 e r.1 is in
     subst (λ t. IsWindowed program w b o t (kind_of a) ⊎ IsBeyond program w b o t (kind_of a)) same

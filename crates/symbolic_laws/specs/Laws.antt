@@ -1,6 +1,6 @@
 -- What follows from the definitions.
 use Rattle.std.specs.Prelude.{ℕ, ◌≡◌, ◌⊎◌, Option, false}
-use Rattle.spec_core.specs.Sorts.{FitsData}
+use Rattle.spec_core.specs.Executable.{IsExecutable}
 use Rattle.spec_core.specs.Code.{Program}
 use Rattle.rule_model.specs.declared.action.Action.{Action}
 use Rattle.rule_model.specs.declared.offer.Offer.{Offer}
@@ -16,7 +16,7 @@ use Rattle.symbolic_laws.specs.Loosened.{IsLoosened}
 abbrev pub EachStepHasItsTree : Type 0
 EachStepHasItsTree =
     (program : Program) (n : ℕ) (w : Windows) →
-    FitsData program.theory →
+    IsExecutable program.theory →
     AreWindows program.theory n w →
     (b : Behaviour) (d : Derivation) (a : Action) (c : Behaviour) →
     Derives program b d a c →
@@ -43,7 +43,7 @@ LoosenedTreesAreMarked =
 abbrev pub EachStepIsSeenByItsTree : Type 0
 EachStepIsSeenByItsTree =
     (program : Program) (n : ℕ) (w : Windows) →
-    FitsData program.theory →
+    IsExecutable program.theory →
     AreWindows program.theory n w →
     (b : Behaviour) (d : Derivation) (a : Action) (c : Behaviour) →
     Derives program b d a c →

@@ -166,7 +166,7 @@ told_is_plain theory fits f k t n e h i =
 
 -- no value is spelled by no operation
 empty_spells_none : (theory : Theory) (n : TermTree) (sort : ℕ) → Spells theory [] n sort → ⊥
-empty_spells_none theory (variable x) sort h = h.is_value
+empty_spells_none theory (variable x) sort h = h.is_value.settled
 empty_spells_none theory (apply f ts) sort h = let e = h.spelled in cc
 
 module _ (theory : Theory) (fits : FitsData theory) (w : Windows) (m : MarkedAssignment) (s : Assignment) (all : AllPlain m s) where

@@ -3,7 +3,6 @@ use Rattle.std.proofs.Common.{ℕ, ◌≡◌, List, [], ◌∷◌, refl, sym, ap
 use Rattle.spec_core.specs.Terms.{TermTree, instance, preorder}
 use Rattle.spec_core.specs.Theories.{Theory}
 use Rattle.spec_core.specs.Sorts.{FitsData}
-use Rattle.spec_core.specs.Windows.{IsMember}
 use Rattle.spec_core.specs.Code.{Variable, Binding, ExitValue, exit_given, exit_any, ActionField, give, accept}
 use Rattle.rule_model.specs.declared.rules.Slot.{Slot}
 use Rattle.rule_model.specs.declared.rules.Slot.TheVariants.{Of}
@@ -13,13 +12,13 @@ use Rattle.symbolic_rules.specs.Windows.{Windows, sort_of_value}
 use Rattle.symbolic_rules.specs.MarkedTerms.{MarkedTerm, plain, mark, MarkedAssignment, with_marked, marked_instance}
 use Rattle.symbolic_rules.specs.MarkedFields.{MarkedField, told, chosen, given, free, told_by, sort_of_field, Agree, AllAgree}
 use Rattle.symbolic_rules.specs.MarkedFields.{HaveSortsOf, FieldsMayHave, ExitMayHave, BindingsMayHave, ArgumentsMayHave}
-use Rattle.symbolic_rules.proofs.Sorts.{sort_of_spelled, spelled_is_member}
+use Rattle.symbolic_rules.proofs.Sorts.{IsSpelled, sort_of_spelled}
 use Rattle.symbolic_rules.proofs.Standing.{StandsForTerm, StandsForAll, instance_stands, with_one_more, value_stands}
 
 -- the field is the value, which is one of its sort where it is only chosen; or it is the mark of the value's sort, from an expression
 abbrev pub StandsFor : Theory → MarkedField → List ℕ → Type 0
 StandsFor theory (told u) v = u ≡ v
-StandsFor theory (chosen u) v = (u ≡ v) × IsMember theory (sort_of_value theory u) u
+StandsFor theory (chosen u) v = (u ≡ v) × IsSpelled theory (sort_of_value theory u) u
 StandsFor theory (given sort) v = sort_of_value theory v ≡ sort
 StandsFor theory (free sort) v = ⊥
 
@@ -43,8 +42,8 @@ chosen_stands : (theory : Theory) (u v : List ℕ) (n : TermTree) (sort : ℕ) �
     StandsFor theory (chosen (preorder n)) v
 chosen_stands theory u v n sort e h = (
   sym h.spelled ∙ e,
-  subst (λ (x : List ℕ). IsMember theory (sort_of_value theory x) x) h.spelled
-      (subst (λ (s : ℕ). IsMember theory s u) (sym (sort_of_spelled theory u n sort h)) (spelled_is_member theory u n sort h)),
+  subst (λ (x : List ℕ). IsSpelled theory (sort_of_value theory x) x) h.spelled
+      (subst (λ (s : ℕ). IsSpelled theory s u) (sym (sort_of_spelled theory u n sort h)) (n, h)),
 )
 
 -- what an action does with terms for the variables, its fields may have with what stands for these terms

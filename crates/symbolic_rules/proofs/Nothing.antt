@@ -18,21 +18,21 @@ none_seen program w b o d k empty (inl h) = empty d (inl h)
 none_seen program w b o d k empty (inr h) = empty h.0 (inr h.2)
 
 pub no_tree_no_step : NoTreeNoStep
-no_tree_no_step program n w fits windows b empty d a c h =
-    none_seen program w b None d (kind_of a) (empty (kind_of a)) (each_step_is_seen program n w fits windows b d a c h None tt)
+no_tree_no_step program n w executable windows b empty d a c h =
+    none_seen program w b None d (kind_of a) (empty (kind_of a)) (each_step_is_seen program n w executable windows b d a c h None tt)
 
 pub no_tree_for_the_offer_none_meets : NoTreeForTheOfferNoneMeets
-no_tree_for_the_offer_none_meets program n w fits windows b offer empty d (At place values) c h meets =
+no_tree_for_the_offer_none_meets program n w executable windows b offer empty d (At place values) c h meets =
     none_seen program w b (Some offer) d (at_gate place.0)
     (subst (λ gate. NoTree program w b (Some offer) (at_gate gate.0)) (sym meets.0) empty)
-    (each_step_is_seen program n w fits windows b d (At place values) c h (Some offer) meets)
-no_tree_for_the_offer_none_meets program n w fits windows b offer empty d Inner c h meets = absurd meets
-no_tree_for_the_offer_none_meets program n w fits windows b offer empty d (Exit values) c h meets = absurd meets
+    (each_step_is_seen program n w executable windows b d (At place values) c h (Some offer) meets)
+no_tree_for_the_offer_none_meets program n w executable windows b offer empty d Inner c h meets = absurd meets
+no_tree_for_the_offer_none_meets program n w executable windows b offer empty d (Exit values) c h meets = absurd meets
 
 pub no_unseen_tree_no_unseen_step : NoUnseenTreeNoUnseenStep
-no_unseen_tree_no_unseen_step program n w fits windows b internal ending d Inner c h unseen =
-    none_seen program w b None d (kind_of Inner) internal (each_step_is_seen program n w fits windows b d Inner c h None tt)
-no_unseen_tree_no_unseen_step program n w fits windows b internal ending d (Exit values) c h unseen =
+no_unseen_tree_no_unseen_step program n w executable windows b internal ending d Inner c h unseen =
+    none_seen program w b None d (kind_of Inner) internal (each_step_is_seen program n w executable windows b d Inner c h None tt)
+no_unseen_tree_no_unseen_step program n w executable windows b internal ending d (Exit values) c h unseen =
     none_seen program w b None d (kind_of (Exit values)) ending
-    (each_step_is_seen program n w fits windows b d (Exit values) c h None tt)
-no_unseen_tree_no_unseen_step program n w fits windows b internal ending d (At place values) c h unseen = absurd unseen
+    (each_step_is_seen program n w executable windows b d (Exit values) c h None tt)
+no_unseen_tree_no_unseen_step program n w executable windows b internal ending d (At place values) c h unseen = absurd unseen

@@ -5,7 +5,6 @@ use Rattle.spec_core.specs.Lists.{Each}
 use Rattle.spec_core.specs.Terms.{TermTree, variable}
 use Rattle.spec_core.specs.Theories.{Theory}
 use Rattle.spec_core.specs.Sorts.{FitsData}
-use Rattle.spec_core.specs.Windows.{IsMember}
 use Rattle.spec_core.specs.Code.{Program, Variable, Relabelling}
 use Rattle.rule_model.specs.declared.action.Action.{Action}
 use Rattle.rule_model.specs.declared.action.Action.TheVariants.{Inner, Exit, At}
@@ -28,7 +27,7 @@ use Rattle.symbolic_rules.specs.MarkedFields.{MarkedField, told, chosen, given, 
 use Rattle.symbolic_rules.specs.MayDerive.{renamed_kind, MayDeriveWith}
 use Rattle.symbolic_rules.specs.Trees.{MeetsIfOffered, FieldMayMeet, FieldsMayMeet, has_mark, IsSeen, IsWindowed, IsBeyond, IsMarkedAs}
 use Rattle.symbolic_rules.specs.Laws.{EachStepIsSeen}
-use Rattle.symbolic_rules.proofs.Sorts.{sort_of_ground, spelled_is_member}
+use Rattle.symbolic_rules.proofs.Sorts.{IsSpelled, sort_of_ground}
 use Rattle.symbolic_rules.proofs.Standing.{StandsForTerm, StandsForAll, unmarked_stands, premise_may_hold, guard_may_hold, with_one_more}
 use Rattle.symbolic_rules.proofs.Fields.{StandsFor, StandFor, sort_stands, fields_stand, exit_stands, bindings_stand, arguments_stand}
 use Rattle.symbolic_rules.proofs.Fields.{sorts_of_handed, all_agreed}
@@ -85,7 +84,7 @@ sorts_stay theory w [] xs (f ∷ fs) gs j h k = absurd j
 sorts_stay theory w (b ∷ keep) xs [] gs j h k = absurd j
 
 module _ (program : Program) (fits : FitsData program.theory) (w : Windows)
-    (beyond : (sort : ℕ) (v : List ℕ) → IsMember program.theory sort v → (Contains (w.values sort) v → ⊥) → w.complete sort ≡ false) where
+    (beyond : (sort : ℕ) (v : List ℕ) → IsSpelled program.theory sort v → (Contains (w.values sort) v → ⊥) → w.complete sort ≡ false) where
   -- whether a field is kept, so that P holds of what becomes of it
   pub record Keeping (f : MarkedField) (P : MarkedField → Type 0) : Type 0 where
     pub keep : Bool
@@ -203,7 +202,7 @@ module _ (program : Program) (fits : FitsData program.theory) (w : Windows)
   choose v x body m d a n spells next (inr out) =
       let r = next (mark x.sort) (sort_of_ground program.theory n x.sort spells.of_sort) in (
         record { tree = val Mark r.0.tree; fields = r.0.fields; marked = (Mark, r.0.tree, refl, inr refl, r.0.marked); stand = r.0.stand },
-        (mark x.sort, (beyond x.sort v (spelled_is_member program.theory v n x.sort spells) out, refl), tt, r.1),
+        (mark x.sort, (beyond x.sort v (n, spells) out, refl), tt, r.1),
       )
 
   loosen : (d : Derivation) (b : Behaviour) (s : Assignment) (m : MarkedAssignment) (a : Action) (c : Behaviour) →
@@ -344,7 +343,8 @@ module _ (program : Program) (fits : FitsData program.theory) (w : Windows)
       which b (Some offer) d q.0.tree (kind_of a) (marked_twice d r.0.tree q.0.tree r.0.marked q.0.marked) seen (has_mark q.0.tree) refl
 
 pub each_step_is_seen : EachStepIsSeen
-each_step_is_seen program n w fits windows b d a c h o meets =
-    let beyond = not_complete program.theory fits n w windows in
+each_step_is_seen program n w executable windows b d a c h o meets =
+    let fits = executable.fits in
+    let beyond = not_complete program.theory executable n w windows in
     seen_as program fits w beyond b d a
     (loosen program fits w beyond d b variable unmarked a c (unmarked_stands program.theory) h) o meets

@@ -5,9 +5,11 @@ use Rattle.std.proofs.lemmas.Option.{none-some}
 use Rattle.spec_core.specs.Terms.{TermTree, variable, apply, preorder}
 use Rattle.spec_core.specs.Theories.{Operation, Theory}
 use Rattle.spec_core.specs.Sorts.{OnSome, HasSort, HaveSorts, no_variables, FitsData}
+use Rattle.spec_core.specs.Executable.{IsExecutable}
 use Rattle.spec_core.specs.Values.{HasValue}
 use Rattle.spec_core.specs.Windows.{IsMember}
 use Rattle.data_laws.proofs.Sorts.{have_one_sort}
+use Rattle.data_laws.proofs.Whole.{constructor_terms_are_values}
 use Rattle.rule_model.specs.Fields.{Spells}
 use Rattle.rule_model.specs.Meets.{declared_result}
 use Rattle.symbolic_rules.specs.Windows.{sort_of_value}
@@ -44,6 +46,12 @@ module _ (theory : Theory) (fits : FitsData theory) where
 pub equal_terms_have_one_sort : EqualTermsHaveOneSort
 equal_terms_have_one_sort theory fits a b h = have_one_sort theory fits h
 
--- what is spelled of a sort is a value of it
-pub spelled_is_member : (theory : Theory) (v : List ℕ) (n : TermTree) (sort : ℕ) → Spells theory v n sort → IsMember theory sort v
-spelled_is_member theory v n sort h = (n, h.spelled, h.of_sort, h.is_value)
+-- the list of operations spells a value of the sort
+abbrev pub IsSpelled : Theory → ℕ → List ℕ → Type 0
+IsSpelled theory sort v = (n : TermTree) × Spells theory v n sort
+
+-- a ground constructor term is a value
+pub member_is_spelled : (theory : Theory) → IsExecutable theory → (v : List ℕ) (sort : ℕ) (t : IsMember theory sort v) →
+    Spells theory v t.0 sort
+member_is_spelled theory executable v sort t =
+    record { spelled = t.1; of_sort = t.2; is_value = constructor_terms_are_values theory executable t.0 (sort, t.2) t.3 }

@@ -7,14 +7,15 @@ use Rattle.std.specs.List.{slice_get}
 use Rattle.std.proofs.lemmas.Slice.Eq.{bytes_eq-Decides}
 use Rattle.std.proofs.lemmas.Option.{none-some}
 use Rattle.spec_core.specs.Lists.{Each}
+use Rattle.spec_core.specs.Executable.{IsExecutable}
 use Rattle.spec_core.specs.Terms.{TermTree, variable, apply, preorder}
 use Rattle.spec_core.specs.Theories.{Operation, Theory}
 use Rattle.spec_core.specs.Sorts.{OnSome, HasSort, HaveSorts, no_variables, IsDeclaredSort, OperationFits, FitsData}
-use Rattle.spec_core.specs.Windows.{IsMember}
+use Rattle.data_laws.proofs.Whole.{complete_windows_hold_all_values}
 use Rattle.rule_model.specs.Fields.{Spells}
 use Rattle.symbolic_rules.specs.Windows.{Windows, AreWindows, sort_of_value}
 use Rattle.symbolic_rules.specs.MarkedFields.{chosen, IsWithin}
-use Rattle.symbolic_rules.proofs.Sorts.{sort_of_spelled}
+use Rattle.symbolic_rules.proofs.Sorts.{IsSpelled, sort_of_spelled}
 
 first_or_other : (u v : List ℕ) (vs : List (List ℕ)) → Contains (u ∷ vs) v → (u ≡ v) ⊎ Contains vs v
 first_or_other u v vs (zero, l, e) = inl e
@@ -51,11 +52,12 @@ is_false true h = absurd (h refl)
 is_false false h = refl
 
 -- where a value of a sort isn't in the window, the window isn't complete
-pub not_complete : (theory : Theory) → FitsData theory → (n : ℕ) (w : Windows) → AreWindows theory n w → (sort : ℕ) (v : List ℕ) →
-    IsMember theory sort v → (Contains (w.values sort) v → ⊥) → w.complete sort ≡ false
-not_complete theory fits n w windows sort v member out =
-    let window = windows sort (sort_is_declared theory fits member.0 sort member.2) in
-    is_false (w.complete sort) (λ c. out (window.all.0 c v member))
+pub not_complete : (theory : Theory) → IsExecutable theory → (n : ℕ) (w : Windows) → AreWindows theory n w →
+    (sort : ℕ) (v : List ℕ) → IsSpelled theory sort v → (Contains (w.values sort) v → ⊥) → w.complete sort ≡ false
+not_complete theory executable n w windows sort v (t, spells) out =
+    let window = windows sort (sort_is_declared theory executable.fits t sort spells.of_sort) in
+    let held = complete_windows_hold_all_values theory executable sort n (w.values sort) (w.complete sort) window in
+    is_false (w.complete sort) (λ c. out (subst (Contains (w.values sort)) (sym spells.spelled) (held c t spells.is_value spells.of_sort)))
 
 -- a value of a window is within it, by the sort that its list of operations has
 pub spelled_within : (theory : Theory) (w : Windows) (v : List ℕ) (n : TermTree) (sort : ℕ) → Spells theory v n sort →

@@ -4,6 +4,7 @@ use Rattle.spec_core.specs.Terms.{TermTree}
 use Rattle.spec_core.specs.Theories.{Theory}
 use Rattle.spec_core.specs.Sorts.{HaveOneSort, no_variables, FitsData}
 use Rattle.spec_core.specs.Equality.{Equal}
+use Rattle.spec_core.specs.Executable.{IsExecutable}
 use Rattle.spec_core.specs.Code.{Program}
 use Rattle.rule_model.specs.declared.action.Action.{Action}
 use Rattle.rule_model.specs.declared.offer.Offer.{Offer}
@@ -25,7 +26,7 @@ EqualTermsHaveOneSort =
 abbrev pub EachStepIsSeen : Type 0
 EachStepIsSeen =
     (program : Program) (n : ℕ) (w : Windows) →
-    FitsData program.theory →
+    IsExecutable program.theory →
     AreWindows program.theory n w →
     (b : Behaviour) (d : Derivation) (a : Action) (c : Behaviour) →
     Derives program b d a c →
@@ -59,7 +60,7 @@ NoTree program w b o k = (d : Derivation) → IsWindowed program w b o d k ⊎ I
 abbrev pub NoTreeNoStep : Type 0
 NoTreeNoStep =
     (program : Program) (n : ℕ) (w : Windows) →
-    FitsData program.theory →
+    IsExecutable program.theory →
     AreWindows program.theory n w →
     (b : Behaviour) →
     ((k : Kind) → NoTree program w b None k) →
@@ -69,7 +70,7 @@ NoTreeNoStep =
 abbrev pub NoTreeForTheOfferNoneMeets : Type 0
 NoTreeForTheOfferNoneMeets =
     (program : Program) (n : ℕ) (w : Windows) →
-    FitsData program.theory →
+    IsExecutable program.theory →
     AreWindows program.theory n w →
     (b : Behaviour) (offer : Offer) →
     NoTree program w b (Some offer) (at_gate offer.gate.0) →
@@ -79,7 +80,7 @@ NoTreeForTheOfferNoneMeets =
 abbrev pub NoUnseenTreeNoUnseenStep : Type 0
 NoUnseenTreeNoUnseenStep =
     (program : Program) (n : ℕ) (w : Windows) →
-    FitsData program.theory →
+    IsExecutable program.theory →
     AreWindows program.theory n w →
     (b : Behaviour) →
     NoTree program w b None inside →

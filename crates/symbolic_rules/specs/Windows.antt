@@ -5,7 +5,7 @@ use Rattle.spec_core.specs.Sorts.{IsDeclaredSort}
 use Rattle.spec_core.specs.Windows.{IsWindow}
 use Rattle.rule_model.specs.Meets.{result_sort}
 
--- of each sort its first values, and whether there are no more
+-- of each sort its first values, and whether these are all
 pub record Windows : Type 0 where
   pub values : ℕ → List (List ℕ)
   pub complete : ℕ → Bool

@@ -28,7 +28,6 @@ pub fn program(alloc: Global, ends: &str, behaviour: &str) -> Result<Option<Chec
 }
 
 // What a node can do; None where that stops.
-#[tactic(auto, using(expand::proofs::Few::few_operations, expand::proofs::Few::few_sorts))]
 fn expanded(alloc: Global, checked: &Checked, node: &Node) -> Result<Option<Expansion>, Memory>
     requires ready { IsReady (program_of checked.now) }
 {

@@ -12,7 +12,7 @@ use Rattle.value_nodes.specs.declared.node.Node.{Node}
 use Rattle.value_nodes.specs.declared.node.Node.TheVariants.{One, More}
 use Rattle.spec_core.specs.declared.items.Op.{Op}
 use Rattle.value_nodes.specs.Sizes.{symbols}
-use Rattle.value_nodes.specs.Nodes.{arguments, node_tree, trees_of, tree_at, IsSeen, IsNode, IsLonger}
+use Rattle.value_nodes.specs.Nodes.{arguments, node_tree, trees_of, tree_at, cost_at, IsSeen, IsNode, IsLonger}
 use Rattle.value_nodes.specs.Copies.{copy_at, AreCopies, IsRowOf}
 use Rattle.value_nodes.proofs.Nodes.{trees-length}
 
@@ -50,9 +50,9 @@ copied_elsewhere (c ∷ copies) (suc i) o (suc j) h = copied_elsewhere copies i 
 -- one more copy
 pub kept : (old new now : List Node) (copies : List (Option ℕ)) (node n : ℕ) → AreCopies old new copies → IsNode old node →
     IsLonger new now →
-    IsNode now n → tree_at now n ≡ tree_at old node → ((i : ℕ) → IsNode now i → IsNode new i ⊎ (i ≡ n)) →
+    IsNode now n → tree_at now n ≡ tree_at old node → cost_at now n ≡ cost_at old node → ((i : ℕ) → IsNode now i → IsNode new i ⊎ (i ≡ n)) →
     AreCopies old now (set copies node (Some n))
-kept old new now copies node n h there longer at tree others = record {
+kept old new now copies node n h there longer at tree cost others = record {
   one_each = length-set copies node (Some n) ∙ h.one_each;
   same = λ i m q. by_place i m q (cases_eq i node);
   no_other = λ m l. by_number m (others m l);
@@ -62,17 +62,21 @@ kept old new now copies node n h there longer at tree others = record {
     in_list = let e = h.one_each in omega (arith, there, e)
 
     by_place : (i m : ℕ) → copy_at (set copies node (Some n)) i ≡ Some m → (i ≡ node) ⊎ (i ≡ node → ⊥) →
-        IsNode now m × (tree_at now m ≡ tree_at old i)
+        IsNode now m × (tree_at now m ≡ tree_at old i) × (cost_at now m ≡ cost_at old i)
     by_place i m q (inl e) =
-        let s : n ≡ m = same_Some _ _ (sym (copied_here copies node (Some n) in_list) ∙ ap (copy_at (set copies node (Some n))) (sym e) ∙ q) in
-        (subst (IsNode now) s at, ap (tree_at now) (sym s) ∙ tree ∙ ap (tree_at old) (sym e))
+        let s : n ≡ m = same_Some _ _ (sym (copied_here copies node (Some n) in_list) ∙ ap (copy_at (set copies node (Some n))) (sym e) ∙ q) in (
+          subst (IsNode now) s at,
+          ap (tree_at now) (sym s) ∙ tree ∙ ap (tree_at old) (sym e),
+          ap (cost_at now) (sym s) ∙ cost ∙ ap (cost_at old) (sym e),
+        )
     by_place i m q (inr d) =
         let k = h.same i m (sym (copied_elsewhere copies node (Some n) i d) ∙ q) in
-        (omega (arith, k.0, longer.at_least), longer.same m k.0 ∙ k.1)
+        (omega (arith, k.0, longer.at_least), longer.same m k.0 ∙ k.1, longer.costs m k.0 ∙ k.2)
 
-    by_number : (m : ℕ) → IsNode new m ⊎ (m ≡ n) → (i : ℕ) × IsNode old i × (tree_at now m ≡ tree_at old i)
-    by_number m (inl l) = let k = h.no_other m l in (k.0, k.1, longer.same m l ∙ k.2)
-    by_number m (inr e) = (node, there, ap (tree_at now) e ∙ tree)
+    by_number : (m : ℕ) → IsNode new m ⊎ (m ≡ n) →
+        (i : ℕ) × IsNode old i × (tree_at now m ≡ tree_at old i) × (cost_at now m ≡ cost_at old i)
+    by_number m (inl l) = let k = h.no_other m l in (k.0, k.1, longer.same m l ∙ k.2, longer.costs m l ∙ k.3)
+    by_number m (inr e) = (node, there, ap (tree_at now) e ∙ tree, ap (cost_at now) e ∙ cost)
 
 -- the number that waits last, or another where none waits
 pub next_there : (P : ℕ → Type 0) (old new : List ℕ) (o : Option ℕ) (d r : ℕ) →
@@ -92,22 +96,22 @@ module _ (old new : List Node) (copies : List (Option ℕ)) (h : AreCopies old n
   part_read i o l e = read_copy copies i o (part_there i l) e
 
   -- the node of an operation, over the copy of its argument
-  pub one_copied : (node : ℕ) (op : Op) (size arg n : ℕ) → IsSeen (trees_of old) node (One op size arg) →
-      copy_at copies arg ≡ Some n → IsRowOf old new node (One op size n)
-  one_copied node op size arg n s q =
+  pub one_copied : (node : ℕ) (op : Op) (size arg cost n : ℕ) → cost ≡ cost_at old node → IsSeen (trees_of old) node (One op size arg cost) →
+      copy_at copies arg ≡ Some n → IsRowOf old new node (One op size n cost)
+  one_copied node op size arg cost n kept s q =
       let k = h.same arg n q in
-      let e : node_tree (trees_of new) (One op size n) ≡ tree_at old node =
+      let e : node_tree (trees_of new) (One op size n cost) ≡ tree_at old node =
       ap (λ t. apply op.0 (and_term t no_terms)) k.1 ∙ sym s.1 in
-      ((in_trees new n k.0, s.2 ∙ ap symbols (sym e), s.3), e)
+      ((in_trees new n k.0, s.2 ∙ ap symbols (sym e), s.3), e, kept)
 
   -- over the copies of its first argument and of the node with the others
-  pub more_copied : (node : ℕ) (op : Op) (size arg rest n m : ℕ) → IsSeen (trees_of old) node (More op size arg rest) →
-      copy_at copies arg ≡ Some n → copy_at copies rest ≡ Some m → IsRowOf old new node (More op size n m)
-  more_copied node op size arg rest n m s q r =
+  pub more_copied : (node : ℕ) (op : Op) (size arg rest cost n m : ℕ) → cost ≡ cost_at old node → IsSeen (trees_of old) node (More op size arg rest cost) →
+      copy_at copies arg ≡ Some n → copy_at copies rest ≡ Some m → IsRowOf old new node (More op size n m cost)
+  more_copied node op size arg rest cost n m kept s q r =
       let k = h.same arg n q in
       let l = h.same rest m r in
-      let e : node_tree (trees_of new) (More op size n m) ≡ tree_at old node =
+      let e : node_tree (trees_of new) (More op size n m cost) ≡ tree_at old node =
       ap (λ t. apply op.0 (and_term t (arguments (tree_at new m)))) k.1
       ∙ ap (λ t. apply op.0 (and_term (tree_at old arg) (arguments t))) l.1
       ∙ sym s.2 in
-      ((in_trees new n k.0, in_trees new m l.0, s.3 ∙ ap symbols (sym e), s.4, λ z. s.5 (ap arguments (sym l.1) ∙ z)), e)
+      ((in_trees new n k.0, in_trees new m l.0, s.3 ∙ ap symbols (sym e), s.4, λ z. s.5 (ap arguments (sym l.1) ∙ z)), e, kept)

@@ -1,3 +1,4 @@
 pub mod Copied
 pub mod Nodes
+pub mod Own
 pub mod Parts

@@ -4,14 +4,12 @@ use Rattle.std.proofs.Common.{length-append, map, slice_index_or, inl, inr, ◌�
 use Rattle.std.proofs.lemmas.Bool.{cases_lt}
 use Rattle.value_nodes.specs.declared.node.Node.{Node}
 use Rattle.value_nodes.specs.declared.node.Node.TheVariants.{Constant, One, More}
-use Rattle.spec_core.specs.Theories.{Theory}
-use Rattle.spec_core.specs.Constructors.{IsConstructor, IsConstructed, AreConstructed}
 use Rattle.spec_core.specs.Lists.{Each}
-use Rattle.spec_core.specs.Terms.{TermTree, TermTrees, variable, apply, no_terms, and_term, preorder, preorders}
+use Rattle.spec_core.specs.Terms.{TermTree, TermTrees, apply, no_terms, and_term, preorder, preorders}
 use Rattle.spec_core.proofs.Lists.{own_default}
 use Rattle.value_nodes.specs.Sizes.{symbols}
-use Rattle.value_nodes.specs.Nodes.{arguments, tree_in, node_tree, trees_after, trees_of, tree_at, IsMade, AreMade, IsSeen, IsNode}
-use Rattle.value_nodes.specs.Nodes.{IsLonger, AreSmall, AreValues}
+use Rattle.value_nodes.specs.Nodes.{arguments, tree_in, node_tree, trees_after, trees_of, tree_at, cost_of, cost_at}
+use Rattle.value_nodes.specs.Nodes.{IsMade, AreMade, IsSeen, IsNode, IsLonger, AreSmall}
 
 pub in_front : (ts us : List TermTree) (i : ℕ) → i < length ts → tree_in (ts ++ us) i ≡ tree_in ts i
 in_front [] us i h = absurd (omega arith)
@@ -72,13 +70,13 @@ module _ (before : List TermTree) (q : Node) (rs : List Node) where
           ((j : ℕ) → j < length before → tree_in (trees_after before (q ∷ rs)) j ≡ tree_in before j) →
           ((j : ℕ) → j < length before → j < length (trees_after before (q ∷ rs))) →
           IsSeen (trees_after before (q ∷ rs)) (length before) r
-      by_kind (Constant op) e m i s l = i ∙ ap (node_tree before) (sym e)
-      by_kind (One op size arg) e m i s l =
-          let k : tree_in (trees_after before (q ∷ rs)) (length before) ≡ node_tree before (One op size arg) =
+      by_kind (Constant op cost) e m i s l = i ∙ ap (node_tree before) (sym e)
+      by_kind (One op size arg cost) e m i s l =
+          let k : tree_in (trees_after before (q ∷ rs)) (length before) ≡ node_tree before (One op size arg cost) =
           i ∙ ap (node_tree before) (sym e) in
           (l arg m.0, k ∙ ap (λ t. apply op.0 (and_term t no_terms)) (sym (s arg m.0)), m.1 ∙ ap symbols (sym k), m.2)
-      by_kind (More op size arg rest) e m i s l =
-          let k : tree_in (trees_after before (q ∷ rs)) (length before) ≡ node_tree before (More op size arg rest) =
+      by_kind (More op size arg rest cost) e m i s l =
+          let k : tree_in (trees_after before (q ∷ rs)) (length before) ≡ node_tree before (More op size arg rest cost) =
           i ∙ ap (node_tree before) (sym e) in (
             l arg m.0,
             l rest m.1,
@@ -110,9 +108,9 @@ read rows i r m h e =
 -- a node with more arguments has as many symbols as its first argument and the node of the others
 pub more_size : (ts : List TermTree) (op : ℕ) (a : TermTree) (rest : ℕ) (r : Node) → IsSeen ts rest r →
     symbols (apply op (and_term a (arguments (tree_in ts rest)))) ≡ symbols a + symbols (tree_in ts rest)
-more_size ts op a rest (Constant f) s = more_call op a (tree_in ts rest) f.0 no_terms s
-more_size ts op a rest (One f size arg) s = more_call op a (tree_in ts rest) f.0 (and_term (tree_in ts arg) no_terms) s.1
-more_size ts op a rest (More f size arg others) s =
+more_size ts op a rest (Constant f cost) s = more_call op a (tree_in ts rest) f.0 no_terms s
+more_size ts op a rest (One f size arg cost) s = more_call op a (tree_in ts rest) f.0 (and_term (tree_in ts arg) no_terms) s.1
+more_size ts op a rest (More f size arg others cost) s =
     more_call op a (tree_in ts rest) f.0 (and_term (tree_in ts arg) (arguments (tree_in ts others))) s.2
 
 -- one more node
@@ -126,20 +124,44 @@ pushed_tree rows r =
     ap (λ ts. tree_in ts (length rows)) (trees-push [] rows r) ∙ ap (λ n. tree_in (trees_of rows ++ node_tree (trees_of rows) r ∷ []) n)
     (sym e) ∙ at_end (trees_of rows) (node_tree (trees_of rows) r)
 
+abbrev no_node : Node
+no_node = Constant (record { 0 = 0 }) 0
+
+row_in_front : (rows others : List Node) (i : ℕ) → i < length rows →
+    slice_index_or (rows ++ others) i no_node ≡ slice_index_or rows i no_node
+row_in_front [] others i h = absurd (omega arith)
+row_in_front (r ∷ rows) others zero h = refl
+row_in_front (r ∷ rows) others (suc i) h = row_in_front rows others i (omega arith)
+
+row_at_end : (rows : List Node) (r : Node) → slice_index_or (rows ++ r ∷ []) (length rows) no_node ≡ r
+row_at_end [] r = refl
+row_at_end (q ∷ rows) r = row_at_end rows r
+
+pub pushed_cost : (rows : List Node) (r : Node) → cost_at (rows ++ r ∷ []) (length rows) ≡ cost_of r
+pushed_cost rows r = ap cost_of (row_at_end rows r)
+
+-- what a node that is read keeps
+pub read_cost : (rows : List Node) (i : ℕ) (r : Node) → i < length rows → r ≡ get_or rows i r → cost_of r ≡ cost_at rows i
+read_cost [] i r h e = absurd (omega arith)
+read_cost (q ∷ rows) zero r h e = ap cost_of e
+read_cost (q ∷ rows) (suc i) r h e = read_cost rows i r (omega arith) e
+
 pub pushed_longer : (rows : List Node) (r : Node) → IsLonger rows (rows ++ r ∷ [])
 pushed_longer rows r = record {
   at_least = let l = length-append rows (r ∷ []) in omega (arith, l);
   same = λ i h. let l = trees-length [] rows in
       ap (λ ts. tree_in ts i) (trees-push [] rows r) ∙ in_front (trees_of rows) (node_tree (trees_of rows) r ∷ []) i (omega (arith, l));
+  costs = λ i h. ap cost_of (row_in_front rows (r ∷ []) i h);
 }
 
 pub longer_itself : (rows : List Node) → IsLonger rows rows
-longer_itself rows = record { at_least = omega arith; same = λ i h. refl }
+longer_itself rows = record { at_least = omega arith; same = λ i h. refl; costs = λ i h. refl }
 
 pub longer_on : (a b c : List Node) → IsLonger a b → IsLonger b c → IsLonger a c
 longer_on a b c h k = record {
   at_least = omega (arith, h.at_least, k.at_least);
   same = λ i l. k.same i (omega (arith, h.at_least)) ∙ h.same i l;
+  costs = λ i l. k.costs i (omega (arith, h.at_least)) ∙ h.costs i l;
 }
 
 -- the same terms stand at the nodes that there were
@@ -155,46 +177,9 @@ pub still_nodes : (old new : List Node) → IsLonger old new → (is : List ℕ)
 still_nodes old new h [] e = tt
 still_nodes old new h (i ∷ is) e = (omega (arith, h.at_least, e.0), still_nodes old new h is e.1)
 
-arguments_constructed : (theory : Theory) (t : TermTree) → IsConstructed theory t → AreConstructed theory (arguments t)
-arguments_constructed theory (variable x) c = absurd c
-arguments_constructed theory (apply f ts) c = c.1
-
 pub each_first : (P : ℕ → Type 0) (xs : List ℕ) (d : ℕ) → 1 ≤ length xs → Each P xs → P (slice_index_or xs 0 d)
 each_first P [] d h e = absurd (omega arith)
 each_first P (x ∷ xs) d h e = e.0
-
--- a constructor over values is one more value
-pub made_more : (theory : Theory) (f : ℕ) (old mid new : List Node) (vs : List ℕ) (d rest n : ℕ) → 1 ≤ length vs → Each (IsNode old) vs →
-    IsLonger old mid → IsNode mid rest → AreValues theory mid → IsLonger mid new → ((i : ℕ) → IsNode new i → IsNode mid i ⊎ (i ≡ n)) →
-    tree_at new n ≡ apply f (and_term (tree_at mid (slice_index_or vs 0 d)) (arguments (tree_at mid rest))) → IsConstructor theory f →
-    AreValues theory new
-made_more theory f old mid new vs d rest n some there grown at constructed longer others tree c i h = by_place (others i h)
-  where
-    by_place : IsNode mid i ⊎ (i ≡ n) → IsConstructed theory (tree_at new i)
-    by_place (inl l) = subst (IsConstructed theory) (sym (longer.same i l)) (constructed i l)
-    by_place (inr e) =
-        let a : IsNode mid (slice_index_or vs 0 d) = let p = each_first (IsNode old) vs d some there in omega (arith, p, grown.at_least) in
-        subst (λ j. IsConstructed theory (tree_at new j)) (sym e)
-        (subst (IsConstructed theory) (sym tree)
-        (c, (constructed (slice_index_or vs 0 d) a, arguments_constructed theory (tree_at mid rest) (constructed rest at))))
-
-pub made_one : (theory : Theory) (f : ℕ) (old new : List Node) (v n : ℕ) → IsNode old v → AreValues theory old → IsLonger old new →
-    ((i : ℕ) → IsNode new i → IsNode old i ⊎ (i ≡ n)) → tree_at new n ≡ apply f (and_term (tree_at old v) no_terms) →
-    IsConstructor theory f → AreValues theory new
-made_one theory f old new v n there constructed longer others tree c i h = by_place (others i h)
-  where
-    by_place : IsNode old i ⊎ (i ≡ n) → IsConstructed theory (tree_at new i)
-    by_place (inl l) = subst (IsConstructed theory) (sym (longer.same i l)) (constructed i l)
-    by_place (inr e) = subst (λ j. IsConstructed theory (tree_at new j)) (sym e)
-        (subst (IsConstructed theory) (sym tree) (c, (constructed v there, tt)))
-
-pub made_none : (theory : Theory) (f : ℕ) (old new : List Node) (n : ℕ) → AreValues theory old → IsLonger old new →
-    ((i : ℕ) → IsNode new i → IsNode old i ⊎ (i ≡ n)) → tree_at new n ≡ apply f no_terms → IsConstructor theory f → AreValues theory new
-made_none theory f old new n constructed longer others tree c i h = by_place (others i h)
-  where
-    by_place : IsNode old i ⊎ (i ≡ n) → IsConstructed theory (tree_at new i)
-    by_place (inl l) = subst (IsConstructed theory) (sym (longer.same i l)) (constructed i l)
-    by_place (inr e) = subst (λ j. IsConstructed theory (tree_at new j)) (sym e) (subst (IsConstructed theory) (sym tree) (c, tt))
 
 pub one_more_node : (old new : List Node) (n : ℕ) → length new ≡ length old + 1 → length new ≡ n + 1 → (i : ℕ) → IsNode new i →
     IsNode old i ⊎ (i ≡ n)
@@ -208,13 +193,13 @@ pub within : (rows : List Node) (i : ℕ) → i < length (trees_of rows) → IsN
 within rows i h = let l = trees-length [] rows in omega (arith, l, h)
 
 small_seen : (ts : List TermTree) (i : ℕ) (r : Node) → IsSeen ts i r → symbols (tree_in ts i) ≤ 65536
-small_seen ts i (Constant op) s = let e : symbols (tree_in ts i) ≡ 1 = ap symbols s in omega (arith, e)
-small_seen ts i (One op size arg) s = omega (arith, s.2, s.3)
-small_seen ts i (More op size arg rest) s = omega (arith, s.3, s.4)
+small_seen ts i (Constant op cost) s = let e : symbols (tree_in ts i) ≡ 1 = ap symbols s in omega (arith, e)
+small_seen ts i (One op size arg cost) s = omega (arith, s.2, s.3)
+small_seen ts i (More op size arg rest cost) s = omega (arith, s.3, s.4)
 
 -- no node of a table stands for what is too large
 pub all_small : (rows : List Node) → AreMade [] rows → AreSmall rows
 all_small rows m i h big =
-    let d : Node = Constant (record { 0 = 0 }) in
+    let d : Node = Constant (record { 0 = 0 }) 0 in
     let s = small_seen (trees_of rows) i (get_or rows i d) (read rows i (get_or rows i d) m h (own_default rows i d h)) in
     omega (arith, s, big)

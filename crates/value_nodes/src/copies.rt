@@ -3,7 +3,7 @@
 ghost use Rattle.std.specs.Prelude.{◌≡◌, [], IfOk, OnOk};
 ghost use Rattle.spec_core.specs.Lists.{Each};
 ghost use Rattle.value_nodes.specs.Copies.{AreCopies, IsRowOf};
-ghost use Rattle.value_nodes.specs.Nodes.{tree_at, IsNode, IsLonger};
+ghost use Rattle.value_nodes.specs.Nodes.{tree_at, cost_at, IsNode, IsLonger};
 
 use crate::node::{Node, Nodes};
 use spec_core::memory::Memory;
@@ -49,6 +49,7 @@ impl Copies {
         ensures longer { IfOk result (λ n. IsLonger into.old into.new) }
         ensures there { IfOk result (λ n. IsNode into.new n) }
         ensures tree { IfOk result (λ n. tree_at into.new n ≡ tree_at from.now node) }
+        ensures cost { IfOk result (λ n. cost_at into.new n ≡ cost_at from.now node) }
     {
         let mut waiting = Vec::new(alloc);
         for _turn in 0..u64::MAX {
@@ -79,16 +80,32 @@ impl Copies {
         ensures waiting { OnOk result (Each (IsNode from.now) waiting.new.items) }
     {
         match from.at(node) {
-            Node::Constant(op) => self.keep(from, into, node, Node::Constant(op)),
-            Node::One { op, size, arg } => match self.numbers[arg as usize] {
+            Node::Constant(op, cost) => self.keep(from, into, node, Node::Constant(op, cost)),
+            Node::One {
+                op,
+                size,
+                arg,
+                cost,
+            } => match self.numbers[arg as usize] {
                 None => wait(from, waiting, node, arg),
-                Some(arg) => self.keep(from, into, node, Node::One { op, size, arg }),
+                Some(arg) => self.keep(
+                    from,
+                    into,
+                    node,
+                    Node::One {
+                        op,
+                        size,
+                        arg,
+                        cost,
+                    },
+                ),
             },
             Node::More {
                 op,
                 size,
                 arg,
                 rest,
+                cost,
             } => match self.numbers[arg as usize] {
                 None => wait(from, waiting, node, arg),
                 Some(first) => match self.numbers[rest as usize] {
@@ -102,6 +119,7 @@ impl Copies {
                             size,
                             arg: first,
                             rest: others,
+                            cost,
                         },
                     ),
                 },

@@ -63,13 +63,13 @@ fn compare(nodes: &Nodes, pair: Pair, pairs: &mut Vec<Pair>) -> Result<bool, Mem
             Ok(true)
         }
         Pair::Arguments(a, b) => match nodes.at(a) {
-            Node::Constant(_) => match nodes.at(b) {
-                Node::Constant(_) => Ok(true),
+            Node::Constant(_, _) => match nodes.at(b) {
+                Node::Constant(_, _) => Ok(true),
                 Node::One { .. } => Ok(false),
                 Node::More { .. } => Ok(false),
             },
             Node::One { arg, .. } => match nodes.at(b) {
-                Node::Constant(_) => Ok(false),
+                Node::Constant(_, _) => Ok(false),
                 Node::One { arg: other, .. } => {
                     pairs.push(Pair::Whole(arg, other))?;
                     Ok(true)
@@ -77,7 +77,7 @@ fn compare(nodes: &Nodes, pair: Pair, pairs: &mut Vec<Pair>) -> Result<bool, Mem
                 Node::More { .. } => Ok(false),
             },
             Node::More { arg, rest, .. } => match nodes.at(b) {
-                Node::Constant(_) => Ok(false),
+                Node::Constant(_, _) => Ok(false),
                 Node::One { .. } => Ok(false),
                 Node::More {
                     arg: other,

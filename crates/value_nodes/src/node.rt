@@ -1,12 +1,13 @@
 // Tables of nodes.
 
-ghost use Rattle.std.specs.Prelude.{ℕ, ◌≡◌, ◌≤◌, ◌+◌, ◌⊎◌, [], IfOk, IfErr, OnOk, length, map};
-ghost use Rattle.spec_core.specs.Constructors.{IsConstructor};
+ghost use Rattle.std.specs.Prelude.{ℕ, ◌≡◌, ◌≤◌, ◌+◌, ◌⊎◌, [], IfOk, IfErr, IfSome, OnOk, length, map};
 ghost use Rattle.spec_core.specs.Lists.{Each};
 ghost use Rattle.spec_core.specs.Terms.{apply, and_term, no_terms, terms};
+ghost use Rattle.spec_core.specs.Orthogonality.{HasNoLooseVariables};
 ghost use Rattle.spec_core.specs.Theories.{Theory};
-ghost use Rattle.value_nodes.specs.Nodes.{arguments, node_tree, trees_of, tree_at, IsMade, IsSeen, IsNode, IsLonger, AreValues};
-ghost use Rattle.value_nodes.specs.Nodes.{AreSmall, IsOver, IsWhole, HasArguments};
+ghost use Rattle.value_nodes.specs.Nodes.{arguments, node_tree, trees_of, tree_at, cost_of, cost_at, IsMade, IsSeen, IsNode};
+ghost use Rattle.value_nodes.specs.Nodes.{all_costs, IsLonger, AreSmall, IsOver, IsWhole, HasArguments};
+ghost use Rattle.value_nodes.specs.Own.{AreOwnValues, StaysOver, StaysShort};
 ghost use Rattle.value_nodes.specs.Sizes.{symbols, IsTooLarge};
 
 use crate::fault::NodeFault;
@@ -18,16 +19,18 @@ use std::marker::Model;
 /// The greatest number of symbols of a value.
 const LARGEST: u32 = 65_536;
 
-/// A node stands for an operation over what earlier nodes of its table stand for. `size` is its number of symbols.
+/// A node stands for an operation over what earlier nodes of its table stand for. `size` is its number of symbols. `cost`, of `Constant` the
+/// second field, is how many uses of equations it costs to evaluate its term again; that is none where no part is a call that stays.
 #[derive(Clone, Copy)]
 pub enum Node {
     /// The operation alone.
-    Constant(Op),
+    Constant(Op, u64),
     /// The operation over one argument.
     One {
         op: Op,
         size: u32,
         arg: u32,
+        cost: u64,
     },
     /// The operation over an argument and those of the node `rest`.
     More {
@@ -35,6 +38,7 @@ pub enum Node {
         size: u32,
         arg: u32,
         rest: u32,
+        cost: u64,
     },
 }
 
@@ -77,6 +81,7 @@ impl Nodes {
     pub fn at(&self, node: u32) -> Node
         requires there { IsNode self.now node }
         ensures seen { IsSeen (trees_of self.now) node result }
+        ensures cost { cost_of result ≡ cost_at self.now node }
     {
         self.rows[node as usize]
     }
@@ -89,7 +94,7 @@ impl Nodes {
         ensures whole { IsWhole (tree_at self.now node) }
     {
         match self.at(node) {
-            Node::Constant(_) => 1,
+            Node::Constant(_, _) => 1,
             Node::One { size, .. } => size,
             Node::More { size, .. } => size,
         }
@@ -101,9 +106,21 @@ impl Nodes {
         ensures head { IsOver result.0 (tree_at self.now node) }
     {
         match self.at(node) {
-            Node::Constant(op) => op,
+            Node::Constant(op, _) => op,
             Node::One { op, .. } => op,
             Node::More { op, .. } => op,
+        }
+    }
+
+    /// How many uses of equations it costs to evaluate a node's term again. It takes no memory.
+    pub fn cost(&self, node: u32) -> u64
+        requires there { IsNode self.now node }
+        ensures kept { result ≡ cost_at self.now node }
+    {
+        match self.at(node) {
+            Node::Constant(_, cost) => cost,
+            Node::One { cost, .. } => cost,
+            Node::More { cost, .. } => cost,
         }
     }
 
@@ -113,6 +130,7 @@ impl Nodes {
         ensures longer { IfOk result (λ n. IsLonger self.old self.new) }
         ensures there { IfOk result (λ n. IsNode self.new n) }
         ensures tree { IfOk result (λ n. tree_at self.new n ≡ node_tree (trees_of self.old) row) }
+        ensures cost { IfOk result (λ n. cost_at self.new n ≡ cost_of row) }
         ensures others { IfOk result (λ n. (i : ℕ) → IsNode self.new i → IsNode self.old i ⊎ (i ≡ n)) }
         ensures small { OnOk result (AreSmall self.new) }
     {
@@ -124,12 +142,13 @@ impl Nodes {
         Ok(place as u32)
     }
 
-    // The operation over one node.
-    fn make_one(&mut self, op: Op, arg: u32) -> Result<u32, NodeFault>
+    // The operation over one node. Want of memory is answered too where its cost would be 2^64 uses or more.
+    fn make_one(&mut self, op: Op, arg: u32, own: u64) -> Result<u32, NodeFault>
         requires there { IsNode self.old arg }
         ensures longer { IfOk result (λ n. IsLonger self.old self.new) }
         ensures there { IfOk result (λ n. IsNode self.new n) }
         ensures tree { IfOk result (λ n. tree_at self.new n ≡ apply op.0 (and_term (tree_at self.old arg) no_terms)) }
+        ensures cost { IfOk result (λ n. cost_at self.new n ≡ own + cost_at self.old arg) }
         ensures others { IfOk result (λ n. (i : ℕ) → IsNode self.new i → IsNode self.old i ⊎ (i ≡ n)) }
         ensures small { OnOk result (AreSmall self.new) }
         ensures large { IfErr result (λ e.
@@ -139,12 +158,22 @@ impl Nodes {
         if size > LARGEST {
             return Err(NodeFault::TooLarge);
         }
-        let node = self.add(Node::One { op, size, arg })?;
-        Ok(node)
+        match own.checked_add(self.cost(arg)) {
+            None => Err(NodeFault::Memory),
+            Some(cost) => {
+                let node = self.add(Node::One {
+                    op,
+                    size,
+                    arg,
+                    cost,
+                })?;
+                Ok(node)
+            }
+        }
     }
 
-    // The operation over a node and the arguments of another.
-    fn make_more(&mut self, op: Op, arg: u32, rest: u32) -> Result<u32, NodeFault>
+    // The operation over a node and the arguments of another. Want of memory is answered too where its cost would be 2^64 uses or more.
+    fn make_more(&mut self, op: Op, arg: u32, rest: u32, own: u64) -> Result<u32, NodeFault>
         requires there { IsNode self.old arg }
         requires rest { IsNode self.old rest }
         requires some { HasArguments (tree_at self.old rest) }
@@ -152,6 +181,7 @@ impl Nodes {
         ensures there { IfOk result (λ n. IsNode self.new n) }
         ensures tree { IfOk result (λ n.
             tree_at self.new n ≡ apply op.0 (and_term (tree_at self.old arg) (arguments (tree_at self.old rest)))) }
+        ensures cost { IfOk result (λ n. cost_at self.new n ≡ own + (cost_at self.old arg + cost_at self.old rest)) }
         ensures others { IfOk result (λ n. (i : ℕ) → IsNode self.new i → IsNode self.old i ⊎ (i ≡ n)) }
         ensures small { OnOk result (AreSmall self.new) }
         ensures large { IfErr result (λ e.
@@ -162,37 +192,60 @@ impl Nodes {
         if size > LARGEST {
             return Err(NodeFault::TooLarge);
         }
-        let node = self.add(Node::More {
-            op,
-            size,
-            arg,
-            rest,
-        })?;
-        Ok(node)
+        match total(own, self.cost(arg), self.cost(rest)) {
+            None => Err(NodeFault::Memory),
+            Some(cost) => {
+                let node = self.add(Node::More {
+                    op,
+                    size,
+                    arg,
+                    rest,
+                    cost,
+                })?;
+                Ok(node)
+            }
+        }
     }
 
-    /// The node of an operation over nodes; `TooLarge` only where the term has more than 65,536 symbols.
-    pub fn make(&mut self, op: Op, values: &[u32]) -> Result<u32, NodeFault>
+    /// The node of an operation over nodes, a call of which costs so many uses of equations of its own; `TooLarge` only where the term has
+    /// more than 65,536 symbols. Want of memory is answered too where its cost with those of the nodes would be 2^64 uses or more.
+    pub fn make(&mut self, op: Op, values: &[u32], own: u64) -> Result<u32, NodeFault>
         requires there { Each (IsNode self.old) values.now }
         ensures longer { IfOk result (λ n. IsLonger self.old self.new) }
         ensures there { IfOk result (λ n. IsNode self.new n) }
         ensures tree { IfOk result (λ n. tree_at self.new n ≡ apply op.0 (terms (map (tree_at self.old) values.now))) }
-        ensures values { IfOk result (λ n.
-            (theory : Theory) → IsConstructor theory op.0 → AreValues theory self.old → AreValues theory self.new) }
+        ensures cost { IfOk result (λ n. cost_at self.new n ≡ own + all_costs self.old values.now) }
+        ensures own { IfOk result (λ n.
+            (theory : Theory) →
+            Each HasNoLooseVariables theory.equations →
+            StaysOver theory op.0 (terms (map (tree_at self.old) values.now)) own →
+            StaysShort theory op.0 (length values.now) →
+            AreOwnValues theory self.old →
+            AreOwnValues theory self.new) }
         ensures small { OnOk result (AreSmall self.new) }
         ensures large { IfErr result (λ e.
             e ≡ NodeFault.TooLarge → IsTooLarge (apply op.0 (terms (map (tree_at self.old) values.now)))) }
     {
         match values {
             [] => {
-                let node = self.add(Node::Constant(op))?;
+                let node = self.add(Node::Constant(op, own))?;
                 Ok(node)
             }
-            [value] => self.make_one(op, *value),
+            [value] => self.make_one(op, *value, own),
             [value, others @ ..] => {
-                let rest = self.make(op, others)?;
-                self.make_more(op, *value, rest)
+                let rest = self.make(op, others, 0)?;
+                self.make_more(op, *value, rest, own)
             }
         }
+    }
+}
+
+// The sum of three numbers, where it is less than 2^64.
+fn total(a: u64, b: u64, c: u64) -> Option<u64>
+    ensures { IfSome result (λ sum. sum ≡ a + (b + c)) }
+{
+    match b.checked_add(c) {
+        None => None,
+        Some(both) => a.checked_add(both),
     }
 }

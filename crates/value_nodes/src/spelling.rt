@@ -58,7 +58,7 @@ fn spell_part(
             Ok(())
         }
         Part::Arguments(node) => match nodes.at(node) {
-            Node::Constant(_) => Ok(()),
+            Node::Constant(_, _) => Ok(()),
             Node::One { arg, .. } => {
                 parts.push(Part::Whole(arg))?;
                 Ok(())

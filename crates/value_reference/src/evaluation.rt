@@ -2,7 +2,6 @@
 
 ghost use Rattle.std.specs.Prelude.{ℕ, ◌≡◌, ◌<◌, ◌≤◌, ◌+◌, IfOk, IfErr, map};
 ghost use Rattle.spec_core.specs.Budgets.{IsBeyond, AreBeyond, BothAreBeyond, TriesAreBeyond, AsksAreBeyond};
-ghost use Rattle.spec_core.specs.Constructors.{IsConstructor};
 ghost use Rattle.spec_core.specs.Evaluation.{Evaluates, EvaluatesAll, Tries, Asks, HaveValues};
 ghost use Rattle.spec_core.specs.Lists.{Each};
 ghost use Rattle.spec_core.specs.Orthogonality.{HasNoLooseVariables};
@@ -12,7 +11,6 @@ ghost use Rattle.spec_core.specs.Theories.{equation_of, premise_of, theory_of};
 
 use crate::fault::EvaluationFault;
 use crate::matching::{instantiate, match_pattern};
-use spec_core::constructors::is_constructor;
 use spec_core::equation::{DataSpec, Equation};
 use spec_core::items::Op;
 use spec_core::term::{Term, copy_terms};
@@ -151,7 +149,7 @@ fn try_equations(
         return Err(EvaluationFault::Memory);
     }
     match left {
-        [] => constructed(alloc, algebra, op, values),
+        [] => itself(alloc, op, values),
         [equation, others @ ..] => {
             let matched = match_pattern(alloc, &equation.left, op, values)?;
             match matched {
@@ -307,24 +305,14 @@ fn use_equation(
     })
 }
 
-// The operation over the values is its own value, where it is a constructor.
-fn constructed(
-    alloc: Global,
-    algebra: &DataSpec,
-    op: Op,
-    values: &[Term],
-) -> Result<Evaluated, EvaluationFault>
-    ensures constructor { IfOk result (λ r. IsConstructor (theory_of algebra.now) op.0) }
+// The operation over the values, which is its own value where no equation applies.
+fn itself(alloc: Global, op: Op, values: &[Term]) -> Result<Evaluated, EvaluationFault>
     ensures value { IfOk result (λ r. term_of r.value ≡ apply op.0 (terms (map term_of values.now))) }
     ensures free { IfOk result (λ r. r.uses ≡ 0) }
-    ensures spent { IfErr result (λ e. e ≡ EvaluationFault.Spent → IsConstructor (theory_of algebra.now) op.0 → ⊥) }
+    ensures fault { IfErr result (λ e. e ≡ EvaluationFault.Memory) }
 {
-    if is_constructor(algebra, op) {
-        Ok(Evaluated {
-            value: Term::App(op, copy_terms(alloc, values)?),
-            uses: 0,
-        })
-    } else {
-        Err(EvaluationFault::Spent)
-    }
+    Ok(Evaluated {
+        value: Term::App(op, copy_terms(alloc, values)?),
+        uses: 0,
+    })
 }

@@ -12,7 +12,7 @@ use Rattle.spec_core.specs.Sorts.{OnSome, HasSort, HaveSorts, no_variables}
 use Rattle.spec_core.specs.Terms.{TermTree, TermTrees, variable, apply, no_terms, and_term, terms, term_of, preorder, preorders, width}
 use Rattle.spec_core.specs.Theories.{Operation, Theory}
 use Rattle.data_laws.proofs.Fit.{on_use}
-use Rattle.rule_model.specs.Fields.{Spells}
+use Rattle.value_terms.specs.Spelled.{SpellsTerm}
 use Rattle.spec_core.specs.declared.items.Op.{Op}
 use Rattle.spec_core.specs.Numbers.{op_number}
 use Rattle.spec_core.proofs.Lists.{each_append, each_left, each_right}
@@ -208,22 +208,19 @@ module _ (theory : Theory) where
     all_of_constructors (and_term t ts) h =
         each_append (IsConstructor theory) (preorder t) (preorders ts) (of_constructors t h.0) (all_of_constructors ts h.1)
 
-  -- a list of constructors that spells a term of the sort spells a value
-  pub spells_value : (v : List ℕ) (t : TermTree) (sort : ℕ) →
-      v ≡ preorder t → HasSort theory no_variables t sort → Each (IsConstructor theory) v → Spells theory v t sort
-  spells_value v t sort is fits h = record {
-    spelled = is;
-    of_sort = fits;
-    is_value = constructed t sort fits (subst (Each (IsConstructor theory)) is h);
-  }
+  -- a list of constructors that spells a term of the sort spells a ground constructor term
+  pub spells_constructed : (v : List ℕ) (t : TermTree) (sort : ℕ) → SpellsTerm theory v t sort → Each (IsConstructor theory) v →
+      IsConstructed theory t
+  spells_constructed v t sort h all = constructed t sort h.of_sort (subst (Each (IsConstructor theory)) h.spelled all)
 
-  -- what spells a value is a list of constructors
-  pub value_constructors : (v : List ℕ) (t : TermTree) (sort : ℕ) → Spells theory v t sort → Each (IsConstructor theory) v
-  value_constructors v t sort h = subst (Each (IsConstructor theory)) (sym h.spelled) (of_constructors t h.is_value)
+  -- and what spells one is a list of constructors
+  pub constructed_spelled : (v : List ℕ) (t : TermTree) (sort : ℕ) → SpellsTerm theory v t sort → IsConstructed theory t →
+      Each (IsConstructor theory) v
+  constructed_spelled v t sort h c = subst (Each (IsConstructor theory)) (sym h.spelled) (of_constructors t c)
 
-  -- a term with the operations of a value is the value
-  pub value_sort : (v : List ℕ) (t u : TermTree) (sort : ℕ) → Spells theory v t sort → v ≡ preorder u → HasArguments theory u →
+  -- a term with the operations of a term of the sort is that term
+  pub term_sort : (v : List ℕ) (t u : TermTree) (sort : ℕ) → SpellsTerm theory v t sort → v ≡ preorder u → HasArguments theory u →
       HasSort theory no_variables u sort
-  value_sort v t u sort h is arguments =
+  term_sort v t u sort h is arguments =
       subst (λ (w : TermTree). HasSort theory no_variables w sort)
       (one_term theory t u (sorted_arguments theory t sort h.of_sort) arguments (sym h.spelled ∙ is)) h.of_sort

@@ -4,4 +4,4 @@
 mod reading;
 mod stack;
 
-pub use reading::{sort_of_ground, spelled, term_with};
+pub use reading::{are_constructors, sort_of_ground, term_of_sort, term_with};

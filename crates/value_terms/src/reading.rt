@@ -7,7 +7,7 @@ ghost use Rattle.spec_core.specs.Numbers.{op_number};
 ghost use Rattle.spec_core.specs.Sorts.{HasSort, FitsGround, no_variables};
 ghost use Rattle.spec_core.specs.Terms.{TermTree, term_of, preorder};
 ghost use Rattle.spec_core.specs.Theories.{theory_of};
-ghost use Rattle.rule_model.specs.Fields.{Spells};
+ghost use Rattle.value_terms.specs.Spelled.{SpellsTerm};
 ghost use Rattle.value_terms.specs.Stacks.{HasArguments};
 
 use crate::stack::{only, put_operation};
@@ -44,29 +44,24 @@ fn is_ground_of(algebra: &DataSpec, term: &Term, sort: Sort) -> bool
     has_sort(term, algebra, &[], sort)
 }
 
-/// The term of the sort that a list of operations spells; None where it spells no value of the sort. The term is put together without
-/// recursion; then it recurs as deep as the term.
-pub fn spelled(
+/// The ground term of the sort that a list of operations spells; None where it spells none. It is put together without recursion; then it
+/// recurs as deep as the term.
+pub fn term_of_sort(
     alloc: Global,
     algebra: &DataSpec,
     value: &Value,
     sort: Sort,
 ) -> Result<Option<Term>, Memory>
-    ensures some { IfOk result (λ o. IfSome o (λ term. Spells (theory_of algebra.now) value.now (term_of term) sort.0)) }
-    ensures none { IfOk result (λ o. IfNone o ((t : TermTree) → Spells (theory_of algebra.now) value.now t sort.0 → ⊥)) }
+    ensures some { IfOk result (λ o. IfSome o (λ term. SpellsTerm (theory_of algebra.now) value.now (term_of term) sort.0)) }
+    ensures none { IfOk result (λ o. IfNone o ((t : TermTree) → SpellsTerm (theory_of algebra.now) value.now t sort.0 → ⊥)) }
 {
-    let ops = value.as_slice();
-    match term_with(alloc, algebra, ops)? {
+    match term_with(alloc, algebra, value.as_slice())? {
         None => Ok(None),
-        Some(term) => {
-            if !are_constructors(algebra, ops) {
-                return Ok(None);
-            }
-            if !is_ground_of(algebra, &term, sort) {
-                return Ok(None);
-            }
+        Some(term) => if is_ground_of(algebra, &term, sort) {
             Ok(Some(term))
-        }
+        } else {
+            Ok(None)
+        },
     }
 }
 
@@ -87,8 +82,8 @@ pub fn term_with(alloc: Global, algebra: &DataSpec, ops: &[Op]) -> Result<Option
     Ok(only(stack))
 }
 
-// Whether each of the operations is a constructor.
-fn are_constructors(algebra: &DataSpec, ops: &[Op]) -> bool
+/// Whether each of the operations is a constructor. It takes no memory.
+pub fn are_constructors(algebra: &DataSpec, ops: &[Op]) -> bool
     ensures { IsTrue result ↔ Each (IsConstructor (theory_of algebra.now)) (map op_number ops.now) }
 {
     for op in ops {

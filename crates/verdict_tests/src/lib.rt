@@ -17,3 +17,5 @@ mod program;
 mod samples;
 #[cfg(test)]
 mod trees;
+#[cfg(test)]
+mod values;

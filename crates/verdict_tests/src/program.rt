@@ -5,22 +5,18 @@ ghost use Rattle.spec_core.specs.Ready.{IsReady};
 
 use crate::lines::{line, put_term};
 use crate::trees::tree;
+use crate::values::chooses_values;
 use node_trees::origin::Origin;
 use node_values::stop::Stop;
 use node_values::{Evaluator, Forms, Prepared};
 use node_verdict::origins::shown_by;
 use sort_windows::windows;
 use spec_core::code::Checked;
-use spec_core::equation::DataSpec;
 use spec_core::items::Gate;
 use spec_core::memory::Memory;
-use spec_core::window::Window;
 use std::alloc::Global;
 use symbolic_actions::shown::Shown;
 use test_programs::over_small_data;
-
-// More sorts or operations than a word counts.
-const MANY: usize = 4294967296;
 
 // What is shown, or the stop with its term.
 fn told(
@@ -45,15 +41,6 @@ fn told(
     }
 }
 
-// The first two values of each sort, as far as there are no more sorts and operations than a word counts.
-fn first_values(alloc: Global, algebra: &DataSpec) -> Result<Option<Vec<Window>>, Memory> {
-    if algebra.signature.ops.len() < MANY && algebra.signature.sorts.len() < MANY {
-        Ok(Some(windows(alloc, algebra, 2)?))
-    } else {
-        Ok(None)
-    }
-}
-
 /// What the specification's behaviour shows by the tree, under a relabelling, with the first two values of each sort, and so many uses of
 /// equations.
 pub fn shown_of(
@@ -65,24 +52,23 @@ pub fn shown_of(
 ) -> Result<String, Memory>
     requires ready { IsReady (program_of checked.now) }
 {
-    match first_values(alloc, &checked.algebra)? {
-        None => Ok(String::from_str(alloc, "many sorts")?),
-        Some(windows) => {
-            let rules = tree(alloc, rules)?;
-            let origin = Origin {
-                node: checked.start,
-                values: Vec::new(alloc),
-                relabel,
-            };
-            let forms = Forms::new(alloc, &checked.algebra)?;
-            let prepared = Prepared {
-                checked,
-                evaluator: Evaluator::new(&checked.algebra, &forms),
-            };
-            let outcome = shown_by(alloc, &prepared, &windows, &origin, &rules, budget);
-            told(alloc, checked, outcome)
-        }
+    let windows = windows(alloc, &checked.algebra, 2)?;
+    let rules = tree(alloc, rules)?;
+    let origin = Origin {
+        node: checked.start,
+        values: Vec::new(alloc),
+        relabel,
+    };
+    let forms = Forms::new(alloc, &checked.algebra)?;
+    let prepared = Prepared {
+        checked,
+        evaluator: Evaluator::new(&checked.algebra, &forms),
+    };
+    if !chooses_values(alloc, &prepared, &rules)? {
+        return Ok(String::from_str(alloc, "no values")?);
     }
+    let outcome = shown_by(alloc, &prepared, &windows, &origin, &rules, budget);
+    told(alloc, checked, outcome)
 }
 
 /// The same of the specification with this functionality and this behaviour.

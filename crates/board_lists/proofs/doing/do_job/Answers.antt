@@ -1,6 +1,7 @@
 use Rattle.std.proofs.Common.{subst, sym}
 use Rattle.spec_core.specs.Code.{program_of}
 use Rattle.board_core.specs.Found.{AreBySorts}
+use Rattle.board_core.specs.Working.{IsOfValues}
 use Rattle.board_lists.proofs.doing.do_job.Goals as goal
 
 pub perform-requires-clause-rows : goal.perform-requires-clause-rows
@@ -10,3 +11,10 @@ perform-requires-clause-rows c =
       subst (AreBySorts (program_of c.prepared.result.checked.now).theory v.settings.values) (sym c.windows.ensures.windows)
           (subst (λ k. AreBySorts (program_of k).theory v.settings.values v.windows) (sym c.prepared.ensures.checked) c.windows.ensures.rows),
     )
+
+pub perform-requires-clause-values : goal.perform-requires-clause-values
+perform-requires-clause-values c =
+    subst (λ k. IsOfValues (program_of k) c.args.job.now) (sym c.prepared.ensures.checked) c.requires.sound.1
+
+pub take_in-requires-clause-sound : goal.take_in-requires-clause-sound
+take_in-requires-clause-sound c = c.requires.sound.0

@@ -1,10 +1,19 @@
-use Rattle.std.proofs.Common.{◌∙◌, subst}
+use Rattle.std.proofs.Common.{◌∙◌, subst, sym}
+use Rattle.spec_core.specs.Code.{program_of}
 use Rattle.rule_model.specs.WishViews.{wish_of}
 use Rattle.board_record.specs.Faults.{ExplainsPend}
+use Rattle.board_core.specs.JobValues.{GivesValues}
 use Rattle.board_core.specs.Views.{program, state}
 use Rattle.client_runs.proofs.Running.{offered}
 use Rattle.client_runs.proofs.Settled.{idle_on}
 use Rattle.client_runs.proofs.run.offer_next.Goals as goal
+
+pub pend-requires : goal.pend-requires
+pend-requires c = record {
+  values =
+      subst (λ k. GivesValues (program_of k).theory c.args.wish.now.offer) (sym c.in_ok-settle_all.ensures.session.0.0.0)
+      c.requires.values;
+}
 
 pub unreachable-requires-in-Err-AlreadyPending : goal.unreachable-requires-in-Err-AlreadyPending
 unreachable-requires-in-Err-AlreadyPending c =

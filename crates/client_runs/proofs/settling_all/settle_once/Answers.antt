@@ -1,7 +1,8 @@
 use Rattle.std.proofs.Common.{◌≡◌, ◌∙◌, IfSome, IfNone, false, is_some, length, rules, subst, sym}
+use Rattle.spec_core.specs.Code.{program_of}
 use Rattle.board_core.specs.Settled.{IsQuiet}
 use Rattle.board_core.specs.Views.{events}
-use Rattle.board_core.specs.Working.{IsHandedOut, WhyNone}
+use Rattle.board_core.specs.Working.{IsHandedOut, IsOfValues, WhyNone}
 use Rattle.client_runs.proofs.Running.{after_settling, handed, none_taken, onward, same_run, was_quiet}
 use Rattle.client_runs.proofs.Settled.{IsLike, like_twice, none_left_there, why_stays}
 use Rattle.board_work.proofs.Going as going
@@ -41,8 +42,8 @@ returns-in-None-clause-settled c =
     λ done. none_left_there a g d (like_twice a b g ab bg) gd (why_stays a b g e.stop quiet.why) why e.out
     (sym c.stopped-before.ensures ∙ c.is_as_before.ensures done ∙ c.stopped-after.ensures)
 
-pub returns-in_ok-work-in-Some-clause-continues : goal.returns-in_ok-work-in-Some-clause-continues
-returns-in_ok-work-in-Some-clause-continues c =
+pub returns-in_ok-more-in-Some-clause-continues : goal.returns-in_ok-more-in-Some-clause-continues
+returns-in_ok-more-in-Some-clause-continues c =
     let a = c.args.board.now in
     let b = c.settle.new.self in
     let h = c.in_ok-settle.ensures in
@@ -51,10 +52,10 @@ returns-in_ok-work-in-Some-clause-continues c =
     let gb = c.give_back_all.new.self in
     let d = c.take_job.new.self in
     let out = subst (λ o. IfSome o (λ j. IsHandedOut gb d j × (d.stop ≡ gb.stop))) c.in-Some.is t.job in
-    onward a b c.work.new.board (after_settling a b h.session c.in_ok-settle.field-0 (length (events a)) h.settled h.none)
-    (onward b c.give_back_all.new.self c.work.new.board (same_run b c.give_back_all.new.self g.session g.log g.stop)
-    (onward c.give_back_all.new.self c.take_job.new.self c.work.new.board
-    (same_run c.give_back_all.new.self c.take_job.new.self t.session t.log out.1) (handed c.take_job.new.self c.work.new.board c.work.ensures.handed)))
+    onward a b c.work_on.new.board (after_settling a b h.session c.in_ok-settle.field-0 (length (events a)) h.settled h.none)
+    (onward b c.give_back_all.new.self c.work_on.new.board (same_run b c.give_back_all.new.self g.session g.log g.stop)
+    (onward c.give_back_all.new.self c.take_job.new.self c.work_on.new.board
+    (same_run c.give_back_all.new.self c.take_job.new.self t.session t.log out.1) (handed c.take_job.new.self c.work_on.new.board c.work_on.ensures.handed)))
 
 pub returns-then-is_some-clause-goes_on : goal.returns-then-is_some-clause-goes_on
 returns-then-is_some-clause-goes_on c =
@@ -75,8 +76,8 @@ returns-in-None-clause-goes_on c =
     (going.none_taken d c.take_job.new.self t.session.0 t.log c.jobs_give_reasons.ensures
     (subst (λ o. IfNone o (WhyNone d c.take_job.new.self)) c.in-None.is t.none)))
 
-pub returns-in_ok-work-in-Some-clause-goes_on : goal.returns-in_ok-work-in-Some-clause-goes_on
-returns-in_ok-work-in-Some-clause-goes_on c =
+pub returns-in_ok-more-in-Some-clause-goes_on : goal.returns-in_ok-more-in-Some-clause-goes_on
+returns-in_ok-more-in-Some-clause-goes_on c =
     let a = c.args.board.now in
     let b = c.settle.new.self in
     let h = c.in_ok-settle.ensures in
@@ -85,8 +86,16 @@ returns-in_ok-work-in-Some-clause-goes_on c =
     let gb = c.give_back_all.new.self in
     let d = c.take_job.new.self in
     let out = subst (λ o. IfSome o (λ j. IsHandedOut gb d j × (d.stop ≡ gb.stop))) c.in-Some.is t.job in
-    going.onward a b c.work.new.board
+    going.onward a b c.work_on.new.board
     (going.after_settling a b h.session c.in_ok-settle.field-0 (length (events a)) h.settled h.none)
-    (going.onward b gb c.work.new.board (going.rests b gb g.session.0 g.log g.stop)
-    (going.onward gb d c.work.new.board (going.rests gb d t.session.0 t.log out.1)
-    (going.handed d c.work.new.board c.work.ensures.handed)))
+    (going.onward b gb c.work_on.new.board (going.rests b gb g.session.0 g.log g.stop)
+    (going.onward gb d c.work_on.new.board (going.rests gb d t.session.0 t.log out.1)
+    (going.handed d c.work_on.new.board c.work_on.ensures.handed)))
+
+pub work_on-requires : goal.work_on-requires
+work_on-requires c =
+    let g = c.give_back_all.new.self in
+    let d = c.take_job.new.self in
+    let t = c.in_ok-take_job.ensures in
+    let out = subst (λ o. IfSome o (λ j. IsHandedOut g d j × (d.stop ≡ g.stop))) c.in-Some.is t.job in
+    record { values = subst (λ k. IsOfValues (program_of k) c.in-Some.job) (sym t.session.0.0.0) out.0.values }

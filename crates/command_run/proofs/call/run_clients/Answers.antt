@@ -4,6 +4,7 @@ use Rattle.spec_core.specs.Lists.{Each}
 use Rattle.rule_model.specs.Wishes.{Wish}
 use Rattle.rule_model.specs.WishViews.{wish_of}
 use Rattle.script_offers.specs.Valued.{all_wishes_of}
+use Rattle.session_threads.specs.JobValues.{GivesValues}
 use Rattle.command_run.specs.Runs.{wishes_of_one}
 use Rattle.command_run.proofs.Sessions.{each_of_one, run_answers, threads_answer}
 use Rattle.command_run.proofs.call.run_clients.Goals as goal
@@ -29,6 +30,23 @@ client_run-requires-clause-gates g c =
     (sym c.in_ok-own.ensures.equal)
     (each_of_one (λ (w : Wish). w.offer.gate.0 < length (program_of c.args.checked.now).gates) (map all_wishes_of c.args.clients.now)
     (map wish_of c.in-Some.wishes.now) one c.requires.gates)
+
+pub client_run-requires-clause-values : goal.client_run-requires-clause-values
+client_run-requires-clause-values g c =
+    let one = sym c.wishes_of_one.ensures ∙ ap (option_map (λ wishes. map wish_of wishes.now)) c.in-Some.is in
+    subst (λ (p : Program). Each (λ (w : Wish). GivesValues p.theory w.offer) (map wish_of c.in-Some.wishes.now)) (sym c.in_ok-own.ensures.equal)
+    (each_of_one (λ (w : Wish). GivesValues (program_of c.args.checked.now).theory w.offer) (map all_wishes_of c.args.clients.now)
+    (map wish_of c.in-Some.wishes.now) one c.requires.values)
+
+pub run_in_threads-requires-clause-values : goal.run_in_threads-requires-clause-values
+run_in_threads-requires-clause-values g c κs within =
+    subst (λ (p : Program). Each (Each (λ (w : Wish). GivesValues p.theory w.offer)) (map all_wishes_of c.args.clients.now))
+    (sym c.in_ok-own.ensures.equal) c.requires.values
+
+pub run_in_threads-requires-in-None-clause-values : goal.run_in_threads-requires-in-None-clause-values
+run_in_threads-requires-in-None-clause-values g c κs within =
+    subst (λ (p : Program). Each (Each (λ (w : Wish). GivesValues p.theory w.offer)) (map all_wishes_of c.args.clients.now))
+    (sym c.in_ok-own.ensures.equal) c.requires.values
 
 pub run_in_threads-requires-in-None-clause-gates : goal.run_in_threads-requires-in-None-clause-gates
 run_in_threads-requires-in-None-clause-gates g c κs within =

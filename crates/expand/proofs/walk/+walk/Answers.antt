@@ -59,7 +59,7 @@ add_value-add_choice-requires t c =
               (sym c.in-Ok.ensures.equal)
               (subst (λ v. IsChoice p.theory w c.args.sort.0 (Of c.args.value.now) (marked_of p.theory c.args.x (Value v)))
               (sym c.in-Ok-copy.ensures.equal)
-              (listed_choice p.theory c.requires.rows.0 c.args.windows.now c.requires.rows.1 c.args.sort.0 c.args.x c.args.value.now
+              (listed_choice p.theory c.requires.ready.executable c.requires.rows.0 c.args.windows.now c.requires.rows.1 c.args.sort.0 c.args.x c.args.value.now
               c.requires.listed)),
         ),
       ),

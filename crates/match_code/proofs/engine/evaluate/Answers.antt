@@ -2,11 +2,13 @@ use Rattle.std.proofs.Common.{[], map, refl, sym, ap, subst, ◌∙◌}
 use Rattle.spec_core.specs.Lists.{Each}
 use Rattle.spec_core.specs.Terms.{term_of}
 use Rattle.spec_core.specs.Theories.{theory_of}
-use Rattle.spec_core.proofs.Sound.{evaluation_gives_values}
+use Rattle.spec_core.specs.Sorts.{no_variables}
+use Rattle.data_laws.proofs.Settled.{evaluation_gives_values}
 use Rattle.data_laws.proofs.Words.{ground_sorted}
 use Rattle.value_nodes.specs.Nodes.{tree_at}
 use Rattle.rewriter.specs.Machine.{plan}
 use Rattle.rewriter.specs.Steps.{task_of, put_by, IsStep}
+use Rattle.rewriter.proofs.Arities.{sorted_arities}
 use Rattle.rewriter.proofs.Turns.{no_variable}
 use Rattle.match_code.proofs.States.{state_begun, at_equal}
 use Rattle.match_code.proofs.engine.evaluate.Goals as goal
@@ -27,11 +29,12 @@ run-requires-clause-stands c =
     let none = c.new-runs.ensures in
     let todo = c.push_instance.new.todo in
     let p = c.in_ok-push_instance.ensures.planned t rows ∙ ap (λ steps. plan s term (map (task_of t rows) steps)) none.todo in
-    let steps = c.in_ok-push_instance.ensures.steps t rows (λ x o. absurd (no_variable term g x o))
+    let steps = c.in_ok-push_instance.ensures.steps t rows (sorted_arities t no_variables term c.requires.fits.0 c.requires.fits.1)
+    (λ x o. absurd (no_variable term g x o))
     (subst (Each (IsStep t rows)) (sym none.todo) tt) in
     record {
       state = at_equal t term c.args.budget rows [] _ todo todo [] _ 0 _
-          (state_begun t c.requires.forms.executable term c.args.budget rows todo s c.requires.store.values c.requires.store.small g p steps)
+          (state_begun t c.requires.forms.executable term c.args.budget rows todo s c.requires.store.own c.requires.store.small g p steps)
           none.frames refl none.values none.uses;
       remembers = c.requires.store.remembers;
     }

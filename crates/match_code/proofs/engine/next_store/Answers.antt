@@ -6,7 +6,7 @@ use Rattle.match_code.proofs.engine.next_store.Goals as goal
 pub returns : goal.returns
 returns c = record {
   store = λ theory s. record {
-    values = s.values;
+    own = s.own;
     small = s.small;
     remembers = subst (Each (IsEntry theory c.args.store.nodes)) (sym (ap (λ es. es.items) c.calm.ensures.same)) s.remembers;
   };

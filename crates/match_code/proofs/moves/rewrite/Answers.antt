@@ -1,4 +1,4 @@
-use Rattle.std.proofs.Common.{ℕ, ◌<◌, ◌+◌, length, refl, arith}
+use Rattle.std.proofs.Common.{ℕ, ◌<◌, length, refl, arith}
 use Rattle.std.proofs.lemmas.Result.{err_from_is_err_and}
 use Rattle.spec_core.proofs.Lists.{each_implied}
 use Rattle.spec_core.specs.Terms.{term_of, Occurs}
@@ -22,6 +22,11 @@ use_right-requires c =
     record {
       first = each_implied (λ x. Occurs x (equation_at t right.place).right) (λ x. x < length c.rule_for.new.bound) right.first.items room
           rule.right.postfix.first_there;
+      there = each_implied (λ x. Occurs x (equation_at t right.place).right)
+          (λ x. IsNode c.args.store.now.nodes (bound_at c.rule_for.new.bound x)) right.first.items
+          (node_of t c.requires.forms.executable (term_of c.args.term.now) c.args.budget c.args.store.now.nodes c.args.runs.now.frames c.args.op
+          c.args.count c.args.runs.now.todo c.args.runs.now.values c.args.runs.now.uses c.requires.stands.state c.rule_for.new.bound right rule)
+          rule.right.postfix.first_there;
       rest = on_variables (λ x. Occurs x (equation_at t right.place).right) (λ x. x < length c.rule_for.new.bound) room right.rest
           rule.right.postfix.rest_there;
     }
@@ -41,14 +46,14 @@ returns-in_ok-use_right-in-Some-clause-stands c =
     let s = c.requires.stands.state in
     let node = node_of t ex term c.args.budget rows runs.frames c.args.op c.args.count runs.todo runs.values runs.uses s bound right rule in
     record {
-      state = at_equal t term c.args.budget rows runs.frames now.frames now.todo now.todo now.values now.values (runs.uses + 1) now.uses
+      state = at_equal t term c.args.budget rows runs.frames now.frames now.todo now.todo now.values now.values now.uses now.uses
           (state_rewritten t ex term c.args.budget rows runs.frames c.args.op c.args.count runs.todo runs.values runs.uses s bound right rule
-          now.todo now.values (made.planned t rows)
+          now.todo now.values now.uses (made.planned t rows)
           (made.steps t rows
           (on_variables (λ x. Occurs x (equation_at t right.place).right) (λ x. IsNode rows (bound_at bound x)) node right.rest
-          rule.right.postfix.rest_there) s.ready.steps.1)
-          made.values made.within)
-          made.frames refl refl made.uses;
+          rule.right.postfix.rest_there) rule.right.arities s.ready.steps.1)
+          made.values made.uses made.within)
+          made.frames refl refl refl;
       remembers = c.requires.stands.remembers;
     }
 

@@ -5,9 +5,10 @@ use Rattle.spec_core.specs.Lists.{Each}
 use Rattle.spec_core.specs.Terms.{apply, terms, term_of, width, Occurs, OccursInAny}
 use Rattle.spec_core.proofs.Lists.{map_first}
 use Rattle.rewriter.specs.Machine.{call, plan, plan_all}
+use Rattle.rewriter.specs.Steps.{IsWithinArity, AreWithinArity, AllWithinArity}
 use Rattle.rewriter.proofs.Weights.{weight, weights}
 use Rattle.rewriter.proofs.Outcomes.{width_terms}
-use Rattle.match_code.specs.Rights.{task_by, OnVariable}
+use Rattle.match_code.specs.Rights.{task_by, OnVariable, OnOperation}
 use Rattle.match_code.proofs.rights.+flattening.Goals as goal
 
 pub flatten-flatten_all-requires : goal.flatten-flatten_all-requires
@@ -43,6 +44,21 @@ flatten-returns-in_ok-push-in-App-clause-there t c =
     (subst (Each (OnVariable (λ x. Occurs x u))) (sym c.in_ok-push-in-App.ensures.pushed) (tt, before)))
     c.flatten_all.ensures.there
 
+pub flatten-returns-in_ok-push-in-App-clause-arities : goal.flatten-returns-in_ok-push-in-App-clause-arities
+flatten-returns-in_ok-push-in-App-clause-arities t c =
+    let k : term_of c.args.term.now ≡ apply c.in-App.op.0 (terms (map term_of c.in-App.args.items)) = search (rules, the_lemmas) in
+    let z : term_of c.args.term.now ≡ apply c.in-App.op.0 (terms (map term_of c.deref.result.now)) =
+    k ∙ ap (λ ts. apply c.in-App.op.0 (terms (map term_of ts))) (sym c.deref.ensures.value) in
+    let n : c.len.result ≡ width (terms (map term_of c.deref.result.now)) =
+    cc (c.len.ensures, width_terms c.deref.result.now) in
+    on_ok_weaker c.flatten_all.result
+    (λ h theory all before.
+    let own = subst (AreWithinArity theory) z all in
+    h theory own.1
+    (subst (Each (OnOperation (IsWithinArity theory))) (sym c.in_ok-push-in-App.ensures.pushed)
+    (subst (IsWithinArity theory c.in-App.op.0) (sym n) own.0, before)))
+    c.flatten_all.ensures.arities
+
 pub flatten_all-flatten_all-requires : goal.flatten_all-flatten_all-requires
 flatten_all-flatten_all-requires t c =
     let z = ap terms (map_first term_of c.args.all.now c.term-item.result c.in-len1-up.len_at_least c.term-item.is) in
@@ -73,3 +89,13 @@ flatten_all-returns-in_ok-flatten_all-in-len1-up-clause-there t c =
     (λ h u there before. h u (λ x o. there x (subst (OccursInAny x) z (inl o)))
     (c.in_ok-flatten_all-in-len1-up.ensures.there u (λ x o. there x (subst (OccursInAny x) z (inr o))) before))
     c.flatten.ensures.there
+
+pub flatten_all-returns-in_ok-flatten_all-in-len1-up-clause-arities :
+    goal.flatten_all-returns-in_ok-flatten_all-in-len1-up-clause-arities
+flatten_all-returns-in_ok-flatten_all-in-len1-up-clause-arities t c =
+    let z = ap terms (map_first term_of c.args.all.now c.term-item.result c.in-len1-up.len_at_least c.term-item.is) in
+    on_ok_weaker c.flatten.result
+    (λ h theory all before.
+    let both = subst (AllWithinArity theory) (sym z) all in
+    h theory both.0 (c.in_ok-flatten_all-in-len1-up.ensures.arities theory both.1 before))
+    c.flatten.ensures.arities

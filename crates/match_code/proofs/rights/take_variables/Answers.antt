@@ -3,8 +3,9 @@ use Rattle.spec_core.specs.Lists.{Each}
 use Rattle.spec_core.specs.Terms.{Occurs}
 use Rattle.spec_core.proofs.Lists.{each_push}
 use Rattle.rewriter.specs.Machine.{put}
+use Rattle.rewriter.specs.Steps.{IsWithinArity}
 use Rattle.match_code.specs.declared.rights.Symbol.TheVariants.{Variable}
-use Rattle.match_code.specs.Rights.{task_by, OnVariable}
+use Rattle.match_code.specs.Rights.{task_by, OnVariable, OnOperation}
 use Rattle.match_code.proofs.Postfix.{move_one}
 use Rattle.match_code.proofs.rights.take_variables.Goals as goal
 
@@ -18,6 +19,16 @@ returns-in-Some-Operation-clause-there c = λ u k.
     let b = c.loop-turn.invariant.there u k in
     let e : c.loop-turn.symbols ≡ c.push-in-Some-Operation.new.self = search rules in
     (b.0, subst (Each (OnVariable (λ x. Occurs x u))) e b.1)
+
+pub returns-in-None-clause-arities : goal.returns-in-None-clause-arities
+returns-in-None-clause-arities c = λ theory k.
+    subst (Each (OnOperation (IsWithinArity theory))) (c.in-None.ensures.popped.0 ∙ sym c.in-None.ensures.popped.1)
+    (c.loop-turn.invariant.arities theory k)
+
+pub returns-in-Some-Operation-clause-arities : goal.returns-in-Some-Operation-clause-arities
+returns-in-Some-Operation-clause-arities c = λ theory k.
+    let e : c.loop-turn.symbols ≡ c.push-in-Some-Operation.new.self = search rules in
+    subst (Each (OnOperation (IsWithinArity theory))) e (c.loop-turn.invariant.arities theory k)
 
 pub loop-turn-preserved : goal.loop-turn-preserved
 loop-turn-preserved c =
@@ -34,4 +45,5 @@ loop-turn-preserved c =
           let b = c.loop-turn.invariant.there u k in
           let d = subst (Each (OnVariable (λ y. Occurs y u))) e b.1 in
           (subst (Each (λ y. Occurs y u)) (sym p) (each_push (λ y. Occurs y u) first x b.0 d.0), d.1);
+      arities = λ theory k. (subst (Each (OnOperation (IsWithinArity theory))) e (c.loop-turn.invariant.arities theory k)).1;
     }

@@ -80,7 +80,7 @@ returns-in_ok-close-in-Some-clause-store c =
     let k = state_closed theory c.requires.executable t c.args.budget rows frame c.pop.new.self n runs.uses s in
     let entry : Entry = record { op = frame.op; args = frame.args; value = n; uses = runs.uses - frame.start } in
     record {
-      values = s.ready.constructed;
+      own = s.ready.own;
       small = s.ready.small;
       remembers = subst (Each (IsEntry theory rows)) (sym c.in_ok-close-in-Some.ensures.remembered)
           (each_push (IsEntry theory rows) c.args.store.now.memo.entries.items entry c.requires.stands.remembers k.1);

@@ -27,4 +27,4 @@ leave-requires-clause-stands c =
 pub returns-in_ok-take_step-in-Some-clause-store : goal.returns-in_ok-take_step-in-Some-clause-store
 returns-in_ok-take_step-in-Some-clause-store c =
     let s = c.in_ok-take_step-in-Some.ensures.stands in
-    record { values = s.state.ready.constructed; small = s.state.ready.small; remembers = s.remembers }
+    record { own = s.state.ready.own; small = s.state.ready.small; remembers = s.remembers }

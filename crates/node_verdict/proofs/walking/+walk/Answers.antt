@@ -1,9 +1,11 @@
-use Rattle.std.proofs.Common.{rules, ◌≡◌, ◌∷◌, map, refl, sym, ap, subst, false, true}
+use Rattle.std.proofs.Common.{rules, ◌≡◌, ◌∷◌, map, refl, sym, ap, subst, arith, false, true}
 use Rattle.spec_core.specs.Code.{relabelling_of, synchronised_of, variable_of, binding_of}
 use Rattle.spec_core.specs.Numbers.{gate_number}
 use Rattle.spec_core.specs.Terms.{term_of}
 use Rattle.rule_model.specs.Behaviours.{relabel}
+use Rattle.spec_core.proofs.Lists.{each_right}
 use Rattle.rule_model.specs.Derivations.{derivation_of, rel}
+use Rattle.node_trees.specs.Rests.{slots_of}
 use Rattle.rule_origins.specs.Parts.{behaviour_at}
 use Rattle.symbolic_rules.specs.MarkedFields.{BindingsMayHave, ArgumentsMayHave}
 use Rattle.node_values.specs.Scopes.{marks_of}
@@ -12,6 +14,7 @@ use Rattle.symbolic_rules.specs.Tables.{windows_in}
 use Rattle.symbolic_actions.specs.Deciding.{is_within}
 use Rattle.symbolic_actions.specs.Shows.{left_alone, right_alone, hidden_in, seen_in, before_end, handed_to, undisabled, ended, renamed_by}
 use Rattle.node_values.specs.Prepared.{program_in}
+use Rattle.node_verdict.specs.Choosing.{ChoosesValue}
 use Rattle.node_verdict.specs.Found.{IsChosen, chosen_field}
 use Rattle.node_verdict.specs.Judged.{Judged}
 use Rattle.node_verdict.proofs.Rows.{over_judged, both_judged, value_judged, value_outside, let_judged, call_judged, call_stops, shown_of}
@@ -208,6 +211,16 @@ called-returns-in_ok-renamed-in-Some-2 t c = record {
       (subst (λ z. Judged p w c.args.budget (marks_of p.theory z) (relabel pairs body) d c.walk_renamed.result) inner
       c.walk_renamed.ensures.judged);
 }
+
+pub together-walk-requires-in-Some-2 : goal.together-walk-requires-in-Some-2
+together-walk-requires-in-Some-2 t c = (
+  omega (arith, c.decreases),
+  (
+    c.requires.ready,
+    each_right (ChoosesValue (program_in c.args.prepared.now).theory) (slots_of (derivation_of c.args.first.now)) (slots_of (derivation_of c.args.second.now))
+        c.requires.values,
+  ),
+)
 
 pub walk-returns-in-Int : goal.walk-returns-in-Int
 walk-returns-in-Int t c = record {

@@ -1,13 +1,15 @@
-use Rattle.std.proofs.Common.{refl, ◌≡◌, ◌∷◌, map, sym, ap, subst, ◌∙◌}
+use Rattle.std.proofs.Common.{refl, ◌≡◌, ◌≤◌, ◌∷◌, length, arith, map, sym, ap, subst, ◌∙◌}
 use Rattle.std.proofs.lemmas.Result.{err_from_is_err_and}
 use Rattle.spec_core.specs.Lists.{Each}
 use Rattle.spec_core.specs.Terms.{apply, terms}
+use Rattle.spec_core.specs.Theories.{theory_of}
+use Rattle.value_nodes.specs.Own.{StaysOver}
 use Rattle.value_nodes.specs.Nodes.{tree_at, IsNode}
 use Rattle.value_nodes.specs.Sizes.{IsTooLarge}
 use Rattle.rewriter.specs.Calls.{arguments_of}
 use Rattle.value_nodes.proofs.Nodes.{same_trees, still_nodes}
 use Rattle.rewriter.proofs.Causes.{large_cause}
-use Rattle.rewriter.proofs.Tops.{top_terms, each_under, drop_map}
+use Rattle.rewriter.proofs.Tops.{top_terms, few_top, each_under, drop_map}
 use Rattle.rewriter.proofs.call.build.Goals as goal
 
 pub returns-in_err-node-clause-large : goal.returns-in_err-node-clause-large
@@ -47,3 +49,15 @@ returns-clause-small c =
     (sym c.top.ensures.seen) in
     λ big. c.in_ok-node.ensures.small c.in_ok-node.node c.in_ok-node.ensures.there
     (subst IsTooLarge (ap (λ us. apply c.args.op.0 us) a ∙ sym c.in_ok-node.ensures.tree) big)
+
+pub returns-clause-own : goal.returns-clause-own
+returns-clause-own c =
+    let t = theory_of c.args.algebra.now in
+    let a : arguments_of c.args.nodes.now c.args.count c.args.values.now ≡ terms (map (tree_at c.args.nodes.now) c.top.result.now) =
+    top_terms (tree_at c.args.nodes.now) c.args.count c.args.values.now ∙ ap (λ us. terms (map (tree_at c.args.nodes.now) us))
+    (sym c.top.ensures.seen) in
+    let few : length c.top.result.now ≤ c.args.count =
+    subst (λ us. length us ≤ c.args.count) (sym c.top.ensures.seen) (few_top c.args.count c.args.values.now) in
+    c.in_ok-node.ensures.own t c.requires.executable.orthogonal.closed
+    (subst (λ us. StaysOver t c.args.op.0 us c.args.own) a c.requires.stays)
+    (λ vs l. c.requires.short vs (omega (arith, l, few))) c.requires.own

@@ -5,6 +5,7 @@ use Rattle.spec_core.specs.Terms.{term_of}
 use Rattle.spec_core.specs.Theories.{theory_of}
 use Rattle.rewriter.specs.Machine.{plan}
 use Rattle.rewriter.specs.Steps.{put_by, task_of, IsStep}
+use Rattle.rewriter.proofs.Arities.{premise_arities}
 use Rattle.rewriter.proofs.call.push_premise.Goals as goal
 
 pub overflow_add-next : goal.overflow_add-next
@@ -39,9 +40,12 @@ returns-clause-planned c =
 pub returns-clause-steps : goal.returns-clause-steps
 returns-clause-steps c =
     let t = theory_of c.args.algebra.now in
+    let sides = c.numbered_premise-sides.result.now in
     let closed = c.numbered_premise-sides.ensures.closed in
+    let arities = premise_arities t c.requires.executable c.args.place c.requires.there c.args.next (term_of sides.0) (term_of sides.1)
+    _ c.numbered_premise-sides.ensures.asked in
     on_ok_weaker c.push_instance-2.result
-    (λ h rows there before. h t rows (λ x o. there x (closed x (inl o)))
-    (c.in_ok-push_instance.ensures.steps t rows (λ x o. there x (closed x (inr o)))
+    (λ h rows there before. h t rows arities.0 (λ x o. there x (closed x (inl o)))
+    (c.in_ok-push_instance.ensures.steps t rows arities.1 (λ x o. there x (closed x (inr o)))
     (subst (Each (IsStep t rows)) (sym c.in_ok-push.ensures.pushed) (c.requires.there, before))))
     c.push_instance-2.ensures.steps

@@ -1,9 +1,10 @@
-use Rattle.std.proofs.Common.{◌∙◌}
+use Rattle.std.proofs.Common.{subst, ◌∙◌}
 use Rattle.std.proofs.lemmas.Result.{err_from_is_err_and}
 use Rattle.spec_core.specs.Terms.{term_of}
 use Rattle.spec_core.specs.Theories.{theory_of}
 use Rattle.rewriter.proofs.Moves.{keep_on}
 use Rattle.rewriter.specs.Machine.{Evaluating}
+use Rattle.rewriter.specs.Runs.{IsReady}
 use Rattle.rewriter.proofs.Loop.{moved_kept, before_step, ended_at, met_none, never_ended, spent_at}
 use Rattle.rewriter.proofs.run.run.Goals as goal
 
@@ -44,10 +45,18 @@ loop-turn-preserved c =
     c.in-Some.step c.pop.new.self c.in-Some.ensures.popped)
     c.in_ok-uses-in-Some.ensures.kept in
     record {
-      ready = c.in_ok-limit-in-Some.ensures.ready;
+      ready = c.in_ok-limit-in-Some.ensures.ready c.in_ok-uses-in-Some.uses c.in_ok-uses-in-Some.ensures.ready;
       kept = moved_kept (Evaluating t term) t c.perform.new.nodes c.tidy.new.nodes c.perform.new.todo c.tidy.new.todo
           c.perform.new.values c.tidy.new.values 0 c.in_ok-uses-in-Some.uses c.in_ok-limit-in-Some.ensures.tasks
           c.in_ok-limit-in-Some.ensures.values kept;
       room = c.in_ok-uses-in-Some.ensures.room ∙ c.loop-turn.invariant.room;
       within = c.in_ok-uses-in-Some.ensures.within;
     }
+
+pub perform-requires-clause-ready : goal.perform-requires-clause-ready
+perform-requires-clause-ready c =
+    subst (λ steps. IsReady (theory_of c.args.algebra.now) c.loop-turn.nodes steps c.loop-turn.values c.loop-turn.uses)
+    c.in-Some.ensures.popped c.loop-turn.invariant.ready
+
+pub tidy-requires : goal.tidy-requires
+tidy-requires c = record { ready = (c.in_ok-uses-in-Some.uses, c.in_ok-uses-in-Some.ensures.ready) }

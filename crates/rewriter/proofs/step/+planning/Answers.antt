@@ -5,7 +5,7 @@ use Rattle.spec_core.specs.Lists.{Each}
 use Rattle.spec_core.specs.Terms.{variable, apply, terms, term_of, width, Occurs, OccursInAny}
 use Rattle.spec_core.proofs.Lists.{map_first}
 use Rattle.rewriter.specs.Machine.{call, plan, plan_all}
-use Rattle.rewriter.specs.Steps.{task_of, put_by, IsStep}
+use Rattle.rewriter.specs.Steps.{task_of, put_by, IsStep, IsWithinArity, AreWithinArity, AllWithinArity}
 use Rattle.rewriter.proofs.Weights.{weight, weights}
 use Rattle.rewriter.proofs.Outcomes.{width_terms}
 use Rattle.rewriter.proofs.step.+planning.Goals as goal
@@ -43,9 +43,14 @@ push_instance-returns-in_ok-push-in-App-clause-steps t c =
     let k : term_of c.args.term.now ≡ apply c.in-App.op.0 (terms (map term_of c.in-App.args.items)) = search (rules, the_lemmas) in
     let z : term_of c.args.term.now ≡ apply c.in-App.op.0 (terms (map term_of c.deref.result.now)) =
     k ∙ ap (λ ts. apply c.in-App.op.0 (terms (map term_of ts))) (sym c.deref.ensures.value) in
+    let n : c.len.result ≡ width (terms (map term_of c.deref.result.now)) =
+    cc (c.len.ensures, ap length c.deref.ensures.value, width_terms c.deref.result.now) in
     on_ok_weaker c.push_instances.result
-    (λ h theory rows there before. h theory rows (λ x o. there x (subst (Occurs x) (sym z) o))
-    (subst (Each (IsStep theory rows)) (sym c.in_ok-push-in-App.ensures.pushed) (tt, before)))
+    (λ h theory rows arities there before.
+    let all = subst (AreWithinArity theory) z arities in
+    let own = subst (IsWithinArity theory c.in-App.op.0) (sym n) all.0 in
+    h theory rows all.1 (λ x o. there x (subst (Occurs x) (sym z) o))
+    (subst (Each (IsStep theory rows)) (sym c.in_ok-push-in-App.ensures.pushed) (own, before)))
     c.push_instances.ensures.steps
 
 pub push_instances-push_instances-requires : goal.push_instances-push_instances-requires
@@ -75,6 +80,8 @@ pub push_instances-returns-in_ok-push_instances-in-len1-up-clause-steps :
 push_instances-returns-in_ok-push_instances-in-len1-up-clause-steps t c =
     let z = ap terms (map_first term_of c.args.all.now c.term-item.result c.in-len1-up.len_at_least c.term-item.is) in
     on_ok_weaker c.push_instance.result
-    (λ h theory rows there before. h theory rows (λ x o. there x (subst (OccursInAny x) z (inl o)))
-    (c.in_ok-push_instances-in-len1-up.ensures.steps theory rows (λ x o. there x (subst (OccursInAny x) z (inr o))) before))
+    (λ h theory rows arities there before.
+    let all = subst (AllWithinArity theory) (sym z) arities in
+    h theory rows all.0 (λ x o. there x (subst (OccursInAny x) z (inl o)))
+    (c.in_ok-push_instances-in-len1-up.ensures.steps theory rows all.1 (λ x o. there x (subst (OccursInAny x) z (inr o))) before))
     c.push_instance.ensures.steps

@@ -1,8 +1,9 @@
-use Rattle.std.proofs.Common.{rules, ◌≡◌, map, refl, sym, ap}
+use Rattle.std.proofs.Common.{rules, ◌≡◌, map, refl, sym, ap, subst}
 use Rattle.spec_core.specs.Code.{program_of, synchronised_of, variable_of}
 use Rattle.spec_core.specs.Numbers.{gate_number}
 use Rattle.spec_core.specs.Terms.{term_of}
 use Rattle.spec_core.proofs.Options.{if_none_at}
+use Rattle.rule_laws.proofs.Spelling.{step_spelled}
 use Rattle.rule_model.specs.declared.rules.Slot.{Slot}
 use Rattle.rule_model.specs.declared.rules.Slot.TheVariants.{Of}
 use Rattle.rule_model.specs.Actions.{kind_of, IsJoint}
@@ -10,14 +11,14 @@ use Rattle.rule_model.specs.Behaviours.{behaviour_of}
 use Rattle.rule_model.specs.Derivations.{derivation_of, val, gate, guard, letting, both, calling}
 use Rattle.rule_substitution.specs.Scopes.{terms_of}
 use Rattle.match_code.specs.Prepared.{program_in}
-use Rattle.rule_walk.specs.Asking.{Asks}
+use Rattle.rule_walk.specs.Asking.{ChoiceAsks, Asks}
 use Rattle.rule_walk.specs.Bounds.{FaultBounds, Bounds}
 use Rattle.rule_walk.specs.Faults.{IsMisfit}
 use Rattle.rule_walk.specs.Models.{framed_in}
 use Rattle.rule_walk.proofs.Bounds.{fault_within, bounds_within, below_bounds, of_fault}
 use Rattle.rule_walk.proofs.Faults.{handed_on}
 use Rattle.rule_walk.proofs.Frames.{no_part, part_fails, part_does, failed, answers, inner_answers, below_explains}
-use Rattle.rule_walk.proofs.Misfits.{call_undefined, call_arguments, not_joint, second_fault}
+use Rattle.rule_walk.proofs.Misfits.{value_unchosen, call_undefined, call_arguments, not_joint, second_fault}
 use Rattle.rule_walk.proofs.PartFaults.{on_rule, part_fault, part_faults}
 use Rattle.rule_walk.proofs.PartBounds.{asks_nothing, part_asked}
 use Rattle.rule_walk.proofs.RuleBounds.{gate_asked, undefined_asked, own_arguments, both_asked, choice_fails, premise_fails, bindings_fail}
@@ -81,6 +82,14 @@ by_value-returns-in_ok-more-in-Some-clause-fault t c =
     (derivation_of c.args.part.now)) c.in_ok-found-in-Some.ensures.here) c.in-Some.ensures.some
     (term_of c.in_ok-found-in-Some.found.term, c.in_ok-found-in-Some.ensures.spelled, (sym c.in_ok-more-in-Some.ensures.with, refl, refl))
     c.step_in.ensures.fault
+
+pub by_value-returns-in_err-found-in-Some-clause-fault : goal.by_value-returns-in_err-found-in-Some-clause-fault
+by_value-returns-in_err-found-in-Some-clause-fault t c =
+    let f = c.in_err-found-in-Some.field-0.0 in
+    handed_on c.from_residual.result _ f (search rules)
+    (value_unchosen (program_in c.args.prepared.now) c.requires.ready.executable c.args.budget (terms_of c.args.scope.now)
+    (behaviour_of c.args.from.now) f _ _ c.args.slot.now (derivation_of c.args.part.now) c.in-Some.ensures.some
+    c.in_err-found-in-Some.ensures.fault)
 
 pub by_gate-returns-in_ok-body-in-Some-gate_at-clause-fault : goal.by_gate-returns-in_ok-body-in-Some-gate_at-clause-fault
 by_gate-returns-in_ok-body-in-Some-gate_at-clause-fault t c =
@@ -197,8 +206,11 @@ by_value-returns-in_ok-more-in-Some-clause-within t c =
           c.in_ok-found-in-Some.found.term,
       c.in_ok-found-in-Some.ensures.spelled,
       (sym c.in_ok-more-in-Some.ensures.with, refl, refl),
-    ) (λ x
-    h. absurd h) (λ x h. absurd h) c.step_in.ensures.within
+    )
+    (λ x h. bounds_within (program_in c.args.prepared.now).theory c.args.budget c.step_in.result x
+    (c.in_ok-found-in-Some.ensures.within x
+    (subst (λ (o : Slot). ChoiceAsks (program_in c.args.prepared.now).theory c.in-Some.sort.0 o x) (sym c.in_ok-found-in-Some.ensures.here) h)))
+    (λ x h. absurd h) c.step_in.ensures.within
 
 pub by_gate-returns-in_ok-body-in-Some-gate_at-clause-within : goal.by_gate-returns-in_ok-body-in-Some-gate_at-clause-within
 by_gate-returns-in_ok-body-in-Some-gate_at-clause-within t c =
@@ -329,13 +341,20 @@ by_value-returns-in_err-found-in-Some-clause-within t c =
     (behaviour_of c.args.from.now) (val c.args.slot.now (derivation_of c.args.part.now))) c.from_residual.result
     c.in_err-found-in-Some.field-0.0 (search rules) (choice_fails (program_in c.args.prepared.now) c.requires.ready.executable
     c.args.budget (terms_of c.args.scope.now) (behaviour_of c.args.from.now) c.in_err-found-in-Some.field-0.0 _ _ c.args.slot.now
-    (derivation_of c.args.part.now) c.in-Some.ensures.some c.in_err-found-in-Some.ensures.misfit)
+    (derivation_of c.args.part.now) c.in-Some.ensures.some c.in_err-found-in-Some.ensures.fault
+    c.in_err-found-in-Some.ensures.within)
 
 pub by_gate-returns-in-None-gate_at-clause-within : goal.by_gate-returns-in-None-gate_at-clause-within
 by_gate-returns-in-None-gate_at-clause-within t c =
     gate_asked (program_in c.args.prepared.now) c.requires.ready.executable (FaultBounds (program_in c.args.prepared.now).theory
     c.args.budget c.unfit-in-None-gate_at.result) (terms_of c.args.scope.now) (behaviour_of c.args.from.now) _ _ _ c.args.place
     (derivation_of c.args.part.now) c.in-Some.ensures.some (λ h. c.in-None-gate_at.ensures.none h.0 h.1 h.2 h.3)
+
+pub over_part-leave-requires-clause-given : goal.over_part-leave-requires-clause-given
+over_part-leave-requires-clause-given t c =
+    step_spelled (program_in c.args.prepared.now) (derivation_of c.args.part.now) (behaviour_of c.in-Some.framed.part.now)
+    (terms_of c.args.scope.now) c.in_ok-done-in-Some.done.action (behaviour_of c.in_ok-done-in-Some.done.rest)
+    c.in_ok-done-in-Some.ensures.derives
 
 pub over_part-returns-in-None : goal.over_part-returns-in-None
 over_part-returns-in-None t c =

@@ -11,6 +11,7 @@ use Rattle.spec_core.proofs.Options.{if_ok_two}
 use Rattle.rule_model.specs.Events.{ending_of}
 use Rattle.rule_model.specs.Logs.{events_of}
 use Rattle.rule_model.specs.Wishes.{Wish}
+use Rattle.board_laws.specs.JobValues.{GivesValues}
 use Rattle.session.specs.Closing.{HasItsEntries}
 use Rattle.session.specs.Passes.{WorkPassView}
 use Rattle.session.specs.Sessions.{IsClientOf, IsWorkerOf, who_of}
@@ -20,6 +21,7 @@ use Rattle.session_threads.specs.Runs.{all_wishes_of}
 use Rattle.session_threads.proofs.Windowing.{tells_windows, HasWindows}
 use Rattle.session_threads.proofs.Ending.{all_ready, answers_clients, begun, clients_ours, clients_there, ends}
 use Rattle.session_threads.proofs.Ending.{workers_ours, workers_there}
+use Rattle.session_threads.proofs.Wishing.{all_hold}
 use Rattle.session_threads.proofs.run.run_in_threads.Goals as goal
 
 pub add_client_rows-requires : goal.add_client_rows-requires
@@ -38,7 +40,10 @@ serve_all-requires-clause-ready g c κs within =
     let is = begun s c.args.clients.now c.args.workers c.in_ok-session.passes.items c.in_ok-session.work_passes.items c.in_ok-rows.rows.items rows
     f.fixed.2 f.passes f.workers c.in_ok-rows.ensures.rows c.in_ok-add_client_rows.ensures.rows in
     let fit =
-    subst (λ (p : Checked). Each (Each (λ (w : Wish). w.offer.gate.0 < length (program_of p).gates)) wishes) (sym f.fixed.0) c.requires.gates in
+    subst (λ (p : Checked). Each (Each (λ (w : Wish).
+    (w.offer.gate.0 < length (program_of p).gates) × GivesValues (program_of p).theory w.offer)) wishes) (sym f.fixed.0)
+    (all_hold (λ (w : Wish). w.offer.gate.0 < length (program_of c.args.checked).gates)
+    (λ (w : Wish). GivesValues (program_of c.args.checked).theory w.offer) wishes c.requires.gates c.requires.values) in
     all_ready s c.args.clients.now c.args.workers rows f.fixed.2 is fit
 
 pub close-requires-clause-clients : goal.close-requires-clause-clients

@@ -1,10 +1,18 @@
-use Rattle.std.proofs.Common.{ap, rules}
+use Rattle.std.proofs.Common.{ap, rules, subst}
 use Rattle.std.proofs.lemmas.Result.{IfOk-weaker}
 use Rattle.spec_core.specs.declared.settings.Settings.{Settings}
+use Rattle.spec_core.specs.Code.{program_of}
+use Rattle.board_core.specs.JobValues.{GivesValues}
 use Rattle.rule_model.specs.WishViews.{wish_of}
 use Rattle.script_text.specs.Wishes.{wished_of}
-use Rattle.simulator.proofs.Wishing.{asked_so, without_value}
+use Rattle.simulator.proofs.Wishing.{asked_so, offer_gives, without_value}
 use Rattle.simulator.proofs.offering.offer.Goals as goal
+
+pub ask-requires-clause-values : goal.ask-requires-clause-values
+ask-requires-clause-values c =
+    let theory = (program_of c.prepared.result.checked.now).theory in
+    subst (λ k. GivesValues (program_of k).theory c.in-Ok.wish.offer) c.prepared.ensures.checked
+    (offer_gives theory (wished_of c.args.wish.now) (wish_of c.in-Ok.wish) c.in-Ok.ensures.valued)
 
 pub returns-in-Ok-clause-offer : goal.returns-in-Ok-clause-offer
 returns-in-Ok-clause-offer c =

@@ -1,4 +1,4 @@
-use Rattle.simulator_steps.proofs.Stepping.{at_heading, log_goes_on}
+use Rattle.simulator_steps.proofs.Stepping.{at_heading, has_spelled, log_goes_on}
 use Rattle.simulator_steps.proofs.choosing.act.Goals as goal
 
 pub offered-requires-clause-gate : goal.offered-requires-clause-gate
@@ -6,6 +6,10 @@ offered-requires-clause-gate c =
     let l = c.log_is_a_derivation.ensures in
     at_heading c.args.board.now c.args.board.now.session.clients l.ready l.session c.actions_are_at_gates_of_the_heading.ensures c.args.step.now
     c.requires.step c.in_ok-action.action c.in_ok-action.ensures.equal
+
+pub offered-requires-clause-values : goal.offered-requires-clause-values
+offered-requires-clause-values c =
+    has_spelled c.args.board.now c.args.step.now c.requires.step c.in_ok-action.action c.in_ok-action.ensures.equal
 
 pub returns-clause-log : goal.returns-clause-log
 returns-clause-log c =

@@ -9,4 +9,4 @@ returns c =
     let values : c.truncate.new.self.items ≡ take c.args.k (windows_of c.args.windows.now c.args.sort.0) = search rules in
     let many : c.len.result ≡ length (windows_of c.args.windows.now c.args.sort.0) = search rules in
     window_of_closed (theory_of c.args.algebra.now) c.args.k c.args.sort.0 (windows_of c.args.windows.now)
-    c.requires.closed c.requires.windows _ _ values many
+    c.requires.closed c.requires.windows _ _ _ values many c.are_all-complete.ensures

@@ -10,7 +10,7 @@ use Rattle.spec_core.specs.Orthogonality.{HasNoLooseVariables}
 use Rattle.spec_core.specs.Substitutions.{substitution_of}
 use Rattle.spec_core.specs.Terms.{apply, no_terms, terms, term_of}
 use Rattle.spec_core.specs.Theories.{equation_of, premise_of, theory_of}
-use Rattle.spec_core.proofs.Options.{if_ok_three}
+use Rattle.spec_core.proofs.Options.{if_ok_two}
 use Rattle.spec_core.proofs.Lists.{map_none, map_first}
 use Rattle.value_reference.proofs.Budgets.{arguments_beyond, call_beyond, list_beyond, right_beyond, unlike_beyond, like_beyond}
 use Rattle.value_reference.proofs.Budgets.{rest_beyond, others_beyond}
@@ -102,12 +102,12 @@ evaluate_all-loop-term-preserved t c = record {
 
 pub try_equations-returns-in-empty-clause-value : goal.try_equations-returns-in-empty-clause-value
 try_equations-returns-in-empty-clause-value t c =
-    if_ok_three c.constructed.result
-    (λ r constructor value free.
+    if_ok_two c.itself.result
+    (λ r value free.
     subst
     (λ es. Tries (theory_of c.args.algebra.now) es c.args.op.0 (terms (map term_of c.args.values.now)) (term_of r.value) r.uses)
-    (map_none equation_of c.args.left.now c.in-empty.len_below) (final constructor value free))
-    c.constructed.ensures.constructor c.constructed.ensures.value c.constructed.ensures.free
+    (map_none equation_of c.args.left.now c.in-empty.len_below) (final value free))
+    c.itself.ensures.value c.itself.ensures.free
 
 pub try_equations-returns-in-None-clause-value : goal.try_equations-returns-in-None-clause-value
 try_equations-returns-in-None-clause-value t c =

@@ -13,6 +13,7 @@ use Rattle.board_core.specs.Boards.{AreOfLiving}
 use Rattle.board_core.specs.Views.{BoardView, pieces, program, tree}
 use Rattle.board_core.specs.contracts.board.Board.{the_view}
 use Rattle.board_core.specs.Working.{jobs_left}
+use Rattle.board_core.proofs.Giving.{one_more}
 use Rattle.board_core.proofs.Keeping.{stays, steps}
 use Rattle.board_core.proofs.Knowing.{kept_over}
 use Rattle.board_core.proofs.Living.{stepped_living}
@@ -45,6 +46,7 @@ invariant_of-self c =
         record { of_tree = tt },
       ),
       subst (λ k. AreForms (theory_of k.algebra) c.self.inside.forms) (sym c.act.ensures.setting.0) c.self.invariant.1,
+      one_more v.session u.session c.act.ensures.setting c.self.invariant.2 _ c.act.ensures.acted.log tt,
     )
 
 pub returns-clause-out : goal.returns-clause-out

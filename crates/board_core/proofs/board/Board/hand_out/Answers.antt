@@ -10,4 +10,4 @@ returns-clause-job c =
     let u = the_view (record c.self.inside { out = c.push.new.self }) in
     handed_out v u c.args.task c.in_ok-again.again c.in_ok-job.job c.in_ok-job.ensures.task c.in_ok-again.ensures.equal c.requires.first
     (subst (λ (z : BoardView). u.out ≡ z.out ++ c.in_ok-again.again ∷ []) c.self.view_is c.in_ok-push.ensures.items)
-    c.requires.lives c.in_ok-job.ensures.origin c.requires.looks
+    c.requires.lives c.in_ok-job.ensures.origin c.requires.looks c.requires.values

@@ -26,4 +26,5 @@ invariant_of-self-2 c =
         c.self.invariant.0.1,
       ),
       c.self.invariant.1,
+      c.self.invariant.2,
     )

@@ -9,6 +9,7 @@ use Rattle.board_core.specs.Boards.{AreOfLiving, IsWorkAt}
 use Rattle.board_core.specs.Views.{BoardView, program, tree, pieces, windows}
 use Rattle.board_core.specs.contracts.board.Board.{the_view}
 use Rattle.board_core.specs.Working.{KeepsNodes}
+use Rattle.board_core.proofs.Giving.{nothing_more}
 use Rattle.board_core.proofs.Keeping.{posts, stays}
 use Rattle.board_core.proofs.Living.{posted_living}
 use Rattle.board_core.proofs.Origins.{post_keeps}
@@ -35,6 +36,7 @@ invariant_of-self c =
         record { of_tree = tt },
       ),
       subst (λ k. AreForms (theory_of k.algebra) c.self.inside.forms) (sym c.post.ensures.setting.0) c.self.invariant.1,
+      nothing_more v.session u.session c.post.ensures.setting c.self.invariant.2 c.post.ensures.same.0,
     )
 
 pub returns-clause-nodes : goal.returns-clause-nodes

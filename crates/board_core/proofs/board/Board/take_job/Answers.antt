@@ -17,6 +17,14 @@ hand_out-requires-clause-lives c =
     (free_is_needed (is_out (map job_of v.out)) (needed_at v) job
     (sym c.in_ok-next_task.ensures.job ∙ ap (option_map job_of) c.in-Some.is))
 
+pub hand_out-requires-clause-values : goal.hand_out-requires-clause-values
+hand_out-requires-clause-values c =
+    let v = c.args.self.now in
+    let job = job_of c.in-Some.task in
+    c.needed_jobs_choose_values.ensures job
+    (free_is_needed (is_out (map job_of v.out)) (needed_at v) job
+    (sym c.in_ok-next_task.ensures.job ∙ ap (option_map job_of) c.in-Some.is))
+
 pub hand_out-requires-clause-looks : goal.hand_out-requires-clause-looks
 hand_out-requires-clause-looks c =
     let on : IsTrue c.goes_on.result = search rules in

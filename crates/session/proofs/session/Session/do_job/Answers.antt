@@ -1,6 +1,8 @@
 use Rattle.std.proofs.Common.{sym, subst}
-use Rattle.spec_core.specs.Code.{program_of}
+use Rattle.spec_core.specs.Code.{Program, program_of}
 use Rattle.board_core.specs.Found.{AreBySorts}
+use Rattle.board_core.specs.Working.{IsOfValues}
+use Rattle.session.specs.Sessions.{SessionView}
 use Rattle.session.proofs.session.Session.do_job.Goals as goal
 
 pub perform-requires-clause-rows : goal.perform-requires-clause-rows
@@ -9,3 +11,9 @@ perform-requires-clause-rows c =
       rows.0,
       subst (AreBySorts (program_of c.self.inside.checked).theory rows.0) (sym c.deref.ensures.value) rows.1,
     )
+
+pub perform-requires-clause-values : goal.perform-requires-clause-values
+perform-requires-clause-values c =
+    let job = c.args.taken.now.job in
+    subst (λ (p : Program). IsOfValues p job) (sym c.self.invariant.0.program_is)
+    (subst (λ (s : SessionView). IsOfValues (program_of s.lock.fixed.checked) job) (sym c.self.view_is) c.requires.given)

@@ -1,10 +1,11 @@
 use Rattle.std.proofs.Common.{rules, ◌≡◌, subst}
-use Rattle.std.proofs.lemmas.Result.{on_ok_weaker}
+use Rattle.std.proofs.lemmas.Result.{IfOk-weaker, on_ok_weaker}
 use Rattle.turn_lock.specs.Entries.{made_by}
 use Rattle.session_board.specs.Lines.{maker_of}
-use Rattle.session_board.specs.Shared.{IsMarked, lines}
+use Rattle.session_board.specs.Shared.{IsMarked, fixed_part, lines}
 use Rattle.session.specs.Passes.{HasHalted}
 use Rattle.session.proofs.Seats.{err_more, halts, has_seen_more, isnt_halted}
+use Rattle.session.proofs.Working.{given_by_look}
 use Rattle.session.proofs.session.Session.look.Goals as goal
 
 pub returns-clause-none : goal.returns-clause-none
@@ -32,3 +33,11 @@ returns-clause-marked g c =
     let seen : new.seen ≡ lines w = search rules in
     let own : new.own ≡ made_by maker_of old.number (lines w) = search rules in
     err_more c.look-look.result (IsMarked w) (HasHalted new.seen) (halts old new v w c.take-held.ensures.list seen own) c.look-look.ensures.marked
+
+pub returns-clause-given : goal.returns-clause-given
+returns-clause-given g c =
+    let v = c.take-held.result.value in
+    let w = c.look-look.new.self in
+    let s = c.args.self.now in
+    let same : fixed_part v ≡ s.lock.fixed = search rules in
+    IfOk-weaker c.look-look.result _ _ (λ r h. given_by_look s v w same c.args.name c.args.spot r.1 h) c.look-look.ensures.step

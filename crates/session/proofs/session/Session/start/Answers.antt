@@ -1,9 +1,12 @@
 use Rattle.std.proofs.Common.{arith, ◌≡◌, sym, ap, subst, ◌∙◌, false, map}
 use Rattle.std.specs.List.{AllByRecursion}
 use Rattle.turn_lock.specs.Seats.{SeatModel}
+use Rattle.spec_core.specs.declared.code.Checked.{Checked}
+use Rattle.spec_core.specs.declared.settings.Settings.{Settings}
 use Rattle.spec_core.specs.Code.{Program, program_of}
 use Rattle.spec_core.specs.Executable.{IsExecutable}
 use Rattle.board_core.specs.Found.{AreBySorts}
+use Rattle.session_board.specs.declared.fixed.FixedPart.{FixedPart}
 use Rattle.session_board.specs.declared.line.Line.{Line}
 use Rattle.board_core.specs.Views.{BoardView}
 use Rattle.session_board.specs.Shared.{fixed_part, lines}
@@ -60,6 +63,14 @@ invariant_of-session c =
           c.in_ok-turns.ensures.lock.1 dealt.last,
       c.in_ok-forms.ensures.forms,
     )
+
+pub returns-clause-windows : goal.returns-clause-windows
+returns-clause-windows c =
+    let b = c.in_ok-board.board in
+    let same = ap (λ (f : FixedPart). f.windows) c.in_ok-turns.ensures.lock.0 ∙ ap (λ (v : BoardView). v.windows) c.new-3.ensures.board in
+    subst (AreBySorts (program_of c.args.checked).theory c.args.settings.values) (sym same)
+    (subst (λ (s : Settings). AreBySorts (program_of c.args.checked).theory s.values b.windows) c.in_ok-board.ensures.settings
+    (subst (λ (k : Checked). AreBySorts (program_of k).theory b.settings.values b.windows) c.in_ok-board.ensures.checked c.windows.ensures.rows))
 
 pub returns-clause-passes : goal.returns-clause-passes
 returns-clause-passes c =

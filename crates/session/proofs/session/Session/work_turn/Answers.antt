@@ -3,11 +3,12 @@ use Rattle.std.proofs.lemmas.Result.{IfOk-weaker, on_err_weaker, on_ok_weaker}
 use Rattle.turn_lock.specs.Entries.{made_by}
 use Rattle.session_board.specs.Lines.{maker_of}
 use Rattle.session_board.specs.Looks.{ComesOfWork}
-use Rattle.session_board.specs.Shared.{lines}
+use Rattle.session_board.specs.Shared.{fixed_part, lines}
 use Rattle.session.specs.Passes.{HasHalted}
-use Rattle.session.specs.Working.{ComesOfSeat}
+use Rattle.session.specs.Sessions.{IsGiven}
+use Rattle.session.specs.Working.{ComesOfSeat, OnWork}
 use Rattle.session.proofs.Seats.{halts, has_seen_more, isnt_halted, stays_halted}
-use Rattle.session.proofs.Working.{comes_of_seat}
+use Rattle.session.proofs.Working.{comes_of_seat, given_by_work}
 use Rattle.session.proofs.session.Session.work_turn.Goals as goal
 
 pub returns-clause-none : goal.returns-clause-none
@@ -48,3 +49,11 @@ returns-clause-work g c =
     let same : w.board.session.clients ≡ clients = search rules in
     IfOk-weaker c.work-work.result (ComesOfWork v w) (ComesOfSeat clients old new)
     (λ found. comes_of_seat clients old new v w found c.take-held.ensures.list.0 seen same) c.work-work.ensures.work
+
+pub returns-clause-given : goal.returns-clause-given
+returns-clause-given g c =
+    let v = c.take-held.result.value in
+    let w = c.work-work.new.self in
+    let s = c.args.self.now in
+    let same : fixed_part v ≡ s.lock.fixed = search rules in
+    IfOk-weaker c.work-work.result (ComesOfWork v w) (OnWork (IsGiven s)) (given_by_work s v w same) c.work-work.ensures.work

@@ -1,6 +1,7 @@
-use Rattle.std.proofs.Common.{rules, ◌≡◌, false, true, subst}
+use Rattle.std.proofs.Common.{rules, ◌≡◌, false, true, subst, sym}
 use Rattle.board_record.specs.Faults.{ExplainsPend}
 use Rattle.board_record.specs.declared.faults.PendFault.TheVariants.{NotOpen, AlreadyPending, NoSuchGate}
+use Rattle.board_core.specs.JobValues.{GivesValues}
 use Rattle.board_core.specs.Views.{program, state}
 use Rattle.session_board.specs.Growing.{GrowsByNone}
 use Rattle.session_board.specs.Shared.{HasDrivenLog, SharedView}
@@ -9,6 +10,12 @@ use Rattle.session_board.specs.Faults.{MayBeMade}
 use Rattle.session_board.proofs.Refusing.{hasnt_left, no_offer}
 use Rattle.session_board.proofs.Sharing.{offer_driven, unnoted}
 use Rattle.session_board.proofs.shared.SharedBoard.pend.Goals as goal
+
+pub pend-requires : goal.pend-requires
+pend-requires c = record {
+  values =
+      subst (λ (z : SharedView). GivesValues (program z.board).theory c.args.offer.now) (sym c.self.view_is) c.requires.values;
+}
 
 pub invariant_of-self : goal.invariant_of-self
 invariant_of-self c =

@@ -15,7 +15,7 @@ pub keep-requires-in-Some-clause-row : goal.keep-requires-in-Some-clause-row
 keep-requires-in-Some-clause-row c =
     let read = part_read c.args.from.now c.args.into.now c.args.self.now c.requires.copies in
     one_copied c.args.from.now c.args.into.now c.args.self.now c.requires.copies c.args.node c.in-One.op c.in-One.size c.in-One.arg
-    c.in-Some.arg c.in-One.ensures.seen
+    c.in-One.cost c.in-Some.arg c.in-One.ensures.cost c.in-One.ensures.seen
     (read c.in-One.arg c.index.result.now c.in-One.ensures.seen.0 (search rules) ∙ c.in-Some.is)
 
 pub index-requires-in-More : goal.index-requires-in-More
@@ -38,6 +38,7 @@ pub keep-requires-in-Some-index-2-clause-row : goal.keep-requires-in-Some-index-
 keep-requires-in-Some-index-2-clause-row c =
     let read = part_read c.args.from.now c.args.into.now c.args.self.now c.requires.copies in
     more_copied c.args.from.now c.args.into.now c.args.self.now c.requires.copies c.args.node c.in-More.op c.in-More.size
-    c.in-More.arg c.in-More.rest c.in-Some-index.first c.in-Some-index-2.others c.in-More.ensures.seen
+    c.in-More.arg c.in-More.rest c.in-More.cost c.in-Some-index.first c.in-Some-index-2.others c.in-More.ensures.cost
+    c.in-More.ensures.seen
     (read c.in-More.arg c.index-in-More.result.now c.in-More.ensures.seen.0 (search rules) ∙ c.in-Some-index.is)
     (read c.in-More.rest c.index-in-Some-index.result.now c.in-More.ensures.seen.1 (search rules) ∙ c.in-Some-index-2.is)
