@@ -83,7 +83,7 @@ fn turned_count(windows: &[Window], scheme: &Scheme) -> u64
         Scheme::Pre(_) => 1,
         Scheme::Int => 1,
         Scheme::Exit(_) => 1,
-        Scheme::Under(_, part) => turned_count(windows, part),
+        Scheme::Under(_, _, part) => turned_count(windows, part),
         Scheme::Hide(columns, _) => tuple_count(windows, columns),
         Scheme::Enend(columns, _) => tuple_count(windows, columns),
         Scheme::Both(_, _) => 1,

@@ -7,7 +7,7 @@ ghost use Rattle.spec_core.specs.Ready.{IsReady};
 ghost use Rattle.rule_model.specs.Behaviours.{parallel};
 ghost use Rattle.rule_model.specs.Constructs.{OnParallel};
 ghost use Rattle.rule_origins.specs.Parts.{behaviour_at};
-ghost use Rattle.symbolic_plans.specs.Plans.{plan_of};
+ghost use Rattle.symbolic_plans.specs.Parts.{plan_of_part};
 ghost use Rattle.candidate_count.specs.Places.{placed};
 ghost use Rattle.candidate_count.specs.Predicates as predicates;
 ghost use Rattle.candidate_count.specs.Predicates.{body_in, part_under};
@@ -18,7 +18,8 @@ use rule_origins::views::{
     guarded_at, hide_at, parallel_at, relabel_at, value_choice_at,
 };
 use spec_core::code::{Checked, GateSet};
-use symbolic_plans::scheme::{Row, Scheme};
+use symbolic_plans::part::{FirstRule, SchemePart};
+use symbolic_plans::scheme::Row;
 
 // Whether it is an action prefix with a selection predicate.
 fn acts_by_predicate(checked: &Checked, place: Place) -> bool
@@ -166,23 +167,27 @@ fn sides_at(checked: &Checked, place: Place) -> Option<(&GateSet, u32, u32)>
 
 /// Whether along a plan an action prefix of the behaviour has a selection predicate. It takes no memory, and recurs as deep as the plan is.
 #[cycle(has_predicate)]
-pub fn has_predicate(checked: &Checked, place: Place, scheme: &Scheme) -> bool
+pub fn has_predicate(checked: &Checked, place: Place, part: SchemePart<'_>) -> bool
     requires ready { IsReady (program_of checked.now) }
     ensures predicate { result ≡
-        predicates.has_predicate (program_of checked.now) (plan_of scheme.now) (placed (program_of checked.now) place) }
+        predicates.has_predicate (program_of checked.now) (plan_of_part part.entry) (placed (program_of checked.now) place) }
 {
-    match scheme {
-        Scheme::Pre(_) => acts_by_predicate(checked, place),
-        Scheme::Int => false,
-        Scheme::Exit(_) => false,
-        Scheme::Under(row, part) => in_part(checked, part_at(checked, place, row), part),
-        Scheme::Hide(_, part) => in_part(checked, part_at(checked, place, &Row::Pass), part),
-        Scheme::Enend(_, part) => in_part(checked, part_at(checked, place, &Row::Enstep), part),
-        Scheme::Both(left, right) => match sides_at(checked, place) {
+    match part.first() {
+        FirstRule::Pre(_) => acts_by_predicate(checked, place),
+        FirstRule::Int => false,
+        FirstRule::Exit(_) => false,
+        FirstRule::Under(row, rest) => in_part(checked, part_at(checked, place, row), rest),
+        FirstRule::Hide(_, body) => {
+            in_part(checked, part_at(checked, place, &Row::Pass), body.whole())
+        }
+        FirstRule::Enend(_, left) => {
+            in_part(checked, part_at(checked, place, &Row::Enstep), left.whole())
+        }
+        FirstRule::Both(left, right) => match sides_at(checked, place) {
             None => false,
             Some((_, one, other)) => {
-                has_predicate(checked, Place::At(one), left)
-                    || has_predicate(checked, Place::At(other), right)
+                has_predicate(checked, Place::At(one), left.whole())
+                    || has_predicate(checked, Place::At(other), right.whole())
             }
         },
     }
@@ -190,13 +195,13 @@ pub fn has_predicate(checked: &Checked, place: Place, scheme: &Scheme) -> bool
 
 // The same of a part, if there is one.
 #[cycle(has_predicate)]
-fn in_part(checked: &Checked, place: Option<Place>, scheme: &Scheme) -> bool
+fn in_part(checked: &Checked, place: Option<Place>, part: SchemePart<'_>) -> bool
     requires ready { IsReady (program_of checked.now) }
     ensures predicate { result ≡ predicates.in_part (option_map (placed (program_of checked.now)) place)
-        (predicates.has_predicate (program_of checked.now) (plan_of scheme.now)) }
+        (predicates.has_predicate (program_of checked.now) (plan_of_part part.entry)) }
 {
     match place {
         None => false,
-        Some(inner) => has_predicate(checked, inner, scheme),
+        Some(inner) => has_predicate(checked, inner, part),
     }
 }

@@ -1,6 +1,7 @@
 -- Trees without marks.
 use Rattle.std.proofs.Common.{ℕ, zero, suc, ◌≡◌, ◌∙◌, List, [], ◌∷◌, map, drop, filter, refl, ap, Bool, true, false}
-use Rattle.std.proofs.Common.{cond, if◌then◌else◌}
+use Rattle.std.proofs.Common.{cond, if◌then◌else◌, ◌||◌, sym, subst, Result, IfOk}
+use Rattle.std.specs.Fn.{iterate}
 use Rattle.std.proofs.lemmas.Bool.{or_from}
 use Rattle.spec_core.specs.Lists.{Each}
 use Rattle.spec_core.specs.Theories.{Theory}
@@ -16,6 +17,7 @@ use Rattle.symbolic_plans.specs.declared.scheme.Row.TheVariants.{Chl, Chr, Val, 
 use Rattle.symbolic_plans.specs.declared.scheme.Row.TheVariants.{Disend, Distake, Call, Rel}
 use Rattle.symbolic_plans.specs.Plans.{Plan, prefix, internal, termination, below, hidden, handed_on, together, taken_slots, trees_of}
 use Rattle.symbolic_plans.specs.Plans.{put_row}
+use Rattle.symbolic_plans.proofs.Runs.{iterate_same}
 use Rattle.symbolic_trees.specs.Numbers.{trees_at_once}
 use Rattle.candidate_search.specs.Marks.{any_mark, row_mark, may_be_marked}
 use Rattle.candidate_search.specs.Searches.{wanted_from}
@@ -142,3 +144,15 @@ module _ (theory : Theory) (w : Windows) where
       dropped ds zero h = filtered ds h
       dropped [] (suc k) h = refl
       dropped (d ∷ ds) (suc k) (q, h) = dropped ds k h
+
+-- where a rule has no mark, and the same rule stands over it however often, the whole may be marked where the part may
+pub run_marked : {E : Type 0} (theory : Theory) (w : Windows) (row : Row) (more : ℕ) (p plan : Plan) (given : Bool) (r : Result Bool E) →
+    row_mark row ≡ false → plan ≡ below row (iterate (below row) more p) → IfOk r (λ b. b ≡ may_be_marked theory w p given) →
+    IfOk r (λ b. b ≡ may_be_marked theory w plan given)
+run_marked theory w row more p plan given r none is h =
+    subst (λ (z : Bool). IfOk r (λ b. b ≡ z))
+    (sym (ap (λ q. may_be_marked theory w q given) is ∙ one (iterate (below row) more p)
+    ∙ iterate_same (below row) (λ q. may_be_marked theory w q given) one more p)) h
+  where
+    one : (q : Plan) → may_be_marked theory w (below row q) given ≡ may_be_marked theory w q given
+    one q = ap (λ m. m || may_be_marked theory w q given) none

@@ -117,7 +117,7 @@ pub fn may_be_marked(
         Scheme::Pre(_) => Ok(given),
         Scheme::Int => Ok(false),
         Scheme::Exit(_) => Ok(given),
-        Scheme::Under(row, part) => {
+        Scheme::Under(row, _, part) => {
             if row_mark(row) {
                 Ok(true)
             } else {

@@ -10,3 +10,4 @@ pub mod Turning
 pub mod Asked
 pub mod Walks
 pub mod Standing
+pub mod Runs

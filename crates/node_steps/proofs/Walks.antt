@@ -23,6 +23,11 @@ module _ (program : Program) (executable : IsExecutable program.theory) where
       IfOk r (TurnsOr program from s b other) → IfOk r (TurnsOr program from s b plan)
   along from s b plan other r is h = subst (λ (z : Plan). IfOk r (TurnsOr program from s b z)) (sym is) h
 
+  -- of equal plans the same comes
+  pub of_plan : (from : ℕ) (s : Assignment) (b : Behaviour) (p q : Plan) (o : Option Turn) → p ≡ q → TurnsOr program from s b p o →
+      TurnsOr program from s b q o
+  of_plan from s b p q o is h = subst (λ (z : Plan). TurnsOr program from s b z o) is h
+
   pub prefix_walks : {E : Type 0} (from : ℕ) (s : Assignment) (b : Behaviour) (plan : Plan) (takes : List Bool)
       (r : Result (Option Turn) E) → plan ≡ prefix takes → IfOk r (LeafTurnsOr program from s b pre) → IfOk r (TurnsOr program from s b plan)
   prefix_walks from s b plan takes r is h =

@@ -1,6 +1,6 @@
 // Trees of rules with blanks, and how many values they choose.
 
-ghost use Rattle.std.specs.Prelude.{◌≡◌, ◌∷◌, ◌+◌, IfOk, length};
+ghost use Rattle.std.specs.Prelude.{suc, ◌≡◌, ◌∷◌, ◌+◌, ◌*◌, IfOk, length};
 ghost use Rattle.rule_model.specs.declared.rules.Slot.TheVariants.{Blank};
 ghost use Rattle.rule_model.specs.Derivations.{derivation_of};
 ghost use Rattle.symbolic_plans.specs.Plans.{plan_of};
@@ -9,7 +9,7 @@ ghost use Rattle.node_steps.specs.Blanks.{blanks, blank_tree, chosen_by, width};
 use rule_model::rules::{Rules, Slot, Slots};
 use spec_core::memory::Memory;
 use std::alloc::Global;
-use symbolic_plans::rules::over_part;
+use symbolic_plans::rules::run_over_part;
 use symbolic_plans::scheme::{Row, Scheme};
 
 // One more blank in front.
@@ -40,7 +40,8 @@ fn blank_slots(alloc: Global, takes: &[bool]) -> Result<Vec<Slot>, Memory>
     }
 }
 
-/// The tree of rules, with a blank in the place of each open value. It recurs as deep as rules nest.
+/// The tree of rules, with a blank in the place of each open value. It recurs as deep as rules nest, where the same rule over itself counts
+/// once.
 pub fn blank_rules(alloc: Global, scheme: &Scheme) -> Result<Rules, Memory>
     ensures tree { IfOk result (λ d. derivation_of d ≡ blank_tree (plan_of scheme.now)) }
 {
@@ -48,9 +49,9 @@ pub fn blank_rules(alloc: Global, scheme: &Scheme) -> Result<Rules, Memory>
         Scheme::Pre(takes) => Ok(Rules::Pre(Slots::new(blank_slots(alloc, takes)?))),
         Scheme::Int => Ok(Rules::Int),
         Scheme::Exit(takes) => Ok(Rules::Exit(Slots::new(blank_slots(alloc, takes)?))),
-        Scheme::Under(row, part) => {
+        Scheme::Under(row, more, part) => {
             let part = blank_rules(alloc, part)?;
-            over_part(alloc, row, part)
+            run_over_part(alloc, row, *more, part)
         }
         Scheme::Hide(_, part) => {
             let part = blank_rules(alloc, part)?;
@@ -109,6 +110,16 @@ pub fn after_row(row: &Row, from: u32) -> Result<u32, Memory>
     sum(from, own_values(row))
 }
 
+// The same of a rule and the same rule so many times more.
+fn run_values(row: &Row, more: u32) -> Result<u32, Memory>
+    ensures { IfOk result (λ n. n ≡ suc more * length (chosen_by row.now)) }
+{
+    match row {
+        Row::Val(_) => sum(1, more),
+        _ => Ok(0),
+    }
+}
+
 // How many values the trees choose.
 fn values_of(scheme: &Scheme) -> Result<u32, Memory>
     ensures { IfOk result (λ n. n ≡ width (plan_of scheme.now)) }
@@ -117,9 +128,10 @@ fn values_of(scheme: &Scheme) -> Result<u32, Memory>
         Scheme::Pre(takes) => taken(takes),
         Scheme::Int => Ok(0),
         Scheme::Exit(takes) => taken(takes),
-        Scheme::Under(row, part) => {
+        Scheme::Under(row, more, part) => {
             let inner = values_of(part)?;
-            sum(own_values(row), inner)
+            let own = run_values(row, *more)?;
+            sum(own, inner)
         }
         Scheme::Hide(_, part) => values_of(part),
         Scheme::Enend(_, part) => values_of(part),

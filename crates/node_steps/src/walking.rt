@@ -9,6 +9,7 @@ ghost use Rattle.rule_model.specs.Derivations.{derivation_of};
 ghost use Rattle.rule_origins.specs.Parts.{behaviour_at};
 ghost use Rattle.rule_origins.specs.Values.{assignment};
 ghost use Rattle.node_values.specs.Stops.{Stops, Never};
+ghost use Rattle.symbolic_plans.specs.Parts.{plan_of_part};
 ghost use Rattle.symbolic_plans.specs.Plans.{below, together, plan_of};
 ghost use Rattle.node_trees.specs.Origins.{meaning, relabelled_by, source_of};
 ghost use Rattle.node_trees.specs.Rests.{way_of, IsWayOf, does_of, remainder_of, left_beside};
@@ -36,6 +37,7 @@ use spec_core::code::{Checked, CodeNode, GateSet};
 use spec_core::memory::Memory;
 use spec_core::value::Value;
 use std::alloc::Global;
+use symbolic_plans::part::{FirstRule, SchemePart};
 use symbolic_plans::scheme::{Row, Scheme};
 
 // The gates and the numbers of the sides of a parallel composition.
@@ -92,32 +94,33 @@ fn walk(
     prepared: &Prepared,
     site: &Site,
     values: &[(u32, Value)],
-    scheme: &Scheme,
+    part: SchemePart<'_>,
     from: u32,
     budget: u64,
 ) -> Result<Option<Turn>, Stop>
     requires ready { IsReady (program_in prepared.now) }
     ensures turns { IfOk result (TurnsOr (program_in prepared.now) from (assignment (program_in prepared.now).theory values.now)
-        (standing (program_in prepared.now) site.now) (plan_of scheme.now)) }
-    ensures fault { IfErr result (Stops (program_in prepared.now).theory budget (PlanAsks (program_in prepared.now) (plan_of scheme.now)
-        (assignment (program_in prepared.now).theory values.now) (standing (program_in prepared.now) site.now)) Never) }
+        (standing (program_in prepared.now) site.now) (plan_of_part part.entry)) }
+    ensures fault { IfErr result (Stops (program_in prepared.now).theory budget (PlanAsks (program_in prepared.now)
+        (plan_of_part part.entry) (assignment (program_in prepared.now).theory values.now)
+        (standing (program_in prepared.now) site.now)) Never) }
 {
-    match scheme {
-        Scheme::Pre(_) => acts(alloc, prepared, site, values, from, budget),
-        Scheme::Int => Ok(acts_inside(alloc, prepared.checked, site, values)?),
-        Scheme::Exit(_) => terminates(alloc, prepared, site, values, from, budget),
-        Scheme::Under(row, part) => walk_under(
-            alloc, prepared, site, values, row, part, from, budget,
+    match part.first() {
+        FirstRule::Pre(_) => acts(alloc, prepared, site, values, from, budget),
+        FirstRule::Int => Ok(acts_inside(alloc, prepared.checked, site, values)?),
+        FirstRule::Exit(_) => terminates(alloc, prepared, site, values, from, budget),
+        FirstRule::Under(row, rest) => walk_under(
+            alloc, prepared, site, values, row, rest, from, budget,
         ),
-        Scheme::Hide(_, part) => {
+        FirstRule::Hide(_, body) => {
             let entered = enter_hidden(alloc, prepared.checked, site, values)?;
-            walk_within(alloc, prepared, values, entered, part, from, budget)
+            walk_within(alloc, prepared, values, entered, body.whole(), from, budget)
         }
-        Scheme::Enend(_, part) => {
+        FirstRule::Enend(_, left) => {
             let entered = enter_ending(alloc, prepared.checked, site, values)?;
-            walk_within(alloc, prepared, values, entered, part, from, budget)
+            walk_within(alloc, prepared, values, entered, left.whole(), from, budget)
         }
-        Scheme::Both(left, right) => {
+        FirstRule::Both(left, right) => {
             walk_both(alloc, prepared, site, values, left, right, from, budget)
         }
     }
@@ -131,15 +134,15 @@ fn walk_under(
     site: &Site,
     values: &[(u32, Value)],
     row: &Row,
-    part: &Scheme,
+    part: SchemePart<'_>,
     from: u32,
     budget: u64,
 ) -> Result<Option<Turn>, Stop>
     requires ready { IsReady (program_in prepared.now) }
     ensures turns { IfOk result (TurnsOr (program_in prepared.now) from (assignment (program_in prepared.now).theory values.now)
-        (standing (program_in prepared.now) site.now) (below row.now (plan_of part.now))) }
+        (standing (program_in prepared.now) site.now) (below row.now (plan_of_part part.entry))) }
     ensures fault { IfErr result (Stops (program_in prepared.now).theory budget (PlanAsks (program_in prepared.now)
-        (below row.now (plan_of part.now)) (assignment (program_in prepared.now).theory values.now)
+        (below row.now (plan_of_part part.entry)) (assignment (program_in prepared.now).theory values.now)
         (standing (program_in prepared.now) site.now)) Never) }
 {
     let entered = enter(alloc, prepared, site, values, row, budget)?;
@@ -154,14 +157,14 @@ fn walk_within(
     prepared: &Prepared,
     values: &[(u32, Value)],
     entered: Option<Entered>,
-    part: &Scheme,
+    part: SchemePart<'_>,
     from: u32,
     budget: u64,
 ) -> Result<Option<Turn>, Stop>
     requires ready { IsReady (program_in prepared.now) }
-    ensures turns { IfOk result (WithinOr (program_in prepared.now) from values.now entered (plan_of part.now)) }
+    ensures turns { IfOk result (WithinOr (program_in prepared.now) from values.now entered (plan_of_part part.entry)) }
     ensures fault { IfErr result (Stops (program_in prepared.now).theory budget
-        (WithinAsks (program_in prepared.now) values.now entered (plan_of part.now)) Never) }
+        (WithinAsks (program_in prepared.now) values.now entered (plan_of_part part.entry)) Never) }
 {
     match entered {
         None => Ok(None),
@@ -202,7 +205,15 @@ fn walk_both(
     match sides(prepared.checked, site) {
         None => Ok(None),
         Some((gates, one, other)) => {
-            match walk(alloc, prepared, &Site::At(one), values, left, from, budget)? {
+            match walk(
+                alloc,
+                prepared,
+                &Site::At(one),
+                values,
+                left.whole(),
+                from,
+                budget,
+            )? {
                 None => Ok(None),
                 Some(first) => {
                     let next = after_scheme(left, from)?;
@@ -211,7 +222,7 @@ fn walk_both(
                         prepared,
                         &Site::At(other),
                         values,
-                        right,
+                        right.whole(),
                         next,
                         budget,
                     )? {
@@ -246,7 +257,15 @@ pub fn way_along(
         (relabelled_by (map relabelling_of origin.now.relabel.items) (behaviour_at (program_in prepared.now) origin.now.node))) Never) }
 {
     let site = site_of(alloc, prepared.checked, origin)?;
-    match walk(alloc, prepared, &site, &origin.values, scheme, 0, budget)? {
+    match walk(
+        alloc,
+        prepared,
+        &site,
+        &origin.values,
+        scheme.whole(),
+        0,
+        budget,
+    )? {
         None => Ok(None),
         Some(turn) => {
             let rules = blank_rules(alloc, scheme)?;

@@ -3,3 +3,4 @@ pub mod Joining
 pub mod Made
 pub mod Origins
 pub mod Own
+pub mod Runs

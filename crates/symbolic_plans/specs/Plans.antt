@@ -1,5 +1,6 @@
 -- Trees of rules whose chosen values are left open, without places in memory.
 use Rattle.std.specs.Prelude.{List, [], ◌∷◌, map, flat_map, Bool, true, false}
+use Rattle.std.specs.Fn.{iterate}
 use Rattle.spec_core.specs.Theories.{Theory}
 use Rattle.rule_model.specs.declared.rules.Slot.{Slot}
 use Rattle.rule_model.specs.Derivations.{Derivation, pre, int, exiting, chl, chr, val, gate, guard, letting, parl, parr, both, hiding, pass}
@@ -54,7 +55,7 @@ abbrev pub plan_of : Scheme → Plan
 plan_of (Pre takes) = prefix takes.items
 plan_of Int = internal
 plan_of (Exit takes) = termination takes.items
-plan_of (Under' row p part) = below row (plan_of part)
+plan_of (Under' row more p part) = below row (iterate (below row) more (plan_of part))
 plan_of (Hide' columns p part) = hidden (map field_of columns.items) (plan_of part)
 plan_of (Enend' columns p part) = handed_on (map field_of columns.items) (plan_of part)
 plan_of (Both' p left q right) = together (plan_of left) (plan_of right)

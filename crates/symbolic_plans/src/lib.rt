@@ -7,5 +7,6 @@ pub mod kind;
 pub mod laws;
 pub mod operators;
 pub mod own_laws;
+pub mod part;
 pub mod rules;
 pub mod scheme;

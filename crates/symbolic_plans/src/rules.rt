@@ -1,6 +1,7 @@
 // Rules over trees.
 
 ghost use Rattle.std.specs.Prelude.{◌≡◌, IfOk};
+ghost use Rattle.std.specs.Fn.{iterate};
 ghost use Rattle.rule_model.specs.Derivations.{derivation_of};
 ghost use Rattle.symbolic_plans.specs.Plans.{put_row};
 
@@ -30,4 +31,16 @@ pub fn over_part(alloc: Global, row: &Row, part: Rules) -> Result<Rules, Memory>
         Row::Call => Rules::calling(alloc, part),
         Row::Rel => Rules::rel(alloc, part),
     }
+}
+
+/// A rule over the tree of its part, and the same rule so many times more over that.
+pub fn run_over_part(alloc: Global, row: &Row, more: u32, part: Rules) -> Result<Rules, Memory>
+    ensures tree { IfOk result (λ d.
+        derivation_of d ≡ put_row row.now (iterate (put_row row.now) more (derivation_of part))) }
+{
+    let mut tree = part;
+    for _turn in 0..more {
+        tree = over_part(alloc, row, tree)?;
+    }
+    over_part(alloc, row, tree)
 }

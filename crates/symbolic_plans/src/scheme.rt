@@ -1,6 +1,6 @@
 // Trees of rules whose chosen values are left open.
 
-ghost use Rattle.std.specs.Prelude.{◌≡◌, IfOk, map};
+ghost use Rattle.std.specs.Prelude.{◌≡◌, IfOk, IsFalse, IsTrue, map};
 ghost use Rattle.symbolic_plans.specs.Plans.{field_of, plan_of, below, hidden, handed_on, together};
 
 use crate::column::{Column, copy_columns};
@@ -36,8 +36,8 @@ pub enum Scheme {
     Int,
     /// An exit terminates; which of its fields take any value.
     Exit(Vec<bool>),
-    /// A rule over its part.
-    Under(Row, Box<Scheme>),
+    /// A rule over its part, and the same rule so many times more over that.
+    Under(Row, u32, Box<Scheme>),
     /// The body of a hiding acts at a hidden gate, with these fields.
     Hide(Vec<Column>, Box<Scheme>),
     /// The left side of an enabling terminates, with these fields.
@@ -53,7 +53,7 @@ impl Drop for Scheme {
             Scheme::Pre(_) => {}
             Scheme::Int => {}
             Scheme::Exit(_) => {}
-            Scheme::Under(_, _) => {}
+            Scheme::Under(_, _, _) => {}
             Scheme::Hide(_, _) => {}
             Scheme::Enend(_, _) => {}
             Scheme::Both(_, _) => {}
@@ -86,13 +86,59 @@ impl Row {
     }
 }
 
+// Whether both are the same rule, one that has nothing in it.
+fn are_alike(left: &Row, right: &Row) -> bool
+    ensures { IsTrue result → left.now ≡ right.now }
+{
+    match left {
+        Row::Chl => matches!(right, Row::Chl),
+        Row::Chr => matches!(right, Row::Chr),
+        Row::Val(_) => false,
+        Row::Gate(_) => false,
+        Row::Guard => matches!(right, Row::Guard),
+        Row::Let => matches!(right, Row::Let),
+        Row::Parl => matches!(right, Row::Parl),
+        Row::Parr => matches!(right, Row::Parr),
+        Row::Pass => matches!(right, Row::Pass),
+        Row::Enstep => matches!(right, Row::Enstep),
+        Row::Disstep => matches!(right, Row::Disstep),
+        Row::Disend => matches!(right, Row::Disend),
+        Row::Distake => matches!(right, Row::Distake),
+        Row::Call => matches!(right, Row::Call),
+        Row::Rel => matches!(right, Row::Rel),
+    }
+}
+
 impl Scheme {
-    /// The rule over this tree.
+    // Puts the rule over this tree, if the tree begins with the same one, which has nothing in it; whether it did.
+    fn lengthen(&mut self, row: &Row) -> bool
+        ensures longer { IsTrue result → plan_of self.new ≡ below row.now (plan_of self.old) }
+        ensures same { IsFalse result → plan_of self.new ≡ plan_of self.old }
+    {
+        match self {
+            Scheme::Under(own, more, _) => {
+                if *more < u32::MAX && are_alike(own, row) {
+                    *more += 1;
+                    true
+                } else {
+                    false
+                }
+            }
+            _ => false,
+        }
+    }
+
+    /// The rule over this tree. Where the tree begins with the same rule, and that has nothing in it, no memory is taken.
     pub fn under(alloc: Global, row: Row, part: Scheme) -> Result<Scheme, Memory>
         ensures made { IfOk result (λ s. plan_of s ≡ below row (plan_of part)) }
     {
-        let part = Box::new(alloc, part)?;
-        Ok(Scheme::Under(row, part))
+        let mut whole = part;
+        if whole.lengthen(&row) {
+            Ok(whole)
+        } else {
+            let whole = Box::new(alloc, whole)?;
+            Ok(Scheme::Under(row, 0, whole))
+        }
     }
 
     /// The body of a hiding acts by this tree at a hidden gate, with these fields.
@@ -120,7 +166,7 @@ impl Scheme {
         Ok(Scheme::Both(left, right))
     }
 
-    /// An equal tree. It recurs as deep as rules nest.
+    /// An equal tree. It recurs as deep as rules nest, where the same rule over itself counts once.
     pub fn copy(&self, alloc: Global) -> Result<Scheme, Memory>
         ensures equal { IfOk result (λ s. plan_of s ≡ plan_of self.now) }
     {
@@ -128,9 +174,9 @@ impl Scheme {
             Scheme::Pre(takes) => Ok(Scheme::Pre(Vec::from_slice(alloc, takes)?)),
             Scheme::Int => Ok(Scheme::Int),
             Scheme::Exit(takes) => Ok(Scheme::Exit(Vec::from_slice(alloc, takes)?)),
-            Scheme::Under(row, part) => {
-                let part = part.copy(alloc)?;
-                Scheme::under(alloc, row.copy(alloc)?, part)
+            Scheme::Under(row, more, part) => {
+                let part = Box::new(alloc, part.copy(alloc)?)?;
+                Ok(Scheme::Under(row.copy(alloc)?, *more, part))
             }
             Scheme::Hide(columns, part) => {
                 let part = part.copy(alloc)?;

@@ -1,8 +1,9 @@
 -- Trees of plans.
-use Rattle.std.proofs.Common.{ℕ, ◌≡◌, ◌<◌, ◌*◌, ◌/◌, ◌%◌, ◌∙◌, List, [], ◌∷◌, map, flat_map, length, refl, sym, ap, arith, Option, Some}
-use Rattle.std.proofs.Common.{None}
+use Rattle.std.proofs.Common.{ℕ, zero, suc, ◌≡◌, ◌<◌, ◌*◌, ◌/◌, ◌%◌, ◌∙◌, List, [], ◌∷◌, map, flat_map, length, refl, sym, ap, arith, Option, Some}
+use Rattle.std.proofs.Common.{None, subst, Result, IfOk}
 use Rattle.std.specs.Prelude.{option_and_then, option_map}
 use Rattle.std.proofs.lemmas.Option.{slice_get-map}
+use Rattle.std.specs.Fn.{iterate}
 use Rattle.std.specs.List.{slice_get}
 use Rattle.std.proofs.lemmas.List.{length-map}
 use Rattle.spec_core.specs.Lists.{Each}
@@ -12,6 +13,8 @@ use Rattle.rule_model.specs.declared.rules.Slot.{Slot}
 use Rattle.rule_model.specs.Derivations.{Derivation, pre, exiting, both}
 use Rattle.symbolic_rules.specs.Windows.{Windows}
 use Rattle.symbolic_composites.specs.OpenFields.{OpenField, choices_at_once}
+use Rattle.symbolic_plans.specs.declared.scheme.Row.{Row}
+use Rattle.symbolic_plans.proofs.Runs.{iterate_same, iterate_through}
 use Rattle.symbolic_plans.specs.Plans.{Plan, prefix, internal, termination, below, hidden, handed_on, together, taken_slots, trees_of}
 use Rattle.symbolic_plans.specs.Plans.{put_row}
 use Rattle.symbolic_trees.specs.Numbers.{counted, trees_at_once}
@@ -37,6 +40,46 @@ module _ (theory : Theory) (w : Windows) where
       ∙ ap (λ z. z * length (trees_of theory w q xs)) (trees_same p xs ys e)
       ∙ ap (λ z. length (trees_of theory w p ys) * z) (trees_same q xs ys e)
       ∙ sym (fronts_count both (trees_of theory w q ys) (trees_of theory w p ys))
+
+  -- of a rule over its part, and the same rule so many times more over that
+  module _ (row : Row) (more : ℕ) (p : Plan) (slots : List (List Slot)) where
+    abbrev run : Plan
+    run = below row (iterate (below row) more p)
+
+    -- there are as many trees as the part has
+    run_count : length (trees_of theory w run slots) ≡ length (trees_of theory w p slots)
+    run_count =
+        length-map (trees_of theory w (iterate (below row) more p) slots) (put_row row)
+        ∙ iterate_same (below row) (λ q. length (trees_of theory w q slots)) (λ q. length-map (trees_of theory w q slots) (put_row row)) more p
+
+    pub run_counted : {E : Type 0} (plan : Plan) (r : Result ℕ E) → plan ≡ run →
+        IfOk r (λ n. n ≡ counted (length (trees_of theory w p slots))) → IfOk r (λ n. n ≡ counted (length (trees_of theory w plan slots)))
+    run_counted plan r is h =
+        subst (λ z. IfOk r (λ n. n ≡ counted z)) (sym (ap (λ q. length (trees_of theory w q slots)) is ∙ run_count)) h
+
+    -- each is that of the part with the same number, under the rules
+    run_at : (n : ℕ) → slice_get (trees_of theory w run slots) n ≡
+        option_map (put_row row) (iterate (option_map (put_row row)) more (slice_get (trees_of theory w p slots) n))
+    run_at n =
+        slice_get-map (put_row row) (trees_of theory w (iterate (below row) more p) slots) n
+        ∙ ap (option_map (put_row row))
+        (iterate_through (below row) (option_map (put_row row)) (λ q. slice_get (trees_of theory w q slots) n)
+        (λ q. slice_get-map (put_row row) (trees_of theory w q slots) n) more p)
+
+    pub none_under : (n : ℕ) → None ≡ slice_get (trees_of theory w p slots) n → None ≡ slice_get (trees_of theory w run slots) n
+    none_under n e = sym (run_at n ∙ ap (λ o. option_map (put_row row) (iterate (option_map (put_row row)) more o)) (sym e)
+        ∙ ap (option_map (put_row row)) (all_none more))
+      where
+        all_none : (k : ℕ) → iterate (option_map (put_row row)) k None ≡ None
+        all_none zero = refl
+        all_none (suc k) = all_none k
+
+    pub some_under : (n : ℕ) (d e : Derivation) → Some d ≡ slice_get (trees_of theory w p slots) n →
+        e ≡ put_row row (iterate (put_row row) more d) → Some e ≡ slice_get (trees_of theory w run slots) n
+    some_under n d e is f =
+        ap Some f
+        ∙ ap (option_map (put_row row)) (iterate_through (put_row row) (option_map (put_row row)) Some (λ x. refl) more d)
+        ∙ sym (run_at n ∙ ap (λ o. option_map (put_row row) (iterate (option_map (put_row row)) more o)) (sym is))
 
   module _ (fields : List OpenField) (p : Plan) (choices first : List (List Slot)) where
     -- each way to fill the fields gives as many trees as the first one

@@ -58,7 +58,7 @@ pub fn tree_count(
         Scheme::Pre(takes) => Ok(taken_count(takes, choices)),
         Scheme::Int => Ok(1),
         Scheme::Exit(takes) => Ok(taken_count(takes, choices)),
-        Scheme::Under(_, part) => tree_count(alloc, algebra, windows, part, choices),
+        Scheme::Under(_, _, part) => tree_count(alloc, algebra, windows, part, choices),
         Scheme::Hide(columns, part) => own_count(alloc, algebra, windows, columns, part),
         Scheme::Enend(columns, part) => own_count(alloc, algebra, windows, columns, part),
         Scheme::Both(left, right) => both_count(alloc, algebra, windows, left, right, choices),

@@ -1,6 +1,7 @@
 // Trees by their numbers.
 
 ghost use Rattle.std.specs.Prelude.{◌≡◌, ◌<◌, ◌-◌, ◌^◌, ◌∷◌, IfOk, map, option_map, true};
+ghost use Rattle.std.specs.Fn.{iterate};
 ghost use Rattle.std.specs.List.{slice_get};
 ghost use Rattle.spec_core.specs.Theories.{theory_of};
 ghost use Rattle.rule_model.specs.Derivations.{derivation_of, enend, hiding};
@@ -17,7 +18,7 @@ use spec_core::memory::Memory;
 use spec_core::window::Window;
 use std::alloc::Global;
 use symbolic_plans::column::Column;
-use symbolic_plans::rules::over_part;
+use symbolic_plans::rules::run_over_part;
 use symbolic_plans::scheme::{Row, Scheme};
 
 // A slot before others.
@@ -118,31 +119,35 @@ pub fn nth_tree(
             None => Ok(None),
             Some(slots) => Ok(Some(Rules::Exit(Slots::new(slots)))),
         },
-        Scheme::Under(row, part) => nth_under(alloc, algebra, windows, row, part, choices, n),
+        Scheme::Under(row, more, part) => {
+            nth_under(alloc, algebra, windows, row, *more, part, choices, n)
+        }
         Scheme::Hide(columns, part) => nth_hidden(alloc, algebra, windows, columns, part, n),
         Scheme::Enend(columns, part) => nth_handed_on(alloc, algebra, windows, columns, part, n),
         Scheme::Both(left, right) => nth_both(alloc, algebra, windows, left, right, choices, n),
     }
 }
 
-// The n-th tree under a rule.
+// The n-th tree under a rule, and under the same rule so many times more.
 #[cycle(nth_tree)]
 fn nth_under(
     alloc: Global,
     algebra: &DataSpec,
     windows: &[Window],
     row: &Row,
+    more: u32,
     part: &Scheme,
     choices: &[Slots],
     n: u64,
 ) -> Result<Option<Rules>, Memory>
     requires small { n < 2 ^ 64 - 1 }
     ensures tree { IfOk result (λ o. option_map derivation_of o ≡
-        slice_get (trees_of (theory_of algebra.now) (windows_in windows.now) (below row.now (plan_of part.now)) choices.now) n) }
+        slice_get (trees_of (theory_of algebra.now) (windows_in windows.now)
+        (below row.now (iterate (below row.now) more (plan_of part.now))) choices.now) n) }
 {
     match nth_tree(alloc, algebra, windows, part, choices, n)? {
         None => Ok(None),
-        Some(tree) => Ok(Some(over_part(alloc, row, tree)?)),
+        Some(tree) => Ok(Some(run_over_part(alloc, row, more, tree)?)),
     }
 }
 

@@ -6,7 +6,7 @@ use Rattle.rule_model.specs.Derivations.{derivation_of, both}
 use Rattle.symbolic_plans.specs.Plans.{field_of, plan_of, trees_of}
 use Rattle.symbolic_rules.specs.Tables.{windows_in}
 use Rattle.symbolic_trees.proofs.Fronts.{no_fronts, no_first, no_rest, both_parts}
-use Rattle.symbolic_trees.proofs.Trees.{at_none, no_trees, no_way, by_way}
+use Rattle.symbolic_trees.proofs.Trees.{at_none, no_trees, no_way, by_way, none_under, some_under}
 use Rattle.symbolic_trees.proofs.places.+nth_tree.Goals as goal
 
 pub nth_at_once-returns-in-None : goal.nth_at_once-returns-in-None
@@ -86,3 +86,16 @@ nth_both-returns-in_ok-both-in-Some-2 t c =
           (rw c.in-Some-2.is at c.in_ok-nth_tree-in-Some.ensures.tree)
           c.in_ok-both-in-Some-2.ensures.made;
     }
+
+pub nth_under-returns-in-None : goal.nth_under-returns-in-None
+nth_under-returns-in-None t c = record {
+  tree = none_under (theory_of c.args.algebra.now) (windows_in c.args.windows.now) c.args.row.now c.args.more (plan_of c.args.part.now)
+      c.args.choices.now c.args.n (rw c.in-None.is at c.in_ok-nth_tree.ensures.tree);
+}
+
+pub nth_under-returns-in_ok-run_over_part-in-Some : goal.nth_under-returns-in_ok-run_over_part-in-Some
+nth_under-returns-in_ok-run_over_part-in-Some t c = record {
+  tree = some_under (theory_of c.args.algebra.now) (windows_in c.args.windows.now) c.args.row.now c.args.more (plan_of c.args.part.now)
+      c.args.choices.now c.args.n (derivation_of c.in-Some.tree) (derivation_of c.in_ok-run_over_part-in-Some.field-0)
+      (rw c.in-Some.is at c.in_ok-nth_tree.ensures.tree) c.in_ok-run_over_part-in-Some.ensures.tree;
+}

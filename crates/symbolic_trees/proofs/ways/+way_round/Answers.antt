@@ -1,6 +1,3 @@
-use Rattle.std.proofs.Common.{◌≡◌, ◌∷◌, List, [], length, drop}
-use Rattle.rule_model.specs.declared.rules.Slot.{Slot}
-use Rattle.symbolic_composites.specs.OpenFields.{one_each}
 use Rattle.symbolic_trees.proofs.Rounds.{none_longer}
 use Rattle.symbolic_trees.proofs.ways.+way_round.Goals as goal
 
