@@ -66,7 +66,7 @@ fn with_action(alloc: Global, board: &Board, rules: &Rules) -> Result<Candidate,
     board.what_is_known_is_so();
     let ready = ready_for(alloc, board.checked(), board.nodes(), rules, 0)?;
     let Ready {
-        branch: _,
+        change: _,
         action,
         next: _,
         gone: _,

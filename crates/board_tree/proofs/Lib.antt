@@ -1,3 +1,4 @@
+pub mod Changing
 pub mod Crossing
 pub mod Going
 pub mod Moving

@@ -1,3 +1,4 @@
+pub mod Changes
 pub mod Keeping
 pub mod Sides
 pub mod Steps

@@ -9,11 +9,12 @@ use Rattle.node_trees.specs.declared.branch.Branch.{Branch}
 use Rattle.node_trees.specs.declared.origin.Gen.{Gen}
 use Rattle.board_tree.specs.declared.ready.Ready.{Ready}
 use Rattle.node_trees.specs.Differences.{IsDifference}
+use Rattle.board_tree.specs.Changes.{changed}
 use Rattle.board_tree.specs.Keeping.{IsUntouched, Keeps, Leaves}
 use Rattle.node_trees.specs.Shapes.{Shape, shape_of, stands_for, IsRight}
 use Rattle.board_tree.specs.Steps.{Moves, Follows}
 
--- the tree, the next generation, what the last step ended and began, and the tree that stands ready for the next step
+-- the tree, the next generation, what the last step ended and began, and what stands ready for the next step
 pub record TreeView : Type 0 where
   pub root : Branch
   pub next : ℕ
@@ -28,13 +29,13 @@ shape v = shape_of v.root
 abbrev pub IsReserved : Program → Shape → ℕ → Derivation → Option Ready → Type 0
 IsReserved program t next d None = ⊥
 IsReserved program t next d (Some r) =
-    Moves program [] t d r.action (shape_of r.branch) next r.next × IsDifference r.gone.items t (shape_of r.branch) ×
-    IsDifference r.came.items (shape_of r.branch) t
+    Moves program [] t d r.action (changed r.change t) next r.next × IsDifference r.gone.items t (changed r.change t) ×
+    IsDifference r.came.items (changed r.change t) t
 
--- this tree stands ready
-abbrev pub IsNext : Option Ready → Shape → Type 0
-IsNext None t = ⊥
-IsNext (Some r) t = t ≡ shape_of r.branch
+-- this tree is what the first becomes by the change that stands ready
+abbrev pub IsNext : Option Ready → Shape → Shape → Type 0
+IsNext None old new = ⊥
+IsNext (Some r) old new = new ≡ changed r.change old
 
 -- this action stands ready
 abbrev pub IsNextAction : Option Ready → Action → Type 0

@@ -7,15 +7,16 @@ ghost use Rattle.spec_core.specs.Ready.{IsReady};
 ghost use Rattle.rule_model.specs.Derivations.{derivation_of, both, enstep, enend, disstep, rel};
 ghost use Rattle.node_trees.specs.Constructs.{IsLeaf};
 ghost use Rattle.node_trees.specs.Shapes.{shape_of, over, between, hidden, relabelled, enabled, beside, disabling};
+ghost use Rattle.board_tree.specs.Changes.{changed};
 ghost use Rattle.board_tree.specs.Sides.{alone_at, hidden_action, hidden_by, joined_at, taken_by, taken_from};
 ghost use Rattle.board_tree.specs.Steps.{Moves};
 
+use crate::change::Change;
 use crate::leaf::{Advanced, advance_node};
 use crate::operators::{anew, enabling_end, relabelled_step, unsuited};
-use crate::side::{Side, Taking, joined};
-use node_trees::branch::{Branch, Double, Single};
+use crate::side::{Side, Taking, changed_at};
+use node_trees::branch::Branch;
 use node_trees::fresh::part_of;
-use node_trees::origin::copy_values;
 use rule_model::action::Action;
 use rule_model::rules::Rules;
 use spec_core::code::{Checked, GateSet};
@@ -24,8 +25,8 @@ use spec_core::memory::Memory;
 use spec_core::value::Value;
 use std::alloc::Global;
 
-/// The tree after the step by these rules: operators that stay keep their nodes, and what the step reaches has new ones. It recurs as deep
-/// as the operators nest.
+/// What the step by these rules changes of the tree: what stands in the place of a part has new nodes, and all else stays. It recurs as
+/// deep as the operators nest.
 #[cycle(advance)]
 pub fn advance(
     alloc: Global,
@@ -37,8 +38,8 @@ pub fn advance(
 ) -> Result<Advanced, Memory>
     requires ready { IsReady (program_of checked.now) }
     ensures { IfOk result (λ a.
-        Moves (program_of checked.now) place.now (shape_of branch.now) (derivation_of rules.now) a.action (shape_of a.branch.value) next
-        a.next) }
+        Moves (program_of checked.now) place.now (shape_of branch.now) (derivation_of rules.now) a.action
+        (changed a.change (shape_of branch.now)) next a.next) }
 {
     match branch.as_leaf() {
         Some(node) => advance_node(alloc, checked, node, rules, next, place),
@@ -46,7 +47,7 @@ pub fn advance(
     }
 }
 
-// The tree after the step, where it is no node. Each operator has a function of its own for each of its rules, so that the stack holds
+// What the step changes of a tree that is no node. Each operator has a function of its own for each of its rules, so that the stack holds
 // deep trees.
 #[cycle(advance)]
 #[inline(never)]
@@ -61,8 +62,8 @@ fn advance_operator(
     requires ready { IsReady (program_of checked.now) }
     requires operator { IsLeaf (shape_of branch.now) → ⊥ }
     ensures { IfOk result (λ a.
-        Moves (program_of checked.now) place.now (shape_of branch.now) (derivation_of rules.now) a.action (shape_of a.branch.value) next
-        a.next) }
+        Moves (program_of checked.now) place.now (shape_of branch.now) (derivation_of rules.now) a.action
+        (changed a.change (shape_of branch.now)) next a.next) }
 {
     match rules {
         Rules::Pre(_) => return unsuited(alloc, checked, branch, rules, next, place),
@@ -229,11 +230,11 @@ fn taken_over(
     requires shape { shape_of branch.now ≡ taken_from taking (shape_of part.now) (shape_of other.now) }
     ensures { IfOk result (λ a.
         Moves (program_of checked.now) place.now (shape_of branch.now) (taken_by taking (derivation_of d.now)) a.action
-        (shape_of a.branch.value) next a.next) }
+        (changed a.change (shape_of branch.now)) next a.next) }
 {
     let inner = part_of(alloc, place, taking.part())?;
     let one = advance(alloc, checked, part, d, next, &inner)?;
-    let done = anew(alloc, checked, one, place)?;
+    let done = anew(alloc, checked, branch, part, one, place)?;
     Ok(done)
 }
 
@@ -256,21 +257,19 @@ fn one_side(
     requires shape { shape_of branch.now ≡ joined_at side (beside (synchronised_of gates.now)) (shape_of part.now) (shape_of other.now) }
     ensures { IfOk result (λ a.
         Moves (program_of checked.now) place.now (shape_of branch.now) (alone_at side (derivation_of d.now)) a.action
-        (shape_of a.branch.value) next a.next) }
+        (changed a.change (shape_of branch.now)) next a.next) }
 {
     let inner = part_of(alloc, place, side.part())?;
     let one = advance(alloc, checked, part, d, next, &inner)?;
     let Advanced {
         action,
-        branch: one,
+        change: one,
         next,
     } = one;
-    let other = other.copy(alloc)?;
-    let operator = Double::Par(gates.copy(alloc)?);
-    let after = joined(alloc, operator, side, one, other)?;
+    let change = changed_at(alloc, side, one)?;
     Ok(Advanced {
         action,
-        branch: after,
+        change,
         next,
     })
 }
@@ -294,7 +293,7 @@ fn both_together(
     requires shape { shape_of branch.now ≡ between (beside (synchronised_of gates.now)) (shape_of left.now) (shape_of right.now) }
     ensures { IfOk result (λ a.
         Moves (program_of checked.now) place.now (shape_of branch.now) (both (derivation_of d.now) (derivation_of e.now)) a.action
-        (shape_of a.branch.value) next a.next) }
+        (changed a.change (shape_of branch.now)) next a.next) }
 {
     let first = part_of(alloc, place, 0)?;
     let second = part_of(alloc, place, 1)?;
@@ -302,19 +301,18 @@ fn both_together(
     let two = advance(alloc, checked, right, e, one.next, &second)?;
     let Advanced {
         action,
-        branch: left,
+        change: first,
         next: _,
     } = one;
     let Advanced {
         action: _,
-        branch: right,
+        change: second,
         next,
     } = two;
-    let operator = Double::Par(gates.copy(alloc)?);
-    let after = Branch::between(alloc, operator, left, right)?;
+    let change = Change::between(alloc, first, second)?;
     Ok(Advanced {
         action,
-        branch: after,
+        change,
         next,
     })
 }
@@ -337,20 +335,19 @@ fn hiding_step(
     requires shape { shape_of branch.now ≡ over (hidden (map gate_number gates.now)) (shape_of part.now) }
     ensures { IfOk result (λ a.
         Moves (program_of checked.now) place.now (shape_of branch.now) (hidden_by hides (derivation_of d.now)) a.action
-        (shape_of a.branch.value) next a.next) }
+        (changed a.change (shape_of branch.now)) next a.next) }
 {
     let inner = part_of(alloc, place, 0)?;
     let one = advance(alloc, checked, part, d, next, &inner)?;
     let Advanced {
         action,
-        branch: one,
+        change: one,
         next,
     } = one;
-    let operator = Single::Hide(Vec::from_slice(alloc, gates)?);
-    let after = Branch::over(alloc, operator, one)?;
+    let change = Change::over(alloc, one)?;
     Ok(Advanced {
         action: seen(hides, action),
-        branch: after,
+        change,
         next,
     })
 }
@@ -373,27 +370,20 @@ fn enabling_step(
     requires ready { IsReady (program_of checked.now) }
     requires shape { shape_of branch.now ≡ over (enabled (map variable_of vars.now) right values.now) (shape_of part.now) }
     ensures { IfOk result (λ a.
-        Moves (program_of checked.now) place.now (shape_of branch.now) (enstep (derivation_of d.now)) a.action (shape_of a.branch.value)
-        next a.next) }
+        Moves (program_of checked.now) place.now (shape_of branch.now) (enstep (derivation_of d.now)) a.action
+        (changed a.change (shape_of branch.now)) next a.next) }
 {
     let inner = part_of(alloc, place, 0)?;
     let one = advance(alloc, checked, part, d, next, &inner)?;
     let Advanced {
         action,
-        branch: one,
+        change: one,
         next,
     } = one;
-    let vars = Vec::from_slice(alloc, vars)?;
-    let values = copy_values(alloc, values)?;
-    let operator = Single::Enable {
-        vars,
-        right,
-        values,
-    };
-    let after = Branch::over(alloc, operator, one)?;
+    let change = Change::over(alloc, one)?;
     Ok(Advanced {
         action,
-        branch: after,
+        change,
         next,
     })
 }
@@ -416,8 +406,8 @@ fn enabling_ends(
     requires ready { IsReady (program_of checked.now) }
     requires shape { shape_of branch.now ≡ over (enabled (map variable_of vars.now) right values.now) (shape_of part.now) }
     ensures { IfOk result (λ a.
-        Moves (program_of checked.now) place.now (shape_of branch.now) (enend (derivation_of d.now)) a.action (shape_of a.branch.value)
-        next a.next) }
+        Moves (program_of checked.now) place.now (shape_of branch.now) (enend (derivation_of d.now)) a.action
+        (changed a.change (shape_of branch.now)) next a.next) }
 {
     let inner = part_of(alloc, place, 0)?;
     let one = advance(alloc, checked, part, d, next, &inner)?;
@@ -442,21 +432,20 @@ fn disabling_step(
     requires ready { IsReady (program_of checked.now) }
     requires shape { shape_of branch.now ≡ between disabling (shape_of left.now) (shape_of right.now) }
     ensures { IfOk result (λ a.
-        Moves (program_of checked.now) place.now (shape_of branch.now) (disstep (derivation_of d.now)) a.action (shape_of a.branch.value)
-        next a.next) }
+        Moves (program_of checked.now) place.now (shape_of branch.now) (disstep (derivation_of d.now)) a.action
+        (changed a.change (shape_of branch.now)) next a.next) }
 {
     let inner = part_of(alloc, place, 0)?;
     let one = advance(alloc, checked, left, d, next, &inner)?;
     let Advanced {
         action,
-        branch: one,
+        change: one,
         next,
     } = one;
-    let right = right.copy(alloc)?;
-    let after = Branch::between(alloc, Double::Disable, one, right)?;
+    let change = Change::between(alloc, one, Change::Stays)?;
     Ok(Advanced {
         action,
-        branch: after,
+        change,
         next,
     })
 }
@@ -477,8 +466,8 @@ fn relabelling_step(
     requires ready { IsReady (program_of checked.now) }
     requires shape { shape_of branch.now ≡ over (relabelled (map relabelling_of pairs.now)) (shape_of part.now) }
     ensures { IfOk result (λ a.
-        Moves (program_of checked.now) place.now (shape_of branch.now) (rel (derivation_of d.now)) a.action (shape_of a.branch.value) next
-        a.next) }
+        Moves (program_of checked.now) place.now (shape_of branch.now) (rel (derivation_of d.now)) a.action
+        (changed a.change (shape_of branch.now)) next a.next) }
 {
     let inner = part_of(alloc, place, 0)?;
     let one = advance(alloc, checked, part, d, next, &inner)?;

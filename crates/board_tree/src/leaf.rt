@@ -8,8 +8,10 @@ ghost use Rattle.node_trees.specs.Generations.{IsFresh};
 ghost use Rattle.node_trees.specs.Origins.{source_of, meaning};
 ghost use Rattle.node_trees.specs.Rests.{way_of, expansion_of, rows_of, slots_of, Fills};
 ghost use Rattle.node_trees.specs.Shapes.{shape_of, held_of, leaf};
+ghost use Rattle.board_tree.specs.Changes.{changed};
 ghost use Rattle.board_tree.specs.Steps.{Acts, Moves};
 
+use crate::change::Change;
 use node_trees::branch::Branch;
 use node_trees::expansion::{Alternative, Expansion};
 use node_trees::fresh::{Fresh, nothing};
@@ -23,21 +25,29 @@ use spec_core::code::Checked;
 use spec_core::memory::Memory;
 use std::alloc::Global;
 
-/// What is done, the tree after it, and the next generation.
+/// What is done, the tree that then stands in the place of what acted, and the next generation.
 #[derive(Drop)]
-pub struct Advanced {
+pub struct Replaced {
     pub action: Action,
     pub branch: Box<Branch>,
     pub next: u128,
 }
 
+/// What is done, what it changes of the tree, and the next generation.
+#[derive(Drop)]
+pub struct Advanced {
+    pub action: Action,
+    pub change: Change,
+    pub next: u128,
+}
+
 /// What comes of a tree of rules by which there is no step: nothing is said of it.
 #[inline(never)]
-pub fn no_step(alloc: Global, next: u128, place: &[u32]) -> Result<Advanced, Memory>
+pub fn no_step(alloc: Global, next: u128, place: &[u32]) -> Result<Replaced, Memory>
     ensures fresh { IfOk result (λ a. IsFresh place.now next a.next (shape_of a.branch.value)) }
 {
     let Fresh { branch, next } = nothing(alloc, next, place)?;
-    Ok(Advanced {
+    Ok(Replaced {
         action: Action::Inner,
         branch,
         next,
@@ -75,7 +85,7 @@ fn acted(
     slots: &[Slot],
     next: u128,
     place: &[u32],
-) -> Result<Advanced, Memory>
+) -> Result<Replaced, Memory>
     requires ready { IsReady (program_of checked.now) }
     requires slots { slots.now ≡ slots_of (derivation_of rules.now) }
     requires fills { Fills (way_of way.now).rules (derivation_of rules.now) }
@@ -86,7 +96,7 @@ fn acted(
 {
     let action = done_in(alloc, slots, &way.action)?;
     let Fresh { branch, next } = unfolded_rest(alloc, checked, slots, &way.rest, next, place)?;
-    Ok(Advanced {
+    Ok(Replaced {
         action,
         branch,
         next,
@@ -105,7 +115,7 @@ fn acted_by(
     slots: &[Slot],
     next: u128,
     place: &[u32],
-) -> Result<Advanced, Memory>
+) -> Result<Replaced, Memory>
     requires ready { IsReady (program_of checked.now) }
     requires rows { rows.now ≡ rows_of (derivation_of rules.now) }
     requires slots { slots.now ≡ slots_of (derivation_of rules.now) }
@@ -142,7 +152,7 @@ fn advance_expanded(
     rules: &Rules,
     next: u128,
     place: &[u32],
-) -> Result<Advanced, Memory>
+) -> Result<Replaced, Memory>
     requires ready { IsReady (program_of checked.now) }
     requires work { (held_of node.now).work ≡ Some (expansion_of expansion.now) }
     ensures moves { IfOk result (λ a.
@@ -161,16 +171,15 @@ fn advance_expanded(
     Ok(done)
 }
 
-/// The node after a step: what is left of it, unfolded into nodes that wait.
-#[inline(never)]
-pub fn advance_node(
+// The node after a step: what is left of it, unfolded into nodes that wait.
+fn node_step(
     alloc: Global,
     checked: &Checked,
     node: &Node,
     rules: &Rules,
     next: u128,
     place: &[u32],
-) -> Result<Advanced, Memory>
+) -> Result<Replaced, Memory>
     requires ready { IsReady (program_of checked.now) }
     ensures moves { IfOk result (λ a.
         Moves (program_of checked.now) place.now (leaf (held_of node.now)) (derivation_of rules.now) a.action (shape_of a.branch.value) next
@@ -183,4 +192,31 @@ pub fn advance_node(
         }
         Some(expansion) => advance_expanded(alloc, checked, node, expansion, rules, next, place),
     }
+}
+
+/// The node after a step: what is left of it, unfolded into nodes that wait, stands in its place.
+#[inline(never)]
+pub fn advance_node(
+    alloc: Global,
+    checked: &Checked,
+    node: &Node,
+    rules: &Rules,
+    next: u128,
+    place: &[u32],
+) -> Result<Advanced, Memory>
+    requires ready { IsReady (program_of checked.now) }
+    ensures moves { IfOk result (λ a.
+        Moves (program_of checked.now) place.now (leaf (held_of node.now)) (derivation_of rules.now) a.action
+        (changed a.change (leaf (held_of node.now))) next a.next) }
+{
+    let Replaced {
+        action,
+        branch,
+        next,
+    } = node_step(alloc, checked, node, rules, next, place)?;
+    Ok(Advanced {
+        action,
+        change: Change::Becomes(branch),
+        next,
+    })
 }

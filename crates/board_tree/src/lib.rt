@@ -2,6 +2,7 @@
 #![tactic(auto)]
 
 mod advance;
+pub mod change;
 mod leaf;
 mod operators;
 pub mod ready;

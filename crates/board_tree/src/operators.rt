@@ -4,14 +4,17 @@ ghost use Rattle.std.specs.Prelude.{◌≡◌, ◌++◌, ◌∷◌, [], IfOk, ma
 ghost use Rattle.spec_core.specs.Code.{program_of, variable_of, relabelling_of};
 ghost use Rattle.spec_core.specs.Ready.{IsReady};
 ghost use Rattle.rule_model.specs.Derivations.{derivation_of, enend, rel};
+ghost use Rattle.rule_model.specs.Substitution.{tidied};
 ghost use Rattle.rule_origins.specs.Values.{values_for};
 ghost use Rattle.node_trees.specs.Constructs.{IsLeaf, IsTidy};
 ghost use Rattle.node_trees.specs.Generations.{IsFresh};
 ghost use Rattle.node_trees.specs.Shapes.{shape_of, stands_for, over, relabelled, enabled};
+ghost use Rattle.board_tree.specs.Changes.{changed};
 ghost use Rattle.board_tree.specs.Steps.{Moves, Suits};
 
-use crate::leaf::{Advanced, no_step};
-use node_trees::branch::{Branch, Single};
+use crate::change::Change;
+use crate::leaf::{Advanced, Replaced, no_step};
+use node_trees::branch::Branch;
 use node_trees::fresh::Fresh;
 use node_trees::origin::copy_values;
 use node_trees::renew::{renewed, tidied_branch};
@@ -38,38 +41,97 @@ pub fn unsuited(
     requires operator { IsLeaf (shape_of branch.now) → ⊥ }
     requires unsuited { Suits (derivation_of rules.now) (shape_of branch.now) → ⊥ }
     ensures moves { IfOk result (λ a.
-        Moves (program_of checked.now) place.now (shape_of branch.now) (derivation_of rules.now) a.action (shape_of a.branch.value) next
-        a.next) }
+        Moves (program_of checked.now) place.now (shape_of branch.now) (derivation_of rules.now) a.action
+        (changed a.change (shape_of branch.now)) next a.next) }
 {
-    let done = no_step(alloc, next, place)?;
-    Ok(done)
+    let Replaced {
+        action,
+        branch: after,
+        next,
+    } = no_step(alloc, next, place)?;
+    Ok(Advanced {
+        action,
+        change: Change::Becomes(after),
+        next,
+    })
 }
 
-/// What a part becomes, with new nodes.
+// The part after its change, with new nodes.
+fn renewed_after(
+    alloc: Global,
+    checked: &Checked,
+    change: &Change,
+    part: &Branch,
+    next: u128,
+    place: &[u32],
+) -> Result<Fresh, Memory>
+    ensures stands { IfOk result (λ f.
+        stands_for (program_of checked.now) (shape_of f.branch.value) ≡
+        stands_for (program_of checked.now) (changed change.now (shape_of part.now))) }
+    ensures fresh { IfOk result (λ f. IsFresh place.now next f.next (shape_of f.branch.value)) }
+{
+    match change {
+        Change::Becomes(new) => renewed(alloc, checked, new, next, place),
+        Change::Stays | Change::Over(_) | Change::Between(_, _) => {
+            let whole = change.made(alloc, part)?;
+            renewed(alloc, checked, &whole, next, place)
+        }
+    }
+}
+
+// The part after its change, with new nodes, under a relabelling, tidied.
+fn tidied_after(
+    alloc: Global,
+    checked: &Checked,
+    pairs: &[(Gate, Gate)],
+    change: &Change,
+    part: &Branch,
+    next: u128,
+    place: &[u32],
+) -> Result<Fresh, Memory>
+    requires ready { IsReady (program_of checked.now) }
+    ensures stands { IfOk result (λ f.
+        stands_for (program_of checked.now) (shape_of f.branch.value) ≡
+        tidied (map relabelling_of pairs.now) (stands_for (program_of checked.now) (changed change.now (shape_of part.now)))) }
+    ensures fresh { IfOk result (λ f. IsFresh place.now next f.next (shape_of f.branch.value)) }
+{
+    match change {
+        Change::Becomes(new) => tidied_branch(alloc, checked, pairs, new, next, place),
+        Change::Stays | Change::Over(_) | Change::Between(_, _) => {
+            let whole = change.made(alloc, part)?;
+            tidied_branch(alloc, checked, pairs, &whole, next, place)
+        }
+    }
+}
+
+/// An operator of which a part is left: what the part becomes, with new nodes.
 #[inline(never)]
 pub fn anew(
     alloc: Global,
     checked: &Checked,
+    branch: &Branch,
+    part: &Branch,
     one: Advanced,
     place: &[u32],
 ) -> Result<Advanced, Memory>
     ensures action { IfOk result (λ a. a.action ≡ one.action) }
     ensures stands { IfOk result (λ a.
-        stands_for (program_of checked.now) (shape_of a.branch.value) ≡ stands_for (program_of checked.now) (shape_of one.branch.value)) }
-    ensures fresh { IfOk result (λ a. IsFresh place.now one.next a.next (shape_of a.branch.value)) }
+        stands_for (program_of checked.now) (changed a.change (shape_of branch.now)) ≡
+        stands_for (program_of checked.now) (changed one.change (shape_of part.now))) }
+    ensures fresh { IfOk result (λ a. IsFresh place.now one.next a.next (changed a.change (shape_of branch.now))) }
 {
     let Advanced {
         action,
-        branch,
+        change,
         next,
     } = one;
     let Fresh {
         branch: after,
         next: high,
-    } = renewed(alloc, checked, &branch, next, place)?;
+    } = renewed_after(alloc, checked, &change, part, next, place)?;
     Ok(Advanced {
         action,
-        branch: after,
+        change: Change::Becomes(after),
         next: high,
     })
 }
@@ -92,33 +154,32 @@ pub fn relabelled_step(
     requires inner { inner.now ≡ place.now ++ 0 ∷ [] }
     requires shape { shape_of branch.now ≡ over (relabelled (map relabelling_of pairs.now)) (shape_of part.now) }
     requires moves { Moves (program_of checked.now) inner.now (shape_of part.now) (derivation_of d.now) one.action
-        (shape_of one.branch.value) low one.next }
+        (changed one.change (shape_of part.now)) low one.next }
     ensures { IfOk result (λ a.
-        Moves (program_of checked.now) place.now (shape_of branch.now) (rel (derivation_of d.now)) a.action (shape_of a.branch.value) low
-        a.next) }
+        Moves (program_of checked.now) place.now (shape_of branch.now) (rel (derivation_of d.now)) a.action
+        (changed a.change (shape_of branch.now)) low a.next) }
 {
-    let stays = one.branch.is_tidy();
+    let stays = one.change.is_tidy(part);
     let Advanced {
         action,
-        branch: one,
+        change,
         next,
     } = one;
     if stays {
-        let operator = Single::Relabel(Vec::from_slice(alloc, pairs)?);
-        let after = Branch::over(alloc, operator, one)?;
+        let change = Change::over(alloc, change)?;
         return Ok(Advanced {
             action: renamed(pairs, action),
-            branch: after,
+            change,
             next,
         });
     }
     let Fresh {
         branch: after,
         next: high,
-    } = tidied_branch(alloc, checked, pairs, &one, next, place)?;
+    } = tidied_after(alloc, checked, pairs, &change, part, next, place)?;
     Ok(Advanced {
         action: renamed(pairs, action),
-        branch: after,
+        change: Change::Becomes(after),
         next: high,
     })
 }
@@ -159,7 +220,60 @@ fn handed_on(
     Ok(all)
 }
 
+// What stands in the place of an enabling whose left side terminates: the right side, with the values that are handed on.
+fn right_side(
+    alloc: Global,
+    checked: &Checked,
+    branch: &Branch,
+    part: &Branch,
+    vars: &[(u32, Sort)],
+    right: u32,
+    values: &[(u32, Value)],
+    d: &Rules,
+    one: Advanced,
+    low: u128,
+    inner: &[u32],
+    place: &[u32],
+) -> Result<Replaced, Memory>
+    requires ready { IsReady (program_of checked.now) }
+    requires shape { shape_of branch.now ≡ over (enabled (map variable_of vars.now) right values.now) (shape_of part.now) }
+    requires moves { Moves (program_of checked.now) inner.now (shape_of part.now) (derivation_of d.now) one.action
+        (changed one.change (shape_of part.now)) low one.next }
+    ensures { IfOk result (λ a.
+        Moves (program_of checked.now) place.now (shape_of branch.now) (enend (derivation_of d.now)) a.action (shape_of a.branch.value) low
+        a.next) }
+{
+    let Advanced {
+        action,
+        change: _,
+        next,
+    } = one;
+    match action {
+        Action::Exit(handed) => {
+            let all = handed_on(alloc, values, vars, handed.as_slice())?;
+            let Fresh {
+                branch: after,
+                next: high,
+            } = unfold(alloc, checked, right, &all, next, place)?;
+            Ok(Replaced {
+                action: Action::Inner,
+                branch: after,
+                next: high,
+            })
+        }
+        Action::Inner => {
+            let done = no_step(alloc, next, place)?;
+            Ok(done)
+        }
+        Action::At(_, _) => {
+            let done = no_step(alloc, next, place)?;
+            Ok(done)
+        }
+    }
+}
+
 /// An enabling whose left side terminates: the right side begins, with the values that are handed on.
+#[inline(never)]
 pub fn enabling_end(
     alloc: Global,
     checked: &Checked,
@@ -177,36 +291,21 @@ pub fn enabling_end(
     requires ready { IsReady (program_of checked.now) }
     requires shape { shape_of branch.now ≡ over (enabled (map variable_of vars.now) right values.now) (shape_of part.now) }
     requires moves { Moves (program_of checked.now) inner.now (shape_of part.now) (derivation_of d.now) one.action
-        (shape_of one.branch.value) low one.next }
+        (changed one.change (shape_of part.now)) low one.next }
     ensures { IfOk result (λ a.
-        Moves (program_of checked.now) place.now (shape_of branch.now) (enend (derivation_of d.now)) a.action (shape_of a.branch.value) low
-        a.next) }
+        Moves (program_of checked.now) place.now (shape_of branch.now) (enend (derivation_of d.now)) a.action
+        (changed a.change (shape_of branch.now)) low a.next) }
 {
-    let Advanced {
+    let Replaced {
         action,
-        branch: _,
+        branch: after,
         next,
-    } = one;
-    match action {
-        Action::Exit(handed) => {
-            let all = handed_on(alloc, values, vars, handed.as_slice())?;
-            let Fresh {
-                branch: after,
-                next: high,
-            } = unfold(alloc, checked, right, &all, next, place)?;
-            Ok(Advanced {
-                action: Action::Inner,
-                branch: after,
-                next: high,
-            })
-        }
-        Action::Inner => {
-            let done = no_step(alloc, next, place)?;
-            Ok(done)
-        }
-        Action::At(_, _) => {
-            let done = no_step(alloc, next, place)?;
-            Ok(done)
-        }
-    }
+    } = right_side(
+        alloc, checked, branch, part, vars, right, values, d, one, low, inner, place,
+    )?;
+    Ok(Advanced {
+        action,
+        change: Change::Becomes(after),
+        next,
+    })
 }

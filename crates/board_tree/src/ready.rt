@@ -1,17 +1,19 @@
-// A tree that stands ready.
+// What stands ready for a step.
 
 ghost use Rattle.std.specs.Prelude.{◌≡◌, [], IfOk};
 ghost use Rattle.spec_core.specs.Code.{program_of};
 ghost use Rattle.spec_core.specs.Ready.{IsReady};
 ghost use Rattle.rule_model.specs.Derivations.{derivation_of};
 ghost use Rattle.node_trees.specs.Differences.{IsDifference};
+ghost use Rattle.node_trees.specs.Generations.{IsSound};
 ghost use Rattle.node_trees.specs.Shapes.{shape_of};
+ghost use Rattle.board_tree.specs.Changes.{changed};
 ghost use Rattle.board_tree.specs.Steps.{Moves};
 
 use crate::advance::advance;
+use crate::change::Change;
 use crate::leaf::Advanced;
 use node_trees::branch::Branch;
-use node_trees::find::difference;
 use node_trees::origin::Gen;
 use rule_model::action::Action;
 use rule_model::rules::Rules;
@@ -19,42 +21,42 @@ use spec_core::code::Checked;
 use spec_core::memory::Memory;
 use std::alloc::Global;
 
-/// The next tree, the action that leads to it, the next generation then, and the generations that end and begin.
+/// What the next step changes of the tree, its action, the next generation then, and the generations that end and begin.
 #[derive(Drop)]
 pub struct Ready {
-    pub branch: Branch,
+    pub change: Change,
     pub action: Action,
     pub next: u128,
     pub gone: Vec<Gen>,
     pub came: Vec<Gen>,
 }
 
-/// What a tree is after a step: its operators and nodes, the next generation, and the generations that ended and began.
+/// What a step makes of a tree: what it changes, the next generation, and the generations that end and begin.
 #[derive(Drop)]
 pub struct After {
-    pub branch: Branch,
+    pub change: Change,
     pub next: u128,
     pub gone: Vec<Gen>,
     pub came: Vec<Gen>,
 }
 
 impl Ready {
-    /// What the tree is after the step. It takes no memory.
+    /// What the step makes of the tree. It takes no memory.
     pub fn into_after(self) -> After
-        ensures branch { result.branch ≡ self.branch }
+        ensures change { result.change ≡ self.change }
         ensures next { result.next ≡ self.next }
         ensures gone { result.gone ≡ self.gone }
         ensures came { result.came ≡ self.came }
     {
         let Ready {
-            branch,
+            change,
             action: _,
             next,
             gone,
             came,
         } = self;
         After {
-            branch,
+            change,
             next,
             gone,
             came,
@@ -62,7 +64,8 @@ impl Ready {
     }
 }
 
-/// What stands ready for the step by these rules.
+/// What stands ready for the step by these rules. The generations that end and begin are so where no two nodes of the tree have one, and
+/// each is below the next one.
 pub fn ready_for(
     alloc: Global,
     checked: &Checked,
@@ -72,21 +75,24 @@ pub fn ready_for(
 ) -> Result<Ready, Memory>
     requires ready { IsReady (program_of checked.now) }
     ensures moved { IfOk result (λ r.
-        Moves (program_of checked.now) [] (shape_of branch.now) (derivation_of rules.now) r.action (shape_of r.branch) next r.next) }
-    ensures gone { IfOk result (λ r. IsDifference r.gone.items (shape_of branch.now) (shape_of r.branch)) }
-    ensures came { IfOk result (λ r. IsDifference r.came.items (shape_of r.branch) (shape_of branch.now)) }
+        Moves (program_of checked.now) [] (shape_of branch.now) (derivation_of rules.now) r.action (changed r.change (shape_of branch.now))
+        next r.next) }
+    ensures gone { IfOk result (λ r. IsSound (shape_of branch.now) next →
+        IsDifference r.gone.items (shape_of branch.now) (changed r.change (shape_of branch.now))) }
+    ensures came { IfOk result (λ r. IsSound (shape_of branch.now) next →
+        IsDifference r.came.items (changed r.change (shape_of branch.now)) (shape_of branch.now)) }
 {
     let place = Vec::new(alloc);
     let Advanced {
         action,
-        branch: after,
+        change,
         next,
     } = advance(alloc, checked, branch, rules, next, &place)?;
-    let after = Box::into_inner(after);
-    let gone = difference(alloc, branch, &after)?;
-    let came = difference(alloc, &after, branch)?;
+    let mut gone = Vec::new(alloc);
+    let mut came = Vec::new(alloc);
+    change.put_differences(alloc, branch, &mut gone, &mut came)?;
     Ok(Ready {
-        branch: after,
+        change,
         action,
         next,
         gone,

@@ -1,10 +1,11 @@
 // Which part of an operator a rule is about, and what stays.
 
 ghost use Rattle.std.specs.Prelude.{◌≡◌, IfOk};
-ghost use Rattle.node_trees.specs.Shapes.{shape_of, binary_of};
+ghost use Rattle.node_trees.specs.Shapes.{Shape, Binary};
+ghost use Rattle.board_tree.specs.Changes.{changed};
 ghost use Rattle.board_tree.specs.Sides.{joined_at, part_at, part_taken};
 
-use node_trees::branch::{Branch, Double};
+use crate::change::Change;
 use spec_core::memory::Memory;
 use std::alloc::Global;
 
@@ -54,20 +55,14 @@ impl Taking {
     }
 }
 
-/// An operator over a part on this side and the other part.
+/// A change of the part of an operator on this side; the other part stays.
 #[inline(never)]
-pub fn joined(
-    alloc: Global,
-    operator: Double,
-    side: Side,
-    part: Box<Branch>,
-    other: Box<Branch>,
-) -> Result<Box<Branch>, Memory>
-    ensures made { IfOk result (λ t.
-        shape_of t.value ≡ joined_at side (binary_of operator) (shape_of part.value) (shape_of other.value)) }
+pub fn changed_at(alloc: Global, side: Side, part: Change) -> Result<Change, Memory>
+    ensures made { IfOk result (λ c. (o : Binary) (x y : Shape) →
+        changed c (joined_at side o x y) ≡ joined_at side o (changed part x) y) }
 {
     match side {
-        Side::Left => Branch::between(alloc, operator, part, other),
-        Side::Right => Branch::between(alloc, operator, other, part),
+        Side::Left => Change::between(alloc, part, Change::Stays),
+        Side::Right => Change::between(alloc, Change::Stays, part),
     }
 }

@@ -187,17 +187,18 @@ impl Tree {
         requires reserved { IsReserved (program_of checked.now) (shape self.old) self.old.next (derivation_of rules.now) self.old.ready }
         ensures step { IsStep (program_of checked.now) (shape self.old) self.old.next (derivation_of rules.now) (shape self.new)
             self.new.next self.new.gone self.new.came }
-        ensures next { IsNext self.old.ready (shape self.new) }
+        ensures next { IsNext self.old.ready (shape self.old) (shape self.new) }
     {
         match self.ready.take() {
             Some(ready) => {
                 let After {
-                    branch,
+                    change,
                     next,
                     gone,
                     came,
                 } = ready.into_after();
-                self.root = branch;
+                let mut change = change;
+                change.put_in(&mut self.root);
                 self.next = next;
                 self.gone = gone;
                 self.came = came;

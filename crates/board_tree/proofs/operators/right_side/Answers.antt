@@ -1,11 +1,12 @@
 use Rattle.std.proofs.Common.{rules}
 use Rattle.spec_core.specs.Code.{program_of}
 use Rattle.board_tree.proofs.Moving.{moves_enabled, moves_unended, never_ends}
-use Rattle.board_tree.proofs.operators.enabling_end.Goals as goal
+use Rattle.board_tree.proofs.operators.right_side.Goals as goal
 
 pub returns-in-Exit : goal.returns-in-Exit
 returns-in-Exit c =
-    moves_enabled _ _ _ _ _ _ _ _ _ _ _ _ _ _ _ c.in-Exit.handed c.requires.shape c.requires.moves (search rules) (search rules) (search rules)
+    moves_enabled _ _ _ _ _ _ _ _ _ _ _ _ _ _ _ c.in-Exit.handed c.requires.shape c.requires.moves
+    (search rules) (search rules) (search rules)
 
 pub returns-in-Inner : goal.returns-in-Inner
 returns-in-Inner c =
