@@ -19,6 +19,34 @@ use candidates::job::NodeJob;
 use spec_core::memory::Memory;
 use std::alloc::Global;
 
+/// How many other jobs may be done with the next one, where that is of this kind: to find what a node shows, or to expand one.
+#[derive(Clone, Copy)]
+pub struct More {
+    pub verdicts: bool,
+    pub count: usize,
+}
+
+impl More {
+    /// None.
+    pub fn none() -> More
+        ensures none { result.count ≡ 0 }
+    {
+        More {
+            verdicts: false,
+            count: 0,
+        }
+    }
+
+    // How many with a job of this kind.
+    fn with(self, verdicts: bool) -> usize {
+        if self.verdicts == verdicts {
+            self.count
+        } else {
+            0
+        }
+    }
+}
+
 // What comes of a job of the board.
 fn found(alloc: Global, board: &Board, job: &Job) -> Result<Outcome, Memory>
     requires values { IsOfValues (program board.now) job.now }
@@ -63,39 +91,44 @@ fn try_work(alloc: Global, board: &mut Board, job: Job) -> Result<(), Memory>
     hand_in(alloc, board, job, outcome)
 }
 
-// Tries those of the jobs that are to find what a node shows.
-fn try_verdicts(alloc: Global, board: &mut Board, jobs: Vec<Job>) -> Result<(), Memory>
+// Tries those of the jobs that are to find what a node shows, or those that aren't.
+fn try_those(alloc: Global, board: &mut Board, verdicts: bool, jobs: Vec<Job>) -> Result<(), Memory>
     requires values { Each (IsOfValues (program board.old)) jobs.items }
     ensures handed { HandsIn board.old board.new }
 {
     let mut jobs = jobs;
     while let Some(job) = jobs.pop() {
-        if is_verdict(&job) {
+        if is_verdict(&job) == verdicts {
             try_work(alloc, board, job)?;
         }
     }
     Ok(())
 }
 
-/// Does a job at once, whose tree of rules, if it has one, chooses values, and hands in what came of it. Where the job is to find what a node
-/// shows, it then does other such jobs that the rules need, at most `more`, and hands in what is found: where one of these has no answer
-/// nothing changes. It answers how many more may be done with the next job, if no entry comes before: one more than twice as many, and at
-/// most 255, or none behind an expansion.
-pub fn work_on(alloc: Global, board: &mut Board, job: Job, more: usize) -> Result<usize, Memory>
+// Does other jobs of a kind that the rules need, at most so many.
+#[tactic(auto, using(crate::proofs::Handing::nothing_handed))]
+fn try_more(alloc: Global, board: &mut Board, verdicts: bool, count: usize) -> Result<(), Memory>
+    ensures handed { HandsIn board.old board.new }
+{
+    if count == 0 {
+        return Ok(());
+    }
+    let jobs = board.next_jobs(alloc, count)?;
+    try_those(alloc, board, verdicts, jobs)
+}
+
+/// Does a job at once, whose tree of rules, if it has one, chooses values, and hands in what came of it. Where `more` is of its kind, it then
+/// does so many others of this kind that the rules need, at most, and hands in what is found: where one has no answer nothing changes. It
+/// answers how many more may be done with the next job, if no entry comes before: one more than twice as many, and at most 255.
+pub fn work_on(alloc: Global, board: &mut Board, job: Job, more: More) -> Result<More, Memory>
     requires values { IsOfValues (program board.old) job }
     ensures handed { HandsIn board.old board.new }
-    ensures next { IfOk result (λ next. next ≤ 255) }
+    ensures next { IfOk result (λ next. next.count ≤ 255) }
 {
-    let verdict = is_verdict(&job);
+    let verdicts = is_verdict(&job);
+    let count = more.with(verdicts);
     work(alloc, board, job)?;
-    if !verdict {
-        return Ok(0);
-    }
-    let jobs = board.next_jobs(alloc, more)?;
-    try_verdicts(alloc, board, jobs)?;
-    if more < 127 {
-        Ok(more * 2 + 1)
-    } else {
-        Ok(255)
-    }
+    try_more(alloc, board, verdicts, count)?;
+    let count = if count < 127 { count * 2 + 1 } else { 255 };
+    Ok(More { verdicts, count })
 }

@@ -1,7 +1,8 @@
--- What stands first among what is sought, operator by operator.
+-- Which gaps stand first among what is sought, operator by operator.
 use Rattle.std.proofs.Common.{ℕ, ◌≡◌, ◌++◌, ◌||◌, ◌∙◌, List, [], ◌∷◌, map, filter, flat_map, refl, sym, ap, Bool, true, false, cond}
-use Rattle.std.proofs.Common.{if◌then◌else◌, Option, Some, None, subst, append_assoc}
+use Rattle.std.proofs.Common.{if◌then◌else◌, Option, Some, None, not, subst, append_assoc}
 use Rattle.std.proofs.lemmas.Bool.{and_parts}
+use Rattle.std.proofs.lemmas.List.{map-append, append-nil}
 use Rattle.std.proofs.lemmas.List.Concat.{flat_map-append}
 use Rattle.spec_core.specs.Theories.{Theory}
 use Rattle.spec_core.specs.Code.{Synchronised}
@@ -17,9 +18,7 @@ use Rattle.candidate_laws.proofs.Sought.{kinds_same, none_beside}
 use Rattle.node_trees.specs.declared.origin.Gen.{Gen}
 use Rattle.node_trees.specs.Rests.{Work}
 use Rattle.node_trees.specs.Shapes.{Shape, over, between, Unary, choosing, beside, disabling}
-use Rattle.candidate_composites.specs.declared.foremost.Foremost.{Foremost}
-use Rattle.candidate_composites.specs.declared.foremost.Foremost.TheVariants.{Gap, Nothing, Untold}
-use Rattle.candidate_composites.specs.Foremost.{IsForemost, are_alone}
+use Rattle.candidate_composites.specs.Foremost.{StandFirst, are_alone, gaps_of}
 use Rattle.candidate_composites.specs.Joining.{free}
 use Rattle.candidate_composites.specs.Kept.{is_kept}
 use Rattle.candidate_composites.specs.Known.{PlanOrGap, PlacedPlan, made, awaited, has_made, plans_sought, over_one, stepped, turned_there}
@@ -27,17 +26,22 @@ use Rattle.candidate_composites.specs.Known.{placed_alone, placed_at, placed_par
 use Rattle.candidate_composites.proofs.Those.{sift, fill, sift_turned, kind_of_either, same_either, partners_sought}
 use Rattle.candidate_composites.proofs.Kept.{alone_sifted, both_sifted, either_so, first_so, part_over}
 
--- with others in the places of elements
-pub foremost_filled : {A B : Type 0} (g : A → List (OrGap B)) (f : Foremost) (l : List (OrGap A)) → IsForemost f l →
-    IsForemost f (flat_map (in_its_place g) l)
-foremost_filled g (Gap n) l h = (flat_map (in_its_place g) h.0, ap (flat_map (in_its_place g)) h.1)
-foremost_filled g Nothing l h = ap (flat_map (in_its_place g)) h
-foremost_filled g Untold l h = tt
+-- gaps stay where others are put in the places of elements
+gaps_stay : {A B : Type 0} (g : A → List (OrGap B)) (gens : List Gen) → flat_map (in_its_place g) (gaps_of gens) ≡ gaps_of gens
+gaps_stay g [] = refl
+gaps_stay g (n ∷ gens) = ap (λ z. gap n.0 ∷ z) (gaps_stay g gens)
 
--- of two lists, one behind the other
+-- and so do gaps with others behind them
+behind_gaps : {A B : Type 0} (g : A → List (OrGap B)) (gens : List Gen) (l : List (OrGap A)) →
+    flat_map (in_its_place g) (gaps_of gens ++ l) ≡ gaps_of gens ++ flat_map (in_its_place g) l
+behind_gaps g gens l =
+    flat_map-append (in_its_place g) (gaps_of gens) l ∙ ap (λ z. z ++ flat_map (in_its_place g) l) (gaps_stay g gens)
 
 gap_there : {A : Type 0} (m n : ℕ) (k l : List (OrGap A)) → gap m ∷ k ≡ gap n ∷ l → m ≡ n
 gap_there m n k l e = cc
+
+behind_gap : {A : Type 0} (m n : ℕ) (k l : List (OrGap A)) → gap m ∷ k ≡ gap n ∷ l → k ≡ l
+behind_gap m n k l e = cc
 
 no_gap : {A : Type 0} (a : A) (n : ℕ) (k l : List (OrGap A)) → element a ∷ k ≡ gap n ∷ l → ⊥
 no_gap a n k l e = cc
@@ -45,27 +49,58 @@ no_gap a n k l e = cc
 none_there : {A : Type 0} (x : A) (l : List A) → x ∷ l ≡ [] → ⊥
 none_there x l e = cc
 
-pub both_filled : {A B : Type 0} (g h : A → List (OrGap B)) (f : Foremost) (l m : List (OrGap A)) → IsForemost f (l ++ m) →
-    IsForemost f (flat_map (in_its_place g) l ++ flat_map (in_its_place h) m)
-both_filled g h (Gap n) [] m i = (flat_map (in_its_place h) i.0, ap (flat_map (in_its_place h)) i.1)
-both_filled g h (Gap n) (gap k ∷ l) m i = (
-  flat_map (in_its_place g) l ++ flat_map (in_its_place h) m,
-  ap (λ z. gap z ∷ (flat_map (in_its_place g) l ++ flat_map (in_its_place h) m)) (gap_there k n.0 (l ++ m) i.0 i.1),
-)
-both_filled g h (Gap n) (element a ∷ l) m i = absurd (no_gap a n.0 (l ++ m) i.0 i.1)
-both_filled g h Nothing [] m i = ap (flat_map (in_its_place h)) i
-both_filled g h Nothing (x ∷ l) m i = absurd (none_there x (l ++ m) i)
-both_filled g h Untold l m i = tt
+-- what stands first in two lists, one behind the other, stands first where others are put in the places of elements
+pub both_filled : {A B : Type 0} (g h : A → List (OrGap B)) (alone : Bool) (gens : List Gen) (l m : List (OrGap A)) →
+    StandFirst alone gens (l ++ m) → StandFirst alone gens (flat_map (in_its_place g) l ++ flat_map (in_its_place h) m)
+both_filled g h true gens [] m i = ap (flat_map (in_its_place h)) i ∙ gaps_stay h gens
+both_filled g h true [] (x ∷ l) m i = absurd (none_there x (l ++ m) i)
+both_filled g h true (n ∷ gens) (gap k ∷ l) m i =
+    ap (λ z. gap z ∷ (flat_map (in_its_place g) l ++ flat_map (in_its_place h) m)) (gap_there k n.0 (l ++ m) (gaps_of gens) i)
+    ∙ ap (λ z. gap n.0 ∷ z) (both_filled g h true gens l m (behind_gap k n.0 (l ++ m) (gaps_of gens) i))
+both_filled g h true (n ∷ gens) (element a ∷ l) m i = absurd (no_gap a n.0 (l ++ m) (gaps_of gens) i)
+both_filled g h false [] l m i = (flat_map (in_its_place g) l ++ flat_map (in_its_place h) m, refl)
+both_filled g h false (n ∷ gens) [] m i =
+    (flat_map (in_its_place h) i.0, ap (flat_map (in_its_place h)) i.1 ∙ behind_gaps h (n ∷ gens) i.0)
+both_filled g h false (n ∷ gens) (gap k ∷ l) m i =
+    let so = both_filled g h false gens l m (i.0, behind_gap k n.0 (l ++ m) (gaps_of gens ++ i.0) i.1) in (
+      so.0,
+      ap (λ z. gap z ∷ (flat_map (in_its_place g) l ++ flat_map (in_its_place h) m)) (gap_there k n.0 (l ++ m) (gaps_of gens ++ i.0) i.1)
+          ∙ ap (λ z. gap n.0 ∷ z) so.1,
+    )
+both_filled g h false (n ∷ gens) (element a ∷ l) m i = absurd (no_gap a n.0 (l ++ m) (gaps_of gens ++ i.0) i.1)
 
--- a gap in front, or nothing told, stays so with more behind
-pub with_more : {A : Type 0} (f : Foremost) (l m : List (OrGap A)) → (f ≡ Nothing → ⊥) → IsForemost f l → IsForemost f (l ++ m)
-with_more (Gap n) l m e h = (h.0 ++ m, ap (λ z. z ++ m) h.1)
-with_more Nothing l m e h = absurd (e refl)
-with_more Untold l m e h = tt
+-- of one list
+pub filled : {A B : Type 0} (g : A → List (OrGap B)) (alone : Bool) (gens : List Gen) (l : List (OrGap A)) → StandFirst alone gens l →
+    StandFirst alone gens (flat_map (in_its_place g) l)
+filled g alone gens l h = both_filled g g alone gens [] l h
 
--- behind nothing
-pub behind_none : {A : Type 0} (f : Foremost) (l m : List (OrGap A)) → l ≡ [] → IsForemost f m → IsForemost f (l ++ m)
-behind_none f l m e h = subst (IsForemost f) (ap (λ z. z ++ m) (sym e)) h
+-- the same behind other gaps
+module _ {A B : Type 0} (g h : A → List (OrGap B)) (alone : Bool) (gens before : List Gen) where
+  pub filled_behind : (l : List (OrGap A)) → StandFirst alone gens (gaps_of before ++ l) →
+      StandFirst alone gens (gaps_of before ++ flat_map (in_its_place g) l)
+  filled_behind l i = subst (StandFirst alone gens) (behind_gaps g before l) (filled g alone gens (gaps_of before ++ l) i)
+
+  pub both_behind : (l m : List (OrGap A)) → StandFirst alone gens (gaps_of before ++ (l ++ m)) →
+      StandFirst alone gens (gaps_of before ++ (flat_map (in_its_place g) l ++ flat_map (in_its_place h) m))
+  both_behind l m i =
+      subst (StandFirst alone gens)
+      (ap (λ z. z ++ flat_map (in_its_place h) m) (behind_gaps g before l)
+      ∙ append_assoc (gaps_of before) (flat_map (in_its_place g) l) (flat_map (in_its_place h) m))
+      (both_filled g h alone gens (gaps_of before ++ l) m
+      (subst (StandFirst alone gens) (sym (append_assoc (gaps_of before) l m)) i))
+
+-- with more behind, which is looked at or not
+
+module _ {A : Type 0} (gens before : List Gen) (l m : List (OrGap A)) where
+  pub with_more : (alone : Bool) → StandFirst alone gens (gaps_of before ++ l) → StandFirst false gens (gaps_of before ++ (l ++ m))
+  with_more true i = (m, sym (append_assoc (gaps_of before) l m) ∙ ap (λ z. z ++ m) i)
+  with_more false i =
+      (i.0 ++ m, sym (append_assoc (gaps_of before) l m) ∙ ap (λ z. z ++ m) i.1 ∙ append_assoc (gaps_of gens) i.0 m)
+
+  pub and_behind : (alone : Bool) (more : List Gen) → StandFirst true gens (gaps_of before ++ l) →
+      StandFirst alone more (gaps_of gens ++ m) → StandFirst alone more (gaps_of before ++ (l ++ m))
+  and_behind alone more e i =
+      subst (StandFirst alone more) (ap (λ z. z ++ m) (sym e) ∙ append_assoc (gaps_of before) l m) i
 
 -- where nothing is sought there is nothing
 pub nothing_sought : (v : Sought) → seeks_some v ≡ false → (ps : List PlacedPlan) → sift v ps ≡ []
@@ -93,31 +128,36 @@ none_kept v (p ∷ ps) e = by_test (is_sought v p.kind) e (none_kept v ps)
 
 -- a node
 
-pub at_waiting : (v : Sought) (g : Gen) (work : Option Work) → work ≡ None → seeks_some v ≡ true →
-    IsForemost (Gap g) (sift v (placed_at g.0 work))
-at_waiting v g None e h = ([], ap (λ b. (if b then gap g.0 ∷ [] else []) ++ []) h)
-at_waiting v g (Some x) e h = let no : ⊥ = cc in absurd no
+pub at_waiting : (v : Sought) (gens : List Gen) (g : Gen) (work : Option Work) → work ≡ None → seeks_some v ≡ true →
+    StandFirst true (gens ++ g ∷ []) (gaps_of gens ++ sift v (placed_at g.0 work))
+at_waiting v gens g None e h =
+    ap (λ b. gaps_of gens ++ ((if b then gap g.0 ∷ [] else []) ++ [])) h ∙ sym (map-append (λ (n : Gen). gap n.0) gens (g ∷ []))
+at_waiting v gens g (Some x) e h = let no : ⊥ = cc in absurd no
+
+-- where nothing is found, the gaps are alone
+pub none_more : (gens : List Gen) (l : List PlanOrGap) → l ≡ [] → StandFirst true gens (gaps_of gens ++ l)
+none_more gens l e = ap (λ z. gaps_of gens ++ z) e ∙ append-nil (gaps_of gens)
+
+pub at_unsought : (v : Sought) (gens : List Gen) (ps : List PlacedPlan) → seeks_some v ≡ false →
+    StandFirst true gens (gaps_of gens ++ sift v ps)
+at_unsought v gens ps h = none_more gens (sift v ps) (nothing_sought v h ps)
 
 -- these are the plans of its expansion
 abbrev pub AreOf : List OpenPlan → Option Work → Type 0
 AreOf ps None = ⊥
 AreOf ps (Some work) = work.plans ≡ ps
 
-pub at_unsought : (v : Sought) (g : ℕ) (work : Option Work) → seeks_some v ≡ false → sift v (placed_at g work) ≡ []
-at_unsought v g work h = nothing_sought v h (placed_at g work)
-
-pub at_expanded : (v : Sought) (g : ℕ) (work : Option Work) (ps : List OpenPlan) → AreOf ps work →
+at_expanded : (v : Sought) (g : ℕ) (work : Option Work) (ps : List OpenPlan) → AreOf ps work →
     has_made (map made (filter (λ (p : OpenPlan). is_kept v free p.kind) ps)) ≡ false → sift v (placed_at g work) ≡ []
 at_expanded v g None ps e h = absurd e
 at_expanded v g (Some x) ps e h = ap (λ z. sift v (map made z)) e ∙ none_kept v ps h
 
--- what is told
-
-pub not_nothing : (f : Foremost) (g : Gen) → f ≡ Gap g → f ≡ Nothing → ⊥
-not_nothing f g e h = let no : Gap g ≡ Nothing = sym e ∙ h in cc
-
-pub as_nothing : (f : Foremost) (l : List PlanOrGap) → f ≡ Nothing → IsForemost f l → l ≡ []
-as_nothing f l e h = subst (λ x. IsForemost x l) e h
+-- the gaps are alone where none of its composites is sought
+pub at_node : (v : Sought) (gens : List Gen) (g : ℕ) (work : Option Work) (ps : List OpenPlan) (some : Bool) → AreOf ps work →
+    some ≡ has_made (map made (filter (λ (p : OpenPlan). is_kept v free p.kind) ps)) →
+    StandFirst (not some) gens (gaps_of gens ++ sift v (placed_at g work))
+at_node v gens g work ps true e h = (sift v (placed_at g work), refl)
+at_node v gens g work ps false e h = none_more gens (sift v (placed_at g work)) (at_expanded v g work ps e (sym h))
 
 -- where a side does alone whatever is sought, the same is sought there
 
@@ -152,54 +192,54 @@ same_these gates v ks e h = ap (sought_below (by_itself gates)) e ∙ same_alone
 
 -- operator by operator
 
-module _ (theory : Theory) (f : Foremost) (v : Sought) where
-  pub foremost_over : (o : Unary) (x : Shape) → IsForemost f (sought_plans theory x (sought_below (under_one o) v)) →
-      IsForemost f (sought_plans theory (over o x) v)
+module _ (theory : Theory) (alone : Bool) (gens before : List Gen) (v : Sought) where
+  pub foremost_over : (o : Unary) (x : Shape) → StandFirst alone gens (gaps_of before ++ sought_plans theory x (sought_below (under_one o) v)) →
+      StandFirst alone gens (gaps_of before ++ sought_plans theory (over o x) v)
   foremost_over o x h =
-      subst (IsForemost f) (sym (part_over o v (placed_plans theory x)))
-      (foremost_filled (λ p. element (over_one o p) ∷ []) f (sift (sought_below (under_one o) v) (placed_plans theory x)) h)
+      subst (λ z. StandFirst alone gens (gaps_of before ++ z)) (sym (part_over o v (placed_plans theory x)))
+      (filled_behind (λ p. element (over_one o p) ∷ []) (λ p. element p ∷ []) alone gens before
+      (sift (sought_below (under_one o) v) (placed_plans theory x)) h)
 
   -- each plan of either side is turned
   two_turned : (g h : OpenPlan → OpenPlan) → ((p : OpenPlan) → (g p).kind ≡ p.kind) → ((p : OpenPlan) → (h p).kind ≡ p.kind) →
-      (ps qs : List PlacedPlan) → IsForemost f (sift v ps ++ sift v qs) →
-      IsForemost f (sift v (map (turned_there g) ps ++ map (turned_there h) qs))
+      (ps qs : List PlacedPlan) → StandFirst alone gens (gaps_of before ++ (sift v ps ++ sift v qs)) →
+      StandFirst alone gens (gaps_of before ++ sift v (map (turned_there g) ps ++ map (turned_there h) qs))
   two_turned g h d e ps qs i =
-      subst (IsForemost f)
+      subst (λ z. StandFirst alone gens (gaps_of before ++ z))
       (ap (λ z. z ++ fill (λ p. element (h p) ∷ []) (sift v qs)) (sym (sift_turned v g d ps))
       ∙ ap (λ z. sift v (map (turned_there g) ps) ++ z) (sym (sift_turned v h e qs))
       ∙ sym (flat_map-append (plans_sought v) (map (turned_there g) ps) (map (turned_there h) qs)))
-      (both_filled (λ p. element (g p) ∷ []) (λ p. element (h p) ∷ []) f (sift v ps) (sift v qs) i)
+      (both_behind (λ p. element (g p) ∷ []) (λ p. element (h p) ∷ []) alone gens before (sift v ps) (sift v qs) i)
 
-  pub foremost_of_choice : (x y : Shape) → IsForemost f (sought_plans theory x v ++ sought_plans theory y v) →
-      IsForemost f (sought_plans theory (between choosing x y) v)
+  pub foremost_of_choice : (x y : Shape) → StandFirst alone gens (gaps_of before ++ (sought_plans theory x v ++ sought_plans theory y v)) →
+      StandFirst alone gens (gaps_of before ++ sought_plans theory (between choosing x y) v)
   foremost_of_choice x y h =
       two_turned (under_row Chl) (under_row Chr) (λ p. refl) (λ p. refl) (placed_plans theory x) (placed_plans theory y) h
 
-  pub foremost_of_disabling : (x y : Shape) → IsForemost f (sought_plans theory x v ++ sought_plans theory y v) →
-      IsForemost f (sought_plans theory (between disabling x y) v)
+  pub foremost_of_disabling : (x y : Shape) → StandFirst alone gens (gaps_of before ++ (sought_plans theory x v ++ sought_plans theory y v)) →
+      StandFirst alone gens (gaps_of before ++ sought_plans theory (between disabling x y) v)
   foremost_of_disabling x y h =
       two_turned plan_by_disabling (under_row Distake)
       (λ p. kind_of_either (is_end p.kind) (under_row Disend p) (under_row Disstep p) ∙ same_either (is_end p.kind) p.kind) (λ p. refl)
       (placed_plans theory x) (placed_plans theory y) h
 
-  -- a parallel composition: what its sides do alone, and behind it what they do together
+-- a parallel composition: what its sides do alone, and behind it what they do together
 
-  abbrev alones : Synchronised → Shape → Shape → List PlanOrGap
-  alones gates x y =
-      sought_plans theory x (sought_below (by_itself gates) v) ++ sought_plans theory y (sought_below (by_itself gates) v)
+module _ (theory : Theory) (v : Sought) (gates : Synchronised) (x y : Shape) where
+  abbrev pub alones : List PlanOrGap
+  alones = sought_plans theory x (sought_below (by_itself gates) v) ++ sought_plans theory y (sought_below (by_itself gates) v)
 
-  abbrev filled_alones : Synchronised → Shape → Shape → List PlanOrGap
-  filled_alones gates x y =
+  abbrev filled_alones : List PlanOrGap
+  filled_alones =
       fill (λ p. map element (plans_alone gates Parl p)) (sought_plans theory x (sought_below (by_itself gates) v)) ++
       fill (λ p. map element (plans_alone gates Parr p)) (sought_plans theory y (sought_below (by_itself gates) v))
 
-  abbrev filled_boths : Synchronised → Shape → Shape → List PlanOrGap
-  filled_boths gates x y =
+  abbrev filled_boths : List PlanOrGap
+  filled_boths =
       fill (λ p. partners_sought theory gates v p (placed_plans theory y)) (sought_plans theory x (sought_below (with_another gates) v))
 
-  beside_is : (gates : Synchronised) (x y : Shape) →
-      sought_plans theory (between (beside gates) x y) v ≡ filled_alones gates x y ++ filled_boths gates x y
-  beside_is gates x y =
+  beside_is : sought_plans theory (between (beside gates) x y) v ≡ filled_alones ++ filled_boths
+  beside_is =
       let ps = placed_plans theory x in
       let qs = placed_plans theory y in
       let left = placed_alone gates Parl ps in
@@ -211,44 +251,52 @@ module _ (theory : Theory) (f : Foremost) (v : Sought) where
       ∙ ap (λ z. (z ++ sift v right) ++ sift v both) (alone_sifted gates Parl v ps)
       ∙ ap (λ z. (fill (λ p. map element (plans_alone gates Parl p)) (sift (sought_below (by_itself gates) v) ps) ++ z) ++ sift v both)
       (alone_sifted gates Parr v qs)
-      ∙ ap (λ z. filled_alones gates x y ++ z) (both_sifted theory gates v ps qs)
+      ∙ ap (λ z. filled_alones ++ z) (both_sifted theory gates v ps qs)
 
-  pub foremost_alone : (gates : Synchronised) (x y : Shape) → (f ≡ Nothing → ⊥) → IsForemost f (alones gates x y) →
-      IsForemost f (sought_plans theory (between (beside gates) x y) v)
-  foremost_alone gates x y e h =
-      subst (IsForemost f) (sym (beside_is gates x y))
-      (with_more f (filled_alones gates x y) (filled_boths gates x y) e
-      (both_filled (λ p. map element (plans_alone gates Parl p)) (λ p. map element (plans_alone gates Parr p)) f
-      (sought_plans theory x (sought_below (by_itself gates) v)) (sought_plans theory y (sought_below (by_itself gates) v)) h))
+  module _ (alone : Bool) (gens before : List Gen) (first : StandFirst alone gens (gaps_of before ++ alones)) where
+    filled_first : StandFirst alone gens (gaps_of before ++ filled_alones)
+    filled_first =
+        both_behind (λ p. map element (plans_alone gates Parl p)) (λ p. map element (plans_alone gates Parr p)) alone gens before
+        (sought_plans theory x (sought_below (by_itself gates) v)) (sought_plans theory y (sought_below (by_itself gates) v)) first
 
-  pub foremost_together : (gates : Synchronised) (x y : Shape) → alones gates x y ≡ [] →
-      IsForemost f (sought_plans theory x (sought_below (with_another gates) v)) →
-      IsForemost f (sought_plans theory (between (beside gates) x y) v)
-  foremost_together gates x y e h =
-      subst (IsForemost f) (sym (beside_is gates x y))
-      (behind_none f (filled_alones gates x y) (filled_boths gates x y)
-      (both_filled (λ p. map element (plans_alone gates Parl p)) (λ p. map element (plans_alone gates Parr p)) Nothing
-      (sought_plans theory x (sought_below (by_itself gates) v)) (sought_plans theory y (sought_below (by_itself gates) v)) e)
-      (foremost_filled (λ p. partners_sought theory gates v p (placed_plans theory y)) f
+    pub foremost_alone : StandFirst false gens (gaps_of before ++ sought_plans theory (between (beside gates) x y) v)
+    foremost_alone =
+        subst (λ z. StandFirst false gens (gaps_of before ++ z)) (sym beside_is)
+        (with_more gens before filled_alones filled_boths alone filled_first)
+
+  pub foremost_together : (gens before : List Gen) → StandFirst true gens (gaps_of before ++ alones) → (alone : Bool) (more : List Gen) →
+      StandFirst alone more (gaps_of gens ++ sought_plans theory x (sought_below (with_another gates) v)) →
+      StandFirst alone more (gaps_of before ++ sought_plans theory (between (beside gates) x y) v)
+  foremost_together gens before first alone more h =
+      subst (λ z. StandFirst alone more (gaps_of before ++ z)) (sym beside_is)
+      (and_behind gens before filled_alones filled_boths alone more (filled_first true gens before first)
+      (filled_behind (λ p. partners_sought theory gates v p (placed_plans theory y)) (λ p. element p ∷ []) alone more gens
       (sought_plans theory x (sought_below (with_another gates) v)) h))
 
 -- The same at trees that are known by equations.
 
-module _ (theory : Theory) (f : Foremost) (t : Shape) (v : Sought) where
+module _ (theory : Theory) (alone : Bool) (gens before : List Gen) (t : Shape) (v : Sought) where
   pub at_over : (o : Unary) (x : Shape) (u : Sought) → t ≡ over o x → u ≡ sought_below (under_one o) v →
-      IsForemost f (sought_plans theory x u) → IsForemost f (sought_plans theory t v)
+      StandFirst alone gens (gaps_of before ++ sought_plans theory x u) → StandFirst alone gens (gaps_of before ++ sought_plans theory t v)
   at_over o x u e d h =
-      subst (λ s. IsForemost f (sought_plans theory s v)) (sym e)
-      (foremost_over theory f v o x (subst (λ w. IsForemost f (sought_plans theory x w)) d h))
+      subst (λ s. StandFirst alone gens (gaps_of before ++ sought_plans theory s v)) (sym e)
+      (foremost_over theory alone gens before v o x (subst (λ w. StandFirst alone gens (gaps_of before ++ sought_plans theory x w)) d h))
 
-  pub at_choice : (x y : Shape) → t ≡ between choosing x y → IsForemost f (sought_plans theory x v ++ sought_plans theory y v) →
-      IsForemost f (sought_plans theory t v)
-  at_choice x y e h = subst (λ s. IsForemost f (sought_plans theory s v)) (sym e) (foremost_of_choice theory f v x y h)
+  pub at_choice : (x y : Shape) → t ≡ between choosing x y →
+      StandFirst alone gens (gaps_of before ++ (sought_plans theory x v ++ sought_plans theory y v)) →
+      StandFirst alone gens (gaps_of before ++ sought_plans theory t v)
+  at_choice x y e h =
+      subst (λ s. StandFirst alone gens (gaps_of before ++ sought_plans theory s v)) (sym e)
+      (foremost_of_choice theory alone gens before v x y h)
 
-  pub at_disabling : (x y : Shape) → t ≡ between disabling x y → IsForemost f (sought_plans theory x v ++ sought_plans theory y v) →
-      IsForemost f (sought_plans theory t v)
-  at_disabling x y e h = subst (λ s. IsForemost f (sought_plans theory s v)) (sym e) (foremost_of_disabling theory f v x y h)
+  pub at_disabling : (x y : Shape) → t ≡ between disabling x y →
+      StandFirst alone gens (gaps_of before ++ (sought_plans theory x v ++ sought_plans theory y v)) →
+      StandFirst alone gens (gaps_of before ++ sought_plans theory t v)
+  at_disabling x y e h =
+      subst (λ s. StandFirst alone gens (gaps_of before ++ sought_plans theory s v)) (sym e)
+      (foremost_of_disabling theory alone gens before v x y h)
 
   pub at_beside : (gates : Synchronised) (x y : Shape) → t ≡ between (beside gates) x y →
-      IsForemost f (sought_plans theory (between (beside gates) x y) v) → IsForemost f (sought_plans theory t v)
-  at_beside gates x y e h = subst (λ s. IsForemost f (sought_plans theory s v)) (sym e) h
+      StandFirst alone gens (gaps_of before ++ sought_plans theory (between (beside gates) x y) v) →
+      StandFirst alone gens (gaps_of before ++ sought_plans theory t v)
+  at_beside gates x y e h = subst (λ s. StandFirst alone gens (gaps_of before ++ sought_plans theory s v)) (sym e) h

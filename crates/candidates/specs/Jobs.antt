@@ -3,6 +3,7 @@ use Rattle.std.specs.Prelude.{ℕ, ◌==◌, ◌&&◌, ◌||◌, not, nat_lt, Li
 use Rattle.decision_trees.specs.Decisions.{Question, expand, judge}
 use Rattle.rule_model.specs.Derivations.{Derivation}
 use Rattle.candidate_laws.specs.Waiting.{Candidate}
+use Rattle.node_trees.specs.declared.origin.Gen.{Gen}
 use Rattle.node_trees.specs.Shapes.{Shape}
 use Rattle.candidate_verdicts.specs.Known.{Pieces, NodePart, missing_parts}
 use Rattle.candidate_verdicts.specs.Same.{same_rules}
@@ -20,6 +21,10 @@ module _ (pieces : Pieces) (t : Shape) where
 
   abbrev pub all_jobs : List (Question Derivation) → List NodeJob
   all_jobs questions = flat_map jobs_of questions
+
+-- the nodes of these generations are to be expanded
+abbrev pub expansions_of : List Gen → List NodeJob
+expansions_of generations = map (λ (g : Gen). to_expand g.0) generations
 
 -- what a question about a candidate asks of its tree
 abbrev pub of_tree : Question Candidate → Question Derivation

@@ -1,8 +1,9 @@
 // Searches among the trees of a known tree.
 
-ghost use Rattle.std.specs.Prelude.{◌≡◌, ◌∷◌, ◌||◌, [], IfOk, OnOk, length, map, nat_lt, not, option_map};
+ghost use Rattle.std.specs.Prelude.{◌≡◌, ◌∷◌, ◌||◌, [], IfOk, List, OnOk, length, map, nat_eq, nat_lt, not, option_map};
 ghost use Rattle.std.specs.List.{slice_get};
-ghost use Rattle.rule_model.specs.Derivations.{derivation_of};
+ghost use Rattle.rule_model.specs.Derivations.{Derivation, derivation_of};
+ghost use Rattle.decision_trees.specs.Gaps.{OrGap};
 ghost use Rattle.log_states.specs.Views.{pending_of};
 ghost use Rattle.decision_order.specs.Jobs.{taken_on, Tells};
 ghost use Rattle.decision_order.specs.Searches as settling;
@@ -14,6 +15,7 @@ ghost use Rattle.candidate_composites.specs.Foremost.{IsForemost};
 ghost use Rattle.candidate_composites.specs.Known.{placed_of, placed_plans};
 ghost use Rattle.candidates.specs.Listed.{trees_sought};
 ghost use Rattle.spec_core.specs.Theories.{theory_of};
+ghost use Rattle.candidates.specs.Jobs.{expansions_of, with_job};
 ghost use Rattle.candidates.specs.Models.{job_of};
 ghost use Rattle.candidates.specs.Walks.{met_of, ahead};
 ghost use Rattle.candidates.specs.KnownTrees.{offer_in, numbered, with_job_in, first_of_those, all_of_those, jobs_to_first_of, jobs_to_all_of};
@@ -31,6 +33,7 @@ use candidate_verdicts::asked::verdict;
 use decision_order::asking::Asked;
 use decision_order::listing::{All, First, Search};
 use log_states::pending::Pending;
+use node_trees::origin::Gen;
 use rule_model::offer::Offer;
 use rule_model::rules::Rules;
 use spec_core::memory::Memory;
@@ -128,6 +131,45 @@ fn is_full(jobs: &[NodeJob], limit: usize) -> bool
     jobs.len() >= limit
 }
 
+// No gap is told.
+fn untold(alloc: Global) -> Foremost
+    ensures { (l : List (OrGap Derivation)) → IsForemost result l }
+{
+    Foremost {
+        gaps: Vec::new(alloc),
+        alone: false,
+    }
+}
+
+// Whether there are no gaps.
+fn is_none(gaps: &[Gen]) -> bool
+    ensures { result ≡ nat_eq (length gaps.now) 0 }
+{
+    match gaps {
+        [] => true,
+        [_, ..] => false,
+    }
+}
+
+// Takes on a job to expand the node of each of these generations.
+fn add_expansions(
+    out: &[NodeJob],
+    gaps: &[Gen],
+    limit: usize,
+    jobs: &mut Vec<NodeJob>,
+) -> Result<(), Memory>
+    ensures { OnOk result (map job_of jobs.new.items ≡
+        taken_on (with_job limit (map job_of out.now)) (map job_of jobs.old.items) (expansions_of gaps.now)) }
+{
+    match gaps {
+        [] => Ok(()),
+        [first, rest @ ..] => {
+            add_expansion(out, *first, limit, jobs)?;
+            add_expansions(out, rest, limit, jobs)
+        }
+    }
+}
+
 impl<'a> KnownTree<'a> {
     // The offer with a number.
     fn offer(&self, number: u32) -> &Offer
@@ -193,17 +235,22 @@ impl<'a> KnownTree<'a> {
         }
     }
 
-    // What stands first among the trees for which a query may ask, as far as it is told without any list.
-    fn foremost(&self, alloc: Global, search: &TreeSearch<'_>) -> Result<Foremost, Memory>
+    // Which gaps stand first among the trees for which a query may ask, `limit` at least, as far as it is told without any list.
+    fn foremost(
+        &self,
+        alloc: Global,
+        search: &TreeSearch<'_>,
+        limit: usize,
+    ) -> Result<Foremost, Memory>
         ensures { IfOk result (λ f. IsForemost f (trees_for self.now (query_of search.now))) }
     {
         match &self.composites {
             Composites::Unlisted => {
                 let sought = kinds_sought(alloc, search)?;
-                foremost_of(alloc, self.tree, &sought)
+                foremost_of(alloc, self.tree, &sought, limit)
             }
-            Composites::Lent(_) => Ok(Foremost::Untold),
-            Composites::Listed(_) => Ok(Foremost::Untold),
+            Composites::Lent(_) => Ok(untold(alloc)),
+            Composites::Listed(_) => Ok(untold(alloc)),
         }
     }
 
@@ -226,7 +273,7 @@ impl<'a> KnownTree<'a> {
     }
 
     // The first tree for which a query asks.
-    #[tactic(auto, using(crate::proofs::StandingFirst::open_at_gap, crate::proofs::StandingFirst::absent_in_none))]
+    #[tactic(auto, using(crate::proofs::StandingFirst::absent_in_none))]
     pub(crate) fn first_asked(
         &self,
         alloc: Global,
@@ -235,20 +282,19 @@ impl<'a> KnownTree<'a> {
         ensures { IfOk result (λ f. first_of derivation_of f ≡
             first_of_those self.now (query_of search.entry) (trees_for self.now (query_of search.entry))) }
     {
-        match self.foremost(alloc, &search)? {
-            Foremost::Gap(_) => Ok(First::Open),
-            Foremost::Nothing => Ok(First::Absent),
-            Foremost::Untold => self.first_along(alloc, search),
+        let foremost = self.foremost(alloc, &search, 1)?;
+        if !is_none(&foremost.gaps) {
+            return Ok(First::Open);
         }
+        if foremost.alone {
+            return Ok(First::Absent);
+        }
+        self.first_along(alloc, search)
     }
 
-    // All trees for which a query asks.
+    // All trees for which a query asks, along those for which it may ask.
     #[tactic(auto, using(crate::proofs::Asking::all_after))]
-    pub(crate) fn all_asked(
-        &self,
-        alloc: Global,
-        search: TreeSearch<'_>,
-    ) -> Result<All<Rules>, Memory>
+    fn all_along(&self, alloc: Global, search: TreeSearch<'_>) -> Result<All<Rules>, Memory>
         ensures { IfOk result (λ a. all_of derivation_of a ≡
             all_of_those self.now (query_of search.entry) (trees_for self.now (query_of search.entry))) }
     {
@@ -263,6 +309,26 @@ impl<'a> KnownTree<'a> {
             }
         }
         Ok(All::These(those))
+    }
+
+    // All trees for which a query asks.
+    #[tactic(auto, using(crate::proofs::StandingFirst::none_in_none))]
+    pub(crate) fn all_asked(
+        &self,
+        alloc: Global,
+        search: TreeSearch<'_>,
+    ) -> Result<All<Rules>, Memory>
+        ensures { IfOk result (λ a. all_of derivation_of a ≡
+            all_of_those self.now (query_of search.entry) (trees_for self.now (query_of search.entry))) }
+    {
+        let foremost = self.foremost(alloc, &search, 1)?;
+        if !is_none(&foremost.gaps) {
+            return Ok(All::Undecided);
+        }
+        if foremost.alone {
+            return Ok(All::These(Vec::new(alloc)));
+        }
+        self.all_along(alloc, search)
     }
 
     // Takes on what the search for the first tree still asks, along those for which it may ask.
@@ -293,7 +359,6 @@ impl<'a> KnownTree<'a> {
     }
 
     // Takes on what the search for the first tree still asks.
-    #[tactic(auto, using(crate::proofs::StandingFirst::foremost_asked))]
     pub(crate) fn missing_to_first(
         &self,
         alloc: Global,
@@ -306,23 +371,20 @@ impl<'a> KnownTree<'a> {
         ensures asked { IfOk result (Tells (with_job_in self.now limit) (map job_of jobs.new.items)
             (is_held_among self.now (query_of search.entry) (trees_for self.now (query_of search.entry)))) }
     {
-        match self.foremost(alloc, &search)? {
-            Foremost::Gap(generation) => {
-                add_expansion(self.out, generation, limit, jobs)?;
-                if is_full(jobs, limit) {
-                    Ok(Asked::Full)
-                } else {
-                    self.missing_along(alloc, search, limit, jobs)
-                }
-            }
-            Foremost::Nothing => Ok(Asked::Unheld),
-            Foremost::Untold => self.missing_along(alloc, search, limit, jobs),
+        let foremost = self.foremost(alloc, &search, limit.saturating_add(self.out.len()))?;
+        add_expansions(self.out, &foremost.gaps, limit, jobs)?;
+        if foremost.alone {
+            return Ok(Asked::Unheld);
         }
+        if is_full(jobs, limit) {
+            return Ok(Asked::Full);
+        }
+        self.missing_along(alloc, search, limit, jobs)
     }
 
-    // Takes on what the search for all trees still asks.
+    // Takes on what the search for all trees still asks, along those for which it may ask.
     #[tactic(auto, using(crate::proofs::Asking::all_asked))]
-    pub(crate) fn missing_to_all(
+    fn all_missing_along(
         &self,
         alloc: Global,
         search: TreeSearch<'_>,
@@ -349,5 +411,29 @@ impl<'a> KnownTree<'a> {
         } else {
             Ok(Asked::Unheld)
         }
+    }
+
+    // Takes on what the search for all trees still asks.
+    pub(crate) fn missing_to_all(
+        &self,
+        alloc: Global,
+        search: TreeSearch<'_>,
+        limit: usize,
+        jobs: &mut Vec<NodeJob>,
+    ) -> Result<Asked, Memory>
+        ensures taken { OnOk result (map job_of jobs.new.items ≡ taken_on (with_job_in self.now limit) (map job_of jobs.old.items)
+            (jobs_to_all_of self.now (query_of search.entry) (trees_for self.now (query_of search.entry)))) }
+        ensures asked { IfOk result (Tells (with_job_in self.now limit) (map job_of jobs.new.items)
+            (is_held_among self.now (query_of search.entry) (trees_for self.now (query_of search.entry)))) }
+    {
+        let foremost = self.foremost(alloc, &search, limit.saturating_add(self.out.len()))?;
+        add_expansions(self.out, &foremost.gaps, limit, jobs)?;
+        if foremost.alone {
+            return Ok(Asked::Unheld);
+        }
+        if is_full(jobs, limit) {
+            return Ok(Asked::Full);
+        }
+        self.all_missing_along(alloc, search, limit, jobs)
     }
 }

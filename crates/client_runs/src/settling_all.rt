@@ -6,7 +6,7 @@ ghost use Rattle.board_work.specs.Going.{GoesOn};
 ghost use Rattle.client_runs.specs.Runs.{Continues, IsSettledOn};
 
 use board_core::board::Board;
-use board_work::working::work_on;
+use board_work::working::{More, work_on};
 use spec_core::memory::Memory;
 use std::alloc::Global;
 
@@ -18,14 +18,14 @@ fn is_as_before(before: bool, after: bool) -> bool
 }
 
 // One entry, or one job, and up to so many others with it; whether nothing was left.
-fn settle_once(alloc: Global, board: &mut Board, more: &mut usize) -> Result<bool, Memory>
+fn settle_once(alloc: Global, board: &mut Board, more: &mut More) -> Result<bool, Memory>
     ensures continues { OnOk result (Continues board.old board.new) }
     ensures goes_on { OnOk result (GoesOn board.old board.new) }
     ensures settled { IfOk result (λ done. IsTrue done → IsSettledOn board.new) }
     ensures session { SameSession board.old board.new }
 {
     if board.settle(alloc)?.is_some() {
-        *more = 0;
+        *more = More::none();
         return Ok(false);
     }
     board.give_back_all();
@@ -50,7 +50,7 @@ pub fn settle_all(alloc: Global, board: &mut Board) -> Result<(), Memory>
     ensures settled { OnOk result (IsSettledOn board.new) }
     ensures session { SameSession board.old board.new }
 {
-    let mut more = 0;
+    let mut more = More::none();
     for _ in 0..u64::MAX {
         if settle_once(alloc, board, &mut more)? {
             return Ok(());

@@ -11,7 +11,7 @@ ghost use Rattle.simulator_steps.specs.Asking.{ComesNext, EndsWith, IsAnswer, Is
 
 use board_core::board::Board;
 use board_record::PendFault;
-use board_work::working::work_on;
+use board_work::working::{More, work_on};
 use rule_model::action::Action;
 use rule_model::log::Entry;
 use rule_model::offer::Offer;
@@ -29,7 +29,7 @@ pub enum Answered {
 }
 
 // One entry, if what is known decides it, or else one job, and up to so many others with it. Whether it was an entry.
-fn settle_once(alloc: Global, board: &mut Board, more: &mut usize) -> Result<bool, Memory>
+fn settle_once(alloc: Global, board: &mut Board, more: &mut More) -> Result<bool, Memory>
     ensures entry { IfOk result (λ settled. IsTrue settled → HasSettled board.old board.new) }
     ensures job { IfOk result (λ settled. settled ≡ false → OnlyWaits board.old board.new) }
     ensures session { SameSession board.old board.new }
@@ -53,7 +53,7 @@ fn settle(alloc: Global, board: &mut Board) -> Result<(), Memory>
     ensures next { OnOk result (ComesNext board.old board.new) }
     ensures session { SameSession board.old board.new }
 {
-    let mut more = 0;
+    let mut more = More::none();
     for _ in 0..u64::MAX {
         if settle_once(alloc, board, &mut more)? {
             return Ok(());

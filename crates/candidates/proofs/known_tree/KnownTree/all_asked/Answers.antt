@@ -1,14 +1,12 @@
-use Rattle.std.proofs.Common.{rules}
+use Rattle.std.proofs.Common.{◌∙◌, ap, length, nat_eq, rules}
 use Rattle.candidate_search.specs.Searches.{query_of}
-use Rattle.candidates.specs.Walks.{met_of, ahead}
-use Rattle.candidates.specs.KnownTrees.{all_of_those, trees_for}
-use Rattle.candidates.proofs.Asking.{all_found}
+use Rattle.candidates.specs.KnownTrees.{trees_for}
+use Rattle.candidates.proofs.StandingFirst.{undecided_at_gap}
 use Rattle.candidates.proofs.known_tree.KnownTree.all_asked.Goals as goal
 
-pub loop-those-preserved : goal.loop-those-preserved
-loop-those-preserved c =
+pub returns-then-not-is_none : goal.returns-then-not-is_none
+returns-then-not-is_none c =
     let s = c.args.self.now in
     let q = query_of c.args.search in
-    all_found s q (ahead c.loop-those.walk) (met_of c.in-Some.met) (ahead c.next.new.self) (search rules)
-    (all_of_those s q (trees_for s q)) c.loop-those.those.items c.push.new.self.items c.in-Is.tree c.in_ok-first_at.field-0
-    c.loop-those.invariant (search rules) (search rules) (search rules)
+    undecided_at_gap s q c.in_ok-foremost.foremost.alone c.in_ok-foremost.foremost.gaps.items (trees_for s q) c.in_ok-foremost.ensures
+    c.is_none.result (c.is_none.ensures ∙ ap (λ gaps. nat_eq (length gaps) 0) c.deref.ensures.value) (search rules)

@@ -1,6 +1,5 @@
 use Rattle.std.proofs.Common.{◌≡◌, ◌∙◌, ◌||◌, [], ◌∷◌, ap, false, length, map, nat_lt, rules, sym}
 use Rattle.candidate_search.specs.Searches.{query_of}
-use Rattle.decision_order.specs.Jobs.{taken_on}
 use Rattle.candidates.specs.KnownTrees.{jobs_to_first_of, is_held_among, with_job_in}
 use Rattle.candidates.specs.Models.{job_of}
 use Rattle.candidates.specs.Walks.{met_of, ahead}

@@ -4,7 +4,7 @@ use Rattle.decision_order.specs.Jobs.{taken_on}
 use Rattle.candidates.specs.Models.{job_of}
 use Rattle.candidates.specs.Walks.{ahead}
 use Rattle.candidates.specs.KnownTrees.{jobs_to_all_of, is_held_among, trees_for, with_job_in}
-use Rattle.candidates.proofs.known_tree.KnownTree.missing_to_all.Given as goal
+use Rattle.candidates.proofs.known_tree.KnownTree.all_missing_along.Given as goal
 
 abbrev pub invariant-loop-walk : goal.invariant-loop-walk
 invariant-loop-walk l =

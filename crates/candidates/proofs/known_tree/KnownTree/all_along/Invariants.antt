@@ -4,7 +4,7 @@ use Rattle.candidate_search.specs.Searches.{query_of}
 use Rattle.candidates.specs.Walks.{ahead}
 use Rattle.candidates.specs.KnownTrees.{all_of_those, trees_for}
 use Rattle.candidates.proofs.Stepping.{and_more}
-use Rattle.candidates.proofs.known_tree.KnownTree.all_asked.Given as goal
+use Rattle.candidates.proofs.known_tree.KnownTree.all_along.Given as goal
 
 abbrev pub invariant-loop-those : goal.invariant-loop-those
 invariant-loop-those l =

@@ -1,9 +1,9 @@
 use Rattle.std.proofs.Common.{◌+◌, ◌*◌, max}
 use Rattle.node_trees.specs.declared.branch.Branch.{size-Branch}
-use Rattle.candidate_composites.proofs.foremost.+foremost_of.Given as goal
+use Rattle.candidate_composites.proofs.foremost.+put_foremost.Given as goal
 
-abbrev pub decreases-foremost_of : goal.decreases-foremost_of
-decreases-foremost_of l = size-Branch l.branch.now * 4
+abbrev pub decreases-put_foremost : goal.decreases-put_foremost
+decreases-put_foremost l = size-Branch l.branch.now * 4
 
 abbrev pub decreases-of_two : goal.decreases-of_two
 decreases-of_two l = max (size-Branch l.left.now) (size-Branch l.right.now) * 4 + 1

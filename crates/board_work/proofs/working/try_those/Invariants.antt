@@ -3,7 +3,7 @@ use Rattle.spec_core.specs.Lists.{Each}
 use Rattle.board_core.specs.Views.{program}
 use Rattle.board_core.specs.Working.{IsOfValues}
 use Rattle.board_work.specs.Handed.{HandsIn}
-use Rattle.board_work.proofs.working.try_verdicts.Given as goal
+use Rattle.board_work.proofs.working.try_those.Given as goal
 
 abbrev pub invariant-loop-job : goal.invariant-loop-job
 invariant-loop-job l = record {

@@ -5,7 +5,7 @@ use Rattle.spec_core.proofs.Lists.{each_left}
 use Rattle.board_core.specs.Views.{program}
 use Rattle.board_core.specs.Working.{IsOfValues}
 use Rattle.board_work.proofs.Handing.{handed_twice}
-use Rattle.board_work.proofs.working.try_verdicts.Goals as goal
+use Rattle.board_work.proofs.working.try_those.Goals as goal
 
 pub loop-job-preserved-in-Continue-1 : goal.loop-job-preserved-in-Continue-1
 loop-job-preserved-in-Continue-1 c =
