@@ -11,3 +11,4 @@ pub mod Asked
 pub mod Walks
 pub mod Standing
 pub mod Runs
+pub mod Sides

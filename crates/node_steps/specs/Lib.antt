@@ -5,3 +5,4 @@ pub mod Frames
 pub mod Turns
 pub mod Asking
 pub mod Laws
+pub mod Sides

@@ -2,6 +2,7 @@
 #![tactic(auto, using(crate::proofs::Memory::memory))]
 
 pub mod blanks;
+mod choices;
 mod entering;
 mod fields;
 pub mod laws;

@@ -22,6 +22,7 @@ ghost use Rattle.node_steps.specs.Frames.{standing};
 ghost use Rattle.node_steps.specs.Turns.{TurnsOr, WithinOr};
 
 use crate::blanks::{after_row, after_scheme, blank_rules};
+use crate::choices::past_choices;
 use crate::entering::{enter, enter_ending, enter_hidden};
 use crate::leaves::{acts, acts_inside, terminates};
 use crate::leaving::leave;
@@ -175,7 +176,8 @@ fn walk_within(
                 frame,
             } = found;
             let inner = values_within(values, &own);
-            match walk(alloc, prepared, &site, inner, part, from, budget)? {
+            let (place, rest) = past_choices(prepared.checked, site, part);
+            match walk(alloc, prepared, &place, inner, rest, from, budget)? {
                 None => Ok(None),
                 Some(turn) => Ok(leave(alloc, prepared.checked, values, frame, turn)?),
             }
@@ -238,7 +240,7 @@ fn walk_both(
 /// The way in which what an origin stands for acts by the trees of a composite: the tree of rules, with a blank in the place of each
 /// value that is left open, the action, and what is left then. None where it does nothing by any of the trees, as where one has a mark.
 /// Each value that is told is found with at most `budget` uses of equations; premises aren't asked. A stop names a term of an expression
-/// along the trees. It recurs as deep as the tree, and the terms, are.
+/// along the trees. It recurs as deep as the tree, where sides of choices one below the other count once, and the terms, are.
 pub fn way_along(
     alloc: Global,
     prepared: &Prepared,

@@ -77,8 +77,10 @@ walk_within-returns-in-None-2-clause-turns t c =
     let values : c.values_within-inner.result.now ≡ own_or c.args.values.now c.in-Some.found.values = search rules in
     nothing_within program c.requires.ready.executable c.args.values.now c.args.from c.args.entered c.in-Some.found
     (plan_of_part c.args.part) c.in_ok-walk-in-Some.field-0 c.in-Some.is c.in-None-2.is
-    (subst (λ l. TurnsOr program c.args.from (assignment program.theory l) (standing program c.in-Some.found.site) (plan_of_part c.args.part)
-    c.in_ok-walk-in-Some.field-0) values c.in_ok-walk-in-Some.ensures.turns)
+    (c.past_choices-place.ensures.turns c.args.from (assignment program.theory (own_or c.args.values.now c.in-Some.found.values))
+    c.in_ok-walk-in-Some.field-0
+    (subst (λ l. TurnsOr program c.args.from (assignment program.theory l) (standing program c.past_choices-place.result.0)
+    (plan_of_part c.past_choices-place.result.1) c.in_ok-walk-in-Some.field-0) values c.in_ok-walk-in-Some.ensures.turns))
 
 pub walk_within-returns-clause-turns : goal.walk_within-returns-clause-turns
 walk_within-returns-clause-turns t c =
@@ -86,8 +88,11 @@ walk_within-returns-clause-turns t c =
     let values : c.values_within-inner.result.now ≡ own_or c.args.values.now c.in-Some.found.values = search rules in
     something_within program c.requires.ready.executable c.args.values.now c.args.from c.args.entered c.in-Some.found
     (plan_of_part c.args.part) c.in_ok-walk-in-Some.field-0 c.in-Some-2.turn c.in_ok-leave-in-Some-2.field-0 c.in-Some.is c.in-Some-2.is
-    (subst (λ l. TurnsOr program c.args.from (assignment program.theory l) (standing program c.in-Some.found.site) (plan_of_part c.args.part)
-    c.in_ok-walk-in-Some.field-0) values c.in_ok-walk-in-Some.ensures.turns) c.in_ok-leave-in-Some-2.ensures.leaves
+    (c.past_choices-place.ensures.turns c.args.from (assignment program.theory (own_or c.args.values.now c.in-Some.found.values))
+    c.in_ok-walk-in-Some.field-0
+    (subst (λ l. TurnsOr program c.args.from (assignment program.theory l) (standing program c.past_choices-place.result.0)
+    (plan_of_part c.past_choices-place.result.1) c.in_ok-walk-in-Some.field-0) values c.in_ok-walk-in-Some.ensures.turns))
+    c.in_ok-leave-in-Some-2.ensures.leaves
 
 pub walk_both-returns-in-None-clause-turns : goal.walk_both-returns-in-None-clause-turns
 walk_both-returns-in-None-clause-turns t c =
