@@ -1,9 +1,9 @@
 pub mod StandingFirst
+pub mod Contexts
 pub mod Kept
 pub mod Placed
 pub mod Staying
 pub mod Those
-pub mod Turning
 pub mod Whole
 pub use Rattle.symbolic_composites.proofs.Answers
 pub use Rattle.symbolic_composites.proofs.Lists

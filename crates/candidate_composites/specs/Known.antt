@@ -1,11 +1,13 @@
 -- The plans of the composites of a tree of nodes, of which not all are expanded. (This profile.)
 use Rattle.std.specs.Prelude.{ℕ, ◌++◌, List, [], ◌∷◌, map, flat_map, Option, Some, None, Bool, true, false, if◌then◌else◌}
+use Rattle.std.specs.Fn.{iterate}
 use Rattle.spec_core.specs.Theories.{Theory}
 use Rattle.spec_core.specs.Code.{Synchronised, synchronised_of}
 use Rattle.decision_trees.specs.Gaps.{OrGap, element, gap, in_its_place}
 use Rattle.symbolic_composites.specs.Kinds.{is_joint}
 use Rattle.symbolic_plans.specs.declared.scheme.Row.{Row}
 use Rattle.symbolic_plans.specs.declared.scheme.Row.TheVariants.{Chl, Chr, Parl, Parr, Distake}
+use Rattle.symbolic_plans.specs.Plans.{below}
 use Rattle.symbolic_plans.specs.OpenPlans.{OpenPlan, open_plan_of, kind_in, under_row, under_relabelling, plans_alone, plans_joint}
 use Rattle.symbolic_plans.specs.OpenPlans.{plan_by_hiding}
 use Rattle.symbolic_plans.specs.OpenPlans.{plan_by_enabling, plan_by_disabling}
@@ -67,9 +69,13 @@ abbrev pub placed_of : Part → PlacedPlan
 placed_of (Gap generation steps) = awaited generation.0 (map step_of steps.items)
 placed_of (Composite c) = made (open_plan_of c)
 
+-- under a rule, and that rule so many times more over it
+abbrev pub under_run : Row → ℕ → OpenPlan → OpenPlan
+under_run row more p = record { kind = p.kind; fields = p.fields; plan = below row (iterate (below row) more p.plan) }
+
 abbrev pub own_or_made : Given → OpenPlan
 own_or_made (Own c) = open_plan_of c.now
-own_or_made (Beneath row c) = under_row row (open_plan_of c.now)
+own_or_made (Beneath row more c) = under_run row more (open_plan_of c.now)
 own_or_made (Made c) = open_plan_of c
 
 abbrev pub found_of : Found → PlacedPlan

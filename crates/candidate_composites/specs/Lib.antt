@@ -1,3 +1,4 @@
+pub mod Contexts
 pub mod Foremost
 pub mod Joining
 pub mod Kept

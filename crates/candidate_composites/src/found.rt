@@ -1,37 +1,118 @@
 // Composites of a part of a tree, while those of the whole are made.
 
-ghost use Rattle.std.specs.Prelude.{◌≡◌, IfOk, map};
+ghost use Rattle.std.specs.Prelude.{◌≡◌, ◌+◌, IfOk, IsFalse, IsTrue, map};
+ghost use Rattle.symbolic_plans.specs.Plans.{plan_of, below};
 ghost use Rattle.symbolic_plans.specs.OpenPlans.{kind_in, open_plan_of, under_row};
-ghost use Rattle.candidate_composites.specs.Known.{found_of, has_made, own_or_made, placed_of};
+ghost use Rattle.candidate_composites.specs.Known.{found_of, over_one, own_or_made, placed_of, under_run};
+ghost use Rattle.node_trees.specs.Shapes.{unary_of};
 
+use crate::operators::by_single;
 use crate::part::Part;
 use crate::step::Step;
+use node_trees::branch::Single;
 use node_trees::origin::Gen;
 use spec_core::memory::Memory;
 use std::alloc::Global;
+use std::mem;
 use symbolic_plans::composite::{ActionKind, OpenComposite};
 use symbolic_plans::operators::below;
-use symbolic_plans::scheme::Row;
+use symbolic_plans::scheme::{Row, Scheme};
 
-/// A composite of a part of a tree: one of a node, as the node has it; the same under a rule; or what operators made of such. Most are dropped
-/// by the first or second operator over their node, and are never copied.
+/// A composite of a part of a tree: one of a node, as the node has it; the same under a rule, and that rule so many times more over it; or
+/// what operators made of such. Most are dropped by an operator near their node, and are never copied.
 #[derive(Drop)]
 pub enum Given<'a> {
     Own(&'a OpenComposite),
-    Beneath(Row, &'a OpenComposite),
+    Beneath(Row, u32, &'a OpenComposite),
     Made(OpenComposite),
 }
 
-/// An equal composite under an equal rule.
+/// An equal composite under an equal rule, and that rule so many times more over it.
 pub(crate) fn copied_below(
     alloc: Global,
     row: &Row,
+    more: u32,
     composite: &OpenComposite,
 ) -> Result<OpenComposite, Memory>
-    ensures { IfOk result (λ c. open_plan_of c ≡ under_row row.now (open_plan_of composite.now)) }
+    ensures { IfOk result (λ c. open_plan_of c ≡ under_run row.now more (open_plan_of composite.now)) }
 {
-    let composite = composite.copy(alloc)?;
-    below(alloc, row.copy(alloc)?, composite)
+    let OpenComposite {
+        kind,
+        columns,
+        scheme,
+    } = composite.copy(alloc)?;
+    let scheme = Box::new(alloc, scheme)?;
+    let scheme = Scheme::Under(row.copy(alloc)?, more, scheme);
+    Ok(OpenComposite {
+        kind,
+        columns,
+        scheme,
+    })
+}
+
+// Whether both are the same rule, one that a choice, a parallel composition or a disabling puts over its sides.
+fn are_alike(left: &Row, right: &Row) -> bool
+    ensures { IsTrue result → left.now ≡ right.now }
+{
+    match left {
+        Row::Chl => matches!(right, Row::Chl),
+        Row::Chr => matches!(right, Row::Chr),
+        Row::Val(_) => false,
+        Row::Gate(_) => false,
+        Row::Guard => false,
+        Row::Let => false,
+        Row::Parl => matches!(right, Row::Parl),
+        Row::Parr => matches!(right, Row::Parr),
+        Row::Pass => false,
+        Row::Enstep => false,
+        Row::Disstep => matches!(right, Row::Disstep),
+        Row::Disend => matches!(right, Row::Disend),
+        Row::Distake => matches!(right, Row::Distake),
+        Row::Call => false,
+        Row::Rel => false,
+    }
+}
+
+// Counts a rule once more where it is another's own; whether it did.
+fn count(own: &Row, more: &mut u32, row: &Row) -> bool
+    ensures own { IsTrue result → own.now ≡ row.now }
+    ensures more { IsTrue result → more.new ≡ more.old + 1 }
+    ensures same { IsFalse result → more.new ≡ more.old }
+{
+    if *more < u32::MAX && are_alike(own, row) {
+        *more += 1;
+        true
+    } else {
+        false
+    }
+}
+
+// Puts the rule over the tree, if the tree begins with the same one; whether it did.
+fn lengthen_scheme(scheme: &mut Scheme, row: &Row) -> bool
+    ensures longer { IsTrue result → plan_of scheme.new ≡ below row.now (plan_of scheme.old) }
+    ensures same { IsFalse result → plan_of scheme.new ≡ plan_of scheme.old }
+{
+    match scheme {
+        Scheme::Under(own, more, _) => count(own, more, row),
+        _ => false,
+    }
+}
+
+// Puts the rule over the composite, if its tree begins with the same one; whether it did.
+fn lengthen(composite: &mut OpenComposite, row: &Row) -> bool
+    ensures longer { IsTrue result → open_plan_of composite.new ≡ under_row row.now (open_plan_of composite.old) }
+    ensures same { IsFalse result → open_plan_of composite.new ≡ open_plan_of composite.old }
+{
+    lengthen_scheme(&mut composite.scheme, row)
+}
+
+// A composite to stand in the place of one that is being turned.
+fn empty(alloc: Global) -> OpenComposite {
+    OpenComposite {
+        kind: ActionKind::Inner,
+        columns: Vec::new(alloc),
+        scheme: Scheme::Int,
+    }
 }
 
 /// A composite of a part of a tree; or the place of a node that isn't expanded, with the steps from it up to the part, the lowest first.
@@ -48,19 +129,31 @@ impl<'a> Given<'a> {
     {
         match self {
             Given::Own(composite) => composite.kind,
-            Given::Beneath(_, composite) => composite.kind,
+            Given::Beneath(_, _, composite) => composite.kind,
             Given::Made(composite) => composite.kind,
         }
     }
 
-    /// The composite under a rule.
-    pub fn under(self, alloc: Global, row: &Row) -> Result<Given<'a>, Memory>
+    // Puts the rule over the composite, if it is under the same one; whether it did.
+    fn lengthen(&mut self, row: &Row) -> bool
+        ensures longer { IsTrue result → own_or_made self.new ≡ under_row row.now (own_or_made self.old) }
+        ensures same { IsFalse result → own_or_made self.new ≡ own_or_made self.old }
+    {
+        match self {
+            Given::Own(_) => false,
+            Given::Beneath(own, more, _) => count(own, more, row),
+            Given::Made(composite) => lengthen(composite, row),
+        }
+    }
+
+    // The composite under another rule than before.
+    fn under(self, alloc: Global, row: &Row) -> Result<Given<'a>, Memory>
         ensures { IfOk result (λ g. own_or_made g ≡ under_row row.now (own_or_made self.entry)) }
     {
         match self {
-            Given::Own(composite) => Ok(Given::Beneath(row.copy(alloc)?, composite)),
-            Given::Beneath(inner, composite) => {
-                let composite = copied_below(alloc, &inner, composite)?;
+            Given::Own(composite) => Ok(Given::Beneath(row.copy(alloc)?, 0, composite)),
+            Given::Beneath(inner, more, composite) => {
+                let composite = copied_below(alloc, &inner, more, composite)?;
                 Ok(Given::Made(below(alloc, row.copy(alloc)?, composite)?))
             }
             Given::Made(composite) => {
@@ -69,28 +162,44 @@ impl<'a> Given<'a> {
         }
     }
 
+    // Takes the composite out. What is left in its place is put aside by the caller.
+    fn taken(&mut self, alloc: Global) -> Given<'a>
+        ensures { own_or_made result ≡ own_or_made self.old }
+    {
+        mem::replace(self, Given::Made(empty(alloc)))
+    }
+
+    /// Puts the composite under a rule.
+    pub fn put_under(&mut self, alloc: Global, row: &Row) -> Result<(), Memory>
+        ensures { IfOk result (λ _. own_or_made self.new ≡ under_row row.now (own_or_made self.old)) }
+    {
+        if self.lengthen(row) {
+            return Ok(());
+        }
+        let composite = self.taken(alloc);
+        *self = composite.under(alloc, row)?;
+        Ok(())
+    }
+
+    /// Puts the composite under an operator over one part.
+    pub fn put_over(&mut self, alloc: Global, operator: &Single) -> Result<(), Memory>
+        ensures { IfOk result (λ _. own_or_made self.new ≡ over_one (unary_of operator.now) (own_or_made self.old)) }
+    {
+        let composite = self.taken(alloc).take(alloc)?;
+        *self = Given::Made(by_single(alloc, operator, composite)?);
+        Ok(())
+    }
+
     /// The composite by itself. It is copied where it is a node's own, under a rule or not.
     pub fn take(self, alloc: Global) -> Result<OpenComposite, Memory>
         ensures { IfOk result (λ c. open_plan_of c ≡ own_or_made self.entry) }
     {
         match self {
             Given::Own(composite) => composite.copy(alloc),
-            Given::Beneath(row, composite) => copied_below(alloc, &row, composite),
+            Given::Beneath(row, more, composite) => copied_below(alloc, &row, more, composite),
             Given::Made(composite) => Ok(composite),
         }
     }
-}
-
-/// Whether there is a composite among them. It takes no memory.
-pub fn has_composite(those: &[Found<'_>]) -> bool
-    ensures { result ≡ has_made (map found_of those.now) }
-{
-    for found in those {
-        if let Found::Composite(_) = found {
-            return true;
-        }
-    }
-    false
 }
 
 // The same as a part of the whole.

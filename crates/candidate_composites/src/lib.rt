@@ -1,6 +1,7 @@
 // The composites of a tree of nodes, as far as its nodes are expanded.
 #![tactic(auto)]
 
+mod context;
 pub mod foremost;
 mod found;
 mod joining;

@@ -1,4 +1,4 @@
-use Rattle.std.proofs.Common.{◌≡◌, ◌++◌, Bool, true, rules, subst}
+use Rattle.std.proofs.Common.{◌≡◌, ◌++◌, true, rules, subst}
 use Rattle.std.proofs.lemmas.Result.{IfOk-weaker}
 use Rattle.spec_core.specs.Code.{synchronised_of}
 use Rattle.node_trees.specs.Shapes.{shape_of, unary_of}

@@ -2,7 +2,7 @@ use Rattle.std.proofs.Common.{map, sym, ap, subst, rules}
 use Rattle.symbolic_plans.specs.OpenPlans.{open_plan_of}
 use Rattle.node_trees.specs.Shapes.{work_of}
 use Rattle.candidate_composites.specs.Known.{sought_in, placed_at}
-use Rattle.candidate_composites.proofs.StandingFirst.{AreOf, at_node, at_unsought, at_waiting}
+use Rattle.candidate_composites.proofs.StandingFirst.{AreOf, at_node, at_unsought}
 use Rattle.candidate_composites.proofs.foremost.of_node.Goals as goal
 
 pub returns-in-Some : goal.returns-in-Some

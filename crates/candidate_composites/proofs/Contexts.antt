@@ -1,0 +1,211 @@
+-- What the operators above a part make of its plans, one operator after the other.
+use Rattle.std.proofs.Common.{ℕ, ◌≡◌, ◌+◌, ◌++◌, ◌&&◌, ◌||◌, ◌∙◌, not, List, [], ◌∷◌, map, filter, flat_map, refl, sym, ap, Bool, true, false, cond}
+use Rattle.std.proofs.Common.{if◌then◌else◌, append_assoc, Option, Some, None}
+use Rattle.std.proofs.lemmas.Bool.{or_parts}
+use Rattle.std.proofs.lemmas.List.Concat.{flat_map-append}
+use Rattle.spec_core.specs.Theories.{Theory}
+use Rattle.spec_core.specs.Code.{Synchronised}
+use Rattle.rule_model.specs.Actions.{Kind, inside, ends, at_gate}
+use Rattle.symbolic_composites.specs.Kinds.{is_alone, is_joint, same_kind}
+use Rattle.symbolic_plans.specs.declared.scheme.Row.{Row}
+use Rattle.symbolic_plans.specs.declared.scheme.Row.TheVariants.{Chl, Chr, Parl, Parr, Distake}
+use Rattle.symbolic_plans.specs.OpenPlans.{OpenPlan, under_row, plans_alone, plans_joint, plan_by_disabling}
+use Rattle.symbolic_plans.proofs.Runs.{longer}
+use Rattle.candidate_laws.specs.Sought.{Sought, is_sought, by_itself, with_another, as_another}
+use Rattle.candidate_laws.proofs.Sought.{kinds_same}
+use Rattle.node_trees.specs.Rests.{Work}
+use Rattle.node_trees.specs.Shapes.{Shape, leaf, ended, over, between, Unary, Binary, choosing, beside, disabling}
+use Rattle.candidate_composites.specs.Known.{PlacedPlan, made, awaited, under_run, stepped, turned_there, placed_over_one, placed_alone}
+use Rattle.candidate_composites.specs.Known.{placed_partners, placed_over_two}
+use Rattle.candidate_composites.specs.Contexts.{Turn, below_row, disabled, alone_by, over_by, turned_by, through, all_through, some_joint}
+use Rattle.candidate_composites.specs.Joining.{Joins, beside_those, is_offered, lets, right_of}
+use Rattle.candidate_composites.specs.Kept.{is_kept, kept_at, kept_plans}
+
+-- a run that is longer by one
+pub run_longer : (row : Row) (n m : ℕ) (p : OpenPlan) → m ≡ n + 1 → under_run row m p ≡ under_row row (under_run row n p)
+run_longer row n m p e =
+    let with : _ → OpenPlan = λ plan. record { kind = p.kind; fields = p.fields; plan = plan } in
+    ap with (longer row n m p.plan e)
+
+-- The lowest operator first, and those above it then.
+
+rises : (t : Turn) (ts : List Turn) (ps : List PlacedPlan) → all_through (t ∷ ts) ps ≡ all_through ts (flat_map (turned_by t) ps)
+rises t ts [] = refl
+rises t ts (p ∷ ps) =
+    ap (λ z. all_through ts (turned_by t p) ++ z) (rises t ts ps)
+    ∙ sym (flat_map-append (through ts) (turned_by t p) (flat_map (turned_by t) ps))
+
+singles : (f : PlacedPlan → PlacedPlan) (g : PlacedPlan → List PlacedPlan) → ((x : PlacedPlan) → g x ≡ f x ∷ []) → (ps : List PlacedPlan) →
+    flat_map g ps ≡ map f ps
+singles f g e [] = refl
+singles f g e (p ∷ ps) = ap (λ z. z ++ flat_map g ps) (e p) ∙ ap (λ z. f p ∷ z) (singles f g e ps)
+
+pub rises_below : (row : Row) (ts : List Turn) (ps : List PlacedPlan) →
+    all_through (below_row row ∷ ts) ps ≡ all_through ts (map (turned_there (under_row row)) ps)
+rises_below row ts ps =
+    rises (below_row row) ts ps ∙ ap (all_through ts) (singles (turned_there (under_row row)) (turned_by (below_row row)) (λ x. refl) ps)
+
+pub rises_disabled : (ts : List Turn) (ps : List PlacedPlan) →
+    all_through (disabled ∷ ts) ps ≡ all_through ts (map (turned_there plan_by_disabling) ps)
+rises_disabled ts ps =
+    rises disabled ts ps ∙ ap (all_through ts) (singles (turned_there plan_by_disabling) (turned_by disabled) (λ x. refl) ps)
+
+pub rises_over : (o : Unary) (ts : List Turn) (ps : List PlacedPlan) →
+    all_through (over_by o ∷ ts) ps ≡ all_through ts (map (placed_over_one o) ps)
+rises_over o ts ps = rises (over_by o) ts ps ∙ ap (all_through ts) (singles (placed_over_one o) (turned_by (over_by o)) (λ x. refl) ps)
+
+same_each : (f g : PlacedPlan → List PlacedPlan) → ((x : PlacedPlan) → f x ≡ g x) → (ps : List PlacedPlan) → flat_map f ps ≡ flat_map g ps
+same_each f g e [] = refl
+same_each f g e (p ∷ ps) = ap (λ z. z ++ flat_map f ps) (e p) ∙ ap (λ z. g p ++ z) (same_each f g e ps)
+
+pub rises_alone : (gates : Synchronised) (row : Row) (ts : List Turn) (ps : List PlacedPlan) →
+    all_through (alone_by gates row ∷ ts) ps ≡ all_through ts (placed_alone gates row ps)
+rises_alone gates row ts ps =
+    rises (alone_by gates row) ts ps
+    ∙ ap (all_through ts)
+    (same_each (turned_by (alone_by gates row)) (stepped (by_itself gates) (λ p. map made (plans_alone gates row p))) (λ x. refl) ps)
+
+pub rises_whole : (ps : List PlacedPlan) → all_through [] ps ≡ ps
+rises_whole [] = refl
+rises_whole (p ∷ ps) = ap (λ z. p ∷ z) (rises_whole ps)
+
+-- an operator's parts, one behind the other
+pub one_behind : (ts : List Turn) (a b c : List PlacedPlan) (ps qs : List PlacedPlan) → b ≡ a ++ all_through ts ps →
+    c ≡ b ++ all_through ts qs → c ≡ a ++ all_through ts (ps ++ qs)
+one_behind ts a b c ps qs e f =
+    f
+    ∙ ap (λ z. z ++ all_through ts qs) e
+    ∙ append_assoc a (all_through ts ps) (all_through ts qs)
+    ∙ ap (λ z. a ++ z) (sym (flat_map-append (through ts) ps qs))
+
+-- Where a left side has nothing that it may do together with the right one.
+
+either_alone : (gates : Synchronised) (k : Kind) → is_joint gates k ≡ false → is_alone gates k ≡ true
+either_alone gates inside e = refl
+either_alone gates ends e = let no : true ≡ false = e in absurd cc
+either_alone gates (at_gate g) e = ap not e
+
+all_alone : (gates : Synchronised) (ps : List PlacedPlan) → some_joint gates ps ≡ false → (k : Kind) → is_offered k ps ≡ true →
+    is_alone gates k ≡ true
+all_alone gates [] e k f = let no : false ≡ true = f in absurd cc
+all_alone gates (awaited g steps ∷ ps) e k f = let no : true ≡ false = e in absurd cc
+all_alone gates (made p ∷ ps) e k f =
+    let parts = or_parts (is_joint gates p.kind) (some_joint gates ps) e in
+    by_kind (same_kind p.kind k) refl parts.0 f (all_alone gates ps parts.1 k)
+  where
+    by_kind : (b : Bool) → same_kind p.kind k ≡ b → is_joint gates p.kind ≡ false → b || is_offered k ps ≡ true →
+        (is_offered k ps ≡ true → is_alone gates k ≡ true) → is_alone gates k ≡ true
+    by_kind true s j g h = ap (is_alone gates) (sym (kinds_same p.kind k s)) ∙ either_alone gates p.kind j
+    by_kind false s j g h = h g
+
+-- both let the same kinds come up
+abbrev LetSame : Joins → Joins → Type 0
+LetSame c d = (k : Kind) → lets c k ≡ lets d k
+
+none_offered : (gates : Synchronised) (ps : List PlacedPlan) → some_joint gates ps ≡ false →
+    LetSame (beside_those gates ps) (beside_those gates [])
+none_offered gates ps e k = by_tests (is_alone gates k) (is_offered k ps) (all_alone gates ps e k)
+  where
+    by_tests : (a b : Bool) → (b ≡ true → a ≡ true) → a || b ≡ a || false
+    by_tests true b h = refl
+    by_tests false true h = let no : false ≡ true = h refl in absurd cc
+    by_tests false false h = refl
+
+same_right : (prunes : Bool) (gates : Synchronised) (ps : List PlacedPlan) (c : Joins) → some_joint gates ps ≡ false →
+    LetSame (right_of prunes (beside gates) ps c) (right_of prunes (beside gates) [] c)
+same_right true gates ps c e = none_offered gates ps e
+same_right false gates ps c e = λ k. refl
+
+same_filter : (f g : OpenPlan → Bool) → ((p : OpenPlan) → f p ≡ g p) → (ps : List OpenPlan) → filter f ps ≡ filter g ps
+same_filter f g e [] = refl
+same_filter f g e (p ∷ ps) =
+    ap (λ b. cond b (p ∷ filter f ps) (filter f ps)) (e p) ∙ ap (λ z. cond (g p) (p ∷ z) z) (same_filter f g e ps)
+
+same_at : (v : Sought) (c d : Joins) → LetSame c d → (g : ℕ) (work : Option Work) → kept_at v c g work ≡ kept_at v d g work
+same_at v c d e g None = refl
+same_at v c d e g (Some work) =
+    ap (map made)
+    (same_filter (λ (p : OpenPlan). is_kept v c p.kind) (λ (p : OpenPlan). is_kept v d p.kind) (λ p. ap (λ b. b && is_sought v p.kind) (e p.kind))
+    work.plans)
+
+right_same : (prunes : Bool) (o : Binary) (ps : List PlacedPlan) (c d : Joins) → LetSame c d →
+    LetSame (right_of prunes o ps c) (right_of prunes o ps d)
+right_same prunes choosing ps c d e = e
+right_same true (beside gates) ps c d e = λ k. refl
+right_same false (beside gates) ps c d e = e
+right_same prunes disabling ps c d e = e
+
+module _ (theory : Theory) where
+  pub same_kept : (prunes : Bool) (t : Shape) (v : Sought) (c d : Joins) → LetSame c d →
+      kept_plans theory prunes t v c ≡ kept_plans theory prunes t v d
+  same_kept prunes (leaf n) v c d e = same_at v c d e n.generation n.work
+  same_kept prunes ended v c d e = refl
+  same_kept prunes (over o x) v c d e = refl
+  same_kept prunes (between o x y) v c d e =
+      let ps = kept_plans theory prunes x v c in
+      let qs = kept_plans theory prunes x v d in
+      let first : ps ≡ qs = same_kept prunes x v c d e in
+      ap (λ z. placed_over_two theory o ps (kept_plans theory prunes y v (right_of prunes o z c))) first
+      ∙ ap (placed_over_two theory o ps)
+      (same_kept prunes y v (right_of prunes o qs c) (right_of prunes o qs d) (right_same prunes o qs c d e))
+      ∙ ap (λ z. placed_over_two theory o z (kept_plans theory prunes y v (right_of prunes o qs d))) first
+
+  none_together : (gates : Synchronised) (ps qs : List PlacedPlan) → some_joint gates ps ≡ false →
+      flat_map (stepped (with_another gates) (placed_partners theory gates qs)) ps ≡ []
+  none_together gates [] qs e = refl
+  none_together gates (awaited g steps ∷ ps) qs e = let no : true ≡ false = e in absurd cc
+  none_together gates (made p ∷ ps) qs e =
+      let parts = or_parts (is_joint gates p.kind) (some_joint gates ps) e in
+      let those = flat_map (stepped (as_another p.kind) (λ q. map made (plans_joint theory gates p q))) qs in
+      ap (λ b. (if b then those else []) ++ flat_map (stepped (with_another gates) (placed_partners theory gates qs)) ps) parts.0
+      ∙ none_together gates ps qs parts.1
+
+  -- what is left then of a parallel composition, above all operators
+  pub sides_alone : (prunes : Bool) (gates : Synchronised) (x y : Shape) (v : Sought) (c : Joins) (ts : List Turn) (a b d : List PlacedPlan) →
+      some_joint gates (kept_plans theory prunes x v c) ≡ false →
+      b ≡ a ++ all_through (alone_by gates Parl ∷ ts) (kept_plans theory prunes x v c) →
+      d ≡ b ++ all_through (alone_by gates Parr ∷ ts) (kept_plans theory prunes y v (right_of prunes (beside gates) [] c)) →
+      d ≡ a ++ all_through ts (kept_plans theory prunes (between (beside gates) x y) v c)
+  sides_alone prunes gates x y v c ts a b d e f g =
+      let ps = kept_plans theory prunes x v c in
+      let qs = kept_plans theory prunes y v (right_of prunes (beside gates) ps c) in
+      let rs = kept_plans theory prunes y v (right_of prunes (beside gates) [] c) in
+      let same : rs ≡ qs =
+      sym (same_kept prunes y v (right_of prunes (beside gates) ps c) (right_of prunes (beside gates) [] c) (same_right prunes gates ps c e)) in
+      one_behind ts a b d (placed_alone gates Parl ps) (placed_alone gates Parr rs) (f ∙ ap (λ z. a ++ z) (rises_alone gates Parl ts ps))
+      (g ∙ ap (λ z. b ++ z) (rises_alone gates Parr ts rs))
+      ∙ ap (λ z. a ++ all_through ts (placed_alone gates Parl ps ++ placed_alone gates Parr z)) same
+      ∙ ap (λ z. a ++ all_through ts (placed_alone gates Parl ps ++ z)) (sym (no_more (placed_alone gates Parr qs)))
+      ∙ ap (λ z. a ++ all_through ts (placed_alone gates Parl ps ++ (placed_alone gates Parr qs ++ z))) (sym (none_together gates ps qs e))
+    where
+      no_more : (l : List PlacedPlan) → l ++ [] ≡ l
+      no_more [] = refl
+      no_more (z ∷ l) = ap (λ k. z ∷ k) (no_more l)
+
+  -- all three parts of a parallel composition, one behind the other
+  pub sides_and_both : (gates : Synchronised) (ps qs : List PlacedPlan) (ts : List Turn) (a b c d : List PlacedPlan) →
+      b ≡ a ++ all_through (alone_by gates Parl ∷ ts) ps →
+      c ≡ b ++ all_through (alone_by gates Parr ∷ ts) qs →
+      d ≡ c ++ all_through ts (flat_map (stepped (with_another gates) (placed_partners theory gates qs)) ps) →
+      d ≡ a ++ all_through ts (placed_over_two theory (beside gates) ps qs)
+  sides_and_both gates ps qs ts a b c d e f g =
+      let both = flat_map (stepped (with_another gates) (placed_partners theory gates qs)) ps in
+      one_behind ts a b d (placed_alone gates Parl ps) (placed_alone gates Parr qs ++ both) (e ∙ ap (λ z. a ++ z) (rises_alone gates Parl ts ps))
+      (one_behind ts b c d (placed_alone gates Parr qs) both (f ∙ ap (λ z. b ++ z) (rises_alone gates Parr ts qs)) g)
+
+  -- the sides of a choice and of a disabling
+  pub chosen : (ps qs : List PlacedPlan) (ts : List Turn) (a b c : List PlacedPlan) →
+      b ≡ a ++ all_through (below_row Chl ∷ ts) ps →
+      c ≡ b ++ all_through (below_row Chr ∷ ts) qs →
+      c ≡ a ++ all_through ts (placed_over_two theory choosing ps qs)
+  chosen ps qs ts a b c e f =
+      one_behind ts a b c (map (turned_there (under_row Chl)) ps) (map (turned_there (under_row Chr)) qs)
+      (e ∙ ap (λ z. a ++ z) (rises_below Chl ts ps)) (f ∙ ap (λ z. b ++ z) (rises_below Chr ts qs))
+
+  pub interrupted : (ps qs : List PlacedPlan) (ts : List Turn) (a b c : List PlacedPlan) →
+      b ≡ a ++ all_through (disabled ∷ ts) ps →
+      c ≡ b ++ all_through (below_row Distake ∷ ts) qs →
+      c ≡ a ++ all_through ts (placed_over_two theory disabling ps qs)
+  interrupted ps qs ts a b c e f =
+      one_behind ts a b c (map (turned_there plan_by_disabling) ps) (map (turned_there (under_row Distake)) qs)
+      (e ∙ ap (λ z. a ++ z) (rises_disabled ts ps)) (f ∙ ap (λ z. b ++ z) (rises_below Distake ts qs))

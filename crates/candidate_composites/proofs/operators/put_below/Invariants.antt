@@ -1,8 +1,0 @@
-use Rattle.std.proofs.Common.{◌≡◌, ◌++◌, map}
-use Rattle.symbolic_plans.specs.OpenPlans.{under_row}
-use Rattle.candidate_composites.specs.Known.{found_of, turned_there}
-use Rattle.candidate_composites.proofs.operators.put_below.Given as goal
-
-abbrev pub invariant-loop-part : goal.invariant-loop-part
-invariant-loop-part l =
-    map found_of l.all.items ≡ map found_of l.initial.all.items ++ map (turned_there (under_row l.row)) (map found_of l.yielded)
