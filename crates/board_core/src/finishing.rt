@@ -93,7 +93,7 @@ impl Board {
             stop,
             index: _,
         } = self;
-        let log = record.copy_log(alloc)?;
+        let log = record.into_log(alloc)?;
         match stop {
             Some(reason) => Ok((log, Some(reason.into_end()))),
             None => Ok((log, end)),

@@ -96,12 +96,12 @@ fn append(entries: &mut Vec<Entry>, entry: Entry)
 }
 
 // A log of these entries.
-fn log_of(alloc: Global, entries: &[Entry]) -> Result<Log, Memory>
-    ensures { IfOk result (λ log. events_of log ≡ map event_of entries.now) }
+fn log_of(alloc: Global, entries: Vec<Entry>) -> Result<Log, Memory>
+    ensures { IfOk result (λ log. events_of log ≡ map event_of entries.items) }
 {
     let mut log = Log::new(alloc);
     for entry in entries {
-        log.push(entry.copy(alloc)?)?;
+        log.push(entry)?;
     }
     Ok(log)
 }
@@ -183,10 +183,18 @@ impl Record {
     }
 
     /// The log as a value of its own.
-    pub fn copy_log(&self, alloc: Global) -> Result<Log, Memory>
-        ensures { IfOk result (λ log. events_of log ≡ events self.now) }
+    pub fn into_log(self, alloc: Global) -> Result<Log, Memory>
+        ensures { IfOk result (λ log. events_of log ≡ events self) }
     {
-        log_of(alloc, &self.entries)
+        let Record {
+            checked: _,
+            clients: _,
+            entries,
+            session: _,
+            tree: _,
+            ready: _,
+        } = self;
+        log_of(alloc, entries)
     }
 
     // A client that may makes its next offer.
