@@ -1,12 +1,12 @@
 -- What the program finds in what is known of a board's tree.
-use Rattle.std.proofs.Common.{ℕ, ◌≡◌, ◌⊎◌, ◌&&◌, nat_lt, length, if◌then◌else◌, List, [], ◌∷◌, ◌++◌, map, refl, ap, subst, sym, ◌∙◌, inl, inr, Option, Some, option_map, Bool, true, false, cond, not, filter, ◌==◌, ◌||◌, None}
-use Rattle.std.proofs.lemmas.Bool.{and_parts, eqb-true}
+use Rattle.std.proofs.Common.{ℕ, ◌≡◌, ◌⊎◌, ◌<◌, ◌&&◌, nat_lt, length, if◌then◌else◌, List, [], ◌∷◌, ◌++◌, map, refl, ap, subst, sym, ◌∙◌, inl, inr, Option, Some, option_map, Bool, true, false, cond, not, filter, ◌==◌, ◌||◌, None}
+use Rattle.std.proofs.lemmas.Bool.{and_parts, eqb-true, lt-ltb}
 use Rattle.std.proofs.lemmas.List.{map-append}
 use Rattle.spec_core.specs.declared.equation.DataSpec.{DataSpec}
 use Rattle.spec_core.specs.declared.window.Window.{Window}
-use Rattle.spec_core.specs.Lists.{IsOneOf}
+use Rattle.spec_core.specs.Lists.{Each, IsOneOf}
 use Rattle.spec_core.specs.Theories.{theory_of}
-use Rattle.spec_core.proofs.Members.{one_parts}
+use Rattle.spec_core.proofs.Members.{each_from, one_parts}
 use Rattle.rule_model.specs.declared.rules.Rules.{Rules}
 use Rattle.rule_model.specs.Derivations.{Derivation, derivation_of}
 use Rattle.rule_model.specs.States.{PendingOffer}
@@ -42,7 +42,7 @@ use Rattle.board_offers.specs.Waiting.{waiting_in}
 use Rattle.board_core.specs.declared.job.Job.{Job}
 use Rattle.board_core.specs.Entries.{entry_of}
 use Rattle.board_core.specs.Views.{BoardView, program, state, tree, decided_at, first_at, needed_at}
-use Rattle.board_core.specs.Working.{IsHandedOut, first_free}
+use Rattle.board_core.specs.Working.{IsAsked, IsHandedOut, first_free}
 
 -- the jobs that are kept of a list are kept of what they stand for
 pub kept_over : (keep : NodeJob → Bool) (jobs : List declared.NodeJob) →
@@ -108,21 +108,45 @@ passed_by (other ∷ out) job task e f = by_test (same_job other task) e (λ g. 
     by_test false g others = others g
 
 -- the first of the jobs that are needed is handed out
-pub handed_out : (old new : BoardView) (task again : declared.NodeJob) (job : Job) →
-    job.task ≡ task → job_of again ≡ job_of task → first_free old ≡ Some (job_of task) → new.out ≡ old.out ++ again ∷ [] →
-    Lives (tree old) (generation_of (job_of task)) →
-    ((n : Held) → IsNodeOf (tree old) (generation_of (job_of task)) n → n.source ≡ source_of job.origin) → LooksForTrees (state old) →
-    JobChoosesValues (program old).theory (job_of task) → IsHandedOut old new job
-handed_out old new task again job same copied first out lives origin looks values = record {
-  first = first ∙ ap (λ t. Some (job_of t)) (sym same);
-  out =
-      ap (map job_of) out ∙ map-append job_of old.out (again ∷ [])
-      ∙ ap (λ j. map job_of old.out ++ j ∷ []) (copied ∙ ap job_of (sym same));
-  lives = subst (λ t. Lives (tree old) (generation_of (job_of t))) (sym same) lives;
-  origin = subst (λ t. (n : Held) → IsNodeOf (tree old) (generation_of (job_of t)) n → n.source ≡ source_of job.origin) (sym same) origin;
-  looks = looks;
-  values = subst (λ t. JobChoosesValues (program old).theory (job_of t)) (sym same) values;
+pub handed_out : (old new : BoardView) (task : declared.NodeJob) (job : Job) → IsAsked old job → job_of job.task ≡ job_of task →
+    first_free old ≡ Some (job_of task) → new.out ≡ old.out ++ task ∷ [] → IsHandedOut old new job
+handed_out old new task job asked same first out = record {
+  first = first ∙ ap (λ j. Some j) (sym same);
+  out = ap (map job_of) out ∙ map-append job_of old.out (task ∷ []) ∙ ap (λ j. map job_of old.out ++ j ∷ []) (sym same);
+  lives = asked.lives;
+  origin = asked.origin;
+  looks = asked.looks;
+  values = asked.values;
 }
+
+-- the first job that is taken on stays the first
+first_stays : (limit : ℕ) (out : List NodeJob) (job : NodeJob) (taken jobs : List NodeJob) →
+    first (taken_on (with_job limit out) (job ∷ taken) jobs) ≡ Some job
+first_stays limit out job taken [] = refl
+first_stays limit out job taken (other ∷ jobs) =
+    by_test (nat_lt (length (job ∷ taken)) limit && (not (is_out out other) && not (is_out (job ∷ taken) other)))
+    (first_stays limit out job (taken ++ other ∷ []) jobs) (first_stays limit out job taken jobs)
+  where
+    by_test : (b : Bool) → first (taken_on (with_job limit out) (job ∷ taken ++ other ∷ []) jobs) ≡ Some job →
+        first (taken_on (with_job limit out) (job ∷ taken) jobs) ≡ Some job →
+        first (taken_on (with_job limit out) (if b then (job ∷ taken) ++ other ∷ [] else job ∷ taken) jobs) ≡ Some job
+    by_test true e f = e
+    by_test false e f = f
+
+-- where there is room, the first job that is taken on is the first that isn't out
+pub first_taken : (limit : ℕ) (out jobs : List NodeJob) → 0 < limit →
+    first (taken_on (with_job limit out) [] jobs) ≡ first_not_out (is_out out) jobs
+first_taken limit out [] room = refl
+first_taken limit out (job ∷ jobs) room =
+    by_room (nat_lt 0 limit) (lt-ltb 0 limit room) (is_out out job) (first_taken limit out jobs room) (first_stays limit out job [] jobs)
+  where
+    by_room : (r : Bool) → r ≡ true → (b : Bool) → first (taken_on (with_job limit out) [] jobs) ≡ first_not_out (is_out out) jobs →
+        first (taken_on (with_job limit out) (job ∷ []) jobs) ≡ Some job →
+        first (taken_on (with_job limit out) (if r && (not b && true) then job ∷ [] else []) jobs) ≡
+        first (if not b then job ∷ not_out (is_out out) jobs else not_out (is_out out) jobs)
+    by_room true room true e f = e
+    by_room true room false e f = f
+    by_room false room b e f = let never : ⊥ = cc in absurd never
 
 -- what is known of the tree is what the board knows
 pub record IsOf (v : BoardView) (k : KnownTree) : Type 0 where
@@ -223,3 +247,13 @@ taken_are_asked limit out jobs job h = by_taken (from [] jobs h)
         by_test b (inr later) = inr (inr later)
         by_test true (inl here) = by_last (one_parts job taken (x ∷ []) here)
         by_test false (inl before) = inl before
+
+-- the others of the jobs that are taken on are among them
+pub others_are_asked : (limit : ℕ) (out jobs : List NodeJob) (first : NodeJob) (others : List NodeJob) →
+    first ∷ others ≡ taken_on (with_job limit out) [] jobs → Each (λ job. IsOneOf job jobs) others
+others_are_asked limit out jobs first others e = all.1
+  where
+    all : Each (λ job. IsOneOf job jobs) (first ∷ others)
+    all =
+        subst (Each (λ job. IsOneOf job jobs)) (sym e)
+        (each_from (λ job. IsOneOf job jobs) (taken_on (with_job limit out) [] jobs) (λ job h. taken_are_asked limit out jobs job h))

@@ -1,9 +1,10 @@
 // What comes next, as far as what is known decides it.
 
-ghost use Rattle.std.specs.Prelude.{◌≡◌, ◌↔◌, [], IfOk, IfSome, IsTrue, Some, map, option_map};
+ghost use Rattle.std.specs.Prelude.{suc, ◌≡◌, ◌↔◌, ◌∷◌, [], IfOk, IfSome, IsTrue, Some, map, option_map};
 ghost use Rattle.spec_core.specs.Lists.{IsOneOf};
 ghost use Rattle.rule_model.specs.Derivations.{derivation_of};
 ghost use Rattle.log_states.specs.Views.{pending_of};
+ghost use Rattle.board_laws.specs.Lazy.{first};
 ghost use Rattle.candidates.specs.Composites.{AreAllOf};
 ghost use Rattle.candidates.specs.KnownTrees.{HasItsParts};
 ghost use Rattle.candidates.specs.Jobs.{is_out, with_job};
@@ -12,7 +13,7 @@ ghost use Rattle.decision_order.specs.Jobs.{first_not_out, taken_on};
 ghost use Rattle.node_trees.specs.Shapes.{shape_of};
 ghost use Rattle.board_core.specs.Entries.{entry_of};
 ghost use Rattle.board_core.specs.Views.{program, state, tree, decided_at, needed_at};
-ghost use Rattle.board_core.specs.Working.{IsNeeded};
+ghost use Rattle.board_core.specs.Working.{IsNeeded, first_free};
 
 use crate::board::Board;
 use crate::copying::is_same;
@@ -27,6 +28,19 @@ use offer_index::{OpenComposite, some_waits};
 use rule_model::rules::Rules;
 use spec_core::memory::Memory;
 use std::alloc::Global;
+
+// The first job, and the others.
+fn first_apart(tasks: Vec<NodeJob>) -> Option<(NodeJob, Vec<NodeJob>)>
+    ensures first { option_map (λ r. job_of r.0) result ≡ first (map job_of tasks.items) }
+    ensures those { IfSome result (λ r. job_of r.0 ∷ map job_of r.1.items ≡ map job_of tasks.items) }
+{
+    let mut tasks = tasks;
+    if tasks.is_empty() {
+        return None;
+    }
+    let first = tasks.remove(0);
+    Some((first, tasks))
+}
 
 impl Board {
     // Lists the composites of the tree, unless some node waits: there is a gap for each way up from such a node, and these may be more than
@@ -124,21 +138,28 @@ impl Board {
         next_job(alloc, &known, &offers)
     }
 
-    // The first job that the rules still need and that isn't out.
-    pub(crate) fn next_task(&self, alloc: Global) -> Result<Option<NodeJob>, Memory>
-        ensures job { IfOk result (λ job. option_map job_of job ≡ first_not_out (is_out (map job_of self.now.out)) (needed_at self.now)) }
-    {
-        self.next_besides(alloc, &self.out)
-    }
-
     // The first jobs that the rules still need and that aren't out, each once, up to so many.
-    pub(crate) fn next_tasks(&self, alloc: Global, limit: usize) -> Result<Vec<NodeJob>, Memory>
+    fn next_tasks(&self, alloc: Global, limit: usize) -> Result<Vec<NodeJob>, Memory>
         ensures jobs { IfOk result (λ jobs. map job_of jobs.items ≡
             taken_on (with_job limit (map job_of self.now.out)) [] (needed_at self.now)) }
     {
         let offers = offers_by_number(alloc, self.state())?;
         let known = self.known(alloc)?;
         next_jobs(alloc, &known, &offers, limit)
+    }
+
+    // The first job that the rules still need and that isn't out, and at most so many others, each once.
+    pub(crate) fn first_tasks(
+        &self,
+        alloc: Global,
+        more: u8,
+    ) -> Result<Option<(NodeJob, Vec<NodeJob>)>, Memory>
+        ensures first { IfOk result (λ o. option_map (λ r. job_of r.0) o ≡ first_free self.now) }
+        ensures those { IfOk result (λ o. IfSome o (λ r. job_of r.0 ∷ map job_of r.1.items ≡
+            taken_on (with_job (suc more) (map job_of self.now.out)) [] (needed_at self.now))) }
+    {
+        let tasks = self.next_tasks(alloc, usize::from(more) + 1)?;
+        Ok(first_apart(tasks))
     }
 
     // Whether the job is among those that the rules still need.

@@ -10,6 +10,13 @@ pub struct Job {
     pub origin: Origin,
 }
 
+/// A job that is out, and others that are needed with it and stay free.
+#[derive(Drop)]
+pub struct Batch {
+    pub first: Job,
+    pub others: Vec<Job>,
+}
+
 /// What comes of handing in what a job brought.
 #[derive(Clone, Copy, Debug, PartialEq, Eq)]
 pub enum Post {

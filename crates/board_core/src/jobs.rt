@@ -1,6 +1,6 @@
 // The jobs of a board: what workers do for it.
 
-ghost use Rattle.std.specs.Prelude.{ℕ, ◌≡◌, ◌↔◌, ◌<◌, ◌≤◌, ◌⊎◌, IfOk, IfSome, IfNone, IsTrue, OnErr, None, Some, [], false, map};
+ghost use Rattle.std.specs.Prelude.{ℕ, suc, ◌≡◌, ◌↔◌, ◌<◌, ◌≤◌, ◌∷◌, IfOk, IfSome, IfNone, IsTrue, OnErr, None, Some, [], false, map};
 ghost use Rattle.spec_core.specs.Lists.{Each, IsOneOf};
 ghost use Rattle.candidates.specs.Jobs as jobs;
 ghost use Rattle.candidates.specs.Jobs.{to_expand, to_judge};
@@ -26,7 +26,7 @@ ghost use Rattle.board_core.specs.Views.{program, state, tree, windows, pieces, 
 
 use crate::board::Board;
 use crate::copying::{copy_job, generation_of, is_same};
-use crate::job::{Job, Post};
+use crate::job::{Batch, Job, Post};
 use crate::sources::is_same_origin;
 use board_laws::stop_reason::StopReason;
 use board_laws::{OFFERS_LIMIT, count_offers};
@@ -129,58 +129,6 @@ impl Board {
         }
     }
 
-    // The job, which is out from then on.
-    fn hand_out(&mut self, alloc: Global, task: NodeJob) -> Result<Job, Memory>
-        requires first { first_free self.old ≡ Some (job_of task) }
-        requires lives { Lives (tree self.old) (generation_of (job_of task)) }
-        requires looks { LooksForTrees (state self.old) }
-        requires values { JobChoosesValues (program self.old).theory (job_of task) }
-        ensures job { IfOk result (IsHandedOut self.old self.new) }
-        ensures kept { OnErr result (self.new.out ≡ self.old.out) }
-        ensures log { SameLog self.old self.new }
-        ensures nodes { SameNodes self.old self.new }
-        ensures session { SameSession self.old self.new }
-        ensures stop { self.new.stop ≡ self.old.stop }
-    {
-        let again = copy_job(alloc, &task)?;
-        let job = self.with_origin(alloc, task)?;
-        self.out.push(again)?;
-        Ok(job)
-    }
-
-    /// The first job that the rules still need and that isn't out. It is out from then on, until what comes of it is handed in, or it is
-    /// given back, or its node is gone. None where the rules need none that isn't out, and where the session has stopped. Where it is to
-    /// find what a node shows, and the behaviour has more than 1,048,576 possible agreements, of those of which every participant is
-    /// expanded, there is none, and this stops the session.
-    pub fn take_job(&mut self, alloc: Global) -> Result<Option<Job>, Memory>
-        ensures job { IfOk result (λ o. IfSome o (λ job. IsHandedOut self.old self.new job × (self.new.stop ≡ self.old.stop))) }
-        ensures few { IfOk result (λ o. IfSome o (λ job. IsVerdict (job_of job.task) →
-            offers_of_tree (program self.old) (windows self.old) (tree self.old) ≤ offers_limit)) }
-        ensures none { IfOk result (λ o. IfNone o (WhyNone self.old self.new)) }
-        ensures out { IfOk result (λ o. IfNone o (self.new.out ≡ self.old.out)) }
-        ensures kept { OnErr result ((self.new.out ≡ self.old.out) × (self.new.stop ≡ self.old.stop)) }
-        ensures log { SameLog self.old self.new }
-        ensures nodes { SameNodes self.old self.new }
-        ensures session { SameSession self.old self.new }
-    {
-        if !self.goes_on() {
-            return Ok(None);
-        }
-        self.needed_jobs_live();
-        self.needed_jobs_choose_values();
-        match self.next_task(alloc)? {
-            None => Ok(None),
-            Some(task) => {
-                if self.is_too_much(alloc, &task)? {
-                    self.stop = Some(StopReason::Limit(LimitKind::Offers));
-                    return Ok(None);
-                }
-                let job = self.hand_out(alloc, task)?;
-                Ok(Some(job))
-            }
-        }
-    }
-
     // The job, which the rules need, with what its node stands for.
     fn asked(&self, alloc: Global, task: &NodeJob) -> Result<Job, Memory>
         requires needed { IsOneOf (job_of task.now) (needed_at self.now) }
@@ -209,16 +157,74 @@ impl Board {
         Ok(jobs)
     }
 
-    /// The first jobs that the rules still need and that aren't out, each once, at most `limit`. They stay free. None where the session has
-    /// stopped or ended, or waits for its clients.
-    pub fn next_jobs(&self, alloc: Global, limit: usize) -> Result<Vec<Job>, Memory>
-        ensures jobs { IfOk result (λ jobs. AreAsked self.now limit jobs.items ⊎ (jobs.items ≡ []) × NoneFree self.now) }
+    // The job, which is out from then on.
+    fn hand_out(&mut self, alloc: Global, task: NodeJob) -> Result<Job, Memory>
+        requires first { first_free self.old ≡ Some (job_of task) }
+        requires looks { LooksForTrees (state self.old) }
+        ensures task { IfOk result (λ job. job_of job.task ≡ job_of task) }
+        ensures asked { IfOk result (IsAsked self.old) }
+        ensures job { IfOk result (IsHandedOut self.old self.new) }
+        ensures kept { OnErr result (self.new.out ≡ self.old.out) }
+        ensures log { SameLog self.old self.new }
+        ensures nodes { SameNodes self.old self.new }
+        ensures session { SameSession self.old self.new }
+        ensures stop { self.new.stop ≡ self.old.stop }
+    {
+        let job = self.asked(alloc, &task)?;
+        self.out.push(task)?;
+        Ok(job)
+    }
+
+    /// The first job that the rules still need and that isn't out, and at most `more` others, each once, all that one look finds. The first
+    /// is out from then on, until what comes of it is handed in, or it is given back, or its node is gone; the others stay free. None where
+    /// the rules need none that isn't out, and where the session has stopped. Where the first is to find what a node shows, and the behaviour
+    /// has more than 1,048,576 possible agreements, of those of which every participant is expanded, there is none, and this stops the
+    /// session.
+    pub fn take_jobs(&mut self, alloc: Global, more: u8) -> Result<Option<Batch>, Memory>
+        ensures job { IfOk result (λ o. IfSome o (λ b. IsHandedOut self.old self.new b.first × (self.new.stop ≡ self.old.stop))) }
+        ensures asked { IfOk result (λ o. IfSome o (λ b. AreAsked self.old (suc more) (b.first ∷ b.others.items))) }
+        ensures few { IfOk result (λ o. IfSome o (λ b. IsVerdict (job_of b.first.task) →
+            offers_of_tree (program self.old) (windows self.old) (tree self.old) ≤ offers_limit)) }
+        ensures none { IfOk result (λ o. IfNone o (WhyNone self.old self.new)) }
+        ensures out { IfOk result (λ o. IfNone o (self.new.out ≡ self.old.out)) }
+        ensures kept { OnErr result ((self.new.out ≡ self.old.out) × (self.new.stop ≡ self.old.stop)) }
+        ensures log { SameLog self.old self.new }
+        ensures nodes { SameNodes self.old self.new }
+        ensures session { SameSession self.old self.new }
     {
         if !self.goes_on() {
-            return Ok(Vec::new(alloc));
+            return Ok(None);
         }
-        let tasks = self.next_tasks(alloc, limit)?;
-        self.with_origins(alloc, &tasks)
+        match self.first_tasks(alloc, more)? {
+            None => Ok(None),
+            Some((task, tasks)) => {
+                if self.is_too_much(alloc, &task)? {
+                    self.stop = Some(StopReason::Limit(LimitKind::Offers));
+                    return Ok(None);
+                }
+                let others = self.with_origins(alloc, &tasks)?;
+                let first = self.hand_out(alloc, task)?;
+                Ok(Some(Batch { first, others }))
+            }
+        }
+    }
+
+    /// The first job that the rules still need and that isn't out, as `take_jobs` says, and no other.
+    pub fn take_job(&mut self, alloc: Global) -> Result<Option<Job>, Memory>
+        ensures job { IfOk result (λ o. IfSome o (λ job. IsHandedOut self.old self.new job × (self.new.stop ≡ self.old.stop))) }
+        ensures few { IfOk result (λ o. IfSome o (λ job. IsVerdict (job_of job.task) →
+            offers_of_tree (program self.old) (windows self.old) (tree self.old) ≤ offers_limit)) }
+        ensures none { IfOk result (λ o. IfNone o (WhyNone self.old self.new)) }
+        ensures out { IfOk result (λ o. IfNone o (self.new.out ≡ self.old.out)) }
+        ensures kept { OnErr result ((self.new.out ≡ self.old.out) × (self.new.stop ≡ self.old.stop)) }
+        ensures log { SameLog self.old self.new }
+        ensures nodes { SameNodes self.old self.new }
+        ensures session { SameSession self.old self.new }
+    {
+        match self.take_jobs(alloc, 0)? {
+            None => Ok(None),
+            Some(Batch { first, .. }) => Ok(Some(first)),
+        }
     }
 
     /// The job is free again. It takes no memory.

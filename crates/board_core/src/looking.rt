@@ -15,7 +15,28 @@ use rule_model::reply::Reply;
 use spec_core::memory::Memory;
 use std::alloc::Global;
 
+// Whether a tree has more than one part that may act.
+fn has_several(branch: &Branch) -> bool {
+    match branch {
+        Branch::Leaf(_) => false,
+        Branch::Ended => false,
+        Branch::Over(_, part) => has_several(part),
+        Branch::Between(_, _, _) => true,
+    }
+}
+
 impl Board {
+    /// Whether the last look found no node that waits, so that the next job is to find what a node shows. Nothing is claimed of it: whoever
+    /// asks for jobs reckons with it how many are worth asking for. It takes no memory.
+    pub fn is_expanded(&self) -> bool {
+        self.index.is_some()
+    }
+
+    /// Whether the behaviour that is reached has several nodes. Nothing is claimed of it, as of `is_expanded`. It takes no memory.
+    pub fn has_several_nodes(&self) -> bool {
+        has_several(self.record.tree().root())
+    }
+
     /// The operators and nodes that stand for the behaviour that is reached. It takes no memory.
     pub fn nodes(&self) -> &Branch
         ensures { shape_of result.now ≡ tree self.now }

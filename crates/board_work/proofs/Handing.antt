@@ -1,5 +1,5 @@
 -- Boards to which several things were handed in, one after another.
-use Rattle.std.proofs.Common.{ℕ, ◌≡◌, ◌∙◌, ◌⊎◌, List, [], inl, inr, refl, sym, ap, subst, Option, Some, None}
+use Rattle.std.proofs.Common.{ℕ, ◌≡◌, ◌∙◌, ◌⊎◌, List, ◌∷◌, inl, inr, refl, sym, ap, subst, Option, Some, None}
 use Rattle.spec_core.specs.Code.{program_of}
 use Rattle.spec_core.specs.Lists.{Each}
 use Rattle.spec_core.proofs.Lists.{each_implied}
@@ -7,7 +7,7 @@ use Rattle.board_laws.specs.declared.stop_reason.StopReason.{StopReason}
 use Rattle.board_laws.specs.Reasons.{IsAskedByRules, IsReasonToStop}
 use Rattle.board_core.specs.Views.{BoardView, program, state, SameLog, SameSession}
 use Rattle.board_core.specs.declared.job.Job.{Job}
-use Rattle.board_core.specs.Working.{AreAsked, IsAsked, IsOfValues, NoneFree, first_reason}
+use Rattle.board_core.specs.Working.{AreAsked, IsAsked, IsOfValues, first_reason}
 use Rattle.board_work.specs.Handed.{HandsIn, StopsNow}
 use Rattle.board_work.proofs.Going.{one_session}
 
@@ -51,7 +51,6 @@ handed_twice a b c x y = record {
 }
 
 -- jobs that are asked choose values
-pub asked_values : (v : BoardView) (limit : ℕ) (jobs : List Job) → AreAsked v limit jobs ⊎ (jobs ≡ []) × NoneFree v →
-    Each (IsOfValues (program v)) jobs
-asked_values v limit jobs (inl h) = each_implied (IsAsked v) (IsOfValues (program v)) jobs (λ job a. a.values) h.each
-asked_values v limit jobs (inr (e, none)) = subst (Each (IsOfValues (program v))) (sym e) tt
+pub asked_values : (v : BoardView) (limit : ℕ) (job : Job) (others : List Job) → AreAsked v limit (job ∷ others) →
+    Each (IsOfValues (program v)) others
+asked_values v limit job others h = (each_implied (IsAsked v) (IsOfValues (program v)) (job ∷ others) (λ j a. a.values) h.each).1

@@ -16,33 +16,108 @@ use crate::performing::perform;
 use board_core::board::Board;
 use board_core::job::Job;
 use candidates::job::NodeJob;
+use node_trees::branch::Branch;
 use spec_core::memory::Memory;
 use std::alloc::Global;
 
-/// How many other jobs may be done with the next one, where that is of this kind: to find what a node shows, or to expand one.
+/// How many other jobs are asked for with the next one, at most, to be done where they are of its kind: to expand nodes, or to find what they
+/// show. Behind an entry that is none with the first node that is expanded, and one with the second. With the first two jobs to find what
+/// nodes show it is one, where the behaviour has several nodes, since many actions are of two of them, and else none. With each further job
+/// of the kind it is one more than twice as many, up to 255, and no more nodes than wait, since a search for what isn't there is a long one.
 #[derive(Clone, Copy)]
 pub struct More {
-    pub verdicts: bool,
-    pub count: usize,
+    verdicts: bool,
+    begun: bool,
+    pub count: u8,
+    after: u8,
+}
+
+// How many nodes of a tree wait for their expansion, counted up to so many.
+fn waiting_nodes(branch: &Branch, most: u8) -> u8
+    ensures few { result ≤ most }
+{
+    if most == 0 {
+        return 0;
+    }
+    match branch {
+        Branch::Leaf(node) => if node.waits() { 1 } else { 0 },
+        Branch::Ended => 0,
+        Branch::Over(_, part) => waiting_nodes(part, most),
+        Branch::Between(_, left, right) => {
+            let first = waiting_nodes(left, most);
+            first + waiting_nodes(right, most - first)
+        }
+    }
 }
 
 impl More {
-    /// None.
-    pub fn none() -> More
+    /// Behind an entry.
+    pub fn at_first() -> More
         ensures none { result.count ≡ 0 }
     {
         More {
             verdicts: false,
+            begun: false,
             count: 0,
+            after: 0,
         }
     }
 
-    // How many with a job of this kind.
-    fn with(self, verdicts: bool) -> usize {
-        if self.verdicts == verdicts {
-            self.count
+    // With the first job of a kind.
+    fn begin(board: &Board, verdicts: bool) -> More {
+        if !verdicts {
+            return More {
+                verdicts,
+                begun: false,
+                count: 0,
+                after: 1,
+            };
+        }
+        let least = if board.has_several_nodes() { 1 } else { 0 };
+        More {
+            verdicts,
+            begun: false,
+            count: least,
+            after: least,
+        }
+    }
+
+    /// With the next job of a board: no more nodes than wait beside the first. It takes no memory.
+    pub fn with_next(self, board: &Board) -> More {
+        let verdicts = board.is_expanded();
+        if !self.begun || self.verdicts != verdicts {
+            return More::begin(board, verdicts);
+        }
+        if verdicts {
+            return self;
+        }
+        let others = waiting_nodes(board.nodes(), 255).saturating_sub(1);
+        More {
+            verdicts,
+            begun: true,
+            count: if self.count < others {
+                self.count
+            } else {
+                others
+            },
+            after: self.after,
+        }
+    }
+
+    /// With the job behind this one, if no entry comes before and it is of the same kind.
+    pub fn grown(self) -> More
+        ensures next { result.count ≡ self.after }
+    {
+        let after = if self.after < 127 {
+            self.after * 2 + 1
         } else {
-            0
+            255
+        };
+        More {
+            verdicts: self.verdicts,
+            begun: true,
+            count: self.after,
+            after,
         }
     }
 }
@@ -105,30 +180,17 @@ fn try_those(alloc: Global, board: &mut Board, verdicts: bool, jobs: Vec<Job>) -
     Ok(())
 }
 
-// Does other jobs of a kind that the rules need, at most so many.
-#[tactic(auto, using(crate::proofs::Handing::nothing_handed))]
-fn try_more(alloc: Global, board: &mut Board, verdicts: bool, count: usize) -> Result<(), Memory>
-    ensures handed { HandsIn board.old board.new }
-{
-    if count == 0 {
-        return Ok(());
-    }
-    let jobs = board.next_jobs(alloc, count)?;
-    try_those(alloc, board, verdicts, jobs)
-}
-
-/// Does a job at once, whose tree of rules, if it has one, chooses values, and hands in what came of it. Where `more` is of its kind, it then
-/// does so many others of this kind that the rules need, at most, and hands in what is found: where one has no answer nothing changes. It
-/// answers how many more may be done with the next job, if no entry comes before: one more than twice as many, and at most 255.
-pub fn work_on(alloc: Global, board: &mut Board, job: Job, more: More) -> Result<More, Memory>
+/// Does a job at once, whose tree of rules, if it has one, chooses values, and hands in what came of it; and then does those of the others
+/// that are of its kind, and hands in what is found, unless the session has stopped: where one of them has no answer nothing changes.
+pub fn work_on(alloc: Global, board: &mut Board, job: Job, others: Vec<Job>) -> Result<(), Memory>
     requires values { IsOfValues (program board.old) job }
+    requires others { Each (IsOfValues (program board.old)) others.items }
     ensures handed { HandsIn board.old board.new }
-    ensures next { IfOk result (λ next. next.count ≤ 255) }
 {
     let verdicts = is_verdict(&job);
-    let count = more.with(verdicts);
     work(alloc, board, job)?;
-    try_more(alloc, board, verdicts, count)?;
-    let count = if count < 127 { count * 2 + 1 } else { 255 };
-    Ok(More { verdicts, count })
+    if board.stopped() {
+        return Ok(());
+    }
+    try_those(alloc, board, verdicts, others)
 }

@@ -6,6 +6,7 @@ ghost use Rattle.board_work.specs.Going.{GoesOn};
 ghost use Rattle.client_runs.specs.Runs.{Continues, IsSettledOn};
 
 use board_core::board::Board;
+use board_core::job::Batch;
 use board_work::working::{More, work_on};
 use spec_core::memory::Memory;
 use std::alloc::Global;
@@ -25,19 +26,21 @@ fn settle_once(alloc: Global, board: &mut Board, more: &mut More) -> Result<bool
     ensures session { SameSession board.old board.new }
 {
     if board.settle(alloc)?.is_some() {
-        *more = More::none();
+        *more = More::at_first();
         return Ok(false);
     }
     board.give_back_all();
     board.jobs_give_reasons();
     let before = board.stopped();
-    match board.take_job(alloc)? {
+    let asked = more.with_next(board);
+    match board.take_jobs(alloc, asked.count)? {
         None => {
             let after = board.stopped();
             Ok(is_as_before(before, after))
         }
-        Some(job) => {
-            *more = work_on(alloc, board, job, *more)?;
+        Some(Batch { first, others }) => {
+            work_on(alloc, board, first, others)?;
+            *more = asked.grown();
             Ok(false)
         }
     }
@@ -50,7 +53,7 @@ pub fn settle_all(alloc: Global, board: &mut Board) -> Result<(), Memory>
     ensures settled { OnOk result (IsSettledOn board.new) }
     ensures session { SameSession board.old board.new }
 {
-    let mut more = More::none();
+    let mut more = More::at_first();
     for _ in 0..u64::MAX {
         if settle_once(alloc, board, &mut more)? {
             return Ok(());

@@ -10,6 +10,7 @@ ghost use Rattle.board_core.specs.Views.{events, program, state, SameNodes, Same
 ghost use Rattle.simulator_steps.specs.Asking.{ComesNext, EndsWith, IsAnswer, IsAnswered, IsAtRest, KeepsBehaviour, OnlyWaits, TellsLast, TellsOf};
 
 use board_core::board::Board;
+use board_core::job::Batch;
 use board_record::PendFault;
 use board_work::working::{More, work_on};
 use rule_model::action::Action;
@@ -39,10 +40,12 @@ fn settle_once(alloc: Global, board: &mut Board, more: &mut More) -> Result<bool
     }
     board.give_back_all();
     board.jobs_give_reasons();
-    match board.take_job(alloc)? {
+    let asked = more.with_next(board);
+    match board.take_jobs(alloc, asked.count)? {
         None => Ok(false),
-        Some(job) => {
-            *more = work_on(alloc, board, job, *more)?;
+        Some(Batch { first, others }) => {
+            work_on(alloc, board, first, others)?;
+            *more = asked.grown();
             Ok(false)
         }
     }
@@ -53,7 +56,7 @@ fn settle(alloc: Global, board: &mut Board) -> Result<(), Memory>
     ensures next { OnOk result (ComesNext board.old board.new) }
     ensures session { SameSession board.old board.new }
 {
-    let mut more = More::none();
+    let mut more = More::at_first();
     for _ in 0..u64::MAX {
         if settle_once(alloc, board, &mut more)? {
             return Ok(());
