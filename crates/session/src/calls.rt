@@ -33,6 +33,9 @@ use std::sync::Wait;
 use thiserror::Error;
 use turn_lock::TurnSeat;
 
+// How many entries a client appends at most, before it passes the turn on, where it looks for its answer.
+const ENTRIES_IN_A_TURN: u32 = 16;
+
 /// Why a client's call does nothing.
 #[derive(Debug, Drop, Error)]
 pub enum CallFault {
@@ -88,7 +91,7 @@ impl Session {
         }
     }
 
-    // One look for the answer to an offer, in a turn.
+    // Looks for the answer to an offer, in a turn.
     fn look<R: Wait>(
         &self,
         rt: &R,
@@ -108,7 +111,40 @@ impl Session {
         ensures marked { OnErr result (HasHalted seat.new.seen) }
     {
         let mut held = self.turns.take(rt, seat);
-        let look = held.value.look(self.alloc, name, spot);
+        let look = held
+            .value
+            .look_along(self.alloc, name, spot, ENTRIES_IN_A_TURN);
+        self.turns.give(seat, held);
+        look
+    }
+
+    // Hands in what came of a job, and looks for the answer to an offer, in one turn.
+    fn hand_in_and_look<R: Wait>(
+        &self,
+        rt: &R,
+        seat: &mut TurnSeat<SharedBoard>,
+        taken: TakenJob,
+        outcome: Result<Outcome, Memory>,
+        name: (u32, u64),
+        spot: Spot,
+    ) -> Result<(Spot, Look), Memory>
+        requires rests { IsAtRest self.now.lock.id seat.old }
+        requires outcome { IfOk outcome (FitsJob self.now taken) }
+        requires spot { IsSpot seat.old.seen spot }
+        ensures stays { StaysSeat seat.old seat.new }
+        ensures own { HasItsLines seat.new }
+        ensures none { HasSeenMore seat.old seat.new }
+        ensures spot { IfOk result (λ r. IsSpot seat.new.seen r.0 × (spot.lines ≤ r.0.lines)) }
+        ensures found { IfOk result (λ r. ComesOfLook seat.new.seen name r.0 r.1) }
+        ensures given { IfOk result (λ r. OnLook (IsGiven self.now) r.1) }
+        ensures running { OnOk result (HasHalted seat.new.seen → ⊥) }
+        ensures marked { OnErr result (HasHalted seat.new.seen) }
+    {
+        let TakenJob { number: _, job } = taken;
+        let mut held = self.turns.take(rt, seat);
+        let look = held
+            .value
+            .hand_in_and_look(self.alloc, job, outcome, name, spot, ENTRIES_IN_A_TURN);
         self.turns.give(seat, held);
         look
     }
@@ -156,79 +192,39 @@ impl Session {
         )
     }
 
-    // Does a job, and hands in what came of it.
-    fn help<R: Wait>(
-        &self,
-        rt: &R,
-        seat: &mut TurnSeat<SharedBoard>,
-        taken: TakenJob,
-    ) -> Result<(), Memory>
-        requires rests { IsAtRest self.now.lock.id seat.old }
-        requires given { IsGiven self.now taken }
-        ensures stays { StaysSeat seat.old seat.new }
-        ensures own { HasItsLines seat.new }
-        ensures none { HasSeenMore seat.old seat.new }
-        ensures marked { OnErr result (HasHalted seat.new.seen) }
-    {
-        let outcome = self.do_job(&taken);
-        self.hand_in(rt, seat, taken, outcome)
-    }
-
-    // Goes on by what a look found: the answer; or a job, which it does; or an entry; or nothing, then it waits a little.
-    fn go_on<R: Wait>(
-        &self,
-        rt: &R,
-        seat: &mut TurnSeat<SharedBoard>,
-        look: Look,
-        backoff: &Backoff,
-    ) -> Result<Option<Reply>, Memory>
-        requires rests { IsAtRest self.now.lock.id seat.old }
-        requires own { HasItsLines seat.old }
-        requires given { OnLook (IsGiven self.now) look }
-        ensures stays { StaysSeat seat.old seat.new }
-        ensures own { HasItsLines seat.new }
-        ensures none { HasSeenMore seat.old seat.new }
-        ensures answered { IfOk result (λ r. IfSome r (λ reply. look ≡ Answered reply)) }
-        ensures same { IfOk result (λ r. IfSome r (λ _. seat.new ≡ seat.old)) }
-        ensures marked { OnErr result (HasHalted seat.new.seen) }
-    {
-        match look {
-            Look::Answered(reply) => Ok(Some(reply)),
-            Look::Free(taken) => {
-                self.help(rt, seat, taken)?;
-                Ok(None)
-            }
-            Look::Settled => Ok(None),
-            Look::Idle => {
-                backoff.snooze();
-                Ok(None)
-            }
-        }
-    }
-
-    // Looks once for the answer to an offer; where there is none yet it goes on by what it found. The spot at which the answer ends, and the
-    // answer; or where to look next.
-    fn look_once<R: Wait>(
+    // Does what a look found, unless it is the answer, and looks again: a job; or nothing, then it waits a little.
+    fn look_again<R: Wait>(
         &self,
         rt: &R,
         seat: &mut TurnSeat<SharedBoard>,
         name: (u32, u64),
         spot: Spot,
+        look: Look,
         backoff: &Backoff,
-    ) -> Result<(Spot, Option<Reply>), Memory>
+    ) -> Result<(Spot, Look), Memory>
         requires rests { IsAtRest self.now.lock.id seat.old }
         requires spot { IsSpot seat.old.seen spot }
+        requires given { OnLook (IsGiven self.now) look }
         ensures stays { StaysSeat seat.old seat.new }
         ensures own { HasItsLines seat.new }
         ensures none { HasSeenMore seat.old seat.new }
         ensures spot { IfOk result (λ r. IsSpot seat.new.seen r.0 × (spot.lines ≤ r.0.lines)) }
-        ensures answered { IfOk result (λ r. IfSome r.1 (λ reply. ComesOfLook seat.new.seen name r.0 (Answered reply))) }
-        ensures running { IfOk result (λ r. IfSome r.1 (λ _. HasHalted seat.new.seen → ⊥)) }
+        ensures found { IfOk result (λ r. ComesOfLook seat.new.seen name r.0 r.1) }
+        ensures given { IfOk result (λ r. OnLook (IsGiven self.now) r.1) }
+        ensures running { OnOk result (HasHalted seat.new.seen → ⊥) }
         ensures marked { OnErr result (HasHalted seat.new.seen) }
     {
-        let (place, look) = self.look(rt, seat, name, spot)?;
-        let reply = self.go_on(rt, seat, look, backoff)?;
-        Ok((place, reply))
+        match look {
+            Look::Free(taken) => {
+                let outcome = self.do_job(&taken);
+                self.hand_in_and_look(rt, seat, taken, outcome, name, spot)
+            }
+            Look::Idle => {
+                backoff.snooze();
+                self.look(rt, seat, name, spot)
+            }
+            Look::Settled | Look::Answered(_) => self.look(rt, seat, name, spot),
+        }
     }
 
     // Looks, turn by turn, until an offer is answered, and does jobs meanwhile. The spot at which the answer ends, and the answer.
@@ -250,13 +246,15 @@ impl Session {
         ensures marked { OnErr result (HasHalted seat.new.seen) }
     {
         let backoff = Backoff::new();
-        let mut spot = from;
+        let (mut spot, mut look) = self.look(rt, seat, name, from)?;
         for _ in rt.forever() {
-            let (place, reply) = self.look_once(rt, seat, name, spot, &backoff)?;
-            if let Some(reply) = reply {
-                return Ok((place, reply));
-            }
+            let found = match look {
+                Look::Answered(reply) => return Ok((spot, reply)),
+                other => other,
+            };
+            let (place, next) = self.look_again(rt, seat, name, spot, found, &backoff)?;
             spot = place;
+            look = next;
         }
         unreachable!()
     }

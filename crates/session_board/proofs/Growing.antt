@@ -1,6 +1,6 @@
 -- How the list behind the lock grows.
 use Rattle.std.proofs.Common.{ℕ, ◌+◌, ◌≡◌, ◌∙◌, refl, sym, ap, arith, List, [], ◌∷◌, ◌++◌, length, map, take, cond}
-use Rattle.std.proofs.Common.{append-nil, Bool, true, false, Some, None}
+use Rattle.std.proofs.Common.{append-nil, append_assoc, Bool, true, false, Some, None}
 use Rattle.std.specs.Prelude.{All}
 use Rattle.std.specs.List.{AllByRecursion}
 use Rattle.std.proofs.lemmas.List.{length-append, take-append-le}
@@ -56,6 +56,14 @@ grows_by_mark old new running same = grows_by_none old new [] running (same ∙ 
 
 pub stays_grown : (v : SharedView) → GrowsByNone v v
 stays_grown v = ([], sym (append-nil (lines v)), All-nil IsOfNone)
+
+-- by lines that none makes, and then by others
+pub grows_on : (first second third : SharedView) → GrowsByNone first second → GrowsByNone second third → GrowsByNone first third
+grows_on first second third g h = (
+  g.0 ++ h.0,
+  h.1 ∙ ap (λ l. l ++ h.0) g.1 ∙ append_assoc (lines first) g.0 h.0,
+  All-append IsOfNone g.0 h.0 g.2 h.2,
+)
 
 -- what the seats know where the list grew by lines that none makes
 

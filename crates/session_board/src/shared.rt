@@ -13,7 +13,7 @@ ghost use Rattle.session_board.specs.Answers.{AnswersAll, IsSpot};
 ghost use Rattle.session_board.specs.Faults.{ExplainsNoLeave, ExplainsNoOffer, HasntLeft, MayBeMade};
 ghost use Rattle.session_board.specs.Growing.{GrowsByNone, GrowsByOne};
 ghost use Rattle.session_board.specs.Lines.{events_in};
-ghost use Rattle.session_board.specs.Looks.{ComesOfLook, ComesOfWork, IsStepOfLook, IsUnanswered, LooksOn};
+ghost use Rattle.session_board.specs.Looks.{ComesOfLook, ComesOfWork, IsStepOfLook, IsUnanswered, LooksOn, LooksOnAtLast, HandsInAndLooks};
 ghost use Rattle.session_board.specs.declared.shared.Look.TheVariants.{Answered};
 ghost use Rattle.session_board.specs.Shared.{fixed_part, lines, HasDrivenLog, IsMarked};
 ghost use Rattle.session_board.specs.Turning.{ComesOfTurn, HasNothingToDo};
@@ -54,6 +54,18 @@ pub enum Look {
     Settled,
     /// No answer yet, and nothing to do now.
     Idle,
+}
+
+impl Look {
+    // Whether an entry was appended.
+    fn is_settled(&self) -> bool {
+        match self {
+            Look::Answered(_) => false,
+            Look::Free(_) => false,
+            Look::Settled => true,
+            Look::Idle => false,
+        }
+    }
 }
 
 /// What a worker finds in a turn.
@@ -337,6 +349,57 @@ impl SharedBoard {
                 Ok((place, look))
             }
         }
+    }
+
+    /// As `look`; but where an entry was appended, the client looks again, up to so many times more.
+    pub fn look_along(
+        &mut self,
+        alloc: Global,
+        name: (u32, u64),
+        spot: Spot,
+        more: u32,
+    ) -> Result<(Spot, Look), Memory>
+        requires spot { IsSpot (lines self.old) spot }
+        ensures spot { IfOk result (λ r. IsSpot (lines self.new) r.0 × (spot.lines ≤ r.0.lines)) }
+        ensures found { IfOk result (λ r. ComesOfLook (lines self.new) name r.0 r.1) }
+        ensures step { IfOk result (λ r. LooksOnAtLast self.old self.new name r.1) }
+        ensures running { OnOk result (self.old.halted ≡ false) }
+        ensures unmarked { OnOk result (self.new.halted ≡ false) }
+        ensures marked { OnErr result (IsMarked self.new) }
+        ensures none { GrowsByNone self.old self.new }
+        ensures fixed { fixed_part self.new ≡ fixed_part self.old }
+    {
+        let (place, look) = self.look(alloc, name, spot)?;
+        if more == 0 || !look.is_settled() {
+            return Ok((place, look));
+        }
+        self.look_along(alloc, name, place, more - 1)
+    }
+
+    /// Hands in what came of a job, as `hand_in`, and then looks along for the answer to an offer, as `look_along`.
+    pub fn hand_in_and_look(
+        &mut self,
+        alloc: Global,
+        job: Job,
+        outcome: Result<Outcome, Memory>,
+        name: (u32, u64),
+        spot: Spot,
+        more: u32,
+    ) -> Result<(Spot, Look), Memory>
+        requires outcome { IfOk outcome (IsOutcome (program self.old.board) (windows self.old.board) self.old.board.settings.budget job) }
+        requires spot { IsSpot (lines self.old) spot }
+        ensures spot { IfOk result (λ r. IsSpot (lines self.new) r.0 × (spot.lines ≤ r.0.lines)) }
+        ensures found { IfOk result (λ r. ComesOfLook (lines self.new) name r.0 r.1) }
+        ensures handed { IfOk result (λ r. HandsInAndLooks self.old self.new job outcome name r.1) }
+        ensures step { IfOk result (λ r. LooksOnAtLast self.old self.new name r.1) }
+        ensures running { OnOk result (self.old.halted ≡ false) }
+        ensures unmarked { OnOk result (self.new.halted ≡ false) }
+        ensures marked { OnErr result (IsMarked self.new) }
+        ensures none { GrowsByNone self.old self.new }
+        ensures fixed { fixed_part self.new ≡ fixed_part self.old }
+    {
+        self.hand_in(alloc, job, outcome)?;
+        self.look_along(alloc, name, spot, more)
     }
 
     /// One step of the session for a worker; a job has its number. Want of memory is marked; once it is, the answer is want of memory.
