@@ -122,14 +122,19 @@ def wanted_kit():
     return re.search(r"^Proved with `([^`]+)`", (TOP / "README.md").read_text(encoding="utf-8"), re.M)[1]
 
 
+def logic_of(line):
+    """What a kit's line says of its logic."""
+    return line.partition(" ")[2]
+
+
 def kit():
-    """The kit's line, which is the one that is wanted."""
+    """The kit's line, which names the logic that is wanted. Any kit of that logic proves the program anew."""
     wanted = wanted_kit()
     if not shutil.which("rt"):
         raise Lacking(f"there is no command `rt` on the PATH: the toolchain {wanted} is wanted")
     found = subprocess.run(["rt", "version"], capture_output=True, text=True, check=False).stdout.strip()
-    if found != wanted:
-        raise Lacking(f"`rt version` says '{found}', and '{wanted}' is wanted, with which the program is proved")
+    if logic_of(found) != logic_of(wanted):
+        raise Lacking(f"`rt version` says '{found}', and '{wanted}' is wanted, with which the program is proved, or another kit of its logic")
     return found
 
 
