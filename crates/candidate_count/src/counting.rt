@@ -112,7 +112,7 @@ fn fill_count(windows: &[Window], composite: &OpenComposite) -> u64
     )
 }
 
-// How often a composite of the tree counts.
+// How often a composite of the tree counts. Where there is one way to fill its fields it counts once in any case, and nothing is walked.
 fn composite_count(
     checked: &Checked,
     windows: &[Window],
@@ -123,10 +123,11 @@ fn composite_count(
     ensures { result ≡ limited (offers_of_plan (program_of checked.now) (windows_in windows.now)
         (stands_for (program_of checked.now) (shape_of tree.now)) (open_plan_of composite.now)) }
 {
-    if is_visible(composite.kind) && !has_predicate(checked, tree, &composite.scheme) {
+    let ways = fill_count(windows, composite);
+    if ways != 1 && is_visible(composite.kind) && !has_predicate(checked, tree, &composite.scheme) {
         1
     } else {
-        fill_count(windows, composite)
+        ways
     }
 }
 
