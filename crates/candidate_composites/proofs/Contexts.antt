@@ -10,26 +10,19 @@ use Rattle.symbolic_composites.specs.Kinds.{is_alone, is_joint, same_kind}
 use Rattle.symbolic_plans.specs.declared.scheme.Row.{Row}
 use Rattle.symbolic_plans.specs.declared.scheme.Row.TheVariants.{Chl, Chr, Parl, Parr, Distake}
 use Rattle.symbolic_plans.specs.OpenPlans.{OpenPlan, under_row, plans_alone, plans_joint, plan_by_disabling}
-use Rattle.symbolic_plans.proofs.Runs.{longer}
 use Rattle.candidate_laws.specs.Sought.{Sought, is_sought, by_itself, with_another, as_another}
 use Rattle.candidate_laws.proofs.Sought.{kinds_same}
 use Rattle.node_trees.specs.Rests.{Work}
 use Rattle.node_trees.specs.Shapes.{Shape, leaf, ended, over, between, Unary, Binary, choosing, beside, disabling}
-use Rattle.candidate_composites.specs.Known.{PlacedPlan, made, awaited, under_run, stepped, turned_there, placed_over_one, placed_alone}
+use Rattle.candidate_composites.specs.Known.{PlacedPlan, made, awaited, stepped, turned_there, placed_over_one, placed_alone}
 use Rattle.candidate_composites.specs.Known.{placed_partners, placed_over_two}
 use Rattle.candidate_composites.specs.Contexts.{Turn, below_row, disabled, alone_by, over_by, turned_by, through, all_through, some_joint}
 use Rattle.candidate_composites.specs.Joining.{Joins, beside_those, is_offered, lets, right_of}
 use Rattle.candidate_composites.specs.Kept.{is_kept, kept_at, kept_plans}
 
--- a run that is longer by one
-pub run_longer : (row : Row) (n m : ℕ) (p : OpenPlan) → m ≡ n + 1 → under_run row m p ≡ under_row row (under_run row n p)
-run_longer row n m p e =
-    let with : _ → OpenPlan = λ plan. record { kind = p.kind; fields = p.fields; plan = plan } in
-    ap with (longer row n m p.plan e)
-
 -- The lowest operator first, and those above it then.
 
-rises : (t : Turn) (ts : List Turn) (ps : List PlacedPlan) → all_through (t ∷ ts) ps ≡ all_through ts (flat_map (turned_by t) ps)
+pub rises : (t : Turn) (ts : List Turn) (ps : List PlacedPlan) → all_through (t ∷ ts) ps ≡ all_through ts (flat_map (turned_by t) ps)
 rises t ts [] = refl
 rises t ts (p ∷ ps) =
     ap (λ z. all_through ts (turned_by t p) ++ z) (rises t ts ps)
@@ -40,15 +33,19 @@ singles : (f : PlacedPlan → PlacedPlan) (g : PlacedPlan → List PlacedPlan) �
 singles f g e [] = refl
 singles f g e (p ∷ ps) = ap (λ z. z ++ flat_map g ps) (e p) ∙ ap (λ z. f p ∷ z) (singles f g e ps)
 
-pub rises_below : (row : Row) (ts : List Turn) (ps : List PlacedPlan) →
-    all_through (below_row row ∷ ts) ps ≡ all_through ts (map (turned_there (under_row row)) ps)
-rises_below row ts ps =
-    rises (below_row row) ts ps ∙ ap (all_through ts) (singles (turned_there (under_row row)) (turned_by (below_row row)) (λ x. refl) ps)
+rises_below : (row : Row) (ts us : List Turn) (ps : List PlacedPlan) → us ≡ below_row row ∷ ts →
+    all_through us ps ≡ all_through ts (map (turned_there (under_row row)) ps)
+rises_below row ts us ps h =
+    ap (λ z. all_through z ps) h
+    ∙ rises (below_row row) ts ps
+    ∙ ap (all_through ts) (singles (turned_there (under_row row)) (turned_by (below_row row)) (λ x. refl) ps)
 
-pub rises_disabled : (ts : List Turn) (ps : List PlacedPlan) →
-    all_through (disabled ∷ ts) ps ≡ all_through ts (map (turned_there plan_by_disabling) ps)
-rises_disabled ts ps =
-    rises disabled ts ps ∙ ap (all_through ts) (singles (turned_there plan_by_disabling) (turned_by disabled) (λ x. refl) ps)
+rises_disabled : (ts us : List Turn) (ps : List PlacedPlan) → us ≡ disabled ∷ ts →
+    all_through us ps ≡ all_through ts (map (turned_there plan_by_disabling) ps)
+rises_disabled ts us ps h =
+    ap (λ z. all_through z ps) h
+    ∙ rises disabled ts ps
+    ∙ ap (all_through ts) (singles (turned_there plan_by_disabling) (turned_by disabled) (λ x. refl) ps)
 
 pub rises_over : (o : Unary) (ts : List Turn) (ps : List PlacedPlan) →
     all_through (over_by o ∷ ts) ps ≡ all_through ts (map (placed_over_one o) ps)
@@ -58,10 +55,11 @@ same_each : (f g : PlacedPlan → List PlacedPlan) → ((x : PlacedPlan) → f x
 same_each f g e [] = refl
 same_each f g e (p ∷ ps) = ap (λ z. z ++ flat_map f ps) (e p) ∙ ap (λ z. g p ++ z) (same_each f g e ps)
 
-pub rises_alone : (gates : Synchronised) (row : Row) (ts : List Turn) (ps : List PlacedPlan) →
-    all_through (alone_by gates row ∷ ts) ps ≡ all_through ts (placed_alone gates row ps)
-rises_alone gates row ts ps =
-    rises (alone_by gates row) ts ps
+rises_alone : (gates : Synchronised) (row : Row) (ts us : List Turn) (ps : List PlacedPlan) → us ≡ alone_by gates row ∷ ts →
+    all_through us ps ≡ all_through ts (placed_alone gates row ps)
+rises_alone gates row ts us ps h =
+    ap (λ z. all_through z ps) h
+    ∙ rises (alone_by gates row) ts ps
     ∙ ap (all_through ts)
     (same_each (turned_by (alone_by gates row)) (stepped (by_itself gates) (λ p. map made (plans_alone gates row p))) (λ x. refl) ps)
 
@@ -161,19 +159,22 @@ module _ (theory : Theory) where
       ∙ none_together gates ps qs parts.1
 
   -- what is left then of a parallel composition, above all operators
-  pub sides_alone : (prunes : Bool) (gates : Synchronised) (x y : Shape) (v : Sought) (c : Joins) (ts : List Turn) (a b d : List PlacedPlan) →
+  pub sides_alone : (prunes : Bool) (gates : Synchronised) (x y : Shape) (v : Sought) (c : Joins) (ts us vs : List Turn) →
+      us ≡ alone_by gates Parl ∷ ts →
+      vs ≡ alone_by gates Parr ∷ ts →
+      (a b d : List PlacedPlan) →
       some_joint gates (kept_plans theory prunes x v c) ≡ false →
-      b ≡ a ++ all_through (alone_by gates Parl ∷ ts) (kept_plans theory prunes x v c) →
-      d ≡ b ++ all_through (alone_by gates Parr ∷ ts) (kept_plans theory prunes y v (right_of prunes (beside gates) [] c)) →
+      b ≡ a ++ all_through us (kept_plans theory prunes x v c) →
+      d ≡ b ++ all_through vs (kept_plans theory prunes y v (right_of prunes (beside gates) [] c)) →
       d ≡ a ++ all_through ts (kept_plans theory prunes (between (beside gates) x y) v c)
-  sides_alone prunes gates x y v c ts a b d e f g =
+  sides_alone prunes gates x y v c ts us vs h k a b d e f g =
       let ps = kept_plans theory prunes x v c in
       let qs = kept_plans theory prunes y v (right_of prunes (beside gates) ps c) in
       let rs = kept_plans theory prunes y v (right_of prunes (beside gates) [] c) in
       let same : rs ≡ qs =
       sym (same_kept prunes y v (right_of prunes (beside gates) ps c) (right_of prunes (beside gates) [] c) (same_right prunes gates ps c e)) in
-      one_behind ts a b d (placed_alone gates Parl ps) (placed_alone gates Parr rs) (f ∙ ap (λ z. a ++ z) (rises_alone gates Parl ts ps))
-      (g ∙ ap (λ z. b ++ z) (rises_alone gates Parr ts rs))
+      one_behind ts a b d (placed_alone gates Parl ps) (placed_alone gates Parr rs)
+      (f ∙ ap (λ z. a ++ z) (rises_alone gates Parl ts us ps h)) (g ∙ ap (λ z. b ++ z) (rises_alone gates Parr ts vs rs k))
       ∙ ap (λ z. a ++ all_through ts (placed_alone gates Parl ps ++ placed_alone gates Parr z)) same
       ∙ ap (λ z. a ++ all_through ts (placed_alone gates Parl ps ++ z)) (sym (no_more (placed_alone gates Parr qs)))
       ∙ ap (λ z. a ++ all_through ts (placed_alone gates Parl ps ++ (placed_alone gates Parr qs ++ z))) (sym (none_together gates ps qs e))
@@ -183,29 +184,39 @@ module _ (theory : Theory) where
       no_more (z ∷ l) = ap (λ k. z ∷ k) (no_more l)
 
   -- all three parts of a parallel composition, one behind the other
-  pub sides_and_both : (gates : Synchronised) (ps qs : List PlacedPlan) (ts : List Turn) (a b c d : List PlacedPlan) →
-      b ≡ a ++ all_through (alone_by gates Parl ∷ ts) ps →
-      c ≡ b ++ all_through (alone_by gates Parr ∷ ts) qs →
+  pub sides_and_both : (gates : Synchronised) (ps qs : List PlacedPlan) (ts us vs : List Turn) →
+      us ≡ alone_by gates Parl ∷ ts →
+      vs ≡ alone_by gates Parr ∷ ts →
+      (a b c d : List PlacedPlan) →
+      b ≡ a ++ all_through us ps →
+      c ≡ b ++ all_through vs qs →
       d ≡ c ++ all_through ts (flat_map (stepped (with_another gates) (placed_partners theory gates qs)) ps) →
       d ≡ a ++ all_through ts (placed_over_two theory (beside gates) ps qs)
-  sides_and_both gates ps qs ts a b c d e f g =
+  sides_and_both gates ps qs ts us vs h k a b c d e f g =
       let both = flat_map (stepped (with_another gates) (placed_partners theory gates qs)) ps in
-      one_behind ts a b d (placed_alone gates Parl ps) (placed_alone gates Parr qs ++ both) (e ∙ ap (λ z. a ++ z) (rises_alone gates Parl ts ps))
-      (one_behind ts b c d (placed_alone gates Parr qs) both (f ∙ ap (λ z. b ++ z) (rises_alone gates Parr ts qs)) g)
+      one_behind ts a b d (placed_alone gates Parl ps) (placed_alone gates Parr qs ++ both)
+      (e ∙ ap (λ z. a ++ z) (rises_alone gates Parl ts us ps h))
+      (one_behind ts b c d (placed_alone gates Parr qs) both (f ∙ ap (λ z. b ++ z) (rises_alone gates Parr ts vs qs k)) g)
 
   -- the sides of a choice and of a disabling
-  pub chosen : (ps qs : List PlacedPlan) (ts : List Turn) (a b c : List PlacedPlan) →
-      b ≡ a ++ all_through (below_row Chl ∷ ts) ps →
-      c ≡ b ++ all_through (below_row Chr ∷ ts) qs →
+  pub chosen : (ps qs : List PlacedPlan) (ts us vs : List Turn) →
+      us ≡ below_row Chl ∷ ts →
+      vs ≡ below_row Chr ∷ ts →
+      (a b c : List PlacedPlan) →
+      b ≡ a ++ all_through us ps →
+      c ≡ b ++ all_through vs qs →
       c ≡ a ++ all_through ts (placed_over_two theory choosing ps qs)
-  chosen ps qs ts a b c e f =
+  chosen ps qs ts us vs h k a b c e f =
       one_behind ts a b c (map (turned_there (under_row Chl)) ps) (map (turned_there (under_row Chr)) qs)
-      (e ∙ ap (λ z. a ++ z) (rises_below Chl ts ps)) (f ∙ ap (λ z. b ++ z) (rises_below Chr ts qs))
+      (e ∙ ap (λ z. a ++ z) (rises_below Chl ts us ps h)) (f ∙ ap (λ z. b ++ z) (rises_below Chr ts vs qs k))
 
-  pub interrupted : (ps qs : List PlacedPlan) (ts : List Turn) (a b c : List PlacedPlan) →
-      b ≡ a ++ all_through (disabled ∷ ts) ps →
-      c ≡ b ++ all_through (below_row Distake ∷ ts) qs →
+  pub interrupted : (ps qs : List PlacedPlan) (ts us vs : List Turn) →
+      us ≡ disabled ∷ ts →
+      vs ≡ below_row Distake ∷ ts →
+      (a b c : List PlacedPlan) →
+      b ≡ a ++ all_through us ps →
+      c ≡ b ++ all_through vs qs →
       c ≡ a ++ all_through ts (placed_over_two theory disabling ps qs)
-  interrupted ps qs ts a b c e f =
+  interrupted ps qs ts us vs h k a b c e f =
       one_behind ts a b c (map (turned_there plan_by_disabling) ps) (map (turned_there (under_row Distake)) qs)
-      (e ∙ ap (λ z. a ++ z) (rises_disabled ts ps)) (f ∙ ap (λ z. b ++ z) (rises_below Distake ts qs))
+      (e ∙ ap (λ z. a ++ z) (rises_disabled ts us ps h)) (f ∙ ap (λ z. b ++ z) (rises_below Distake ts vs qs k))

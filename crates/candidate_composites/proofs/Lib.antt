@@ -2,6 +2,7 @@ pub mod StandingFirst
 pub mod Contexts
 pub mod Kept
 pub mod Placed
+pub mod Runs
 pub mod Staying
 pub mod Those
 pub mod Whole

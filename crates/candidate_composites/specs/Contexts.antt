@@ -1,17 +1,19 @@
 -- What the operators above a part of a tree make of its plans.
-use Rattle.std.specs.Prelude.{◌||◌, Bool, true, false, List, [], ◌∷◌, map, flat_map}
+use Rattle.std.specs.Prelude.{ℕ, zero, suc, ◌||◌, ◌++◌, Bool, true, false, if◌then◌else◌, List, [], ◌∷◌, map, flat_map}
+use Rattle.std.specs.Fn.{iterate}
 use Rattle.spec_core.specs.Code.{Synchronised, synchronised_of}
-use Rattle.symbolic_composites.specs.Kinds.{is_joint}
+use Rattle.rule_model.specs.Actions.{Kind}
+use Rattle.symbolic_composites.specs.Kinds.{is_alone, is_end, is_joint}
 use Rattle.symbolic_plans.specs.declared.scheme.Row.{Row}
-use Rattle.symbolic_plans.specs.declared.scheme.Row.TheVariants.{Chl, Chr, Parl, Parr, Distake}
-use Rattle.symbolic_plans.specs.OpenPlans.{under_row, plans_alone, plan_by_disabling}
+use Rattle.symbolic_plans.specs.declared.scheme.Row.TheVariants.{Chl, Chr, Parl, Parr, Disstep, Disend, Distake}
+use Rattle.symbolic_plans.specs.OpenPlans.{OpenPlan, under_row, plans_alone, plan_by_disabling}
 use Rattle.node_trees.specs.Shapes.{Unary, unary_of}
-use Rattle.candidate_laws.specs.Sought.{by_itself}
-use Rattle.candidate_composites.specs.Known.{PlacedPlan, made, awaited, stepped, turned_there, placed_over_one}
+use Rattle.candidate_laws.specs.Sought.{Step, by_itself}
+use Rattle.candidate_composites.specs.Known.{PlacedPlan, made, awaited, stepped, turned_there, placed_over_one, under_run}
 use Rattle.candidate_composites.specs.declared.context.Turn as code
-use Rattle.candidate_composites.specs.declared.context.Turn.TheVariants.{First, Second, Disabled, Disabling, Left, Right, Over}
+use Rattle.candidate_composites.specs.declared.context.Turn.TheVariants.{First, Second, Disabled, Disabling, Left, Right}
 use Rattle.candidate_composites.specs.declared.context.Context.{Context}
-use Rattle.candidate_composites.specs.declared.context.Context.TheVariants.{Whole, Under'}
+use Rattle.candidate_composites.specs.declared.context.Context.TheVariants.{Whole, Over', Under'}
 
 -- What one operator makes of the plans of a part: it puts a rule over each, as a choice and the right side of a disabling do; what a
 -- disabling makes of its left side; what a side of a parallel composition does alone; and what an operator over one part does.
@@ -36,6 +38,25 @@ through (t ∷ ts) x = flat_map (through ts) (turned_by t x)
 abbrev pub all_through : List Turn → List PlacedPlan → List PlacedPlan
 all_through ts ps = flat_map (through ts) ps
 
+-- one operator, as many more over it that do the same, and those above them
+abbrev pub repeated : Turn → ℕ → List Turn → List Turn
+repeated t zero ts = t ∷ ts
+repeated t (suc more) ts = t ∷ repeated t more ts
+
+-- What such a run makes of a plan or a gap at once (proofs/Runs).
+
+-- the rule that a disabling puts over a plan of its left side whose action is of this kind
+abbrev pub row_of_disabling : Kind → Row
+row_of_disabling k = if is_end k then Disend else Disstep
+
+-- what like sides of parallel compositions do alone
+abbrev pub run_alone : Synchronised → Row → ℕ → OpenPlan → List OpenPlan
+run_alone gates row more p = if is_alone gates p.kind then under_run row more p ∷ [] else []
+
+-- steps, and the same step once and so many times more behind them
+abbrev pub down_by : Step → ℕ → List Step → List Step
+down_by step more steps = iterate (λ l. l ++ step ∷ []) more (steps ++ step ∷ [])
+
 -- one of these may be what both sides of a parallel composition do together
 abbrev pub some_joint : Synchronised → List PlacedPlan → Bool
 some_joint gates [] = false
@@ -51,8 +72,8 @@ turn_of Disabled = disabled
 turn_of Disabling = below_row Distake
 turn_of (Left gates) = alone_by (synchronised_of gates.now) Parl
 turn_of (Right gates) = alone_by (synchronised_of gates.now) Parr
-turn_of (Over o) = over_by (unary_of o.now)
 
 abbrev pub turns_of : Context → List Turn
 turns_of Whole = []
-turns_of (Under' turn p above) = turn_of turn ∷ turns_of above
+turns_of (Over' o p above) = over_by (unary_of o.now) ∷ turns_of above
+turns_of (Under' turn more p above) = repeated (turn_of turn) more (turns_of above)

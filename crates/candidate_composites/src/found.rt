@@ -1,8 +1,9 @@
 // Composites of a part of a tree, while those of the whole are made.
 
 ghost use Rattle.std.specs.Prelude.{◌≡◌, ◌+◌, IfOk, IsFalse, IsTrue, map};
+ghost use Rattle.std.specs.Fn.{iterate};
 ghost use Rattle.symbolic_plans.specs.Plans.{plan_of, below};
-ghost use Rattle.symbolic_plans.specs.OpenPlans.{kind_in, open_plan_of, under_row};
+ghost use Rattle.symbolic_plans.specs.OpenPlans.{kind_in, open_plan_of};
 ghost use Rattle.candidate_composites.specs.Known.{found_of, over_one, own_or_made, placed_of, under_run};
 ghost use Rattle.node_trees.specs.Shapes.{unary_of};
 
@@ -15,7 +16,6 @@ use spec_core::memory::Memory;
 use std::alloc::Global;
 use std::mem;
 use symbolic_plans::composite::{ActionKind, OpenComposite};
-use symbolic_plans::operators::below;
 use symbolic_plans::scheme::{Row, Scheme};
 
 /// A composite of a part of a tree: one of a node, as the node has it; the same under a rule, and that rule so many times more over it; or
@@ -27,6 +27,29 @@ pub enum Given<'a> {
     Made(OpenComposite),
 }
 
+// A composite under an equal rule, and that rule so many times more over it.
+fn under_rules(
+    alloc: Global,
+    row: &Row,
+    more: u32,
+    composite: OpenComposite,
+) -> Result<OpenComposite, Memory>
+    ensures { IfOk result (λ c. open_plan_of c ≡ under_run row.now more (open_plan_of composite)) }
+{
+    let OpenComposite {
+        kind,
+        columns,
+        scheme,
+    } = composite;
+    let scheme = Box::new(alloc, scheme)?;
+    let scheme = Scheme::Under(row.copy(alloc)?, more, scheme);
+    Ok(OpenComposite {
+        kind,
+        columns,
+        scheme,
+    })
+}
+
 /// An equal composite under an equal rule, and that rule so many times more over it.
 pub(crate) fn copied_below(
     alloc: Global,
@@ -36,18 +59,8 @@ pub(crate) fn copied_below(
 ) -> Result<OpenComposite, Memory>
     ensures { IfOk result (λ c. open_plan_of c ≡ under_run row.now more (open_plan_of composite.now)) }
 {
-    let OpenComposite {
-        kind,
-        columns,
-        scheme,
-    } = composite.copy(alloc)?;
-    let scheme = Box::new(alloc, scheme)?;
-    let scheme = Scheme::Under(row.copy(alloc)?, more, scheme);
-    Ok(OpenComposite {
-        kind,
-        columns,
-        scheme,
-    })
+    let composite = composite.copy(alloc)?;
+    under_rules(alloc, row, more, composite)
 }
 
 // Whether both are the same rule, one that a choice, a parallel composition or a disabling puts over its sides.
@@ -73,37 +86,37 @@ fn are_alike(left: &Row, right: &Row) -> bool
     }
 }
 
-// Counts a rule once more where it is another's own; whether it did.
-fn count(own: &Row, more: &mut u32, row: &Row) -> bool
+// Counts a rule once more, and so many times more, where it is another's own; whether it did.
+fn count(own: &Row, more: &mut u32, row: &Row, again: u32) -> bool
     ensures own { IsTrue result → own.now ≡ row.now }
-    ensures more { IsTrue result → more.new ≡ more.old + 1 }
+    ensures more { IsTrue result → more.new ≡ more.old + again + 1 }
     ensures same { IsFalse result → more.new ≡ more.old }
 {
-    if *more < u32::MAX && are_alike(own, row) {
-        *more += 1;
+    if again < u32::MAX - *more && are_alike(own, row) {
+        *more += again + 1;
         true
     } else {
         false
     }
 }
 
-// Puts the rule over the tree, if the tree begins with the same one; whether it did.
-fn lengthen_scheme(scheme: &mut Scheme, row: &Row) -> bool
-    ensures longer { IsTrue result → plan_of scheme.new ≡ below row.now (plan_of scheme.old) }
+// Puts the rule over the tree, and so many times more, if the tree begins with the same one; whether it did.
+fn lengthen_scheme(scheme: &mut Scheme, row: &Row, again: u32) -> bool
+    ensures longer { IsTrue result → plan_of scheme.new ≡ below row.now (iterate (below row.now) again (plan_of scheme.old)) }
     ensures same { IsFalse result → plan_of scheme.new ≡ plan_of scheme.old }
 {
     match scheme {
-        Scheme::Under(own, more, _) => count(own, more, row),
+        Scheme::Under(own, more, _) => count(own, more, row, again),
         _ => false,
     }
 }
 
-// Puts the rule over the composite, if its tree begins with the same one; whether it did.
-fn lengthen(composite: &mut OpenComposite, row: &Row) -> bool
-    ensures longer { IsTrue result → open_plan_of composite.new ≡ under_row row.now (open_plan_of composite.old) }
+// Puts the rule over the composite, and so many times more, if its tree begins with the same one; whether it did.
+fn lengthen(composite: &mut OpenComposite, row: &Row, again: u32) -> bool
+    ensures longer { IsTrue result → open_plan_of composite.new ≡ under_run row.now again (open_plan_of composite.old) }
     ensures same { IsFalse result → open_plan_of composite.new ≡ open_plan_of composite.old }
 {
-    lengthen_scheme(&mut composite.scheme, row)
+    lengthen_scheme(&mut composite.scheme, row, again)
 }
 
 // A composite to stand in the place of one that is being turned.
@@ -134,31 +147,29 @@ impl<'a> Given<'a> {
         }
     }
 
-    // Puts the rule over the composite, if it is under the same one; whether it did.
-    fn lengthen(&mut self, row: &Row) -> bool
-        ensures longer { IsTrue result → own_or_made self.new ≡ under_row row.now (own_or_made self.old) }
+    // Puts the rule over the composite, and so many times more, if it is under the same one; whether it did.
+    fn lengthen(&mut self, row: &Row, again: u32) -> bool
+        ensures longer { IsTrue result → own_or_made self.new ≡ under_run row.now again (own_or_made self.old) }
         ensures same { IsFalse result → own_or_made self.new ≡ own_or_made self.old }
     {
         match self {
             Given::Own(_) => false,
-            Given::Beneath(own, more, _) => count(own, more, row),
-            Given::Made(composite) => lengthen(composite, row),
+            Given::Beneath(own, more, _) => count(own, more, row, again),
+            Given::Made(composite) => lengthen(composite, row, again),
         }
     }
 
-    // The composite under another rule than before.
-    fn under(self, alloc: Global, row: &Row) -> Result<Given<'a>, Memory>
-        ensures { IfOk result (λ g. own_or_made g ≡ under_row row.now (own_or_made self.entry)) }
+    // The composite under another rule than before, and that rule so many times more over it.
+    fn under(self, alloc: Global, row: &Row, more: u32) -> Result<Given<'a>, Memory>
+        ensures { IfOk result (λ g. own_or_made g ≡ under_run row.now more (own_or_made self.entry)) }
     {
         match self {
-            Given::Own(composite) => Ok(Given::Beneath(row.copy(alloc)?, 0, composite)),
-            Given::Beneath(inner, more, composite) => {
-                let composite = copied_below(alloc, &inner, more, composite)?;
-                Ok(Given::Made(below(alloc, row.copy(alloc)?, composite)?))
+            Given::Own(composite) => Ok(Given::Beneath(row.copy(alloc)?, more, composite)),
+            Given::Beneath(inner, count, composite) => {
+                let composite = copied_below(alloc, &inner, count, composite)?;
+                Ok(Given::Made(under_rules(alloc, row, more, composite)?))
             }
-            Given::Made(composite) => {
-                Ok(Given::Made(below(alloc, row.copy(alloc)?, composite)?))
-            }
+            Given::Made(composite) => { Ok(Given::Made(under_rules(alloc, row, more, composite)?)) }
         }
     }
 
@@ -169,15 +180,15 @@ impl<'a> Given<'a> {
         mem::replace(self, Given::Made(empty(alloc)))
     }
 
-    /// Puts the composite under a rule.
-    pub fn put_under(&mut self, alloc: Global, row: &Row) -> Result<(), Memory>
-        ensures { IfOk result (λ _. own_or_made self.new ≡ under_row row.now (own_or_made self.old)) }
+    /// Puts the composite under a rule, and that rule so many times more over it.
+    pub fn put_under(&mut self, alloc: Global, row: &Row, more: u32) -> Result<(), Memory>
+        ensures { IfOk result (λ _. own_or_made self.new ≡ under_run row.now more (own_or_made self.old)) }
     {
-        if self.lengthen(row) {
+        if self.lengthen(row, more) {
             return Ok(());
         }
         let composite = self.taken(alloc);
-        *self = composite.under(alloc, row)?;
+        *self = composite.under(alloc, row, more)?;
         Ok(())
     }
 

@@ -135,9 +135,9 @@ fn put_beside<'a>(
         (map found_of right.entry.items))) }
 {
     let together = all_together(alloc, algebra, gates, &left, &right)?;
-    let at_left = Context::Under(Turn::Left(gates), &*context);
+    let at_left = Context::under(Turn::Left(gates), &*context);
     put_all_through(alloc, &at_left, left, all)?;
-    let at_right = Context::Under(Turn::Right(gates), &*context);
+    let at_right = Context::under(Turn::Right(gates), &*context);
     put_all_through(alloc, &at_right, right, all)?;
     put_all_through(alloc, context, together, all)
 }
@@ -188,10 +188,10 @@ fn put_parallel<'a>(
         )?;
         put_beside(alloc, algebra, gates, first, second, &*context, all)
     } else {
-        let at_left = Context::Under(Turn::Left(gates), &*context);
+        let at_left = Context::under(Turn::Left(gates), &*context);
         put_all_through(alloc, &at_left, first, all)?;
         let above = right_of(prunes, gates, &[], joining);
-        let at_right = Context::Under(Turn::Right(gates), &*context);
+        let at_right = Context::under(Turn::Right(gates), &*context);
         put_kept(alloc, algebra, right, prunes, sought, above, &at_right, all)
     }
 }
@@ -218,7 +218,7 @@ fn put_kept<'a>(
         Branch::Ended => Ok(()),
         Branch::Over(operator, part) => {
             let below = sought_below(alloc, &Step::Under(operator), sought)?;
-            let under = Context::Under(Turn::Over(operator), &*context);
+            let under = Context::Over(operator, &*context);
             put_kept(
                 alloc,
                 algebra,
@@ -232,17 +232,17 @@ fn put_kept<'a>(
         }
         Branch::Between(operator, left, right) => match operator {
             Double::Choice => {
-                let at_left = Context::Under(Turn::First, &*context);
+                let at_left = Context::under(Turn::First, &*context);
                 put_kept(alloc, algebra, left, prunes, sought, joining, &at_left, all)?;
-                let at_right = Context::Under(Turn::Second, &*context);
+                let at_right = Context::under(Turn::Second, &*context);
                 put_kept(
                     alloc, algebra, right, prunes, sought, joining, &at_right, all,
                 )
             }
             Double::Disable => {
-                let at_left = Context::Under(Turn::Disabled, &*context);
+                let at_left = Context::under(Turn::Disabled, &*context);
                 put_kept(alloc, algebra, left, prunes, sought, joining, &at_left, all)?;
-                let at_right = Context::Under(Turn::Disabling, &*context);
+                let at_right = Context::under(Turn::Disabling, &*context);
                 put_kept(
                     alloc, algebra, right, prunes, sought, joining, &at_right, all,
                 )

@@ -2,11 +2,10 @@ use Rattle.std.proofs.Common.{◌≡◌, ◌++◌, ◌∙◌, ◌∷◌, [], fal
 use Rattle.std.proofs.lemmas.Result.{IfOk-weaker}
 use Rattle.spec_core.specs.Theories.{theory_of}
 use Rattle.spec_core.specs.Code.{synchronised_of}
-use Rattle.symbolic_plans.specs.declared.scheme.Row.TheVariants.{Parl, Parr}
 use Rattle.candidate_laws.specs.Sought.{under_one, sought_below}
 use Rattle.node_trees.specs.Shapes.{shape_of, unary_of, over, between, choosing, beside, disabling}
 use Rattle.candidate_composites.specs.Known.{found_of, sought_in, placed_over_two}
-use Rattle.candidate_composites.specs.Contexts.{over_by, alone_by, all_through, some_joint, turns_of}
+use Rattle.candidate_composites.specs.Contexts.{over_by, all_through, some_joint, turns_of}
 use Rattle.candidate_composites.specs.Joining.{joining_of, right_of, free}
 use Rattle.candidate_composites.specs.Kept.{kept_plans}
 use Rattle.candidate_composites.proofs.Contexts.{rises_over, rises_whole, chosen, interrupted, sides_alone}
@@ -40,8 +39,10 @@ put_kept-returns-in_ok-put_kept-in-Choice t c =
     let y = shape_of c.deref-in-Choice-2.result.now in
     let shape : shape_of c.args.branch.now ≡ between choosing x y = search rules in
     IfOk-weaker c.put_kept-in-Choice-2.result _ _
-    (λ _ e. chosen theory (kept_plans theory c.args.prunes x v j) (kept_plans theory c.args.prunes y v j) ts a
-    (map found_of c.put_kept-in-Choice.new.all.items) (map found_of c.put_kept-in-Choice-2.new.all.items) c.in_ok-put_kept-in-Choice.ensures e
+    (λ _ e. chosen theory (kept_plans theory c.args.prunes x v j) (kept_plans theory c.args.prunes y v j) ts
+    (turns_of c.under-at_left.result) (turns_of c.under-at_right.result) c.under-at_left.ensures c.under-at_right.ensures a
+    (map found_of c.put_kept-in-Choice.new.all.items) (map found_of c.put_kept-in-Choice-2.new.all.items)
+    c.in_ok-put_kept-in-Choice.ensures e
     ∙ ap (λ s. a ++ all_through ts (kept_plans theory c.args.prunes s v j)) (sym shape))
     c.put_kept-in-Choice-2.ensures
 
@@ -56,8 +57,11 @@ put_kept-returns-in_ok-put_kept-in-Disable t c =
     let y = shape_of c.deref-in-Disable-2.result.now in
     let shape : shape_of c.args.branch.now ≡ between disabling x y = search rules in
     IfOk-weaker c.put_kept-in-Disable-2.result _ _
-    (λ _ e. interrupted theory (kept_plans theory c.args.prunes x v j) (kept_plans theory c.args.prunes y v j) ts a
-    (map found_of c.put_kept-in-Disable.new.all.items) (map found_of c.put_kept-in-Disable-2.new.all.items) c.in_ok-put_kept-in-Disable.ensures e
+    (λ _ e. interrupted theory (kept_plans theory c.args.prunes x v j) (kept_plans theory c.args.prunes y v j) ts
+    (turns_of c.under-at_left-in-Disable.result) (turns_of c.under-at_right-in-Disable.result) c.under-at_left-in-Disable.ensures
+    c.under-at_right-in-Disable.ensures a
+    (map found_of c.put_kept-in-Disable.new.all.items) (map found_of c.put_kept-in-Disable-2.new.all.items)
+    c.in_ok-put_kept-in-Disable.ensures e
     ∙ ap (λ s. a ++ all_through ts (kept_plans theory c.args.prunes s v j)) (sym shape))
     c.put_kept-in-Disable-2.ensures
 
@@ -123,11 +127,13 @@ put_parallel-returns-in_ok-put_all_through t c =
     sym (ap (λ l. some_joint gates (map found_of l)) c.deref.ensures.value ∙ ap (some_joint gates) first)
     ∙ sym c.some_joint.ensures
     ∙ c.if-some_joint.false in
-    let left : b ≡ a ++ all_through (alone_by gates Parl ∷ ts) ps =
-    c.in_ok-put_all_through.ensures ∙ ap (λ l. a ++ all_through (alone_by gates Parl ∷ ts) l) first in
+    let us = turns_of c.under-at_left.result in
+    let vs = turns_of c.under-at_right.result in
+    let left : b ≡ a ++ all_through us ps = c.in_ok-put_all_through.ensures ∙ ap (λ l. a ++ all_through us l) first in
     let joins : joining_of c.right_of-above-else-some_joint.result ≡ right_of c.args.prunes (beside gates) [] j =
     c.right_of-above-else-some_joint.ensures in
     IfOk-weaker c.put_kept-else-some_joint.result _ _
-    (λ _ e. sides_alone theory c.args.prunes gates x y v j ts a b (map found_of c.put_kept-else-some_joint.new.all.items) none left
-    (e ∙ ap (λ k. b ++ all_through (alone_by gates Parr ∷ ts) (kept_plans theory c.args.prunes y v k)) joins))
+    (λ _ e. sides_alone theory c.args.prunes gates x y v j ts us vs c.under-at_left.ensures c.under-at_right.ensures a b
+    (map found_of c.put_kept-else-some_joint.new.all.items) none left
+    (e ∙ ap (λ k. b ++ all_through vs (kept_plans theory c.args.prunes y v k)) joins))
     c.put_kept-else-some_joint.ensures

@@ -21,7 +21,8 @@ returns c =
     c.deref.ensures.value
     ∙ ap (λ r. flat_map (stepped (with_another gates) (placed_partners theory gates (map found_of r))) ps) c.deref-2.ensures.value in
     IfOk-weaker c.put_all_through-3.result _ _
-    (λ _ e. sides_and_both theory gates ps qs ts (map found_of c.args.all.now.items) (map found_of c.put_all_through.new.all.items)
+    (λ _ e. sides_and_both theory gates ps qs ts (turns_of c.under-at_left.result) (turns_of c.under-at_right.result)
+    c.under-at_left.ensures c.under-at_right.ensures (map found_of c.args.all.now.items) (map found_of c.put_all_through.new.all.items)
     (map found_of c.put_all_through-2.new.all.items) (map found_of c.put_all_through-3.new.all.items) c.in_ok-put_all_through.ensures
     c.in_ok-put_all_through-2.ensures (e ∙ ap (λ z. map found_of c.put_all_through-2.new.all.items ++ all_through ts z) both))
     c.put_all_through-3.ensures
