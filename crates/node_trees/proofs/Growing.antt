@@ -1,39 +1,20 @@
 -- Generations of new nodes under operators.
-use Rattle.std.proofs.Common.{ℕ, ◌≡◌, ◌≤◌, ◌+◌, inl, inr, ⊎_elim, List, [], ◌∷◌, ◌++◌, map, None, refl, sym, ap, subst}
-use Rattle.std.proofs.Common.{◌∙◌, arith, append_assoc}
-use Rattle.std.proofs.lemmas.List.{append-nil}
+use Rattle.std.proofs.Common.{ℕ, ◌≡◌, ◌≤◌, ◌+◌, List, [], ◌∷◌, None, refl, sym, ap, subst, ◌∙◌, arith}
 use Rattle.node_trees.specs.Generations.{AreApart, IsNew, IsFresh}
-use Rattle.node_trees.specs.Shapes.{Held, Shape, leaf, ended, over, between, Unary, Binary, Above, under, first_of, second_of, side}
-use Rattle.node_trees.specs.Shapes.{Stands}
+use Rattle.node_trees.specs.Shapes.{Held, Shape, leaf, ended, over, between, Unary, Binary, Above, under, first_of, second_of, Stands}
 
 -- new nodes are new in a longer range
-pub new_within : (place : List ℕ) (low high lower higher : ℕ) (up : List Above) (n : Held) → lower ≤ low → high ≤ higher →
-    IsNew place low high up n → IsNew place lower higher up n
-new_within place low high lower higher up n l h e = record {
+pub new_within : (low high lower higher : ℕ) (n : Held) → lower ≤ low → high ≤ higher → IsNew low high n → IsNew lower higher n
+new_within low high lower higher n l h e = record {
   from = let f = e.from in omega (arith, f, l);
   below = let b = e.below in omega (arith, b, h);
   waits = e.waits;
-  placed = e.placed;
-}
-
--- what is new in a part is new in the whole
-pub new_under : (place inner : List ℕ) (k low high : ℕ) (a : Above) (up : List Above) (n : Held) →
-    inner ≡ place ++ k ∷ [] → side a ≡ k → IsNew inner low high up n → IsNew place low high (a ∷ up) n
-new_under place inner k low high a up n e s h = record {
-  from = h.from;
-  below = h.below;
-  waits = h.waits;
-  placed =
-      h.placed
-      ∙ ap (λ p. p ++ map side up) e
-      ∙ append_assoc place (k ∷ []) (map side up)
-      ∙ ap (λ j. place ++ j ∷ map side up) (sym s);
 }
 
 -- Trees of new nodes.
 
-pub fresh_ended : (place : List ℕ) (low : ℕ) → IsFresh place low low ended
-fresh_ended place low = record {
+pub fresh_ended : (low : ℕ) → IsFresh low low ended
+fresh_ended low = record {
   more = omega arith;
   apart = λ up vp m n a b e. absurd a;
   new = λ up n a. absurd a;
@@ -44,34 +25,27 @@ leaf_apart k [] [] m n a b e = (refl, sym a ∙ b)
 leaf_apart k [] (x ∷ vp) m n a b e = absurd b
 leaf_apart k (x ∷ up) vp m n a b e = absurd a
 
-pub fresh_leaf : (place : List ℕ) (low : ℕ) (k : Held) → k.generation ≡ low → k.work ≡ None → k.place ≡ place →
-    IsFresh place low (low + 1) (leaf k)
-fresh_leaf place low k g w p = record {
+pub fresh_leaf : (low : ℕ) (k : Held) → k.generation ≡ low → k.work ≡ None → IsFresh low (low + 1) (leaf k)
+fresh_leaf low k g w = record {
   more = omega arith;
   apart = leaf_apart k;
   new = new;
 }
   where
-    new : (up : List Above) (n : Held) → Stands (leaf k) up n → IsNew place low (low + 1) up n
-    new [] n a = subst (IsNew place low (low + 1) []) a (record {
-      from = omega (arith, g);
-      below = omega (arith, g);
-      waits = w;
-      placed = p ∙ sym (append-nil place);
-    })
+    new : (up : List Above) (n : Held) → Stands (leaf k) up n → IsNew low (low + 1) n
+    new [] n a = subst (IsNew low (low + 1)) a (record { from = omega (arith, g); below = omega (arith, g); waits = w })
     new (x ∷ up) n a = absurd a
 
-pub fresh_later : (place : List ℕ) (low mid high : ℕ) (t : Shape) → low ≤ mid → IsFresh place mid high t → IsFresh place low high t
-fresh_later place low mid high t l f = record {
+pub fresh_later : (low mid high : ℕ) (t : Shape) → low ≤ mid → IsFresh mid high t → IsFresh low high t
+fresh_later low mid high t l f = record {
   more = let m = f.more in omega (arith, m, l);
   apart = f.apart;
-  new = λ up n a. new_within place mid high low high up n l (omega arith) (f.new up n a);
+  new = λ up n a. new_within mid high low high n l (omega arith) (f.new up n a);
 }
 
 -- what is new after other new nodes is new
-pub fresh_after : (place : List ℕ) (low mid high : ℕ) (t u : Shape) → IsFresh place low mid u → IsFresh place mid high t →
-    IsFresh place low high t
-fresh_after place low mid high t u g f = fresh_later place low mid high t g.more f
+pub fresh_after : (low mid high : ℕ) (t u : Shape) → IsFresh low mid u → IsFresh mid high t → IsFresh low high t
+fresh_after low mid high t u g f = fresh_later low mid high t g.more f
 
 pub over_apart : (o : Unary) (x : Shape) → AreApart x → AreApart (over o x)
 over_apart o x h (under p ∷ up) (under q ∷ vp) m n a b e = let r = h up vp m n a.1 b.1 e in (over_same p q up vp (sym a.0 ∙ b.0) r.0, r.1)
@@ -81,16 +55,15 @@ over_apart o x h (under p ∷ up) (under q ∷ vp) m n a b e = let r = h up vp m
 over_apart o x h (under p ∷ up) _ m n a b e = absurd b
 over_apart o x h _ _ m n a b e = absurd a
 
-pub fresh_over : (place inner : List ℕ) (low high : ℕ) (o : Unary) (x t : Shape) → inner ≡ place ++ 0 ∷ [] → t ≡ over o x →
-    IsFresh inner low high x → IsFresh place low high t
-fresh_over place inner low high o x t e i f = subst (IsFresh place low high) (sym i) (record {
+pub fresh_over : (low high : ℕ) (o : Unary) (x t : Shape) → t ≡ over o x → IsFresh low high x → IsFresh low high t
+fresh_over low high o x t i f = subst (IsFresh low high) (sym i) (record {
   more = f.more;
   apart = over_apart o x f.apart;
   new = new;
 })
   where
-    new : (up : List Above) (n : Held) → Stands (over o x) up n → IsNew place low high up n
-    new (under p ∷ up) n a = new_under place inner 0 low high (under p) up n e refl (f.new up n a.1)
+    new : (up : List Above) (n : Held) → Stands (over o x) up n → IsNew low high n
+    new (under p ∷ up) n a = f.new up n a.1
     new _ n a = absurd a
 
 -- no node of the one side has a generation of the other
@@ -108,10 +81,9 @@ between_apart o x y h k never (first_of p ∷ up) _ m n a b e = absurd b
 between_apart o x y h k never (second_of p ∷ up) _ m n a b e = absurd b
 between_apart o x y h k never _ _ m n a b e = absurd a
 
-pub fresh_between : (place first second : List ℕ) (low mid high : ℕ) (o : Binary) (x y t : Shape) →
-    first ≡ place ++ 0 ∷ [] → second ≡ place ++ 1 ∷ [] → t ≡ between o x y →
-    IsFresh first low mid x → IsFresh second mid high y → IsFresh place low high t
-fresh_between place first second low mid high o x y t e g i f k = subst (IsFresh place low high) (sym i) (record {
+pub fresh_between : (low mid high : ℕ) (o : Binary) (x y t : Shape) → t ≡ between o x y → IsFresh low mid x → IsFresh mid high y →
+    IsFresh low high t
+fresh_between low mid high o x y t i f k = subst (IsFresh low high) (sym i) (record {
   more = let a = f.more in let b = k.more in omega (arith, a, b);
   apart = between_apart o x y f.apart k.apart never;
   new = new;
@@ -123,11 +95,7 @@ fresh_between place first second low mid high o x y t e g i f k = subst (IsFresh
         let r = (k.new vp n b).from in
         omega (arith, l, r, e)
 
-    new : (up : List Above) (n : Held) → Stands (between o x y) up n → IsNew place low high up n
-    new (first_of p ∷ up) n a =
-        new_within place low mid low high (first_of p ∷ up) n (omega arith) k.more
-        (new_under place first 0 low mid (first_of p) up n e refl (f.new up n a.1))
-    new (second_of p ∷ up) n a =
-        new_within place mid high low high (second_of p ∷ up) n f.more (omega arith)
-        (new_under place second 1 mid high (second_of p) up n g refl (k.new up n a.1))
+    new : (up : List Above) (n : Held) → Stands (between o x y) up n → IsNew low high n
+    new (first_of p ∷ up) n a = new_within low mid low high n (omega arith) k.more (f.new up n a.1)
+    new (second_of p ∷ up) n a = new_within mid high low high n f.more (omega arith) (k.new up n a.1)
     new _ n a = absurd a

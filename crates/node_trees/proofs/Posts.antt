@@ -3,7 +3,7 @@ use Rattle.std.proofs.Common.{ℕ, ◌≡◌, ◌<◌, ◌==◌, Bool, true, fal
 use Rattle.std.proofs.Common.{sym, ap, subst, ◌∙◌}
 use Rattle.std.proofs.lemmas.Bool.{eqb-true}
 use Rattle.spec_core.specs.Code.{Program}
-use Rattle.node_trees.specs.Generations.{AreApart, ArePlaced, IsSound}
+use Rattle.node_trees.specs.Generations.{AreApart, IsSound}
 use Rattle.node_trees.specs.Origins.{meaning}
 use Rattle.node_trees.specs.Posting.{is_there, posted_first}
 use Rattle.node_trees.specs.Rests.{Work}
@@ -16,7 +16,7 @@ with_work_same g work n e = ap leaf e
 
 -- a node of another generation stays
 other_stays : (g : ℕ) (work : Work) (n : Held) (b : Bool) → n.generation == g ≡ b → (n.generation ≡ g → ⊥) →
-    (if b then record { generation = n.generation; source = n.source; place = n.place; work = Some work } else n) ≡ n
+    (if b then record { generation = n.generation; source = n.source; work = Some work } else n) ≡ n
 other_stays g work n true e h = absurd (h (eqb-true n.generation g e))
 other_stays g work n false e h = refl
 
@@ -84,25 +84,14 @@ first_is_only g work (between o x y) a =
         not_there g x (node_at g x) refl e (record { node = n; is = i }))))
 
 same_source : (g : ℕ) (work : Work) (n : Held) (b : Bool) →
-    (if b then record { generation = n.generation; source = n.source; place = n.place; work = Some work } else n).source ≡ n.source
+    (if b then record { generation = n.generation; source = n.source; work = Some work } else n).source ≡ n.source
 same_source g work n true = refl
 same_source g work n false = refl
 
 same_generation : (g : ℕ) (work : Work) (n : Held) (b : Bool) →
-    (if b then record {
-      generation =
-          n.generation;
-      source = n.source;
-      place = n.place;
-      work = Some work;
-    } else n).generation ≡ n.generation
+    (if b then record { generation = n.generation; source = n.source; work = Some work } else n).generation ≡ n.generation
 same_generation g work n true = refl
 same_generation g work n false = refl
-
-same_place : (g : ℕ) (work : Work) (n : Held) (b : Bool) →
-    (if b then record { generation = n.generation; source = n.source; place = n.place; work = Some work } else n).place ≡ n.place
-same_place g work n true = refl
-same_place g work n false = refl
 
 pub posted_stands : (program : Program) (g : ℕ) (work : Work) (t : Shape) →
     stands_for program (posted g work t) ≡ stands_for program t
@@ -138,15 +127,10 @@ posted_sound g work t next s = record {
       subst (λ k. k < next) (generation_before g work x.0 n x.2) b;
 }
 
-pub posted_placed : (g : ℕ) (work : Work) (place : List ℕ) (t : Shape) → ArePlaced place t → ArePlaced place (posted g work t)
-posted_placed g work place t h up n a =
-    let x = from_before g work t up n a in
-    ap (λ k. k.place) (sym x.2) ∙ same_place g work x.0 (x.0.generation == g) ∙ h up x.0 x.1
-
 work_with : (program : Program) (g : ℕ) (work : Work) (m : Held) (b : Bool) → m.generation == g ≡ b →
     (m.generation ≡ g → IsWorkOf program m.source (Some work)) → IsWorkOf program m.source m.work →
     IsWorkOf program m.source
-    (if b then record { generation = m.generation; source = m.source; place = m.place; work = Some work } else m).work
+    (if b then record { generation = m.generation; source = m.source; work = Some work } else m).work
 work_with program g work m true e h k = h (eqb-true m.generation g e)
 work_with program g work m false e h k = k
 
@@ -177,8 +161,3 @@ post_right g next work t u e s program w r =
 pub post_sound : (g next : ℕ) (work : Work) (t u : Shape) → u ≡ posted_first g work t → IsSound t next → IsSound u next
 post_sound g next work t u e s =
     subst (λ v. IsSound v next) (sym (post_is_posted g next work t u e s)) (posted_sound g work t next s)
-
-pub post_placed : (g next : ℕ) (work : Work) (place : List ℕ) (t u : Shape) → u ≡ posted_first g work t → IsSound t next →
-    ArePlaced place t → ArePlaced place u
-post_placed g next work place t u e s h =
-    subst (ArePlaced place) (sym (post_is_posted g next work t u e s)) (posted_placed g work place t h)

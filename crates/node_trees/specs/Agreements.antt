@@ -6,14 +6,13 @@ use Rattle.node_trees.specs.declared.composite.Composite.{Composite}
 use Rattle.node_trees.specs.declared.composite.Participant.{Participant}
 use Rattle.node_trees.specs.Origins.{Source, source_of}
 
--- a node that takes part: its generation, its origin and its place
+-- a node that takes part: its generation and its origin
 pub record Partner : Type 0 where
   pub generation : ℕ
   pub source : Source
-  pub place : List ℕ
 
 abbrev pub partner_of : Participant → Partner
-partner_of p = record { generation = p.generation.0; source = source_of p.origin; place = p.place.items }
+partner_of p = record { generation = p.generation.0; source = source_of p.origin }
 
 -- one possible agreement: who takes part, the tree of rules, and the values of the action's fields, with blanks where none is given
 pub record Agreement : Type 0 where

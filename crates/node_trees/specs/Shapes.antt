@@ -18,16 +18,15 @@ use Rattle.node_trees.specs.declared.branch.Branch.TheVariants.{Leaf, Ended, Ove
 use Rattle.node_trees.specs.Origins.{Source, source_of, meaning}
 use Rattle.node_trees.specs.Rests.{Work, expansion_of, IsWayOf}
 
--- A node: its generation, its origin, its place from the root, and what its origin can do once it is expanded. One without that waits.
+-- A node: its generation, its origin, and what its origin can do once it is expanded. One without that waits.
 pub record Held : Type 0 where
   pub generation : ℕ
   pub source : Source
-  pub place : List ℕ
   pub work : Option Work
 
 -- a node that waits
-abbrev pub new_node : ℕ → Source → List ℕ → Held
-new_node generation source place = record { generation = generation; source = source; place = place; work = None }
+abbrev pub new_node : ℕ → Source → Held
+new_node generation source = record { generation = generation; source = source; work = None }
 
 -- an operator over one part: a hiding, a relabelling, and an enabling over its left side, with the right side's place in the code
 pub data Unary : Type 0 where
@@ -53,7 +52,7 @@ work_of None = None
 work_of (Some e) = Some (expansion_of e)
 
 abbrev pub held_of : Node → Held
-held_of n = record { generation = n.generation.0; source = source_of n.origin; place = n.place.items; work = work_of n.work }
+held_of n = record { generation = n.generation.0; source = source_of n.origin; work = work_of n.work }
 
 abbrev pub unary_of : Single → Unary
 unary_of (Hide gates) = hidden (map gate_number gates.items)
@@ -96,11 +95,6 @@ pub data Above : Type 0 where
   first_of : Binary → Above
   second_of : Binary → Above
 
-abbrev pub side : Above → ℕ
-side (under o) = 0
-side (first_of o) = 0
-side (second_of o) = 1
-
 -- under these constructs, from the root, stands this node
 abbrev pub Stands : Shape → List Above → Held → Type 0
 Stands (leaf m) [] n = m ≡ n
@@ -134,7 +128,7 @@ node_at g (between o x y) = first_found (node_at g x) (node_at g y)
 -- the node of this generation with this work, and each other node as it is
 abbrev pub with_work : ℕ → Work → Held → Held
 with_work g work n =
-    if n.generation == g then record { generation = n.generation; source = n.source; place = n.place; work = Some work } else n
+    if n.generation == g then record { generation = n.generation; source = n.source; work = Some work } else n
 
 abbrev pub posted : ℕ → Work → Shape → Shape
 posted g work (leaf n) = leaf (with_work g work n)

@@ -12,12 +12,11 @@ use std::alloc::Global;
 use std::default::MadeWith;
 use std::marker::Model;
 
-/// A node that takes part in an agreement: its generation, its origin and its place.
+/// A node that takes part in an agreement: its generation and its origin.
 #[derive(Drop)]
 pub struct Participant {
     pub generation: Gen,
     pub origin: Origin,
-    pub place: Vec<u32>,
 }
 
 impl Participant {
@@ -26,11 +25,9 @@ impl Participant {
         ensures equal { IfOk result (λ p. partner_of p ≡ partner_of self.now) }
     {
         let origin = self.origin.copy(alloc)?;
-        let place = Vec::from_slice(alloc, &self.place)?;
         Ok(Participant {
             generation: self.generation,
             origin,
-            place,
         })
     }
 }
@@ -45,7 +42,6 @@ impl MadeWith<Global> for Participant {
                 values: Vec::new(alloc),
                 relabel: Vec::new(alloc),
             },
-            place: Vec::new(alloc),
         }
     }
 }

@@ -1,6 +1,6 @@
 // Trees of new nodes.
 
-ghost use Rattle.std.specs.Prelude.{◌≡◌, ◌++◌, ◌∷◌, [], IfOk};
+ghost use Rattle.std.specs.Prelude.{◌≡◌, IfOk};
 ghost use Rattle.node_trees.specs.Generations.{IsFresh};
 ghost use Rattle.node_trees.specs.Origins.{source_of};
 ghost use Rattle.node_trees.specs.Shapes.{shape_of, unary_of, binary_of, leaf, ended, over, between, new_node};
@@ -18,31 +18,19 @@ pub struct Fresh {
     pub next: u128,
 }
 
-/// The place of a part.
-#[inline(never)]
-pub fn part_of(alloc: Global, place: &[u32], part: u32) -> Result<Vec<u32>, Memory>
-    ensures longer { IfOk result (λ p. p.items ≡ place.now ++ part ∷ []) }
-{
-    let mut longer = Vec::from_slice(alloc, place)?;
-    longer.push(part)?;
-    Ok(longer)
-}
-
 /// A node that waits.
 #[tactic(auto, using(crate::proofs::Growing::fresh_leaf))]
 #[inline(never)]
-pub fn waiting(alloc: Global, origin: Origin, next: u128, place: &[u32]) -> Result<Fresh, Memory>
-    ensures shape { IfOk result (λ f. shape_of f.branch.value ≡ leaf (new_node next (source_of origin) place.now)) }
-    ensures fresh { IfOk result (λ f. IsFresh place.now next f.next (shape_of f.branch.value)) }
+pub fn waiting(alloc: Global, origin: Origin, next: u128) -> Result<Fresh, Memory>
+    ensures shape { IfOk result (λ f. shape_of f.branch.value ≡ leaf (new_node next (source_of origin))) }
+    ensures fresh { IfOk result (λ f. IsFresh next f.next (shape_of f.branch.value)) }
 {
     if next == u128::MAX {
         return Err(Memory);
     }
-    let place = Vec::from_slice(alloc, place)?;
     let node = Node {
         generation: Gen(next),
         origin,
-        place,
         work: None,
     };
     let branch = Box::new(alloc, Branch::Leaf(node))?;
@@ -55,9 +43,9 @@ pub fn waiting(alloc: Global, origin: Origin, next: u128, place: &[u32]) -> Resu
 /// No node: what is left of an exit.
 #[tactic(auto, using(crate::proofs::Growing::fresh_ended))]
 #[inline(never)]
-pub fn nothing(alloc: Global, next: u128, place: &[u32]) -> Result<Fresh, Memory>
+pub fn nothing(alloc: Global, next: u128) -> Result<Fresh, Memory>
     ensures shape { IfOk result (λ f. shape_of f.branch.value ≡ ended) }
-    ensures fresh { IfOk result (λ f. IsFresh place.now next f.next (shape_of f.branch.value)) }
+    ensures fresh { IfOk result (λ f. IsFresh next f.next (shape_of f.branch.value)) }
 {
     let branch = Branch::ended(alloc)?;
     Ok(Fresh { branch, next })
@@ -66,18 +54,10 @@ pub fn nothing(alloc: Global, next: u128, place: &[u32]) -> Result<Fresh, Memory
 /// An operator over new nodes, whose generations are from `low` on.
 #[tactic(auto, using(crate::proofs::Growing::fresh_over))]
 #[inline(never)]
-pub fn put_over(
-    alloc: Global,
-    operator: Single,
-    one: Fresh,
-    low: u128,
-    inner: &[u32],
-    place: &[u32],
-) -> Result<Fresh, Memory>
-    requires inner { inner.now ≡ place.now ++ 0 ∷ [] }
-    requires one { IsFresh inner.now low one.next (shape_of one.branch.value) }
+pub fn put_over(alloc: Global, operator: Single, one: Fresh, low: u128) -> Result<Fresh, Memory>
+    requires one { IsFresh low one.next (shape_of one.branch.value) }
     ensures shape { IfOk result (λ f. shape_of f.branch.value ≡ over (unary_of operator) (shape_of one.branch.value)) }
-    ensures fresh { IfOk result (λ f. IsFresh place.now low f.next (shape_of f.branch.value)) }
+    ensures fresh { IfOk result (λ f. IsFresh low f.next (shape_of f.branch.value)) }
 {
     let Fresh { branch, next } = one;
     let branch = Branch::over(alloc, operator, branch)?;
@@ -93,17 +73,12 @@ pub fn put_between(
     one: Fresh,
     two: Fresh,
     low: u128,
-    first: &[u32],
-    second: &[u32],
-    place: &[u32],
 ) -> Result<Fresh, Memory>
-    requires first { first.now ≡ place.now ++ 0 ∷ [] }
-    requires second { second.now ≡ place.now ++ 1 ∷ [] }
-    requires one { IsFresh first.now low one.next (shape_of one.branch.value) }
-    requires two { IsFresh second.now one.next two.next (shape_of two.branch.value) }
+    requires one { IsFresh low one.next (shape_of one.branch.value) }
+    requires two { IsFresh one.next two.next (shape_of two.branch.value) }
     ensures shape { IfOk result (λ f.
         shape_of f.branch.value ≡ between (binary_of operator) (shape_of one.branch.value) (shape_of two.branch.value)) }
-    ensures fresh { IfOk result (λ f. IsFresh place.now low f.next (shape_of f.branch.value)) }
+    ensures fresh { IfOk result (λ f. IsFresh low f.next (shape_of f.branch.value)) }
 {
     let Fresh {
         branch: left,

@@ -9,7 +9,7 @@ ghost use Rattle.node_trees.specs.Rests.{known_in, values_in, does_of, done_in, 
 ghost use Rattle.node_trees.specs.Shapes.{shape_of, unary_of, binary_of, applied, joined, stands_for};
 
 use crate::branch::{Double, Single};
-use crate::fresh::{Fresh, nothing, part_of, put_between, put_over};
+use crate::fresh::{Fresh, nothing, put_between, put_over};
 use crate::renew::tidied_branch;
 use crate::rest::{Deed, Known, Rest};
 use crate::unfold::unfold;
@@ -102,17 +102,15 @@ fn rest_over(
     operator: Single,
     rest: &Rest,
     next: u128,
-    place: &[u32],
 ) -> Result<Fresh, Memory>
     requires ready { IsReady (program_of checked.now) }
     ensures stands { IfOk result (λ f.
         stands_for (program_of checked.now) (shape_of f.branch.value) ≡
         applied (program_of checked.now) (unary_of operator) (left_in (program_of checked.now) chosen.now (remainder_of rest.now))) }
-    ensures fresh { IfOk result (λ f. IsFresh place.now next f.next (shape_of f.branch.value)) }
+    ensures fresh { IfOk result (λ f. IsFresh next f.next (shape_of f.branch.value)) }
 {
-    let inner = part_of(alloc, place, 0)?;
-    let one = unfolded_rest(alloc, checked, chosen, rest, next, &inner)?;
-    put_over(alloc, operator, one, next, &inner, place)
+    let one = unfolded_rest(alloc, checked, chosen, rest, next)?;
+    put_over(alloc, operator, one, next)
 }
 
 // An operator between what is left on two sides.
@@ -126,20 +124,17 @@ fn rest_between(
     left: &Rest,
     right: &Rest,
     next: u128,
-    place: &[u32],
 ) -> Result<Fresh, Memory>
     requires ready { IsReady (program_of checked.now) }
     ensures stands { IfOk result (λ f.
         stands_for (program_of checked.now) (shape_of f.branch.value) ≡
         joined (binary_of operator) (left_in (program_of checked.now) chosen.now (remainder_of left.now))
         (left_in (program_of checked.now) chosen.now (remainder_of right.now))) }
-    ensures fresh { IfOk result (λ f. IsFresh place.now next f.next (shape_of f.branch.value)) }
+    ensures fresh { IfOk result (λ f. IsFresh next f.next (shape_of f.branch.value)) }
 {
-    let first = part_of(alloc, place, 0)?;
-    let second = part_of(alloc, place, 1)?;
-    let one = unfolded_rest(alloc, checked, chosen, left, next, &first)?;
-    let two = unfolded_rest(alloc, checked, chosen, right, one.next, &second)?;
-    put_between(alloc, operator, one, two, next, &first, &second, place)
+    let one = unfolded_rest(alloc, checked, chosen, left, next)?;
+    let two = unfolded_rest(alloc, checked, chosen, right, one.next)?;
+    put_between(alloc, operator, one, two, next)
 }
 
 // What is left under a relabelling, tidied.
@@ -152,16 +147,15 @@ fn rest_relabelled(
     pairs: &[(Gate, Gate)],
     rest: &Rest,
     next: u128,
-    place: &[u32],
 ) -> Result<Fresh, Memory>
     requires ready { IsReady (program_of checked.now) }
     ensures stands { IfOk result (λ f.
         stands_for (program_of checked.now) (shape_of f.branch.value) ≡
         tidied (map relabelling_of pairs.now) (left_in (program_of checked.now) chosen.now (remainder_of rest.now))) }
-    ensures fresh { IfOk result (λ f. IsFresh place.now next f.next (shape_of f.branch.value)) }
+    ensures fresh { IfOk result (λ f. IsFresh next f.next (shape_of f.branch.value)) }
 {
-    let one = unfolded_rest(alloc, checked, chosen, rest, next, place)?;
-    tidied_later(alloc, checked, pairs, one, next, place)
+    let one = unfolded_rest(alloc, checked, chosen, rest, next)?;
+    tidied_later(alloc, checked, pairs, one, next)
 }
 
 /// What is left, unfolded into nodes that wait.
@@ -172,23 +166,22 @@ pub fn unfolded_rest(
     chosen: &[Slot],
     rest: &Rest,
     next: u128,
-    place: &[u32],
 ) -> Result<Fresh, Memory>
     requires ready { IsReady (program_of checked.now) }
     ensures stands { IfOk result (λ f.
         stands_for (program_of checked.now) (shape_of f.branch.value) ≡
         left_in (program_of checked.now) chosen.now (remainder_of rest.now)) }
-    ensures fresh { IfOk result (λ f. IsFresh place.now next f.next (shape_of f.branch.value)) }
+    ensures fresh { IfOk result (λ f. IsFresh next f.next (shape_of f.branch.value)) }
 {
     match rest {
-        Rest::Ended => nothing(alloc, next, place),
+        Rest::Ended => nothing(alloc, next),
         Rest::At { node, values } => {
             let values = values_in(alloc, chosen, values)?;
-            unfold(alloc, checked, *node, &values, next, place)
+            unfold(alloc, checked, *node, &values, next)
         }
         Rest::Hide(gates, rest) => {
             let operator = Single::Hide(Vec::from_slice(alloc, gates)?);
-            rest_over(alloc, checked, chosen, operator, rest, next, place)
+            rest_over(alloc, checked, chosen, operator, rest, next)
         }
         Rest::Enable(rest, vars, right, values) => {
             let vars = Vec::from_slice(alloc, vars)?;
@@ -198,14 +191,12 @@ pub fn unfolded_rest(
                 right: *right,
                 values,
             };
-            rest_over(alloc, checked, chosen, operator, rest, next, place)
+            rest_over(alloc, checked, chosen, operator, rest, next)
         }
-        Rest::Relabel(pairs, rest) => {
-            rest_relabelled(alloc, checked, chosen, pairs, rest, next, place)
-        }
+        Rest::Relabel(pairs, rest) => { rest_relabelled(alloc, checked, chosen, pairs, rest, next) }
         Rest::Par(gates, left, right) => {
             let operator = Double::Par(gates.copy(alloc)?);
-            rest_between(alloc, checked, chosen, operator, left, right, next, place)
+            rest_between(alloc, checked, chosen, operator, left, right, next)
         }
         Rest::Disable(left, right) => rest_between(
             alloc,
@@ -215,7 +206,6 @@ pub fn unfolded_rest(
             left,
             right,
             next,
-            place,
         ),
     }
 }
@@ -228,14 +218,13 @@ fn tidied_later(
     pairs: &[(Gate, Gate)],
     one: Fresh,
     low: u128,
-    place: &[u32],
 ) -> Result<Fresh, Memory>
     requires ready { IsReady (program_of checked.now) }
-    requires one { IsFresh place.now low one.next (shape_of one.branch.value) }
+    requires one { IsFresh low one.next (shape_of one.branch.value) }
     ensures stands { IfOk result (λ f.
         stands_for (program_of checked.now) (shape_of f.branch.value) ≡
         tidied (map relabelling_of pairs.now) (stands_for (program_of checked.now) (shape_of one.branch.value))) }
-    ensures fresh { IfOk result (λ f. IsFresh place.now low f.next (shape_of f.branch.value)) }
+    ensures fresh { IfOk result (λ f. IsFresh low f.next (shape_of f.branch.value)) }
 {
-    tidied_branch(alloc, checked, pairs, &one.branch, one.next, place)
+    tidied_branch(alloc, checked, pairs, &one.branch, one.next)
 }

@@ -8,12 +8,11 @@ use crate::origin::{Gen, Origin};
 use spec_core::memory::Memory;
 use std::alloc::Global;
 
-/// A node: its generation, its origin, its place (the numbers of the parts from the root), and what its origin can do once it is expanded.
+/// A node: its generation, its origin, and what its origin can do once it is expanded.
 #[derive(Drop)]
 pub struct Node {
     pub generation: Gen,
     pub origin: Origin,
-    pub place: Vec<u32>,
     pub work: Option<Expansion>,
 }
 
@@ -41,12 +40,10 @@ impl Node {
         ensures equal { IfOk result (λ n. held_of n ≡ held_of self.now) }
     {
         let origin = self.origin.copy(alloc)?;
-        let place = Vec::from_slice(alloc, &self.place)?;
         let work = copy_work(alloc, &self.work)?;
         Ok(Node {
             generation: self.generation,
             origin,
-            place,
             work,
         })
     }

@@ -10,7 +10,7 @@ ghost use Rattle.node_trees.specs.Origins.{scoped, IsCall};
 ghost use Rattle.node_trees.specs.Shapes.{shape_of, unary_of, binary_of, applied, joined, stands_for};
 
 use crate::branch::{Branch, Double, Single};
-use crate::fresh::{Fresh, nothing, part_of, put_between, put_over, waiting};
+use crate::fresh::{Fresh, nothing, put_between, put_over, waiting};
 use crate::origin::{Origin, copy_values};
 use crate::unfold::unfold;
 use rule_origins::tidying::joined;
@@ -31,16 +31,14 @@ fn renewed_over(
     operator: &Single,
     part: &Branch,
     next: u128,
-    place: &[u32],
 ) -> Result<Fresh, Memory>
     ensures stands { IfOk result (λ f.
         stands_for (program_of checked.now) (shape_of f.branch.value) ≡
         applied (program_of checked.now) (unary_of operator.now) (stands_for (program_of checked.now) (shape_of part.now))) }
-    ensures fresh { IfOk result (λ f. IsFresh place.now next f.next (shape_of f.branch.value)) }
+    ensures fresh { IfOk result (λ f. IsFresh next f.next (shape_of f.branch.value)) }
 {
-    let inner = part_of(alloc, place, 0)?;
-    let one = renewed(alloc, checked, part, next, &inner)?;
-    put_over(alloc, operator.copy(alloc)?, one, next, &inner, place)
+    let one = renewed(alloc, checked, part, next)?;
+    put_over(alloc, operator.copy(alloc)?, one, next)
 }
 
 // An operator between the same parts with new nodes.
@@ -53,20 +51,17 @@ fn renewed_between(
     left: &Branch,
     right: &Branch,
     next: u128,
-    place: &[u32],
 ) -> Result<Fresh, Memory>
     ensures stands { IfOk result (λ f.
         stands_for (program_of checked.now) (shape_of f.branch.value) ≡
         joined (binary_of operator.now) (stands_for (program_of checked.now) (shape_of left.now))
         (stands_for (program_of checked.now) (shape_of right.now))) }
-    ensures fresh { IfOk result (λ f. IsFresh place.now next f.next (shape_of f.branch.value)) }
+    ensures fresh { IfOk result (λ f. IsFresh next f.next (shape_of f.branch.value)) }
 {
-    let first = part_of(alloc, place, 0)?;
-    let second = part_of(alloc, place, 1)?;
-    let one = renewed(alloc, checked, left, next, &first)?;
-    let two = renewed(alloc, checked, right, one.next, &second)?;
+    let one = renewed(alloc, checked, left, next)?;
+    let two = renewed(alloc, checked, right, one.next)?;
     let operator = operator.copy(alloc)?;
-    put_between(alloc, operator, one, two, next, &first, &second, place)
+    put_between(alloc, operator, one, two, next)
 }
 
 /// The same tree with new nodes, which wait. It recurs as deep as the operators nest.
@@ -76,18 +71,17 @@ pub fn renewed(
     checked: &Checked,
     branch: &Branch,
     next: u128,
-    place: &[u32],
 ) -> Result<Fresh, Memory>
     ensures stands { IfOk result (λ f.
         stands_for (program_of checked.now) (shape_of f.branch.value) ≡ stands_for (program_of checked.now) (shape_of branch.now)) }
-    ensures fresh { IfOk result (λ f. IsFresh place.now next f.next (shape_of f.branch.value)) }
+    ensures fresh { IfOk result (λ f. IsFresh next f.next (shape_of f.branch.value)) }
 {
     match branch {
-        Branch::Leaf(node) => waiting(alloc, node.origin.copy(alloc)?, next, place),
-        Branch::Ended => nothing(alloc, next, place),
-        Branch::Over(operator, part) => renewed_over(alloc, checked, operator, part, next, place),
+        Branch::Leaf(node) => waiting(alloc, node.origin.copy(alloc)?, next),
+        Branch::Ended => nothing(alloc, next),
+        Branch::Over(operator, part) => renewed_over(alloc, checked, operator, part, next),
         Branch::Between(operator, left, right) => renewed_between(
-            alloc, checked, operator, left, right, next, place,
+            alloc, checked, operator, left, right, next,
         ),
     }
 }
@@ -99,17 +93,15 @@ fn renewed_under(
     pairs: &[(Gate, Gate)],
     branch: &Branch,
     next: u128,
-    place: &[u32],
 ) -> Result<Fresh, Memory>
     ensures stands { IfOk result (λ f.
         stands_for (program_of checked.now) (shape_of f.branch.value) ≡
         relabel (map relabelling_of pairs.now) (stands_for (program_of checked.now) (shape_of branch.now))) }
-    ensures fresh { IfOk result (λ f. IsFresh place.now next f.next (shape_of f.branch.value)) }
+    ensures fresh { IfOk result (λ f. IsFresh next f.next (shape_of f.branch.value)) }
 {
-    let inner = part_of(alloc, place, 0)?;
-    let one = renewed(alloc, checked, branch, next, &inner)?;
+    let one = renewed(alloc, checked, branch, next)?;
     let operator = Single::Relabel(Vec::from_slice(alloc, pairs)?);
-    put_over(alloc, operator, one, next, &inner, place)
+    put_over(alloc, operator, one, next)
 }
 
 // The behaviour at a number of the code, unfolded under a relabelling.
@@ -120,18 +112,16 @@ fn unfolded_under(
     node: u32,
     values: &[(u32, Value)],
     next: u128,
-    place: &[u32],
 ) -> Result<Fresh, Memory>
     requires ready { IsReady (program_of checked.now) }
     ensures stands { IfOk result (λ f.
         stands_for (program_of checked.now) (shape_of f.branch.value) ≡
         relabel (map relabelling_of pairs.now) (scoped (program_of checked.now) node values.now)) }
-    ensures fresh { IfOk result (λ f. IsFresh place.now next f.next (shape_of f.branch.value)) }
+    ensures fresh { IfOk result (λ f. IsFresh next f.next (shape_of f.branch.value)) }
 {
-    let inner = part_of(alloc, place, 0)?;
-    let one = unfold(alloc, checked, node, values, next, &inner)?;
+    let one = unfold(alloc, checked, node, values, next)?;
     let operator = Single::Relabel(Vec::from_slice(alloc, pairs)?);
-    put_over(alloc, operator, one, next, &inner, place)
+    put_over(alloc, operator, one, next)
 }
 
 // A node that waits for a call whose gates are relabelled.
@@ -143,13 +133,12 @@ fn waiting_under(
     node: u32,
     values: &[(u32, Value)],
     next: u128,
-    place: &[u32],
 ) -> Result<Fresh, Memory>
     requires call { IsCall (scoped (program_of checked.now) node values.now) }
     ensures stands { IfOk result (λ f.
         stands_for (program_of checked.now) (shape_of f.branch.value) ≡
         tidied (map relabelling_of pairs.now) (scoped (program_of checked.now) node values.now)) }
-    ensures fresh { IfOk result (λ f. IsFresh place.now next f.next (shape_of f.branch.value)) }
+    ensures fresh { IfOk result (λ f. IsFresh next f.next (shape_of f.branch.value)) }
 {
     let values = copy_values(alloc, values)?;
     let origin = Origin {
@@ -157,7 +146,7 @@ fn waiting_under(
         values,
         relabel: Vec::from_slice(alloc, pairs)?,
     };
-    waiting(alloc, origin, next, place)
+    waiting(alloc, origin, next)
 }
 
 /// The behaviour at a number of the code, unfolded under a relabelling, tidied.
@@ -168,18 +157,17 @@ pub fn tidied_at(
     node: u32,
     values: &[(u32, Value)],
     next: u128,
-    place: &[u32],
 ) -> Result<Fresh, Memory>
     requires ready { IsReady (program_of checked.now) }
     ensures stands { IfOk result (λ f.
         stands_for (program_of checked.now) (shape_of f.branch.value) ≡
         tidied (map relabelling_of pairs.now) (scoped (program_of checked.now) node values.now)) }
-    ensures fresh { IfOk result (λ f. IsFresh place.now next f.next (shape_of f.branch.value)) }
+    ensures fresh { IfOk result (λ f. IsFresh next f.next (shape_of f.branch.value)) }
 {
     let one = joined(alloc, checked, pairs, node)?;
     match call_at(checked, one.node) {
-        None => unfolded_under(alloc, checked, &one.pairs, one.node, values, next, place),
-        Some(_) => waiting_under(alloc, checked, &one.pairs, one.node, values, next, place),
+        None => unfolded_under(alloc, checked, &one.pairs, one.node, values, next),
+        Some(_) => waiting_under(alloc, checked, &one.pairs, one.node, values, next),
     }
 }
 
@@ -191,13 +179,12 @@ pub fn tidied_branch(
     pairs: &[(Gate, Gate)],
     branch: &Branch,
     next: u128,
-    place: &[u32],
 ) -> Result<Fresh, Memory>
     requires ready { IsReady (program_of checked.now) }
     ensures stands { IfOk result (λ f.
         stands_for (program_of checked.now) (shape_of f.branch.value) ≡
         tidied (map relabelling_of pairs.now) (stands_for (program_of checked.now) (shape_of branch.now))) }
-    ensures fresh { IfOk result (λ f. IsFresh place.now next f.next (shape_of f.branch.value)) }
+    ensures fresh { IfOk result (λ f. IsFresh next f.next (shape_of f.branch.value)) }
 {
     match branch {
         Branch::Leaf(node) => {
@@ -209,22 +196,21 @@ pub fn tidied_branch(
                 node.origin.node,
                 &node.origin.values,
                 next,
-                place,
             )
         }
-        Branch::Ended => renewed_under(alloc, checked, pairs, branch, next, place),
+        Branch::Ended => renewed_under(alloc, checked, pairs, branch, next),
         Branch::Between(operator, _, _) => match operator {
-            Double::Choice => renewed_under(alloc, checked, pairs, branch, next, place),
-            Double::Par(_) => renewed_under(alloc, checked, pairs, branch, next, place),
-            Double::Disable => renewed_under(alloc, checked, pairs, branch, next, place),
+            Double::Choice => renewed_under(alloc, checked, pairs, branch, next),
+            Double::Par(_) => renewed_under(alloc, checked, pairs, branch, next),
+            Double::Disable => renewed_under(alloc, checked, pairs, branch, next),
         },
         Branch::Over(operator, part) => match operator {
             Single::Relabel(before) => {
                 let all = after(alloc, pairs, before)?;
-                tidied_branch(alloc, checked, &all, part, next, place)
+                tidied_branch(alloc, checked, &all, part, next)
             }
-            Single::Hide(_) => renewed_under(alloc, checked, pairs, branch, next, place),
-            Single::Enable { .. } => renewed_under(alloc, checked, pairs, branch, next, place),
+            Single::Hide(_) => renewed_under(alloc, checked, pairs, branch, next),
+            Single::Enable { .. } => renewed_under(alloc, checked, pairs, branch, next),
         },
     }
 }

@@ -8,7 +8,7 @@ ghost use Rattle.node_trees.specs.Origins.{scoped};
 ghost use Rattle.node_trees.specs.Shapes.{shape_of, unary_of, binary_of, applied, joined, stands_for};
 
 use crate::branch::{Double, Single};
-use crate::fresh::{Fresh, nothing, part_of, put_between, put_over, waiting};
+use crate::fresh::{Fresh, nothing, put_between, put_over, waiting};
 use crate::origin::{Origin, copy_values};
 use rule_origins::code::construct_at;
 use spec_core::code::{Checked, CodeNode};
@@ -24,11 +24,10 @@ fn waiting_at(
     node: u32,
     values: &[(u32, Value)],
     next: u128,
-    place: &[u32],
 ) -> Result<Fresh, Memory>
     ensures stands { IfOk result (λ f.
         stands_for (program_of checked.now) (shape_of f.branch.value) ≡ scoped (program_of checked.now) node values.now) }
-    ensures fresh { IfOk result (λ f. IsFresh place.now next f.next (shape_of f.branch.value)) }
+    ensures fresh { IfOk result (λ f. IsFresh next f.next (shape_of f.branch.value)) }
 {
     let values = copy_values(alloc, values)?;
     let origin = Origin {
@@ -36,7 +35,7 @@ fn waiting_at(
         values,
         relabel: Vec::new(alloc),
     };
-    waiting(alloc, origin, next, place)
+    waiting(alloc, origin, next)
 }
 
 // An operator between the behaviours at two numbers of the code, each unfolded.
@@ -51,7 +50,6 @@ fn unfold_between(
     right: u32,
     values: &[(u32, Value)],
     next: u128,
-    place: &[u32],
 ) -> Result<Fresh, Memory>
     requires ready { IsReady (program_of checked.now) }
     requires left { left < number }
@@ -59,13 +57,11 @@ fn unfold_between(
     ensures stands { IfOk result (λ f.
         stands_for (program_of checked.now) (shape_of f.branch.value) ≡
         joined (binary_of operator) (scoped (program_of checked.now) left values.now) (scoped (program_of checked.now) right values.now)) }
-    ensures fresh { IfOk result (λ f. IsFresh place.now next f.next (shape_of f.branch.value)) }
+    ensures fresh { IfOk result (λ f. IsFresh next f.next (shape_of f.branch.value)) }
 {
-    let first = part_of(alloc, place, 0)?;
-    let second = part_of(alloc, place, 1)?;
-    let one = unfold(alloc, checked, left, values, next, &first)?;
-    let two = unfold(alloc, checked, right, values, one.next, &second)?;
-    put_between(alloc, operator, one, two, next, &first, &second, place)
+    let one = unfold(alloc, checked, left, values, next)?;
+    let two = unfold(alloc, checked, right, values, one.next)?;
+    put_between(alloc, operator, one, two, next)
 }
 
 // An operator over the behaviour at a number of the code, unfolded.
@@ -79,18 +75,16 @@ fn unfold_over(
     part: u32,
     values: &[(u32, Value)],
     next: u128,
-    place: &[u32],
 ) -> Result<Fresh, Memory>
     requires ready { IsReady (program_of checked.now) }
     requires part { part < number }
     ensures stands { IfOk result (λ f.
         stands_for (program_of checked.now) (shape_of f.branch.value) ≡
         applied (program_of checked.now) (unary_of operator) (scoped (program_of checked.now) part values.now)) }
-    ensures fresh { IfOk result (λ f. IsFresh place.now next f.next (shape_of f.branch.value)) }
+    ensures fresh { IfOk result (λ f. IsFresh next f.next (shape_of f.branch.value)) }
 {
-    let inner = part_of(alloc, place, 0)?;
-    let one = unfold(alloc, checked, part, values, next, &inner)?;
-    put_over(alloc, operator, one, next, &inner, place)
+    let one = unfold(alloc, checked, part, values, next)?;
+    put_over(alloc, operator, one, next)
 }
 
 /// The operators of the behaviour at a number of the code, with values for its variables, over nodes that wait. It recurs as deep as the
@@ -102,15 +96,14 @@ pub fn unfold(
     node: u32,
     values: &[(u32, Value)],
     next: u128,
-    place: &[u32],
 ) -> Result<Fresh, Memory>
     requires ready { IsReady (program_of checked.now) }
     ensures stands { IfOk result (λ f.
         stands_for (program_of checked.now) (shape_of f.branch.value) ≡ scoped (program_of checked.now) node values.now) }
-    ensures fresh { IfOk result (λ f. IsFresh place.now next f.next (shape_of f.branch.value)) }
+    ensures fresh { IfOk result (λ f. IsFresh next f.next (shape_of f.branch.value)) }
 {
     match construct_at(checked, node) {
-        None => nothing(alloc, next, place),
+        None => nothing(alloc, next),
         Some(construct) => match construct {
             CodeNode::Choice(left, right) => unfold_between(
                 alloc,
@@ -121,12 +114,11 @@ pub fn unfold(
                 right.0,
                 values,
                 next,
-                place,
             ),
             CodeNode::Par(gates, left, right) => {
                 let operator = Double::Par(gates.copy(alloc)?);
                 unfold_between(
-                    alloc, checked, operator, node, left.0, right.0, values, next, place,
+                    alloc, checked, operator, node, left.0, right.0, values, next,
                 )
             }
             CodeNode::Disable(left, right) => unfold_between(
@@ -138,15 +130,14 @@ pub fn unfold(
                 right.0,
                 values,
                 next,
-                place,
             ),
             CodeNode::Hide(gates, body) => {
                 let operator = Single::Hide(Vec::from_slice(alloc, gates)?);
-                unfold_over(alloc, checked, operator, node, body.0, values, next, place)
+                unfold_over(alloc, checked, operator, node, body.0, values, next)
             }
             CodeNode::Relabel(pairs, body) => {
                 let operator = Single::Relabel(Vec::from_slice(alloc, pairs)?);
-                unfold_over(alloc, checked, operator, node, body.0, values, next, place)
+                unfold_over(alloc, checked, operator, node, body.0, values, next)
             }
             CodeNode::Enable(left, vars, right) => {
                 let vars = Vec::from_slice(alloc, vars)?;
@@ -156,7 +147,7 @@ pub fn unfold(
                     right: right.0,
                     values: later,
                 };
-                unfold_over(alloc, checked, operator, node, left.0, values, next, place)
+                unfold_over(alloc, checked, operator, node, left.0, values, next)
             }
             CodeNode::Stop
             | CodeNode::Exit(..)
@@ -166,8 +157,8 @@ pub fn unfold(
             | CodeNode::Let(..)
             | CodeNode::Values(..)
             | CodeNode::Gates(..)
-            | CodeNode::Call { .. } => waiting_at(alloc, checked, node, values, next, place),
-            CodeNode::Process { .. } => nothing(alloc, next, place),
+            | CodeNode::Call { .. } => waiting_at(alloc, checked, node, values, next),
+            CodeNode::Process { .. } => nothing(alloc, next),
         },
     }
 }
