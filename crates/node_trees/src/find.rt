@@ -37,28 +37,27 @@ impl Branch {
         }
     }
 
-    // Expands the first node of this generation, from the left. Where there is none, it gives the expansion back.
-    fn post_first(&mut self, generation: Gen, work: Expansion) -> Option<Expansion>
-        ensures posted { shape_of self.new ≡ posted_first generation.0 (expansion_of work) (shape_of self.old) }
-        ensures found { IfNone result (is_there (node_at generation.0 (shape_of self.old)) ≡ true) }
-        ensures missed { IfSome result (λ back. (back ≡ work) × (is_there (node_at generation.0 (shape_of self.old)) ≡ false)
-            × (shape_of self.new ≡ shape_of self.old)) }
+    // Expands the first node of this generation, from the left, with the expansion, which is taken then; whether there is such a node. Where
+    // there is none, all stays. The expansion isn't moved on the way.
+    fn post_first(&mut self, generation: Gen, work: &mut Option<Expansion>) -> bool
+        ensures posted { IfSome work.old (λ w. shape_of self.new ≡ posted_first generation.0 (expansion_of w) (shape_of self.old)) }
+        ensures found { result ≡ is_there (node_at generation.0 (shape_of self.old)) }
+        ensures missed { result ≡ false → (work.new ≡ work.old) × (shape_of self.new ≡ shape_of self.old) }
     {
         match self {
             Branch::Leaf(node) => {
                 if node.generation.0 == generation.0 {
-                    node.work = Some(work);
-                    None
+                    node.work = work.take();
+                    true
                 } else {
-                    Some(work)
+                    false
                 }
             }
-            Branch::Ended => Some(work),
+            Branch::Ended => false,
             Branch::Over(_, part) => part.post_first(generation, work),
-            Branch::Between(_, left, right) => match left.post_first(generation, work) {
-                None => None,
-                Some(work) => right.post_first(generation, work),
-            },
+            Branch::Between(_, left, right) => {
+                left.post_first(generation, work) || right.post_first(generation, work)
+            }
         }
     }
 
@@ -66,7 +65,8 @@ impl Branch {
     pub fn post(&mut self, generation: Gen, work: Expansion)
         ensures posted { shape_of self.new ≡ posted_first generation.0 (expansion_of work) (shape_of self.old) }
     {
-        self.post_first(generation, work);
+        let mut work = Some(work);
+        self.post_first(generation, &mut work);
     }
 
     // Appends the generations of this tree's nodes that aren't those of another tree, from the left.
