@@ -122,8 +122,8 @@ come_begins (Between' p c q e) (over o x) up n s h = absurd (h (lives_at (over o
 come_begins _ _ up n s h = absurd s
 
 -- From a sound tree a step leads to the changed one: what ends and begins where it changes ends and begins in the whole.
-module _ (same : List Above → Type 0) (place : List ℕ) (low high : ℕ) (c : Change) (t : Shape) (sound : IsSound t low)
-    (moved : Advances same place low high t (changed c t)) where
+module _ (same : List Above → Type 0) (low high : ℕ) (c : Change) (t : Shape) (sound : IsSound t low)
+    (moved : Advances same low high t (changed c t)) where
   abbrev new : Shape
   new = changed c t
 

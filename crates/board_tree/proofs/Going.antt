@@ -1,8 +1,8 @@
 -- Generations under operators, from step to step.
-use Rattle.std.proofs.Common.{ℕ, ◌≡◌, ◌≤◌, inl, inr, ⊎_elim, List, [], ◌∷◌, ◌++◌, refl, sym, subst, arith}
+use Rattle.std.proofs.Common.{ℕ, ◌≡◌, ◌≤◌, inl, inr, ⊎_elim, List, ◌∷◌, refl, sym, subst, arith}
 use Rattle.node_trees.specs.Generations.{AreApart, IsSound, IsFresh}
 use Rattle.node_trees.specs.Shapes.{Held, Shape, over, between, Unary, Binary, Above, under, first_of, second_of, Stands}
-use Rattle.node_trees.proofs.Growing.{new_within, new_under, fresh_later, over_apart, NeverMeet, between_apart}
+use Rattle.node_trees.proofs.Growing.{new_within, fresh_later, over_apart, NeverMeet, between_apart}
 use Rattle.board_tree.specs.Keeping.{Keeps, Leaves, Advances, Goes}
 
 differ : (o p : Binary) (up vp : List Above) → first_of o ∷ up ≡ second_of p ∷ vp → ⊥
@@ -12,9 +12,9 @@ differ o p up vp e = cc
 abbrev pub NothingStays : (List Above → Type 0) → Shape → Type 0
 NothingStays same t = (up : List Above) (n : Held) → Stands t up n → same up → ⊥
 
-fresh_advances : (same : List Above → Type 0) (place : List ℕ) (low high : ℕ) (old t : Shape) → NothingStays same old →
-    IsFresh place low high t → Advances same place low high old t
-fresh_advances same place low high old t never f = record {
+fresh_advances : (same : List Above → Type 0) (low high : ℕ) (old t : Shape) → NothingStays same old →
+    IsFresh low high t → Advances same low high old t
+fresh_advances same low high old t never f = record {
   more = f.more;
   apart = f.apart;
   keeps = λ up n a. inr (f.new up n a);
@@ -24,8 +24,8 @@ fresh_advances same place low high old t never f = record {
 abbrev everywhere : List Above → Type 0
 everywhere up = Unit {0}
 
-still : (place : List ℕ) (low : ℕ) (t : Shape) → AreApart t → Advances everywhere place low low t t
-still place low t a = record {
+still : (low : ℕ) (t : Shape) → AreApart t → Advances everywhere low low t t
+still low t a = record {
   more = omega arith;
   apart = a;
   keeps = λ up n h. inl (h, tt);
@@ -62,39 +62,38 @@ sound_second o x y next later l s = record {
     tails : (up vp : List Above) → second_of o ∷ up ≡ second_of o ∷ vp → up ≡ vp
     tails up vp e = cc
 
-pub fresh_goes : (same : List Above → Type 0) (place : List ℕ) (low high : ℕ) (old t : Shape) → NothingStays same old →
-    IsFresh place low high t → Goes same place low high old t
-fresh_goes same place low high old t never f = record { advances = λ s. fresh_advances same place low high old t never f }
+pub fresh_goes : (same : List Above → Type 0) (low high : ℕ) (old t : Shape) → NothingStays same old →
+    IsFresh low high t → Goes same low high old t
+fresh_goes same low high old t never f = record { advances = λ s. fresh_advances same low high old t never f }
 
 -- An operator over one part, of which all stays that stays in the part.
-module _ (same part : List Above → Type 0) (place inner : List ℕ) (low high : ℕ) (o : Unary) (x z : Shape) where
-  over_advances : inner ≡ place ++ 0 ∷ [] → ((up : List Above) (n : Held) → Stands z up n → part up → same (under o ∷ up)) →
-      ((up : List Above) → same (under o ∷ up) → part up) → Advances part inner low high x z →
-      Advances same place low high (over o x) (over o z)
-  over_advances e into from a = record {
+module _ (same part : List Above → Type 0) (low high : ℕ) (o : Unary) (x z : Shape) where
+  over_advances : ((up : List Above) (n : Held) → Stands z up n → part up → same (under o ∷ up)) →
+      ((up : List Above) → same (under o ∷ up) → part up) → Advances part low high x z → Advances same low high (over o x) (over o z)
+  over_advances into from a = record {
     more = a.more;
     apart = over_apart o z a.apart;
     keeps = keeps;
     leaves = leaves;
   }
     where
-      keeps : Keeps same place low high (over o x) (over o z)
+      keeps : Keeps same low high (over o x) (over o z)
       keeps (under p ∷ up) n b =
           ⊎_elim (λ l. inl ((b.0, l.0), subst (λ q. same (under q ∷ up)) b.0 (into up n b.1 l.1)))
-          (λ r. inr (new_under place inner 0 low high (under p) up n e refl r)) (a.keeps up n b.1)
+          (λ r. inr r) (a.keeps up n b.1)
       keeps _ n b = absurd b
 
       leaves : Leaves same (over o x) (over o z)
       leaves (under p ∷ up) n b u = (b.0, a.leaves up n b.1 (from up (subst (λ q. same (under q ∷ up)) (sym b.0) u)))
       leaves _ n b u = absurd b
 
-  pub over_goes : (s t : Shape) → inner ≡ place ++ 0 ∷ [] → s ≡ over o x → t ≡ over o z →
+  pub over_goes : (s t : Shape) → s ≡ over o x → t ≡ over o z →
       ((up : List Above) (n : Held) → Stands z up n → part up → same (under o ∷ up)) →
-      ((up : List Above) → same (under o ∷ up) → part up) → Goes part inner low high x z → Goes same place low high s t
-  over_goes s t e i j into from g = record {
+      ((up : List Above) → same (under o ∷ up) → part up) → Goes part low high x z → Goes same low high s t
+  over_goes s t i j into from g = record {
     advances = λ h.
-        subst (λ u. Advances same place low high u t) (sym i) (subst (λ u. Advances same place low high (over o x) u) (sym j)
-        (over_advances e into from (g.advances (sound_over o x low (subst (λ u. IsSound u low) i h)))));
+        subst (λ u. Advances same low high u t) (sym i) (subst (λ u. Advances same low high (over o x) u) (sym j)
+        (over_advances into from (g.advances (sound_over o x low (subst (λ u. IsSound u low) i h)))));
   }
 
 -- what stays under an operator is what stays in its parts
@@ -104,8 +103,8 @@ pub record Splits (o : Binary) (same one two : List Above → Type 0) : Type 0 w
   pub into_second : (up : List Above) → two up → same (second_of o ∷ up)
   pub from_second : (up : List Above) → same (second_of o ∷ up) → two up
 
-module _ (same one two : List Above → Type 0) (place first second : List ℕ) (low mid high : ℕ) (o : Binary) (x y z w : Shape) where
-  never_meet : IsSound (between o x y) low → Advances one first low mid x z → Advances two second mid high y w → NeverMeet z w
+module _ (same one two : List Above → Type 0) (low mid high : ℕ) (o : Binary) (x y z w : Shape) where
+  never_meet : IsSound (between o x y) low → Advances one low mid x z → Advances two mid high y w → NeverMeet z w
   never_meet s a b up vp m n h k e =
       ⊎_elim
       (λ l. ⊎_elim
@@ -118,26 +117,22 @@ module _ (same one two : List Above → Type 0) (place first second : List ℕ) 
       (b.keeps vp n k))
       (a.keeps up m h)
 
-  both_advance : first ≡ place ++ 0 ∷ [] → second ≡ place ++ 1 ∷ [] → Splits o same one two → IsSound (between o x y) low →
-      Advances one first low mid x z → Advances two second mid high y w → Advances same place low high (between o x y) (between o z w)
-  both_advance e g c s a b = record {
+  both_advance : Splits o same one two → IsSound (between o x y) low →
+      Advances one low mid x z → Advances two mid high y w → Advances same low high (between o x y) (between o z w)
+  both_advance c s a b = record {
     more = let u = a.more in let v = b.more in omega (arith, u, v);
     apart = between_apart o z w a.apart b.apart (never_meet s a b);
     keeps = keeps;
     leaves = leaves;
   }
     where
-      keeps : Keeps same place low high (between o x y) (between o z w)
+      keeps : Keeps same low high (between o x y) (between o z w)
       keeps (first_of p ∷ up) n h =
           ⊎_elim (λ l. inl ((h.0, l.0), subst (λ q. same (first_of q ∷ up)) h.0 (c.into_first up l.1)))
-          (λ r. inr (new_within place low mid low high (first_of p ∷ up) n (omega arith) b.more
-          (new_under place first 0 low mid (first_of p) up n e refl r)))
-          (a.keeps up n h.1)
+          (λ r. inr (new_within low mid low high n (omega arith) b.more r)) (a.keeps up n h.1)
       keeps (second_of p ∷ up) n h =
           ⊎_elim (λ l. inl ((h.0, l.0), subst (λ q. same (second_of q ∷ up)) h.0 (c.into_second up l.1)))
-          (λ r. inr (new_within place mid high low high (second_of p ∷ up) n a.more (omega arith)
-          (new_under place second 1 mid high (second_of p) up n g refl r)))
-          (b.keeps up n h.1)
+          (λ r. inr (new_within mid high low high n a.more (omega arith) r)) (b.keeps up n h.1)
       keeps _ n h = absurd h
 
       leaves : Leaves same (between o x y) (between o z w)
@@ -147,58 +142,56 @@ module _ (same one two : List Above → Type 0) (place first second : List ℕ) 
           (h.0, b.leaves up n h.1 (c.from_second up (subst (λ q. same (second_of q ∷ up)) (sym h.0) u)))
       leaves _ n h u = absurd h
 
-  pub both_go : (s t : Shape) → first ≡ place ++ 0 ∷ [] → second ≡ place ++ 1 ∷ [] → s ≡ between o x y → t ≡ between o z w →
-      Splits o same one two → Goes one first low mid x z → Goes two second mid high y w → Goes same place low high s t
-  both_go s t e g i j c a b = record {
+  pub both_go : (s t : Shape) → s ≡ between o x y → t ≡ between o z w →
+      Splits o same one two → Goes one low mid x z → Goes two mid high y w → Goes same low high s t
+  both_go s t i j c a b = record {
     advances = λ h.
         let k = subst (λ u. IsSound u low) i h in
         let first = a.advances (sound_first o x y low k) in
         let second = b.advances (sound_second o x y low mid first.more k) in
-        subst (λ u. Advances same place low high u t) (sym i) (subst (λ u. Advances same place low high (between o x y) u) (sym j)
-        (both_advance e g c k first second));
+        subst (λ u. Advances same low high u t) (sym i) (subst (λ u. Advances same low high (between o x y) u) (sym j)
+        (both_advance c k first second));
   }
 
 -- a side that stays
-stays : (place : List ℕ) (low : ℕ) (t : Shape) → Goes everywhere place low low t t
-stays place low t = record { advances = λ s. still place low t s.apart }
+stays : (low : ℕ) (t : Shape) → Goes everywhere low low t t
+stays low t = record { advances = λ s. still low t s.apart }
 
-pub first_goes : (same one : List Above → Type 0) (place first : List ℕ) (low high : ℕ) (o : Binary) (x y z s t : Shape) →
-    first ≡ place ++ 0 ∷ [] → s ≡ between o x y → t ≡ between o z y → Splits o same one everywhere → Goes one first low high x z →
-    Goes same place low high s t
-first_goes same one place first low high o x y z s t e i j c a =
-    both_go same one everywhere place first (place ++ 1 ∷ []) low high high o x y z y s t e refl i j c a
-    (stays (place ++ 1 ∷ []) high y)
+pub first_goes : (same one : List Above → Type 0) (low high : ℕ) (o : Binary) (x y z s t : Shape) →
+    s ≡ between o x y → t ≡ between o z y → Splits o same one everywhere → Goes one low high x z →
+    Goes same low high s t
+first_goes same one low high o x y z s t i j c a =
+    both_go same one everywhere low high high o x y z y s t i j c a (stays high y)
 
-pub second_goes : (same two : List Above → Type 0) (place second : List ℕ) (low high : ℕ) (o : Binary) (x y w s t : Shape) →
-    second ≡ place ++ 1 ∷ [] → s ≡ between o x y → t ≡ between o x w → Splits o same everywhere two → Goes two second low high y w →
-    Goes same place low high s t
-second_goes same two place second low high o x y w s t e i j c a =
-    both_go same everywhere two place (place ++ 0 ∷ []) second low low high o x y x w s t refl e i j c
-    (stays (place ++ 0 ∷ []) low x) a
+pub second_goes : (same two : List Above → Type 0) (low high : ℕ) (o : Binary) (x y w s t : Shape) →
+    s ≡ between o x y → t ≡ between o x w → Splits o same everywhere two → Goes two low high y w →
+    Goes same low high s t
+second_goes same two low high o x y w s t i j c a =
+    both_go same everywhere two low low high o x y x w s t i j c (stays low x) a
 
 -- A part that goes on, and new nodes in the place of the whole.
-module _ (same part : List Above → Type 0) (place inner : List ℕ) (low mid high : ℕ) where
+module _ (same part : List Above → Type 0) (low mid high : ℕ) where
   pub fresh_after_over : (o : Unary) (x z s t : Shape) → s ≡ over o x → (Leaves part x z → NothingStays same s) →
-      Goes part inner low mid x z → IsFresh place mid high t → Goes same place low high s t
+      Goes part low mid x z → IsFresh mid high t → Goes same low high s t
   fresh_after_over o x z s t e never g f = record {
     advances = λ h.
         let a = g.advances (sound_over o x low (subst (λ u. IsSound u low) e h)) in
-        fresh_advances same place low high s t (never a.leaves) (fresh_later place low mid high t a.more f);
+        fresh_advances same low high s t (never a.leaves) (fresh_later low mid high t a.more f);
   }
 
-  pub fresh_after_first : (o : Binary) (x y z s t : Shape) → s ≡ between o x y → NothingStays same s → Goes part inner low mid x z →
-      IsFresh place mid high t → Goes same place low high s t
+  pub fresh_after_first : (o : Binary) (x y z s t : Shape) → s ≡ between o x y → NothingStays same s → Goes part low mid x z →
+      IsFresh mid high t → Goes same low high s t
   fresh_after_first o x y z s t e never g f = record {
     advances = λ h.
-        fresh_advances same place low high s t never
-        (fresh_later place low mid high t (g.advances (sound_first o x y low (subst (λ u. IsSound u low) e h))).more f);
+        fresh_advances same low high s t never
+        (fresh_later low mid high t (g.advances (sound_first o x y low (subst (λ u. IsSound u low) e h))).more f);
   }
 
-  pub fresh_after_second : (o : Binary) (x y z s t : Shape) → s ≡ between o x y → NothingStays same s → Goes part inner low mid y z →
-      IsFresh place mid high t → Goes same place low high s t
+  pub fresh_after_second : (o : Binary) (x y z s t : Shape) → s ≡ between o x y → NothingStays same s → Goes part low mid y z →
+      IsFresh mid high t → Goes same low high s t
   fresh_after_second o x y z s t e never g f = record {
     advances = λ h.
-        fresh_advances same place low high s t never
-        (fresh_later place low mid high t
+        fresh_advances same low high s t never
+        (fresh_later low mid high t
         (g.advances (sound_second o x y low low (omega arith) (subst (λ u. IsSound u low) e h))).more f);
   }

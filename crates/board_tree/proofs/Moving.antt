@@ -25,7 +25,7 @@ use Rattle.board_tree.specs.declared.side.Side.TheVariants.{Left, Right}
 use Rattle.board_tree.specs.declared.side.Taking.{Taking}
 use Rattle.board_tree.specs.declared.side.Taking.TheVariants.{ChoiceLeft, ChoiceRight, DisablingEnd, DisablingTaken}
 use Rattle.board_tree.specs.Keeping.{Goes, IsUntouched}
-use Rattle.board_tree.specs.Sides.{alone_at, hidden_action, hidden_by, joined_at, part_at, taken_by, taken_from}
+use Rattle.board_tree.specs.Sides.{alone_at, hidden_action, hidden_by, joined_at, taken_by, taken_from}
 use Rattle.board_tree.specs.Steps.{IsDone, Follows, Becomes, Moves, Acts, Suits}
 use Rattle.board_tree.proofs.Going.{fresh_goes, over_goes, both_go, first_goes, second_goes, fresh_after_over}
 use Rattle.board_tree.proofs.Going.{fresh_after_first, fresh_after_second}
@@ -211,11 +211,11 @@ module _ (program : Program) where
   follows_suits (over (relabelled pairs) x) (rel d) l f = tt
   follows_suits _ _ l f = absurd f
 
-  pub unsuited : (place : List ℕ) (low high : ℕ) (s t : Shape) (d : Derivation) (a : Action) → (IsLeaf s → ⊥) → (Suits d s → ⊥) →
-      IsFresh place low high t → Moves program place s d a t low high
-  unsuited place low high s t d a l n f = record {
+  pub unsuited : (low high : ℕ) (s t : Shape) (d : Derivation) (a : Action) → (IsLeaf s → ⊥) → (Suits d s → ⊥) →
+      IsFresh low high t → Moves program s d a t low high
+  unsuited low high s t d a l n f = record {
     becomes = record { becomes = λ right follows. absurd (n (follows_suits s d l follows)) };
-    goes = fresh_goes (IsUntouched d) place low high s t (never_unsuited d s n) f;
+    goes = fresh_goes (IsUntouched d) low high s t (never_unsuited d s n) f;
   }
 
   -- a tidy tree stays under a relabelling
@@ -239,36 +239,36 @@ module _ (program : Program) where
   takes DisablingEnd x y z t d a i m = disabling_end x y z t d a i m
   takes DisablingTaken x y z t d a i m = disabling_taken y x z t d a i m
 
-  pub moves_taken : (taking : Taking) (place inner : List ℕ) (low mid high : ℕ) (x y z s t : Shape) (d : Derivation) (a b : Action) →
-      b ≡ a → s ≡ taken_from taking x y → Moves program inner x d a z low mid → stands_for program t ≡ stands_for program z →
-      IsFresh place mid high t → Moves program place s (taken_by taking d) b t low high
-  moves_taken taking place inner low mid high x y z s t d a b k e m i f = record {
+  pub moves_taken : (taking : Taking) (low mid high : ℕ) (x y z s t : Shape) (d : Derivation) (a b : Action) →
+      b ≡ a → s ≡ taken_from taking x y → Moves program x d a z low mid → stands_for program t ≡ stands_for program z →
+      IsFresh mid high t → Moves program s (taken_by taking d) b t low high
+  moves_taken taking low mid high x y z s t d a b k e m i f = record {
     becomes =
         becomes_at s t (taken_from taking x y) t (taken_by taking d) b e refl (takes taking x y z t d b i (same_action x z d a b k m.becomes));
     goes = goes_on taking e;
   }
     where
-      goes_on : (by : Taking) → s ≡ taken_from by x y → Goes (IsUntouched (taken_by by d)) place low high s t
+      goes_on : (by : Taking) → s ≡ taken_from by x y → Goes (IsUntouched (taken_by by d)) low high s t
       goes_on ChoiceLeft is =
-          fresh_after_first (IsUntouched (chl d)) (IsUntouched d) place inner low mid high choosing x y z s t is
+          fresh_after_first (IsUntouched (chl d)) (IsUntouched d) low mid high choosing x y z s t is
           (never_in_left_choice d s) m.goes f
       goes_on ChoiceRight is =
-          fresh_after_second (IsUntouched (chr d)) (IsUntouched d) place inner low mid high choosing y x z s t is
+          fresh_after_second (IsUntouched (chr d)) (IsUntouched d) low mid high choosing y x z s t is
           (never_in_right_choice d s) m.goes f
       goes_on DisablingEnd is =
-          fresh_after_first (IsUntouched (disend d)) (IsUntouched d) place inner low mid high disabling x y z s t is (never_ended d s)
+          fresh_after_first (IsUntouched (disend d)) (IsUntouched d) low mid high disabling x y z s t is (never_ended d s)
           m.goes f
       goes_on DisablingTaken is =
-          fresh_after_second (IsUntouched (distake d)) (IsUntouched d) place inner low mid high disabling y x z s t is (never_taken d s)
+          fresh_after_second (IsUntouched (distake d)) (IsUntouched d) low mid high disabling y x z s t is (never_taken d s)
           m.goes f
 
-  moves_left_alone : (place inner : List ℕ) (low high : ℕ) (gates : Synchronised) (x y z s t : Shape) (d : Derivation) (a : Action) →
-      inner ≡ place ++ 0 ∷ [] → s ≡ between (beside gates) x y → t ≡ between (beside gates) z y →
-      Moves program inner x d a z low high → Moves program place s (parl d) a t low high
-  moves_left_alone place inner low high gates x y z s t d a p e f m = record {
+  moves_left_alone : (low high : ℕ) (gates : Synchronised) (x y z s t : Shape) (d : Derivation) (a : Action) →
+      s ≡ between (beside gates) x y → t ≡ between (beside gates) z y →
+      Moves program x d a z low high → Moves program s (parl d) a t low high
+  moves_left_alone low high gates x y z s t d a e f m = record {
     becomes =
         becomes_at s t (between (beside gates) x y) (between (beside gates) z y) (parl d) a e f (left_alone gates x y z d a m.becomes);
-    goes = first_goes (IsUntouched (parl d)) (IsUntouched d) place inner low high (beside gates) x y z s t p e f (record {
+    goes = first_goes (IsUntouched (parl d)) (IsUntouched d) low high (beside gates) x y z s t e f (record {
       into_first = λ up u. u;
       from_first = λ up u. u;
       into_second = λ up u. tt;
@@ -276,13 +276,13 @@ module _ (program : Program) where
     }) m.goes;
   }
 
-  moves_right_alone : (place inner : List ℕ) (low high : ℕ) (gates : Synchronised) (x y w s t : Shape) (d : Derivation) (a : Action) →
-      inner ≡ place ++ 1 ∷ [] → s ≡ between (beside gates) x y → t ≡ between (beside gates) x w →
-      Moves program inner y d a w low high → Moves program place s (parr d) a t low high
-  moves_right_alone place inner low high gates x y w s t d a p e f m = record {
+  moves_right_alone : (low high : ℕ) (gates : Synchronised) (x y w s t : Shape) (d : Derivation) (a : Action) →
+      s ≡ between (beside gates) x y → t ≡ between (beside gates) x w →
+      Moves program y d a w low high → Moves program s (parr d) a t low high
+  moves_right_alone low high gates x y w s t d a e f m = record {
     becomes =
         becomes_at s t (between (beside gates) x y) (between (beside gates) x w) (parr d) a e f (right_alone gates x y w d a m.becomes);
-    goes = second_goes (IsUntouched (parr d)) (IsUntouched d) place inner low high (beside gates) x y w s t p e f (record {
+    goes = second_goes (IsUntouched (parr d)) (IsUntouched d) low high (beside gates) x y w s t e f (record {
       into_first = λ up u. tt;
       from_first = λ up u. tt;
       into_second = λ up u. u;
@@ -290,24 +290,22 @@ module _ (program : Program) where
     }) m.goes;
   }
 
-  pub moves_alone : (side : Side) (place inner : List ℕ) (low high : ℕ) (gates : Synchronised) (x y z s t : Shape) (d : Derivation)
-      (a : Action) →
-      inner ≡ place ++ part_at side ∷ [] → s ≡ joined_at side (beside gates) x y → t ≡ joined_at side (beside gates) z y →
-      Moves program inner x d a z low high → Moves program place s (alone_at side d) a t low high
-  moves_alone Left place inner low high gates x y z s t d a p e f m = moves_left_alone place inner low high gates x y z s t d a p e f m
-  moves_alone Right place inner low high gates x y z s t d a p e f m = moves_right_alone place inner low high gates y x z s t d a p e f m
+  pub moves_alone : (side : Side) (low high : ℕ) (gates : Synchronised) (x y z s t : Shape) (d : Derivation) (a : Action) →
+      s ≡ joined_at side (beside gates) x y → t ≡ joined_at side (beside gates) z y → Moves program x d a z low high →
+      Moves program s (alone_at side d) a t low high
+  moves_alone Left low high gates x y z s t d a e f m = moves_left_alone low high gates x y z s t d a e f m
+  moves_alone Right low high gates x y z s t d a e f m = moves_right_alone low high gates y x z s t d a e f m
 
-  pub moves_both : (place first second : List ℕ) (low mid high : ℕ) (gates : Synchronised) (x y z w s t : Shape) (d k : Derivation)
-      (a b : Action) →
-      first ≡ place ++ 0 ∷ [] → second ≡ place ++ 1 ∷ [] → s ≡ between (beside gates) x y → t ≡ between (beside gates) z w →
-      Moves program first x d a z low mid → Moves program second y k b w mid high → Moves program place s (both d k) a t low high
-  moves_both place first second low mid high gates x y z w s t d k a b p q e f m n = record {
+  pub moves_both : (low mid high : ℕ) (gates : Synchronised) (x y z w s t : Shape) (d k : Derivation) (a b : Action) →
+      s ≡ between (beside gates) x y → t ≡ between (beside gates) z w → Moves program x d a z low mid → Moves program y k b w mid high →
+      Moves program s (both d k) a t low high
+  moves_both low mid high gates x y z w s t d k a b e f m n = record {
     becomes =
         becomes_at s t (between (beside gates) x y) (between (beside gates) z w) (both d k) a e f
         (both_together gates x y z w d k a b m.becomes n.becomes);
     goes =
-        both_go (IsUntouched (both d k)) (IsUntouched d) (IsUntouched k) place first second low mid high (beside gates) x y z w s t p q e
-        f (record {
+        both_go (IsUntouched (both d k)) (IsUntouched d) (IsUntouched k) low mid high (beside gates) x y z w s t e f
+        (record {
           into_first = λ up u. u;
           from_first = λ up u. u;
           into_second = λ up u. u;
@@ -315,112 +313,98 @@ module _ (program : Program) where
         }) m.goes n.goes;
   }
 
-  moves_hidden : (place inner : List ℕ) (low high : ℕ) (gates : List ℕ) (x z s t : Shape) (d : Derivation) (a : Action) →
-      inner ≡ place ++ 0 ∷ [] → s ≡ over (hidden gates) x → t ≡ over (hidden gates) z →
-      Moves program inner x d a z low high → Moves program place s (hiding d) Inner t low high
-  moves_hidden place inner low high gates x z s t d a p e f m = record {
+  moves_hidden : (low high : ℕ) (gates : List ℕ) (x z s t : Shape) (d : Derivation) (a : Action) → s ≡ over (hidden gates) x →
+      t ≡ over (hidden gates) z → Moves program x d a z low high → Moves program s (hiding d) Inner t low high
+  moves_hidden low high gates x z s t d a e f m = record {
     becomes = becomes_at s t (over (hidden gates) x) (over (hidden gates) z) (hiding d) Inner e f (hidden_inside gates x z d a m.becomes);
     goes =
-        over_goes (IsUntouched (hiding d)) (IsUntouched d) place inner low high (hidden gates) x z s t p e f (λ up n a u. u) (λ up u. u)
+        over_goes (IsUntouched (hiding d)) (IsUntouched d) low high (hidden gates) x z s t e f (λ up n a u. u) (λ up u. u)
         m.goes;
   }
 
-  moves_passed : (place inner : List ℕ) (low high : ℕ) (gates : List ℕ) (x z s t : Shape) (d : Derivation) (a : Action) →
-      inner ≡ place ++ 0 ∷ [] → s ≡ over (hidden gates) x → t ≡ over (hidden gates) z →
-      Moves program inner x d a z low high → Moves program place s (pass d) a t low high
-  moves_passed place inner low high gates x z s t d a p e f m = record {
+  moves_passed : (low high : ℕ) (gates : List ℕ) (x z s t : Shape) (d : Derivation) (a : Action) → s ≡ over (hidden gates) x →
+      t ≡ over (hidden gates) z → Moves program x d a z low high → Moves program s (pass d) a t low high
+  moves_passed low high gates x z s t d a e f m = record {
     becomes = becomes_at s t (over (hidden gates) x) (over (hidden gates) z) (pass d) a e f (let_pass gates x z d a m.becomes);
     goes =
-        over_goes (IsUntouched (pass d)) (IsUntouched d) place inner low high (hidden gates) x z s t p e f (λ up n a u. u) (λ up u. u)
+        over_goes (IsUntouched (pass d)) (IsUntouched d) low high (hidden gates) x z s t e f (λ up n a u. u) (λ up u. u)
         m.goes;
   }
 
-  pub moves_hiding : (hides : Bool) (place inner : List ℕ) (low high : ℕ) (gates : List ℕ) (x z s t : Shape) (d : Derivation)
-      (a b : Action) →
-      b ≡ hidden_action hides a → inner ≡ place ++ 0 ∷ [] → s ≡ over (hidden gates) x → t ≡ over (hidden gates) z →
-      Moves program inner x d a z low high → Moves program place s (hidden_by hides d) b t low high
-  moves_hiding true place inner low high gates x z s t d a b k p e f m =
-      subst (λ c. Moves program place s (hiding d) c t low high) (sym k) (moves_hidden place inner low high gates x z s t d a p e f m)
-  moves_hiding false place inner low high gates x z s t d a b k p e f m =
-      subst (λ c. Moves program place s (pass d) c t low high) (sym k) (moves_passed place inner low high gates x z s t d a p e f m)
+  pub moves_hiding : (hides : Bool) (low high : ℕ) (gates : List ℕ) (x z s t : Shape) (d : Derivation) (a b : Action) →
+      b ≡ hidden_action hides a → s ≡ over (hidden gates) x → t ≡ over (hidden gates) z → Moves program x d a z low high →
+      Moves program s (hidden_by hides d) b t low high
+  moves_hiding true low high gates x z s t d a b k e f m =
+      subst (λ c. Moves program s (hiding d) c t low high) (sym k) (moves_hidden low high gates x z s t d a e f m)
+  moves_hiding false low high gates x z s t d a b k e f m =
+      subst (λ c. Moves program s (pass d) c t low high) (sym k) (moves_passed low high gates x z s t d a e f m)
 
-  pub moves_relabelled : (place inner : List ℕ) (low high : ℕ) (pairs : List Relabelling) (x z s t : Shape) (d : Derivation)
-      (a b : Action) →
-      inner ≡ place ++ 0 ∷ [] → s ≡ over (relabelled pairs) x → t ≡ over (relabelled pairs) z → b ≡ renamed_action pairs a →
-      IsTidy z → Moves program inner x d a z low high → Moves program place s (rel d) b t low high
-  moves_relabelled place inner low high pairs x z s t d a b p e f k i m = record {
+  pub moves_relabelled : (low high : ℕ) (pairs : List Relabelling) (x z s t : Shape) (d : Derivation) (a b : Action) →
+      s ≡ over (relabelled pairs) x → t ≡ over (relabelled pairs) z → b ≡ renamed_action pairs a → IsTidy z →
+      Moves program x d a z low high → Moves program s (rel d) b t low high
+  moves_relabelled low high pairs x z s t d a b e f k i m = record {
     becomes =
         becomes_at s t (over (relabelled pairs) x) t (rel d) b e refl
         (renamed_step pairs x z t d a b k (ap (stands_for program) f ∙ sym (tidy_relabels pairs z i)) m.becomes);
     goes =
-        over_goes (IsUntouched (rel d)) (IsUntouched d) place inner low high (relabelled pairs) x z s t p e f
+        over_goes (IsUntouched (rel d)) (IsUntouched d) low high (relabelled pairs) x z s t e f
         (λ up n a u. (u, tidy_unrelabelled z up n i a)) (λ up u. u.0) m.goes;
   }
 
-  pub moves_tidied : (place inner : List ℕ) (low mid high : ℕ) (pairs : List Relabelling) (x z s t : Shape) (d : Derivation)
-      (a b : Action) →
-      s ≡ over (relabelled pairs) x → b ≡ renamed_action pairs a → (IsTidy z → ⊥) → Moves program inner x d a z low mid →
-      stands_for program t ≡ tidied pairs (stands_for program z) →
-      IsFresh place mid high t →
-      Moves program place s (rel d) b t low high
-  moves_tidied place inner low mid high pairs x z s t d a b e k untidy m i f = record {
+  pub moves_tidied : (low mid high : ℕ) (pairs : List Relabelling) (x z s t : Shape) (d : Derivation) (a b : Action) →
+      s ≡ over (relabelled pairs) x → b ≡ renamed_action pairs a → (IsTidy z → ⊥) → Moves program x d a z low mid →
+      stands_for program t ≡ tidied pairs (stands_for program z) → IsFresh mid high t → Moves program s (rel d) b t low high
+  moves_tidied low mid high pairs x z s t d a b e k untidy m i f = record {
     becomes = becomes_at s t (over (relabelled pairs) x) t (rel d) b e refl (renamed_step pairs x z t d a b k i m.becomes);
     goes =
-        fresh_after_over (IsUntouched (rel d)) (IsUntouched d) place inner low mid high (relabelled pairs) x z s t e
+        fresh_after_over (IsUntouched (rel d)) (IsUntouched d) low mid high (relabelled pairs) x z s t e
         (never_tidied pairs x z s d e untidy) m.goes f;
   }
 
-  pub moves_enabling : (place inner : List ℕ) (low high : ℕ) (xs : List Variable) (node : ℕ) (values : List (ℕ × List ℕ))
-      (x z s t : Shape)
-      (d : Derivation) (a : Action) →
-      inner ≡ place ++ 0 ∷ [] → s ≡ over (enabled xs node values) x → t ≡ over (enabled xs node values) z →
-      Moves program inner x d a z low high → Moves program place s (enstep d) a t low high
-  moves_enabling place inner low high xs node values x z s t d a p e f m = record {
+  pub moves_enabling : (low high : ℕ) (xs : List Variable) (node : ℕ) (values : List (ℕ × List ℕ)) (x z s t : Shape) (d : Derivation)
+      (a : Action) → s ≡ over (enabled xs node values) x → t ≡ over (enabled xs node values) z → Moves program x d a z low high →
+      Moves program s (enstep d) a t low high
+  moves_enabling low high xs node values x z s t d a e f m = record {
     becomes =
         becomes_at s t (over (enabled xs node values) x) (over (enabled xs node values) z) (enstep d) a e f
         (enabling_step xs node values x z d a m.becomes);
     goes =
-        over_goes (IsUntouched (enstep d)) (IsUntouched d) place inner low high (enabled xs node values) x z s t p e f (λ up n a u. u)
+        over_goes (IsUntouched (enstep d)) (IsUntouched d) low high (enabled xs node values) x z s t e f (λ up n a u. u)
         (λ up u. u) m.goes;
   }
 
-  pub moves_enabled : (place inner : List ℕ) (low mid high : ℕ) (xs : List Variable) (node : ℕ) (values : List (ℕ × List ℕ))
-      (x z s t : Shape)
-      (d : Derivation) (a : Action) (handed : List (List ℕ)) →
-      s ≡ over (enabled xs node values) x → Moves program inner x d a z low mid → a ≡ Exit handed →
-      stands_for program t ≡ scoped program node (values ++ values_for xs handed) → IsFresh place mid high t →
-      Moves program place s (enend d) Inner t low high
-  moves_enabled place inner low mid high xs node values x z s t d a handed e m is i f = record {
+  pub moves_enabled : (low mid high : ℕ) (xs : List Variable) (node : ℕ) (values : List (ℕ × List ℕ)) (x z s t : Shape) (d : Derivation)
+      (a : Action) (handed : List (List ℕ)) → s ≡ over (enabled xs node values) x → Moves program x d a z low mid → a ≡ Exit handed →
+      stands_for program t ≡ scoped program node (values ++ values_for xs handed) → IsFresh mid high t →
+      Moves program s (enend d) Inner t low high
+  moves_enabled low mid high xs node values x z s t d a handed e m is i f = record {
     becomes =
         becomes_at s t (over (enabled xs node values) x) t (enend d) Inner e refl
         (enabling_end xs node values x z t d handed i (subst (λ b. Becomes program x d b z) is m.becomes));
     goes =
-        fresh_after_over (IsUntouched (enend d)) (IsUntouched d) place inner low mid high (enabled xs node values) x z s t e
+        fresh_after_over (IsUntouched (enend d)) (IsUntouched d) low mid high (enabled xs node values) x z s t e
         (λ l. never_enabled d s) m.goes f;
   }
 
   pub never_ends : (a : Action) → IsNoEnd (kind_of a) → (v : List (List ℕ)) → Exit v ≡ a → ⊥
   never_ends a n v e = subst (λ b. IsNoEnd (kind_of b)) (sym e) n
 
-  pub moves_unended : (place inner : List ℕ) (low mid high : ℕ) (xs : List Variable) (node : ℕ) (values : List (ℕ × List ℕ))
-      (x z s t : Shape)
-      (d : Derivation) (a b : Action) →
-      s ≡ over (enabled xs node values) x → Moves program inner x d a z low mid → ((v : List (List ℕ)) → Exit v ≡ a → ⊥) →
-      IsFresh place mid high t → Moves program place s (enend d) b t low high
-  moves_unended place inner low mid high xs node values x z s t d a b e m never f = record {
+  pub moves_unended : (low mid high : ℕ) (xs : List Variable) (node : ℕ) (values : List (ℕ × List ℕ)) (x z s t : Shape) (d : Derivation)
+      (a b : Action) → s ≡ over (enabled xs node values) x → Moves program x d a z low mid → ((v : List (List ℕ)) → Exit v ≡ a → ⊥) →
+      IsFresh mid high t → Moves program s (enend d) b t low high
+  moves_unended low mid high xs node values x z s t d a b e m never f = record {
     becomes =
         becomes_at s t (over (enabled xs node values) x) t (enend d) b e refl (no_end xs node values x z t d a b never m.becomes);
     goes =
-        fresh_after_over (IsUntouched (enend d)) (IsUntouched d) place inner low mid high (enabled xs node values) x z s t e
+        fresh_after_over (IsUntouched (enend d)) (IsUntouched d) low mid high (enabled xs node values) x z s t e
         (λ l. never_enabled d s) m.goes f;
   }
 
-  pub moves_disabling : (place inner : List ℕ) (low high : ℕ) (x y z s t : Shape) (d : Derivation) (a : Action) →
-      inner ≡ place ++ 0 ∷ [] → s ≡ between disabling x y → t ≡ between disabling z y →
-      Moves program inner x d a z low high → Moves program place s (disstep d) a t low high
-  moves_disabling place inner low high x y z s t d a p e f m = record {
+  pub moves_disabling : (low high : ℕ) (x y z s t : Shape) (d : Derivation) (a : Action) → s ≡ between disabling x y →
+      t ≡ between disabling z y → Moves program x d a z low high → Moves program s (disstep d) a t low high
+  moves_disabling low high x y z s t d a e f m = record {
     becomes = becomes_at s t (between disabling x y) (between disabling z y) (disstep d) a e f (disabling_step x y z d a m.becomes);
-    goes = first_goes (IsUntouched (disstep d)) (IsUntouched d) place inner low high disabling x y z s t p e f (record {
+    goes = first_goes (IsUntouched (disstep d)) (IsUntouched d) low high disabling x y z s t e f (record {
       into_first = λ up u. u;
       from_first = λ up u. u;
       into_second = λ up u. tt;
@@ -446,22 +430,21 @@ module _ (program : Program) where
     acts = λ each any. m.acts each.1 (⊎_elim (λ f. absurd (never f)) (λ f. f) any);
   }
 
-  pub moves_node : (place : List ℕ) (low high : ℕ) (n : Held) (work : Work) (s t : Shape) (d : Derivation) (a : Action) →
-      s ≡ leaf n → n.work ≡ Some work → Acts program (meaning program n.source) work.ways d a t → IsFresh place low high t →
-      Moves program place s d a t low high
-  moves_node place low high n work s t d a e w m f = record {
+  pub moves_node : (low high : ℕ) (n : Held) (work : Work) (s t : Shape) (d : Derivation) (a : Action) → s ≡ leaf n → n.work ≡ Some work →
+      Acts program (meaning program n.source) work.ways d a t → IsFresh low high t → Moves program s d a t low high
+  moves_node low high n work s t d a e w m f = record {
     becomes = becomes_at s t (leaf n) t d a e refl (record {
       becomes = λ right follows.
           m.acts (subst (IsWorkOf program n.source) w (right [] n refl)) (subst (λ k. IsDone k d) w follows);
     });
-    goes = fresh_goes (IsUntouched d) place low high s t (never_in_leaf d n s e) f;
+    goes = fresh_goes (IsUntouched d) low high s t (never_in_leaf d n s e) f;
   }
 
-  pub moves_waiting : (place : List ℕ) (low high : ℕ) (n : Held) (s t : Shape) (d : Derivation) (a : Action) →
-      s ≡ leaf n → n.work ≡ None → IsFresh place low high t → Moves program place s d a t low high
-  moves_waiting place low high n s t d a e w f = record {
+  pub moves_waiting : (low high : ℕ) (n : Held) (s t : Shape) (d : Derivation) (a : Action) →
+      s ≡ leaf n → n.work ≡ None → IsFresh low high t → Moves program s d a t low high
+  moves_waiting low high n s t d a e w f = record {
     becomes = becomes_at s t (leaf n) t d a e refl (record {
       becomes = λ right follows. absurd (subst (λ k. IsDone k d) w follows);
     });
-    goes = fresh_goes (IsUntouched d) place low high s t (never_in_leaf d n s e) f;
+    goes = fresh_goes (IsUntouched d) low high s t (never_in_leaf d n s e) f;
   }

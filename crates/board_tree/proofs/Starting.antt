@@ -1,5 +1,5 @@
 -- The tree of a specification's behaviour.
-use Rattle.std.proofs.Common.{ℕ, ◌≡◌, List, [], refl, sym, subst, ◌∙◌}
+use Rattle.std.proofs.Common.{ℕ, ◌≡◌, [], refl, sym, subst, ◌∙◌}
 use Rattle.spec_core.specs.Code.{Program}
 use Rattle.spec_core.specs.Ready.{IsReady}
 use Rattle.rule_model.specs.Behaviours.{Behaviour}
@@ -8,7 +8,7 @@ use Rattle.rule_origins.specs.Parts.{behaviour_at}
 use Rattle.rule_origins.specs.Values.{assignment}
 use Rattle.rule_origins.proofs.Standing.{behaviours_stand}
 use Rattle.rule_laws.proofs.Nothing.{empty_substitutions_change_nothing}
-use Rattle.node_trees.specs.Generations.{IsFresh, IsSound, ArePlaced}
+use Rattle.node_trees.specs.Generations.{IsFresh, IsSound}
 use Rattle.node_trees.specs.Origins.{scoped}
 use Rattle.node_trees.specs.Shapes.{Shape, AllWait}
 
@@ -22,13 +22,10 @@ start_stands program b ready e =
     subst (StandsAt program program.start) (sym (e ∙ scoped_nothing program program.start))
     (behaviours_stand program ready program.start ready.start)
 
-pub fresh_sound : (place : List ℕ) (low high : ℕ) (t : Shape) → IsFresh place low high t → IsSound t high
-fresh_sound place low high t f = record { apart = f.apart; below = λ up n s. (f.new up n s).below }
+pub fresh_sound : (low high : ℕ) (t : Shape) → IsFresh low high t → IsSound t high
+fresh_sound low high t f = record { apart = f.apart; below = λ up n s. (f.new up n s).below }
 
-pub fresh_placed : (place : List ℕ) (low high : ℕ) (t : Shape) → IsFresh place low high t → ArePlaced place t
-fresh_placed place low high t f up n s = (f.new up n s).placed
+pub fresh_waits : (low high : ℕ) (t : Shape) → IsFresh low high t → AllWait t
+fresh_waits low high t f up n s = (f.new up n s).waits
 
-pub fresh_waits : (place : List ℕ) (low high : ℕ) (t : Shape) → IsFresh place low high t → AllWait t
-fresh_waits place low high t f up n s = (f.new up n s).waits
-
-pub ruleset starting_rows = (start_stands, fresh_sound, fresh_placed, fresh_waits)
+pub ruleset starting_rows = (start_stands, fresh_sound, fresh_waits)

@@ -1,17 +1,17 @@
 -- What a step of a tree keeps.
-use Rattle.std.proofs.Common.{ℕ, ◌≡◌, ⊎_elim, List, [], None, sym, subst, arith}
+use Rattle.std.proofs.Common.{ℕ, ◌≡◌, ⊎_elim, List, None, sym, subst, arith}
 use Rattle.spec_core.specs.Code.{Program}
 use Rattle.rule_model.specs.declared.action.Action.{Action}
 use Rattle.rule_model.specs.Derivations.{Derivation}
 use Rattle.node_trees.specs.declared.origin.Gen.{Gen}
 use Rattle.node_trees.specs.Differences.{IsDifference}
-use Rattle.node_trees.specs.Generations.{ArePlaced, IsSound}
+use Rattle.node_trees.specs.Generations.{IsSound}
 use Rattle.node_trees.specs.Shapes.{Held, Shape, IsWorkOf}
 use Rattle.board_tree.specs.Steps.{Moves}
 use Rattle.board_tree.specs.Views.{IsStep}
 
 module _ (program : Program) (old new : Shape) (d : Derivation) (a : Action) (next later : ℕ) where
-  pub moved_sound : IsSound old next → Moves program [] old d a new next later → IsSound new later
+  pub moved_sound : IsSound old next → Moves program old d a new next later → IsSound new later
   moved_sound s m =
       let v = m.goes.advances s in
       record {
@@ -20,13 +20,10 @@ module _ (program : Program) (old new : Shape) (d : Derivation) (a : Action) (ne
             ⊎_elim (λ l. let b = s.below up n l.0 in let k = v.more in omega (arith, b, k)) (λ r. r.below) (v.keeps up n h);
       }
 
-  pub moved_placed : IsSound old next → ArePlaced [] old → Moves program [] old d a new next later → ArePlaced [] new
-  moved_placed s p m up n h = ⊎_elim (λ l. p up n l.0) (λ r. r.placed) ((m.goes.advances s).keeps up n h)
-
   waits_right : (n : Held) → n.work ≡ None → IsWorkOf program n.source n.work
   waits_right n e = subst (IsWorkOf program n.source) (sym e) tt
 
-  pub moved_step : (gone came : List Gen) → IsSound old next → Moves program [] old d a new next later →
+  pub moved_step : (gone came : List Gen) → IsSound old next → Moves program old d a new next later →
       IsDifference gone old new →
       IsDifference came new old →
       IsStep program old next d new later gone came

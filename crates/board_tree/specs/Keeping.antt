@@ -26,22 +26,21 @@ IsUntouched (disstep d) (second_of disabling ∷ up) = Unit {0}
 IsUntouched (rel d) (under (relabelled pairs) ∷ up) = IsUntouched d up × IsUnrelabelled up
 IsUntouched _ _ = ⊥
 
--- Each node of the second tree stood in the first, where nothing changes, with its generation, origin, place and work, or is new.
-abbrev pub Keeps : (List Above → Type 0) → List ℕ → ℕ → ℕ → Shape → Shape → Type 0
-Keeps same place low high old new =
-    (up : List Above) (n : Held) → Stands new up n → (Stands old up n × same up) ⊎ IsNew place low high up n
+-- Each node of the second tree stood in the first, where nothing changes, with its generation, origin and work, or is new.
+abbrev pub Keeps : (List Above → Type 0) → ℕ → ℕ → Shape → Shape → Type 0
+Keeps same low high old new = (up : List Above) (n : Held) → Stands new up n → (Stands old up n × same up) ⊎ IsNew low high n
 
--- Each node of the first tree where nothing changes stands in the second, with its generation, origin, place and work.
+-- Each node of the first tree where nothing changes stands in the second, with its generation, origin and work.
 abbrev pub Leaves : (List Above → Type 0) → Shape → Shape → Type 0
 Leaves same old new = (up : List Above) (n : Held) → Stands old up n → same up → Stands new up n
 
 -- one step leads from the first tree to the second, where nothing changes at these places
-pub record Advances (same : List Above → Type 0) (place : List ℕ) (low high : ℕ) (old new : Shape) : Type 0 where
+pub record Advances (same : List Above → Type 0) (low high : ℕ) (old new : Shape) : Type 0 where
   pub more : low ≤ high
   pub apart : AreApart new
-  pub keeps : Keeps same place low high old new
+  pub keeps : Keeps same low high old new
   pub leaves : Leaves same old new
 
 -- the same, where the generations of the first tree are sound
-pub record Goes (same : List Above → Type 0) (place : List ℕ) (low high : ℕ) (old new : Shape) : Type 0 where
-  pub advances : IsSound old low → Advances same place low high old new
+pub record Goes (same : List Above → Type 0) (low high : ℕ) (old new : Shape) : Type 0 where
+  pub advances : IsSound old low → Advances same low high old new

@@ -1,5 +1,5 @@
 -- Sides of operators, and what rules leave of operators.
-use Rattle.std.specs.Prelude.{ℕ, Bool, true, false}
+use Rattle.std.specs.Prelude.{Bool, true, false}
 use Rattle.rule_model.specs.declared.action.Action.{Action}
 use Rattle.rule_model.specs.declared.action.Action.TheVariants.{Inner}
 use Rattle.rule_model.specs.Derivations.{Derivation, chl, chr, parl, parr, hiding, pass, disend, distake}
@@ -8,10 +8,6 @@ use Rattle.board_tree.specs.declared.side.Side.{Side}
 use Rattle.board_tree.specs.declared.side.Side.TheVariants.{Left, Right}
 use Rattle.board_tree.specs.declared.side.Taking.{Taking}
 use Rattle.board_tree.specs.declared.side.Taking.TheVariants.{ChoiceLeft, ChoiceRight, DisablingEnd, DisablingTaken}
-
-abbrev pub part_at : Side → ℕ
-part_at Left = 0
-part_at Right = 1
 
 -- an operator over a part on this side and the other part
 abbrev pub joined_at : Side → Binary → Shape → Shape → Shape
@@ -22,12 +18,6 @@ joined_at Right o x y = between o y x
 abbrev pub alone_at : Side → Derivation → Derivation
 alone_at Left d = parl d
 alone_at Right d = parr d
-
-abbrev pub part_taken : Taking → ℕ
-part_taken ChoiceLeft = 0
-part_taken ChoiceRight = 1
-part_taken DisablingEnd = 0
-part_taken DisablingTaken = 1
 
 -- the operator of which the part is left, and the other one lost
 abbrev pub taken_from : Taking → Shape → Shape → Shape

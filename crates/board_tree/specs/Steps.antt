@@ -48,10 +48,9 @@ pub record Becomes (program : Program) (old : Shape) (d : Derivation) (a : Actio
       (e ≡ a) × (c ≡ stands_for program new)
 
 -- By these rules the first tree becomes the second: what they stand for by the rules, and their generations as a step keeps them.
-pub record Moves (program : Program) (place : List ℕ) (old : Shape) (d : Derivation) (a : Action) (new : Shape) (low high : ℕ)
-    : Type 0 where
+pub record Moves (program : Program) (old : Shape) (d : Derivation) (a : Action) (new : Shape) (low high : ℕ) : Type 0 where
   pub becomes : Becomes program old d a new
-  pub goes : Goes (IsUntouched d) place low high old new
+  pub goes : Goes (IsUntouched d) low high old new
 
 -- the same of one of the ways in which a behaviour can act
 pub record Acts (program : Program) (b : Behaviour) (ways : List Way) (d : Derivation) (a : Action) (new : Shape) : Type 0 where

@@ -16,7 +16,6 @@ use crate::leaf::{Advanced, advance_node};
 use crate::operators::{anew, enabling_end, relabelled_step, unsuited};
 use crate::side::{Side, Taking, changed_at};
 use node_trees::branch::Branch;
-use node_trees::fresh::part_of;
 use rule_model::action::Action;
 use rule_model::rules::Rules;
 use spec_core::code::{Checked, GateSet};
@@ -34,16 +33,15 @@ pub fn advance(
     branch: &Branch,
     rules: &Rules,
     next: u128,
-    place: &[u32],
 ) -> Result<Advanced, Memory>
     requires ready { IsReady (program_of checked.now) }
     ensures { IfOk result (λ a.
-        Moves (program_of checked.now) place.now (shape_of branch.now) (derivation_of rules.now) a.action
+        Moves (program_of checked.now) (shape_of branch.now) (derivation_of rules.now) a.action
         (changed a.change (shape_of branch.now)) next a.next) }
 {
     match branch.as_leaf() {
-        Some(node) => advance_node(alloc, checked, node, rules, next, place),
-        None => advance_operator(alloc, checked, branch, rules, next, place),
+        Some(node) => advance_node(alloc, checked, node, rules, next),
+        None => advance_operator(alloc, checked, branch, rules, next),
     }
 }
 
@@ -57,25 +55,24 @@ fn advance_operator(
     branch: &Branch,
     rules: &Rules,
     next: u128,
-    place: &[u32],
 ) -> Result<Advanced, Memory>
     requires ready { IsReady (program_of checked.now) }
     requires operator { IsLeaf (shape_of branch.now) → ⊥ }
     ensures { IfOk result (λ a.
-        Moves (program_of checked.now) place.now (shape_of branch.now) (derivation_of rules.now) a.action
+        Moves (program_of checked.now) (shape_of branch.now) (derivation_of rules.now) a.action
         (changed a.change (shape_of branch.now)) next a.next) }
 {
     match rules {
-        Rules::Pre(_) => return unsuited(alloc, checked, branch, rules, next, place),
-        Rules::Int => return unsuited(alloc, checked, branch, rules, next, place),
-        Rules::Exit(_) => return unsuited(alloc, checked, branch, rules, next, place),
-        Rules::Val(_, _) => return unsuited(alloc, checked, branch, rules, next, place),
-        Rules::Gate(_, _) => return unsuited(alloc, checked, branch, rules, next, place),
-        Rules::Guard(_) => return unsuited(alloc, checked, branch, rules, next, place),
-        Rules::Let(_) => return unsuited(alloc, checked, branch, rules, next, place),
-        Rules::Call(_) => return unsuited(alloc, checked, branch, rules, next, place),
+        Rules::Pre(_) => return unsuited(alloc, checked, branch, rules, next),
+        Rules::Int => return unsuited(alloc, checked, branch, rules, next),
+        Rules::Exit(_) => return unsuited(alloc, checked, branch, rules, next),
+        Rules::Val(_, _) => return unsuited(alloc, checked, branch, rules, next),
+        Rules::Gate(_, _) => return unsuited(alloc, checked, branch, rules, next),
+        Rules::Guard(_) => return unsuited(alloc, checked, branch, rules, next),
+        Rules::Let(_) => return unsuited(alloc, checked, branch, rules, next),
+        Rules::Call(_) => return unsuited(alloc, checked, branch, rules, next),
         Rules::Chl(d) => match branch.as_choice() {
-            None => return unsuited(alloc, checked, branch, rules, next, place),
+            None => return unsuited(alloc, checked, branch, rules, next),
             Some((left, right)) => return taken_over(
                 alloc,
                 checked,
@@ -85,11 +82,10 @@ fn advance_operator(
                 right,
                 d,
                 next,
-                place,
             ),
         },
         Rules::Chr(d) => match branch.as_choice() {
-            None => return unsuited(alloc, checked, branch, rules, next, place),
+            None => return unsuited(alloc, checked, branch, rules, next),
             Some((left, right)) => return taken_over(
                 alloc,
                 checked,
@@ -99,11 +95,10 @@ fn advance_operator(
                 left,
                 d,
                 next,
-                place,
             ),
         },
         Rules::Parl(d) => match branch.as_parallel() {
-            None => return unsuited(alloc, checked, branch, rules, next, place),
+            None => return unsuited(alloc, checked, branch, rules, next),
             Some((gates, left, right)) => return one_side(
                 alloc,
                 checked,
@@ -114,11 +109,10 @@ fn advance_operator(
                 right,
                 d,
                 next,
-                place,
             ),
         },
         Rules::Parr(d) => match branch.as_parallel() {
-            None => return unsuited(alloc, checked, branch, rules, next, place),
+            None => return unsuited(alloc, checked, branch, rules, next),
             Some((gates, left, right)) => return one_side(
                 alloc,
                 checked,
@@ -129,47 +123,46 @@ fn advance_operator(
                 left,
                 d,
                 next,
-                place,
             ),
         },
         Rules::Both(d, e) => match branch.as_parallel() {
-            None => return unsuited(alloc, checked, branch, rules, next, place),
+            None => return unsuited(alloc, checked, branch, rules, next),
             Some((gates, left, right)) => return both_together(
-                alloc, checked, branch, gates, left, right, d, e, next, place,
+                alloc, checked, branch, gates, left, right, d, e, next,
             ),
         },
         Rules::Hide(d) => match branch.as_hide() {
-            None => return unsuited(alloc, checked, branch, rules, next, place),
+            None => return unsuited(alloc, checked, branch, rules, next),
             Some((gates, part)) => return hiding_step(
-                alloc, checked, branch, gates, true, part, d, next, place,
+                alloc, checked, branch, gates, true, part, d, next,
             ),
         },
         Rules::Pass(d) => match branch.as_hide() {
-            None => return unsuited(alloc, checked, branch, rules, next, place),
+            None => return unsuited(alloc, checked, branch, rules, next),
             Some((gates, part)) => return hiding_step(
-                alloc, checked, branch, gates, false, part, d, next, place,
+                alloc, checked, branch, gates, false, part, d, next,
             ),
         },
         Rules::Enstep(d) => match branch.as_enable() {
-            None => return unsuited(alloc, checked, branch, rules, next, place),
+            None => return unsuited(alloc, checked, branch, rules, next),
             Some((part, vars, right, values)) => return enabling_step(
-                alloc, checked, branch, part, vars, right, values, d, next, place,
+                alloc, checked, branch, part, vars, right, values, d, next,
             ),
         },
         Rules::Enend(d) => match branch.as_enable() {
-            None => return unsuited(alloc, checked, branch, rules, next, place),
+            None => return unsuited(alloc, checked, branch, rules, next),
             Some((part, vars, right, values)) => return enabling_ends(
-                alloc, checked, branch, part, vars, right, values, d, next, place,
+                alloc, checked, branch, part, vars, right, values, d, next,
             ),
         },
         Rules::Disstep(d) => match branch.as_disable() {
-            None => return unsuited(alloc, checked, branch, rules, next, place),
+            None => return unsuited(alloc, checked, branch, rules, next),
             Some((left, right)) => return disabling_step(
-                alloc, checked, branch, left, right, d, next, place,
+                alloc, checked, branch, left, right, d, next,
             ),
         },
         Rules::Disend(d) => match branch.as_disable() {
-            None => return unsuited(alloc, checked, branch, rules, next, place),
+            None => return unsuited(alloc, checked, branch, rules, next),
             Some((left, right)) => return taken_over(
                 alloc,
                 checked,
@@ -179,11 +172,10 @@ fn advance_operator(
                 right,
                 d,
                 next,
-                place,
             ),
         },
         Rules::Distake(d) => match branch.as_disable() {
-            None => return unsuited(alloc, checked, branch, rules, next, place),
+            None => return unsuited(alloc, checked, branch, rules, next),
             Some((left, right)) => return taken_over(
                 alloc,
                 checked,
@@ -193,13 +185,12 @@ fn advance_operator(
                 left,
                 d,
                 next,
-                place,
             ),
         },
         Rules::Rel(d) => match branch.as_relabel() {
-            None => return unsuited(alloc, checked, branch, rules, next, place),
+            None => return unsuited(alloc, checked, branch, rules, next),
             Some((pairs, part)) => return relabelling_step(
-                alloc, checked, branch, pairs, part, d, next, place,
+                alloc, checked, branch, pairs, part, d, next,
             ),
         },
     }
@@ -224,17 +215,15 @@ fn taken_over(
     other: &Branch,
     d: &Rules,
     next: u128,
-    place: &[u32],
 ) -> Result<Advanced, Memory>
     requires ready { IsReady (program_of checked.now) }
     requires shape { shape_of branch.now ≡ taken_from taking (shape_of part.now) (shape_of other.now) }
     ensures { IfOk result (λ a.
-        Moves (program_of checked.now) place.now (shape_of branch.now) (taken_by taking (derivation_of d.now)) a.action
+        Moves (program_of checked.now) (shape_of branch.now) (taken_by taking (derivation_of d.now)) a.action
         (changed a.change (shape_of branch.now)) next a.next) }
 {
-    let inner = part_of(alloc, place, taking.part())?;
-    let one = advance(alloc, checked, part, d, next, &inner)?;
-    let done = anew(alloc, checked, branch, part, one, place)?;
+    let one = advance(alloc, checked, part, d, next)?;
+    let done = anew(alloc, checked, branch, part, one)?;
     Ok(done)
 }
 
@@ -251,16 +240,14 @@ fn one_side(
     other: &Branch,
     d: &Rules,
     next: u128,
-    place: &[u32],
 ) -> Result<Advanced, Memory>
     requires ready { IsReady (program_of checked.now) }
     requires shape { shape_of branch.now ≡ joined_at side (beside (synchronised_of gates.now)) (shape_of part.now) (shape_of other.now) }
     ensures { IfOk result (λ a.
-        Moves (program_of checked.now) place.now (shape_of branch.now) (alone_at side (derivation_of d.now)) a.action
+        Moves (program_of checked.now) (shape_of branch.now) (alone_at side (derivation_of d.now)) a.action
         (changed a.change (shape_of branch.now)) next a.next) }
 {
-    let inner = part_of(alloc, place, side.part())?;
-    let one = advance(alloc, checked, part, d, next, &inner)?;
+    let one = advance(alloc, checked, part, d, next)?;
     let Advanced {
         action,
         change: one,
@@ -287,18 +274,15 @@ fn both_together(
     d: &Rules,
     e: &Rules,
     next: u128,
-    place: &[u32],
 ) -> Result<Advanced, Memory>
     requires ready { IsReady (program_of checked.now) }
     requires shape { shape_of branch.now ≡ between (beside (synchronised_of gates.now)) (shape_of left.now) (shape_of right.now) }
     ensures { IfOk result (λ a.
-        Moves (program_of checked.now) place.now (shape_of branch.now) (both (derivation_of d.now) (derivation_of e.now)) a.action
+        Moves (program_of checked.now) (shape_of branch.now) (both (derivation_of d.now) (derivation_of e.now)) a.action
         (changed a.change (shape_of branch.now)) next a.next) }
 {
-    let first = part_of(alloc, place, 0)?;
-    let second = part_of(alloc, place, 1)?;
-    let one = advance(alloc, checked, left, d, next, &first)?;
-    let two = advance(alloc, checked, right, e, one.next, &second)?;
+    let one = advance(alloc, checked, left, d, next)?;
+    let two = advance(alloc, checked, right, e, one.next)?;
     let Advanced {
         action,
         change: first,
@@ -329,16 +313,14 @@ fn hiding_step(
     part: &Branch,
     d: &Rules,
     next: u128,
-    place: &[u32],
 ) -> Result<Advanced, Memory>
     requires ready { IsReady (program_of checked.now) }
     requires shape { shape_of branch.now ≡ over (hidden (map gate_number gates.now)) (shape_of part.now) }
     ensures { IfOk result (λ a.
-        Moves (program_of checked.now) place.now (shape_of branch.now) (hidden_by hides (derivation_of d.now)) a.action
+        Moves (program_of checked.now) (shape_of branch.now) (hidden_by hides (derivation_of d.now)) a.action
         (changed a.change (shape_of branch.now)) next a.next) }
 {
-    let inner = part_of(alloc, place, 0)?;
-    let one = advance(alloc, checked, part, d, next, &inner)?;
+    let one = advance(alloc, checked, part, d, next)?;
     let Advanced {
         action,
         change: one,
@@ -365,16 +347,14 @@ fn enabling_step(
     values: &[(u32, Value)],
     d: &Rules,
     next: u128,
-    place: &[u32],
 ) -> Result<Advanced, Memory>
     requires ready { IsReady (program_of checked.now) }
     requires shape { shape_of branch.now ≡ over (enabled (map variable_of vars.now) right values.now) (shape_of part.now) }
     ensures { IfOk result (λ a.
-        Moves (program_of checked.now) place.now (shape_of branch.now) (enstep (derivation_of d.now)) a.action
+        Moves (program_of checked.now) (shape_of branch.now) (enstep (derivation_of d.now)) a.action
         (changed a.change (shape_of branch.now)) next a.next) }
 {
-    let inner = part_of(alloc, place, 0)?;
-    let one = advance(alloc, checked, part, d, next, &inner)?;
+    let one = advance(alloc, checked, part, d, next)?;
     let Advanced {
         action,
         change: one,
@@ -401,18 +381,16 @@ fn enabling_ends(
     values: &[(u32, Value)],
     d: &Rules,
     next: u128,
-    place: &[u32],
 ) -> Result<Advanced, Memory>
     requires ready { IsReady (program_of checked.now) }
     requires shape { shape_of branch.now ≡ over (enabled (map variable_of vars.now) right values.now) (shape_of part.now) }
     ensures { IfOk result (λ a.
-        Moves (program_of checked.now) place.now (shape_of branch.now) (enend (derivation_of d.now)) a.action
+        Moves (program_of checked.now) (shape_of branch.now) (enend (derivation_of d.now)) a.action
         (changed a.change (shape_of branch.now)) next a.next) }
 {
-    let inner = part_of(alloc, place, 0)?;
-    let one = advance(alloc, checked, part, d, next, &inner)?;
+    let one = advance(alloc, checked, part, d, next)?;
     enabling_end(
-        alloc, checked, branch, part, vars, right, values, d, one, next, &inner, place,
+        alloc, checked, branch, part, vars, right, values, d, one, next,
     )
 }
 
@@ -427,16 +405,14 @@ fn disabling_step(
     right: &Branch,
     d: &Rules,
     next: u128,
-    place: &[u32],
 ) -> Result<Advanced, Memory>
     requires ready { IsReady (program_of checked.now) }
     requires shape { shape_of branch.now ≡ between disabling (shape_of left.now) (shape_of right.now) }
     ensures { IfOk result (λ a.
-        Moves (program_of checked.now) place.now (shape_of branch.now) (disstep (derivation_of d.now)) a.action
+        Moves (program_of checked.now) (shape_of branch.now) (disstep (derivation_of d.now)) a.action
         (changed a.change (shape_of branch.now)) next a.next) }
 {
-    let inner = part_of(alloc, place, 0)?;
-    let one = advance(alloc, checked, left, d, next, &inner)?;
+    let one = advance(alloc, checked, left, d, next)?;
     let Advanced {
         action,
         change: one,
@@ -461,17 +437,13 @@ fn relabelling_step(
     part: &Branch,
     d: &Rules,
     next: u128,
-    place: &[u32],
 ) -> Result<Advanced, Memory>
     requires ready { IsReady (program_of checked.now) }
     requires shape { shape_of branch.now ≡ over (relabelled (map relabelling_of pairs.now)) (shape_of part.now) }
     ensures { IfOk result (λ a.
-        Moves (program_of checked.now) place.now (shape_of branch.now) (rel (derivation_of d.now)) a.action
+        Moves (program_of checked.now) (shape_of branch.now) (rel (derivation_of d.now)) a.action
         (changed a.change (shape_of branch.now)) next a.next) }
 {
-    let inner = part_of(alloc, place, 0)?;
-    let one = advance(alloc, checked, part, d, next, &inner)?;
-    relabelled_step(
-        alloc, checked, branch, pairs, part, d, one, next, &inner, place,
-    )
+    let one = advance(alloc, checked, part, d, next)?;
+    relabelled_step(alloc, checked, branch, pairs, part, d, one, next)
 }

@@ -43,10 +43,10 @@ pub struct Advanced {
 
 /// What comes of a tree of rules by which there is no step: nothing is said of it.
 #[inline(never)]
-pub fn no_step(alloc: Global, next: u128, place: &[u32]) -> Result<Replaced, Memory>
-    ensures fresh { IfOk result (λ a. IsFresh place.now next a.next (shape_of a.branch.value)) }
+pub fn no_step(alloc: Global, next: u128) -> Result<Replaced, Memory>
+    ensures fresh { IfOk result (λ a. IsFresh next a.next (shape_of a.branch.value)) }
 {
-    let Fresh { branch, next } = nothing(alloc, next, place)?;
+    let Fresh { branch, next } = nothing(alloc, next)?;
     Ok(Replaced {
         action: Action::Inner,
         branch,
@@ -84,7 +84,6 @@ fn acted(
     rules: &Rules,
     slots: &[Slot],
     next: u128,
-    place: &[u32],
 ) -> Result<Replaced, Memory>
     requires ready { IsReady (program_of checked.now) }
     requires slots { slots.now ≡ slots_of (derivation_of rules.now) }
@@ -92,10 +91,10 @@ fn acted(
     ensures acts { IfOk result (λ a.
         Acts (program_of checked.now) (meaning (program_of checked.now) (source_of origin.now)) (way_of way.now ∷ map way_of others.now)
         (derivation_of rules.now) a.action (shape_of a.branch.value)) }
-    ensures fresh { IfOk result (λ a. IsFresh place.now next a.next (shape_of a.branch.value)) }
+    ensures fresh { IfOk result (λ a. IsFresh next a.next (shape_of a.branch.value)) }
 {
     let action = done_in(alloc, slots, &way.action)?;
-    let Fresh { branch, next } = unfolded_rest(alloc, checked, slots, &way.rest, next, place)?;
+    let Fresh { branch, next } = unfolded_rest(alloc, checked, slots, &way.rest, next)?;
     Ok(Replaced {
         action,
         branch,
@@ -114,7 +113,6 @@ fn acted_by(
     rows: &[u64],
     slots: &[Slot],
     next: u128,
-    place: &[u32],
 ) -> Result<Replaced, Memory>
     requires ready { IsReady (program_of checked.now) }
     requires rows { rows.now ≡ rows_of (derivation_of rules.now) }
@@ -122,22 +120,18 @@ fn acted_by(
     ensures acts { IfOk result (λ a.
         Acts (program_of checked.now) (meaning (program_of checked.now) (source_of origin.now)) (map way_of ways.now)
         (derivation_of rules.now) a.action (shape_of a.branch.value)) }
-    ensures fresh { IfOk result (λ a. IsFresh place.now next a.next (shape_of a.branch.value)) }
+    ensures fresh { IfOk result (λ a. IsFresh next a.next (shape_of a.branch.value)) }
 {
     match ways {
         [] => {
-            let done = no_step(alloc, next, place)?;
+            let done = no_step(alloc, next)?;
             Ok(done)
         }
         [first, rest @ ..] => {
             if fills(alloc, first, rules, rows, slots)? {
-                acted(
-                    alloc, checked, origin, first, rest, rules, slots, next, place,
-                )
+                acted(alloc, checked, origin, first, rest, rules, slots, next)
             } else {
-                acted_by(
-                    alloc, checked, origin, rest, rules, rows, slots, next, place,
-                )
+                acted_by(alloc, checked, origin, rest, rules, rows, slots, next)
             }
         }
     }
@@ -151,13 +145,11 @@ fn advance_expanded(
     expansion: &Expansion,
     rules: &Rules,
     next: u128,
-    place: &[u32],
 ) -> Result<Replaced, Memory>
     requires ready { IsReady (program_of checked.now) }
     requires work { (held_of node.now).work ≡ Some (expansion_of expansion.now) }
     ensures moves { IfOk result (λ a.
-        Moves (program_of checked.now) place.now (leaf (held_of node.now)) (derivation_of rules.now) a.action (shape_of a.branch.value) next
-        a.next) }
+        Moves (program_of checked.now) (leaf (held_of node.now)) (derivation_of rules.now) a.action (shape_of a.branch.value) next a.next) }
 {
     let mut rows = Vec::new(alloc);
     put_rows(rules, &mut rows)?;
@@ -165,9 +157,7 @@ fn advance_expanded(
     put_slots(alloc, rules, &mut slots)?;
     let origin = &node.origin;
     let ways = expansion.alternatives.as_slice();
-    let done = acted_by(
-        alloc, checked, origin, ways, rules, &rows, &slots, next, place,
-    )?;
+    let done = acted_by(alloc, checked, origin, ways, rules, &rows, &slots, next)?;
     Ok(done)
 }
 
@@ -178,19 +168,17 @@ fn node_step(
     node: &Node,
     rules: &Rules,
     next: u128,
-    place: &[u32],
 ) -> Result<Replaced, Memory>
     requires ready { IsReady (program_of checked.now) }
     ensures moves { IfOk result (λ a.
-        Moves (program_of checked.now) place.now (leaf (held_of node.now)) (derivation_of rules.now) a.action (shape_of a.branch.value) next
-        a.next) }
+        Moves (program_of checked.now) (leaf (held_of node.now)) (derivation_of rules.now) a.action (shape_of a.branch.value) next a.next) }
 {
     match &node.work {
         None => {
-            let done = no_step(alloc, next, place)?;
+            let done = no_step(alloc, next)?;
             Ok(done)
         }
-        Some(expansion) => advance_expanded(alloc, checked, node, expansion, rules, next, place),
+        Some(expansion) => advance_expanded(alloc, checked, node, expansion, rules, next),
     }
 }
 
@@ -202,18 +190,17 @@ pub fn advance_node(
     node: &Node,
     rules: &Rules,
     next: u128,
-    place: &[u32],
 ) -> Result<Advanced, Memory>
     requires ready { IsReady (program_of checked.now) }
     ensures moves { IfOk result (λ a.
-        Moves (program_of checked.now) place.now (leaf (held_of node.now)) (derivation_of rules.now) a.action
+        Moves (program_of checked.now) (leaf (held_of node.now)) (derivation_of rules.now) a.action
         (changed a.change (leaf (held_of node.now))) next a.next) }
 {
     let Replaced {
         action,
         branch,
         next,
-    } = node_step(alloc, checked, node, rules, next, place)?;
+    } = node_step(alloc, checked, node, rules, next)?;
     Ok(Advanced {
         action,
         change: Change::Becomes(branch),

@@ -1,6 +1,6 @@
 // Steps of operators: what an operator becomes where its part does.
 
-ghost use Rattle.std.specs.Prelude.{◌≡◌, ◌++◌, ◌∷◌, [], IfOk, map};
+ghost use Rattle.std.specs.Prelude.{◌≡◌, ◌++◌, IfOk, map};
 ghost use Rattle.spec_core.specs.Code.{program_of, variable_of, relabelling_of};
 ghost use Rattle.spec_core.specs.Ready.{IsReady};
 ghost use Rattle.rule_model.specs.Derivations.{derivation_of, enend, rel};
@@ -36,19 +36,18 @@ pub fn unsuited(
     branch: &Branch,
     rules: &Rules,
     next: u128,
-    place: &[u32],
 ) -> Result<Advanced, Memory>
     requires operator { IsLeaf (shape_of branch.now) → ⊥ }
     requires unsuited { Suits (derivation_of rules.now) (shape_of branch.now) → ⊥ }
     ensures moves { IfOk result (λ a.
-        Moves (program_of checked.now) place.now (shape_of branch.now) (derivation_of rules.now) a.action
+        Moves (program_of checked.now) (shape_of branch.now) (derivation_of rules.now) a.action
         (changed a.change (shape_of branch.now)) next a.next) }
 {
     let Replaced {
         action,
         branch: after,
         next,
-    } = no_step(alloc, next, place)?;
+    } = no_step(alloc, next)?;
     Ok(Advanced {
         action,
         change: Change::Becomes(after),
@@ -63,18 +62,17 @@ fn renewed_after(
     change: &Change,
     part: &Branch,
     next: u128,
-    place: &[u32],
 ) -> Result<Fresh, Memory>
     ensures stands { IfOk result (λ f.
         stands_for (program_of checked.now) (shape_of f.branch.value) ≡
         stands_for (program_of checked.now) (changed change.now (shape_of part.now))) }
-    ensures fresh { IfOk result (λ f. IsFresh place.now next f.next (shape_of f.branch.value)) }
+    ensures fresh { IfOk result (λ f. IsFresh next f.next (shape_of f.branch.value)) }
 {
     match change {
-        Change::Becomes(new) => renewed(alloc, checked, new, next, place),
+        Change::Becomes(new) => renewed(alloc, checked, new, next),
         Change::Stays | Change::Over(_) | Change::Between(_, _) => {
             let whole = change.made(alloc, part)?;
-            renewed(alloc, checked, &whole, next, place)
+            renewed(alloc, checked, &whole, next)
         }
     }
 }
@@ -87,19 +85,18 @@ fn tidied_after(
     change: &Change,
     part: &Branch,
     next: u128,
-    place: &[u32],
 ) -> Result<Fresh, Memory>
     requires ready { IsReady (program_of checked.now) }
     ensures stands { IfOk result (λ f.
         stands_for (program_of checked.now) (shape_of f.branch.value) ≡
         tidied (map relabelling_of pairs.now) (stands_for (program_of checked.now) (changed change.now (shape_of part.now)))) }
-    ensures fresh { IfOk result (λ f. IsFresh place.now next f.next (shape_of f.branch.value)) }
+    ensures fresh { IfOk result (λ f. IsFresh next f.next (shape_of f.branch.value)) }
 {
     match change {
-        Change::Becomes(new) => tidied_branch(alloc, checked, pairs, new, next, place),
+        Change::Becomes(new) => tidied_branch(alloc, checked, pairs, new, next),
         Change::Stays | Change::Over(_) | Change::Between(_, _) => {
             let whole = change.made(alloc, part)?;
-            tidied_branch(alloc, checked, pairs, &whole, next, place)
+            tidied_branch(alloc, checked, pairs, &whole, next)
         }
     }
 }
@@ -112,13 +109,12 @@ pub fn anew(
     branch: &Branch,
     part: &Branch,
     one: Advanced,
-    place: &[u32],
 ) -> Result<Advanced, Memory>
     ensures action { IfOk result (λ a. a.action ≡ one.action) }
     ensures stands { IfOk result (λ a.
         stands_for (program_of checked.now) (changed a.change (shape_of branch.now)) ≡
         stands_for (program_of checked.now) (changed one.change (shape_of part.now))) }
-    ensures fresh { IfOk result (λ a. IsFresh place.now one.next a.next (changed a.change (shape_of branch.now))) }
+    ensures fresh { IfOk result (λ a. IsFresh one.next a.next (changed a.change (shape_of branch.now))) }
 {
     let Advanced {
         action,
@@ -128,7 +124,7 @@ pub fn anew(
     let Fresh {
         branch: after,
         next: high,
-    } = renewed_after(alloc, checked, &change, part, next, place)?;
+    } = renewed_after(alloc, checked, &change, part, next)?;
     Ok(Advanced {
         action,
         change: Change::Becomes(after),
@@ -147,16 +143,13 @@ pub fn relabelled_step(
     d: &Rules,
     one: Advanced,
     low: u128,
-    inner: &[u32],
-    place: &[u32],
 ) -> Result<Advanced, Memory>
     requires ready { IsReady (program_of checked.now) }
-    requires inner { inner.now ≡ place.now ++ 0 ∷ [] }
     requires shape { shape_of branch.now ≡ over (relabelled (map relabelling_of pairs.now)) (shape_of part.now) }
-    requires moves { Moves (program_of checked.now) inner.now (shape_of part.now) (derivation_of d.now) one.action
+    requires moves { Moves (program_of checked.now) (shape_of part.now) (derivation_of d.now) one.action
         (changed one.change (shape_of part.now)) low one.next }
     ensures { IfOk result (λ a.
-        Moves (program_of checked.now) place.now (shape_of branch.now) (rel (derivation_of d.now)) a.action
+        Moves (program_of checked.now) (shape_of branch.now) (rel (derivation_of d.now)) a.action
         (changed a.change (shape_of branch.now)) low a.next) }
 {
     let stays = one.change.is_tidy(part);
@@ -176,7 +169,7 @@ pub fn relabelled_step(
     let Fresh {
         branch: after,
         next: high,
-    } = tidied_after(alloc, checked, pairs, &change, part, next, place)?;
+    } = tidied_after(alloc, checked, pairs, &change, part, next)?;
     Ok(Advanced {
         action: renamed(pairs, action),
         change: Change::Becomes(after),
@@ -232,16 +225,13 @@ fn right_side(
     d: &Rules,
     one: Advanced,
     low: u128,
-    inner: &[u32],
-    place: &[u32],
 ) -> Result<Replaced, Memory>
     requires ready { IsReady (program_of checked.now) }
     requires shape { shape_of branch.now ≡ over (enabled (map variable_of vars.now) right values.now) (shape_of part.now) }
-    requires moves { Moves (program_of checked.now) inner.now (shape_of part.now) (derivation_of d.now) one.action
+    requires moves { Moves (program_of checked.now) (shape_of part.now) (derivation_of d.now) one.action
         (changed one.change (shape_of part.now)) low one.next }
     ensures { IfOk result (λ a.
-        Moves (program_of checked.now) place.now (shape_of branch.now) (enend (derivation_of d.now)) a.action (shape_of a.branch.value) low
-        a.next) }
+        Moves (program_of checked.now) (shape_of branch.now) (enend (derivation_of d.now)) a.action (shape_of a.branch.value) low a.next) }
 {
     let Advanced {
         action,
@@ -254,7 +244,7 @@ fn right_side(
             let Fresh {
                 branch: after,
                 next: high,
-            } = unfold(alloc, checked, right, &all, next, place)?;
+            } = unfold(alloc, checked, right, &all, next)?;
             Ok(Replaced {
                 action: Action::Inner,
                 branch: after,
@@ -262,11 +252,11 @@ fn right_side(
             })
         }
         Action::Inner => {
-            let done = no_step(alloc, next, place)?;
+            let done = no_step(alloc, next)?;
             Ok(done)
         }
         Action::At(_, _) => {
-            let done = no_step(alloc, next, place)?;
+            let done = no_step(alloc, next)?;
             Ok(done)
         }
     }
@@ -285,15 +275,13 @@ pub fn enabling_end(
     d: &Rules,
     one: Advanced,
     low: u128,
-    inner: &[u32],
-    place: &[u32],
 ) -> Result<Advanced, Memory>
     requires ready { IsReady (program_of checked.now) }
     requires shape { shape_of branch.now ≡ over (enabled (map variable_of vars.now) right values.now) (shape_of part.now) }
-    requires moves { Moves (program_of checked.now) inner.now (shape_of part.now) (derivation_of d.now) one.action
+    requires moves { Moves (program_of checked.now) (shape_of part.now) (derivation_of d.now) one.action
         (changed one.change (shape_of part.now)) low one.next }
     ensures { IfOk result (λ a.
-        Moves (program_of checked.now) place.now (shape_of branch.now) (enend (derivation_of d.now)) a.action
+        Moves (program_of checked.now) (shape_of branch.now) (enend (derivation_of d.now)) a.action
         (changed a.change (shape_of branch.now)) low a.next) }
 {
     let Replaced {
@@ -301,7 +289,7 @@ pub fn enabling_end(
         branch: after,
         next,
     } = right_side(
-        alloc, checked, branch, part, vars, right, values, d, one, low, inner, place,
+        alloc, checked, branch, part, vars, right, values, d, one, low,
     )?;
     Ok(Advanced {
         action,

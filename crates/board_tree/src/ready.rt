@@ -1,6 +1,6 @@
 // What stands ready for a step.
 
-ghost use Rattle.std.specs.Prelude.{◌≡◌, [], IfOk};
+ghost use Rattle.std.specs.Prelude.{◌≡◌, IfOk};
 ghost use Rattle.spec_core.specs.Code.{program_of};
 ghost use Rattle.spec_core.specs.Ready.{IsReady};
 ghost use Rattle.rule_model.specs.Derivations.{derivation_of};
@@ -75,19 +75,18 @@ pub fn ready_for(
 ) -> Result<Ready, Memory>
     requires ready { IsReady (program_of checked.now) }
     ensures moved { IfOk result (λ r.
-        Moves (program_of checked.now) [] (shape_of branch.now) (derivation_of rules.now) r.action (changed r.change (shape_of branch.now))
+        Moves (program_of checked.now) (shape_of branch.now) (derivation_of rules.now) r.action (changed r.change (shape_of branch.now))
         next r.next) }
     ensures gone { IfOk result (λ r. IsSound (shape_of branch.now) next →
         IsDifference r.gone.items (shape_of branch.now) (changed r.change (shape_of branch.now))) }
     ensures came { IfOk result (λ r. IsSound (shape_of branch.now) next →
         IsDifference r.came.items (changed r.change (shape_of branch.now)) (shape_of branch.now)) }
 {
-    let place = Vec::new(alloc);
     let Advanced {
         action,
         change,
         next,
-    } = advance(alloc, checked, branch, rules, next, &place)?;
+    } = advance(alloc, checked, branch, rules, next)?;
     let mut gone = Vec::new(alloc);
     let mut came = Vec::new(alloc);
     change.put_differences(alloc, branch, &mut gone, &mut came)?;

@@ -3,7 +3,7 @@
 ghost use Rattle.std.specs.Prelude.{◌≡◌, IfOk};
 ghost use Rattle.node_trees.specs.Shapes.{Shape, Binary};
 ghost use Rattle.board_tree.specs.Changes.{changed};
-ghost use Rattle.board_tree.specs.Sides.{joined_at, part_at, part_taken};
+ghost use Rattle.board_tree.specs.Sides.{joined_at};
 
 use crate::change::Change;
 use spec_core::memory::Memory;
@@ -27,32 +27,6 @@ pub enum Taking {
     DisablingEnd,
     /// The right side of a disabling, which acts.
     DisablingTaken,
-}
-
-impl Side {
-    /// The number of the part.
-    pub fn part(self) -> u32
-        ensures part { result ≡ part_at self }
-    {
-        match self {
-            Side::Left => 0,
-            Side::Right => 1,
-        }
-    }
-}
-
-impl Taking {
-    /// The number of the part.
-    pub fn part(self) -> u32
-        ensures part { result ≡ part_taken self }
-    {
-        match self {
-            Taking::ChoiceLeft => 0,
-            Taking::ChoiceRight => 1,
-            Taking::DisablingEnd => 0,
-            Taking::DisablingTaken => 1,
-        }
-    }
 }
 
 /// A change of the part of an operator on this side; the other part stays.

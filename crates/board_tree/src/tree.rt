@@ -6,7 +6,7 @@ ghost use Rattle.spec_core.specs.Ready.{IsReady};
 ghost use Rattle.rule_model.specs.Behaviours.{behaviour_of};
 ghost use Rattle.rule_model.specs.Code.{IsStart};
 ghost use Rattle.rule_model.specs.Derivations.{derivation_of};
-ghost use Rattle.node_trees.specs.Generations.{AreApart, AreBelow, ArePlaced};
+ghost use Rattle.node_trees.specs.Generations.{AreApart, AreBelow};
 ghost use Rattle.node_trees.specs.Rests.{expansion_of};
 ghost use Rattle.node_trees.specs.Shapes.{shape_of, stands_for, held_of, posted, Lives, IsNodeOf, IsRight, IsWorkFor};
 ghost use Rattle.node_trees.specs.Shapes.{AllWait};
@@ -27,8 +27,7 @@ use spec_core::memory::Memory;
 use std::alloc::Global;
 use std::marker::Model;
 
-/// The behaviour that a board has reached, as a tree of operators over nodes. No two of its nodes have one generation, and each one's place
-/// is where it stands.
+/// The behaviour that a board has reached, as a tree of operators over nodes. No two of its nodes have one generation.
 #[derive(Drop)]
 pub struct Tree {
     root: Branch,
@@ -39,11 +38,10 @@ pub struct Tree {
 }
 
 impl Model for Tree {
-    ghost use Rattle.std.specs.Prelude.{[]};
     ghost use Rattle.std.specs.Coded.{codes};
     ghost use Rattle.node_trees.specs.contracts.branch.Branch as b;
     ghost use Rattle.board_tree.specs.contracts.ready.Ready as r;
-    ghost use Rattle.node_trees.specs.Generations.{IsSound, ArePlaced};
+    ghost use Rattle.node_trees.specs.Generations.{IsSound};
     ghost use Rattle.node_trees.specs.Shapes.{shape_of};
     ghost use Rattle.board_tree.specs.Views.{TreeView};
 
@@ -53,7 +51,7 @@ impl Model for Tree {
 
     ghost view = { λ t. record { root = t.root; next = t.next; gone = t.gone.items; came = t.came.items; ready = t.ready } };
 
-    ghost invariant = { λ t. IsSound (shape_of t.root) t.next × ArePlaced [] (shape_of t.root) };
+    ghost invariant = { λ t. IsSound (shape_of t.root) t.next };
 }
 
 impl Tree {
@@ -66,9 +64,8 @@ impl Tree {
         ensures gone { IfOk result (λ t. t.gone ≡ []) }
         ensures came { IfOk result (λ t. t.came ≡ []) }
     {
-        let place = Vec::new(alloc);
         let values = Vec::new(alloc);
-        let Fresh { branch, next } = unfold(alloc, checked, checked.start, &values, 0, &place)?;
+        let Fresh { branch, next } = unfold(alloc, checked, checked.start, &values, 0)?;
         Ok(Tree {
             root: Box::into_inner(branch),
             next,
@@ -112,11 +109,10 @@ impl Tree {
         })
     }
 
-    /// No two nodes have one generation, each generation is below the next one, and each node's place is where it stands.
+    /// No two nodes have one generation, and each generation is below the next one.
     pub fn generations_are_sound(&self)
         ensures apart { AreApart (shape self.now) }
         ensures below { AreBelow (shape self.now) self.now.next }
-        ensures placed { ArePlaced [] (shape self.now) }
     {
         let _ = &self.root;
     }
@@ -128,7 +124,6 @@ impl Tree {
         ensures none { IfNone result (Lives (shape self.now) generation.0 → ⊥) }
         ensures apart { AreApart (shape self.now) }
         ensures below { AreBelow (shape self.now) self.now.next }
-        ensures placed { ArePlaced [] (shape self.now) }
     {
         match self.root.node_at(generation) {
             Some(node) => Some(node),

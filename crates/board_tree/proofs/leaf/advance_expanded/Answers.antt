@@ -10,7 +10,7 @@ use Rattle.board_tree.proofs.leaf.advance_expanded.Goals as goal
 pub returns : goal.returns
 returns c = record {
   moves =
-      moves_node (program_of c.args.checked.now) c.args.place.now c.args.next _ (held_of c.args.node.now)
+      moves_node (program_of c.args.checked.now) c.args.next _ (held_of c.args.node.now)
       (record {
         plans = map open_plan_of c.args.expansion.now.composites.items;
         ways = map way_of c.as_slice-ways.result.now;

@@ -21,7 +21,7 @@ returns-in-Some-clause-step c =
     let there : v.ready ≡ Some r = search rules in
     let kept = subst (IsReserved p t v.next d) there reserved in
     let step =
-    moved_step p t (changed r.change t) d r.action v.next r.next r.gone.items r.came.items c.self.invariant.0 kept.0 kept.1 kept.2
+    moved_step p t (changed r.change t) d r.action v.next r.next r.gone.items r.came.items c.self.invariant kept.0 kept.1 kept.2
     in
     subst (λ z. IsStep p (shape z) z.next d n x.next x.gone.items x.came.items) c.self.view_is
     (subst (λ z. IsStep p t v.next d z x.next x.gone.items x.came.items) (sym c.put_in.ensures.changed)
