@@ -71,7 +71,7 @@ same_generation : (g : ℕ) (work : Work) (n : Held) → (with_work g work n).ge
 same_generation g work n = by_test (n.generation == g)
   where
     by_test : (b : Bool) →
-        (if b then record { generation = n.generation; source = n.source; place = n.place; work = Some work } else n).generation ≡ n.generation
+        (if b then record { generation = n.generation; source = n.source; work = Some work } else n).generation ≡ n.generation
     by_test true = refl
     by_test false = refl
 

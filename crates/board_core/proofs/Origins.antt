@@ -8,7 +8,7 @@ use Rattle.board_core.specs.Working.{KeepsNodes}
 -- a node is expanded
 
 with_its_work : (g : ℕ) (work : Work) (n : Held) (b : Bool) (m : Held) →
-    (if b then record { generation = n.generation; source = n.source; place = n.place; work = Some work } else n) ≡ m →
+    (if b then record { generation = n.generation; source = n.source; work = Some work } else n) ≡ m →
     (n.generation ≡ m.generation) × (m.source ≡ n.source)
 with_its_work g work n true m e = (ap (λ (k : Held). k.generation) e, ap (λ (k : Held). k.source) (sym e))
 with_its_work g work n false m e = (ap (λ (k : Held). k.generation) e, ap (λ (k : Held). k.source) (sym e))

@@ -30,7 +30,7 @@ module _ (P : Source → Work → Type 0) where
   with_work_so g work m new old = by_test (m.generation == g) refl
     where
       by_test : (b : Bool) → m.generation == g ≡ b →
-          IsSo (if b then record { generation = m.generation; source = m.source; place = m.place; work = Some work } else m)
+          IsSo (if b then record { generation = m.generation; source = m.source; work = Some work } else m)
       by_test true e x h = let same : work ≡ x = cc in subst (P m.source) same (new (eqb-true m.generation g e))
       by_test false e x h = old x h
 
@@ -53,7 +53,7 @@ module _ (P : Source → Work → Type 0) where
       IsStep program old next d new later gone came → EachExpanded P old → EachExpanded P new
   steps program old next d new later gone came step h up n s x e = by_case (step.keeps up n s)
     where
-      by_case : (Stands old up n × IsUntouched d up) ⊎ IsNew [] next later up n → P n.source x
+      by_case : (Stands old up n × IsUntouched d up) ⊎ IsNew next later n → P n.source x
       by_case (inl k) = h up n k.0 x e
       by_case (inr k) = no_work n.work x k.waits e
 

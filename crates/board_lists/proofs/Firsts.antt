@@ -107,7 +107,7 @@ found_among verdict (element f ∷ l) ds e d i = by_verdict (verdict f) e (found
 
 -- the action that a step by the tree would do is the one that the behaviour does by it
 pub by_step : (program : Program) (s : State) (t next : Shape) → IsRight program t → s.behaviour ≡ stands_for program t → (d : Derivation)
-    (a : Action) (low high : ℕ) → Moves program [] t d a next low high → (m : MayAct program s t d) →
+    (a : Action) (low high : ℕ) → Moves program t d a next low high → (m : MayAct program s t d) →
     Derives program s.behaviour d a m.rest
 by_step program s t next right reached d a low high moves m =
     let is =

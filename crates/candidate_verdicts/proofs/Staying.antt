@@ -57,7 +57,7 @@ put_none pieces p g d e other = ap (λ z. unless_none z (pieces_of (p ∷ []) g 
 -- each node after one is expanded was one before, with its generation and its origin
 
 same_node : (g : ℕ) (work : Work) (m : Held) (b : Bool) → (n : Held) →
-    (if b then record { generation = m.generation; source = m.source; place = m.place; work = Some work } else m) ≡ n →
+    (if b then record { generation = m.generation; source = m.source; work = Some work } else m) ≡ n →
     (n.generation ≡ m.generation) × (n.source ≡ m.source)
 same_node g work m true n e = (ap (λ (k : Held). k.generation) (sym e), ap (λ (k : Held). k.source) (sym e))
 same_node g work m false n e = (ap (λ (k : Held). k.generation) (sym e), ap (λ (k : Held). k.source) (sym e))

@@ -1,4 +1,4 @@
-use Rattle.std.proofs.Common.{◌≡◌, [], subst, sym}
+use Rattle.std.proofs.Common.{◌≡◌, subst, sym}
 use Rattle.spec_core.specs.declared.code.Checked.{Checked}
 use Rattle.spec_core.specs.Code.{program_of}
 use Rattle.rule_model.specs.Derivations.{Derivation, derivation_of}
@@ -19,8 +19,8 @@ returns-clause-candidate c =
     let next = changed ready.change (tree v) in
     let same : derivation_of c.in_ok-rules.rules ≡ d = c.in_ok-rules.ensures.equal in
     let moves =
-    subst (λ (k : Checked). Moves (program_of k) [] (tree v) d ready.action next 0 ready.next) c.checked.ensures
-    (subst (λ (t : Shape). Moves (program_of c.checked.result.now) [] t d ready.action (changed ready.change t) 0 ready.next)
+    subst (λ (k : Checked). Moves (program_of k) (tree v) d ready.action next 0 ready.next) c.checked.ensures
+    (subst (λ (t : Shape). Moves (program_of c.checked.result.now) t d ready.action (changed ready.change t) 0 ready.next)
     c.nodes.ensures c.in_ok-ready.ensures.moved)
     in
     record {
