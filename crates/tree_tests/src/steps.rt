@@ -7,6 +7,7 @@ use crate::printing::put_behaviour;
 use crate::program::{expand_at, program};
 use crate::rules::rules;
 use board_tree::tree::Tree;
+use node_trees::branch::Branch;
 use node_trees::origin::Gen;
 use spec_core::code::Checked;
 use spec_core::memory::Memory;
@@ -22,28 +23,41 @@ fn put_ended(out: &mut String, generations: &[Gen]) -> Result<(), Memory> {
     Ok(())
 }
 
-fn put_place(out: &mut String, place: &[u32]) -> Result<(), Memory> {
-    for part in place {
-        let number = *part;
-        write!(out, "{number}")?;
+// Where the node of this generation stands: the numbers of the parts from the root.
+fn put_place(out: &mut String, branch: &Branch, generation: Gen) -> Result<(), Memory> {
+    match branch {
+        Branch::Leaf(_) | Branch::Ended => Ok(()),
+        Branch::Over(_, part) => {
+            out.push_str("0")?;
+            put_place(out, part, generation)
+        }
+        Branch::Between(_, left, right) => match left.node_at(generation) {
+            Some(_) => {
+                out.push_str("0")?;
+                put_place(out, left, generation)
+            }
+            None => {
+                out.push_str("1")?;
+                put_place(out, right, generation)
+            }
+        },
     }
-    Ok(())
 }
 
-// `+` and the place of each node that begins; `=` where its generation was used before.
+// `+` and where it stands for each node that begins; `=` where its generation was used before.
 fn put_begun(out: &mut String, tree: &Tree, used: u128) -> Result<(), Memory> {
     out.push_str(" ")?;
     for generation in tree.came() {
         out.push_str(if generation.0 < used { "=" } else { "+" })?;
         match tree.at(*generation) {
             None => out.push_str("?")?,
-            Some(node) => put_place(out, &node.place)?,
+            Some(_) => put_place(out, tree.root(), *generation)?,
         }
     }
     Ok(())
 }
 
-// What a tree stands for, the generations that its last step ended, and the places of the nodes that it began.
+// What a tree stands for, the generations that its last step ended, and where the nodes stand that it began.
 fn told(alloc: Global, checked: &Checked, tree: &Tree, used: u128) -> Result<String, Memory>
     requires ready { IsReady (program_of checked.now) }
 {

@@ -65,7 +65,6 @@ fn leaf(alloc: Global, generation: u128) -> Result<Box<Branch>, Memory> {
     let node = Node {
         generation: Gen(generation),
         origin,
-        place: Vec::new(alloc),
         work: None,
     };
     let branch = Box::new(alloc, Branch::Leaf(node))?;
