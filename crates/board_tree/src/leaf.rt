@@ -4,14 +4,17 @@ ghost use Rattle.std.specs.Prelude.{◌≡◌, ◌∷◌, ◌↔◌, IfOk, IsTru
 ghost use Rattle.spec_core.specs.Code.{program_of};
 ghost use Rattle.spec_core.specs.Ready.{IsReady};
 ghost use Rattle.rule_model.specs.Derivations.{derivation_of};
+ghost use Rattle.symbolic_plans.specs.Plans.{plan_of};
 ghost use Rattle.node_trees.specs.Generations.{IsFresh};
 ghost use Rattle.node_trees.specs.Origins.{source_of, meaning};
-ghost use Rattle.node_trees.specs.Rests.{way_of, expansion_of, rows_of, slots_of, Fills};
+ghost use Rattle.node_trees.specs.Blanks.{blank_tree};
+ghost use Rattle.node_trees.specs.Rests.{way_of, expansion_of, rows_of, slots_of, AreFilled, Fills};
 ghost use Rattle.node_trees.specs.Shapes.{shape_of, held_of, leaf};
 ghost use Rattle.board_tree.specs.Changes.{changed};
 ghost use Rattle.board_tree.specs.Steps.{Acts, Moves};
 
 use crate::change::Change;
+use node_trees::blanks::{has_rows, put_blank_rows, put_blanks};
 use node_trees::branch::Branch;
 use node_trees::expansion::{Alternative, Expansion};
 use node_trees::fresh::{Fresh, nothing};
@@ -24,6 +27,7 @@ use rule_model::rules::{Rules, Slot};
 use spec_core::code::Checked;
 use spec_core::memory::Memory;
 use std::alloc::Global;
+use symbolic_plans::scheme::Scheme;
 
 /// What is done, the tree that then stands in the place of what acted, and the next generation.
 #[derive(Drop)]
@@ -54,6 +58,28 @@ pub fn no_step(alloc: Global, next: u128) -> Result<Replaced, Memory>
     })
 }
 
+// Whether these are the rows of the tree of a scheme. Where their number is another one, no memory is taken.
+fn has_these_rows(alloc: Global, scheme: &Scheme, rows: &[u64]) -> Result<bool, Memory>
+    ensures { IfOk result (λ b. IsTrue b ↔ rows_of (blank_tree (plan_of scheme.now)) ≡ rows.now) }
+{
+    if has_rows(scheme, rows.len()) {
+        let mut own = Vec::new(alloc);
+        put_blank_rows(scheme, &mut own)?;
+        Ok(own.as_slice() == rows)
+    } else {
+        Ok(false)
+    }
+}
+
+// Whether these values fill the blanks of the tree of a scheme.
+fn fill_blanks(alloc: Global, scheme: &Scheme, slots: &[Slot]) -> Result<bool, Memory>
+    ensures { IfOk result (λ b. IsTrue b ↔ AreFilled (slots_of (blank_tree (plan_of scheme.now))) slots.now) }
+{
+    let mut blanks = Vec::new(alloc);
+    put_blanks(alloc, scheme, &mut blanks)?;
+    Ok(are_filled(&blanks, slots))
+}
+
 // Whether a tree of rules, by its rules and its chosen values, fills that of one way to act.
 fn fills(
     alloc: Global,
@@ -66,11 +92,11 @@ fn fills(
     requires slots { slots.now ≡ slots_of (derivation_of rules.now) }
     ensures { IfOk result (λ b. IsTrue b ↔ Fills (way_of way.now).rules (derivation_of rules.now)) }
 {
-    let mut scheme = Vec::new(alloc);
-    put_rows(&way.rules, &mut scheme)?;
-    let mut blanks = Vec::new(alloc);
-    put_slots(alloc, &way.rules, &mut blanks)?;
-    Ok(scheme.as_slice() == rows && are_filled(&blanks, slots))
+    if has_these_rows(alloc, &way.scheme, rows)? {
+        fill_blanks(alloc, &way.scheme, slots)
+    } else {
+        Ok(false)
+    }
 }
 
 // The action and what is left of one way to act.

@@ -17,6 +17,7 @@ use Rattle.symbolic_plans.specs.declared.scheme.Row.TheVariants.{Chl, Chr, Val, 
 use Rattle.symbolic_plans.specs.declared.scheme.Row.TheVariants.{Disend, Distake, Call, Rel}
 use Rattle.symbolic_plans.specs.Plans.{Plan, prefix, internal, termination, below, hidden, handed_on, together, put_row, taken_slots, trees_of}
 use Rattle.node_trees.specs.Rests.{rows_of, slots_of, AreFilled, Fills}
+use Rattle.node_trees.proofs.Listing.{slots_first}
 use Rattle.node_steps.specs.Blanks.{blanks, blank_tree, chosen_by, width, IsTreeOf, IsClosed}
 use Rattle.node_steps.specs.Laws.{IsGiven, TreesFillBlanks}
 
@@ -121,24 +122,6 @@ tree_filled p d c h =
     (append-nil (rows_of (blank_tree p)) ∙ h.rows ∙ sym (append-nil (rows_of d)))
     (subst (λ (l : List Slot). AreFilled l (slots_of d ++ [])) (sym (append-nil (slots_of (blank_tree p))))
     (subst (λ (l : List Slot). AreFilled (slots_of (blank_tree p)) l) (sym (append-nil (slots_of d))) h.slots))).0
-
--- what a rule over a tree chooses comes first
-pub slots_first : (row : Row) (e : Derivation) → slots_of (put_row row e) ≡ chosen_by row ++ slots_of e
-slots_first Chl e = refl
-slots_first Chr e = refl
-slots_first (Val slot) e = refl
-slots_first (Gate j) e = refl
-slots_first Guard e = refl
-slots_first Let e = refl
-slots_first Parl e = refl
-slots_first Parr e = refl
-slots_first Pass e = refl
-slots_first Enstep e = refl
-slots_first Disstep e = refl
-slots_first Disend e = refl
-slots_first Distake e = refl
-slots_first Call e = refl
-slots_first Rel e = refl
 
 -- a tree of the plan chooses so many values
 pub tree_width : (p : Plan) (d : Derivation) → IsTreeOf p d → length (slots_of d) ≡ width p

@@ -22,6 +22,7 @@ use Rattle.symbolic_composites.specs.OpenFields.{OpenField}
 use Rattle.symbolic_plans.specs.declared.scheme.Row.{Row}
 use Rattle.symbolic_plans.specs.Plans.{Plan, prefix, internal, termination, below, hidden, handed_on, together, put_row}
 use Rattle.node_trees.specs.Rests.{slots_of, does_of, done_in, remainder_of, left_in, left_beside, Fills, IsWayOf}
+use Rattle.node_trees.proofs.Listing.{slots_first}
 use Rattle.node_steps.specs.Parts.{own_or}
 use Rattle.node_steps.specs.declared.turn.Entered.{Entered}
 use Rattle.node_steps.specs.declared.turn.Turn.{Turn}
@@ -29,7 +30,7 @@ use Rattle.node_steps.specs.Blanks.{blank_tree, chosen_by, width, IsTreeOf, Does
 use Rattle.node_steps.specs.Frames.{Surrounding, surrounding_of, Makes, standing}
 use Rattle.node_steps.specs.Turns.{Agrees, LeafTurnsOr, TurnsAt, NoTurn, TurnsOr, Enters, EntersOr, EntersHidden, EntersEnding, NoneWithin, WithinOr, LeavesOr}
 use Rattle.node_steps.proofs.Parting.{parted, part_there, has_value}
-use Rattle.node_steps.proofs.Filling.{tree_filled, tree_among, slots_first, tree_width}
+use Rattle.node_steps.proofs.Filling.{tree_filled, tree_among, tree_width}
 
 -- so many slots
 abbrev some_slots : ℕ → List Slot

@@ -1,5 +1,5 @@
--- Trees of rules with blanks in the places of the values that are left open.
-use Rattle.std.specs.Prelude.{ℕ, ◌≡◌, ◌+◌, List, [], ◌∷◌, length, Bool, true, false}
+-- Trees of rules whose chosen values are left open, and how many values they choose.
+use Rattle.std.specs.Prelude.{ℕ, ◌≡◌, ◌+◌, List, length}
 use Rattle.spec_core.specs.Code.{Program}
 use Rattle.spec_core.specs.Lists.{IsOneOf}
 use Rattle.rule_model.specs.declared.action.Action.{Action}
@@ -12,27 +12,7 @@ use Rattle.symbolic_rules.specs.Windows.{Windows}
 use Rattle.symbolic_plans.specs.declared.scheme.Row.{Row}
 use Rattle.symbolic_plans.specs.declared.scheme.Row.TheVariants.{Val}
 use Rattle.symbolic_plans.specs.Plans.{Plan, prefix, internal, termination, below, hidden, handed_on, together, put_row, trees_of}
-
--- a blank for each field that takes a value
-abbrev pub blanks : List Bool → List Slot
-blanks [] = []
-blanks (true ∷ takes) = Blank ∷ blanks takes
-blanks (false ∷ takes) = blanks takes
-
--- the tree of a plan, with a blank in the place of each open value
-abbrev pub blank_tree : Plan → Derivation
-blank_tree (prefix takes) = pre (blanks takes)
-blank_tree internal = int
-blank_tree (termination takes) = exiting (blanks takes)
-blank_tree (below row p) = put_row row (blank_tree p)
-blank_tree (hidden fields p) = hiding (blank_tree p)
-blank_tree (handed_on fields p) = enend (blank_tree p)
-blank_tree (together p q) = both (blank_tree p) (blank_tree q)
-
--- the value that a rule itself chooses, if it is a choice of a value
-abbrev pub chosen_by : Row → List Slot
-chosen_by (Val slot) = slot ∷ []
-chosen_by _ = []
+pub use Rattle.node_trees.specs.Blanks.{blanks, blank_tree, chosen_by}
 
 -- how many values a tree of the plan chooses
 abbrev pub width : Plan → ℕ

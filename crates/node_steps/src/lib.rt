@@ -1,8 +1,7 @@
 // The ways in which one node can act: what is done along a tree of rules with blanks, and what is left then.
 #![tactic(auto, using(crate::proofs::Memory::memory))]
 
-pub mod blanks;
-mod choices;
+pub mod choices;
 mod entering;
 mod fields;
 pub mod laws;
@@ -12,3 +11,4 @@ mod sites;
 mod telling;
 mod turn;
 pub mod walking;
+mod widths;

@@ -5,7 +5,6 @@ ghost use Rattle.spec_core.specs.Code.{program_of, relabelling_of, synchronised_
 ghost use Rattle.spec_core.specs.Ready.{IsReady};
 ghost use Rattle.rule_model.specs.Behaviours.{parallel};
 ghost use Rattle.rule_model.specs.Constructs.{OnParallel};
-ghost use Rattle.rule_model.specs.Derivations.{derivation_of};
 ghost use Rattle.rule_origins.specs.Parts.{behaviour_at};
 ghost use Rattle.rule_origins.specs.Values.{assignment};
 ghost use Rattle.node_values.specs.Stops.{Stops, Never};
@@ -21,13 +20,13 @@ ghost use Rattle.node_steps.specs.Parts.{own_or};
 ghost use Rattle.node_steps.specs.Frames.{standing};
 ghost use Rattle.node_steps.specs.Turns.{TurnsOr, WithinOr};
 
-use crate::blanks::{after_row, after_scheme, blank_rules};
 use crate::choices::past_choices;
 use crate::entering::{enter, enter_ending, enter_hidden};
 use crate::leaves::{acts, acts_inside, terminates};
 use crate::leaving::leave;
 use crate::sites::site_of;
 use crate::turn::{Entered, Site, Turn};
+use crate::widths::{after_row, after_scheme};
 use node_trees::expansion::Alternative;
 use node_trees::origin::Origin;
 use node_trees::rest::Rest;
@@ -251,7 +250,7 @@ pub fn way_along(
     requires ready { IsReady (program_in prepared.now) }
     ensures way { IfOk result (λ o. IfSome o (λ a.
         IsWayOf (program_in prepared.now) (meaning (program_in prepared.now) (source_of origin.now)) (way_of a))) }
-    ensures rules { IfOk result (λ o. IfSome o (λ a. derivation_of a.rules ≡ blank_tree (plan_of scheme.now))) }
+    ensures rules { IfOk result (λ o. IfSome o (λ a. (way_of a).rules ≡ blank_tree (plan_of scheme.now))) }
     ensures none { IfOk result (λ o. IfNone o
         (DoesNothingBy (program_in prepared.now) (meaning (program_in prepared.now) (source_of origin.now)) (plan_of scheme.now))) }
     ensures stop { IfErr result (Stops (program_in prepared.now).theory budget (PlanAsks (program_in prepared.now) (plan_of scheme.now)
@@ -270,10 +269,10 @@ pub fn way_along(
     )? {
         None => Ok(None),
         Some(turn) => {
-            let rules = blank_rules(alloc, scheme)?;
+            let scheme = scheme.copy(alloc)?;
             let Turn { action, rest } = turn;
             Ok(Some(Alternative {
-                rules,
+                scheme,
                 action,
                 rest,
             }))

@@ -8,14 +8,13 @@ use Rattle.node_trees.specs.contracts.expansion.Expansion as expansion
 use Rattle.node_trees.specs.contracts.node.Node as node
 use Rattle.node_trees.specs.contracts.rest.Rest as rest_row
 use Rattle.spec_core.proofs.Crossing.{simple}
-use Rattle.rule_model.proofs.Crossing.{rules_send}
-use Rattle.symbolic_plans.proofs.Crossing.{composite_send}
+use Rattle.symbolic_plans.proofs.Crossing.{scheme_send, composite_send}
 
 pub rest_send : IsSend (rest_row.the_field).row
 rest_send = search (rest.crosses, simple) depth 60 fits 20000
 
 pub alternative_send : IsSend alternative.the_row
-alternative_send = search (rest_send, rules_send, simple) depth 60 fits 20000
+alternative_send = search (rest_send, scheme_send, simple) depth 60 fits 20000
 
 pub expansion_send : IsSend expansion.the_row
 expansion_send = search (alternative_send, composite_send, simple) depth 60 fits 20000

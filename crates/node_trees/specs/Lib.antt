@@ -1,4 +1,5 @@
 pub mod Origins
+pub mod Blanks
 pub mod Rests
 pub mod Shapes
 pub mod Constructs

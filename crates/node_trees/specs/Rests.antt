@@ -9,7 +9,7 @@ use Rattle.rule_model.specs.declared.rules.Slot.{Slot}
 use Rattle.rule_model.specs.declared.rules.Slot.TheVariants.{Of, Mark, Blank}
 use Rattle.rule_model.specs.Actions.{doing}
 use Rattle.rule_model.specs.Behaviours.{Behaviour, stop, hide, enable, parallel, disable}
-use Rattle.rule_model.specs.Derivations.{Derivation, derivation_of, pre, int, exiting, chl, chr, val, gate, guard, letting, parl, parr}
+use Rattle.rule_model.specs.Derivations.{Derivation, pre, int, exiting, chl, chr, val, gate, guard, letting, parl, parr}
 use Rattle.rule_model.specs.Derivations.{both}
 use Rattle.rule_model.specs.Derivations.{hiding, pass, enstep, enend, disstep, disend, distake, calling, rel}
 use Rattle.rule_model.specs.Derives.{Derives}
@@ -17,6 +17,7 @@ use Rattle.rule_model.specs.Substitution.{without, put, tidied}
 use Rattle.rule_origins.specs.Parts.{behaviour_at}
 use Rattle.rule_origins.specs.Values.{assignment}
 use Rattle.symbolic_plans.specs.OpenPlans.{OpenPlan, open_plan_of}
+use Rattle.symbolic_plans.specs.Plans.{plan_of}
 use Rattle.node_trees.specs.declared.rest.Known.{Known}
 use Rattle.node_trees.specs.declared.rest.Known.TheVariants.{Told, Chosen}
 use Rattle.node_trees.specs.declared.rest.Deed.{Deed}
@@ -26,6 +27,7 @@ use Rattle.node_trees.specs.declared.rest.Rest.TheVariants.{Ended, At, Hide', En
 use Rattle.node_trees.specs.declared.expansion.Alternative.{Alternative}
 use Rattle.node_trees.specs.declared.expansion.Expansion.{Expansion}
 use Rattle.node_trees.specs.Origins.{scoped}
+use Rattle.node_trees.specs.Blanks.{blank_tree}
 
 -- the rules of a tree, each before those of its parts, with the number of values that it chooses and the place that it chooses
 abbrev pub rows_of : Derivation → List ℕ
@@ -157,7 +159,7 @@ pub record Way : Type 0 where
   pub rest : Remainder
 
 abbrev pub way_of : Alternative → Way
-way_of a = record { rules = derivation_of a.rules; action = does_of a.action; rest = remainder_of a.rest }
+way_of a = record { rules = blank_tree (plan_of a.scheme); action = does_of a.action; rest = remainder_of a.rest }
 
 -- what an origin can do: the plans of its composites, in order, and the ways to act
 pub record Work : Type 0 where

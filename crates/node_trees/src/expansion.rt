@@ -4,17 +4,16 @@ ghost use Rattle.std.specs.Prelude.{◌≡◌, IfOk, map};
 ghost use Rattle.node_trees.specs.Rests.{way_of, expansion_of};
 
 use crate::rest::{Deed, Rest};
-use rule_model::rules::Rules;
 use spec_core::memory::Memory;
 use std::alloc::Global;
 use symbolic_plans::composite::OpenComposite;
 use symbolic_plans::operators::copies;
+use symbolic_plans::scheme::Scheme;
 
-/// One way in which an origin can act: a tree of rules with blanks for the values that are chosen when it acts, its action, and what is
-/// left then.
+/// One way in which an origin can act: a tree of rules whose chosen values are left open until it acts, its action, and what is left then.
 #[derive(Drop)]
 pub struct Alternative {
-    pub rules: Rules,
+    pub scheme: Scheme,
     pub action: Deed,
     pub rest: Rest,
 }
@@ -31,11 +30,11 @@ impl Alternative {
     pub fn copy(&self, alloc: Global) -> Result<Alternative, Memory>
         ensures equal { IfOk result (λ a. way_of a ≡ way_of self.now) }
     {
-        let rules = self.rules.copy(alloc)?;
+        let scheme = self.scheme.copy(alloc)?;
         let action = self.action.copy(alloc)?;
         let rest = self.rest.copy(alloc)?;
         Ok(Alternative {
-            rules,
+            scheme,
             action,
             rest,
         })

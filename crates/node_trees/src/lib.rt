@@ -1,6 +1,7 @@
 // What the tree of a board is made of: nodes with generations, operators over nodes, and trees of new nodes.
 #![tactic(auto)]
 
+pub mod blanks;
 pub mod branch;
 pub mod composite;
 pub mod expansion;

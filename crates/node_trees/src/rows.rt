@@ -8,9 +8,9 @@ use rule_model::rules::{Rules, Slot};
 use spec_core::memory::Memory;
 use std::alloc::Global;
 
-// One more row with its number.
-fn put_number(row: u64, number: u64, rows: &mut Vec<u64>) -> Result<(), Memory>
-    ensures { IfOk result (λ _. rows.new.items ≡ rows.old.items ++ row ∷ number ∷ []) }
+/// One more row with its number.
+pub fn put_number(row: u64, number: u64, rows: &mut Vec<u64>) -> Result<(), Memory>
+    ensures more { IfOk result (λ _. rows.new.items ≡ rows.old.items ++ row ∷ number ∷ []) }
 {
     rows.push(row)?;
     rows.push(number)?;

@@ -1,11 +1,11 @@
-use Rattle.std.proofs.Common.{rules, ◌≡◌, map, subst}
+use Rattle.std.proofs.Common.{rules, ◌≡◌, ap, map, subst}
 use Rattle.spec_core.specs.Code.{relabelling_of}
-use Rattle.rule_model.specs.Derivations.{derivation_of}
 use Rattle.rule_origins.specs.Parts.{behaviour_at}
 use Rattle.rule_origins.specs.Values.{assignment}
 use Rattle.symbolic_plans.specs.Parts.{plan_of_part}
 use Rattle.symbolic_plans.specs.Plans.{plan_of}
 use Rattle.node_values.specs.Prepared.{program_in}
+use Rattle.node_steps.specs.Blanks.{blank_tree}
 use Rattle.node_steps.specs.Frames.{standing}
 use Rattle.node_steps.specs.Turns.{TurnsOr}
 use Rattle.node_steps.proofs.Standing.{origin_way, no_origin_way}
@@ -36,11 +36,11 @@ returns-clause-way c =
     let same : c.deref.result.now ≡ values = search rules in
     origin_way program c.requires.ready.executable values (map relabelling_of c.args.origin.now.relabel.items)
     (behaviour_at program c.args.origin.now.node) q c.in_ok-site.ensures.stands p c.in-Some.turn
-    (derivation_of c.in_ok-rules-in-Some.rules)
+    (blank_tree (plan_of c.in_ok-scheme-in-Some.scheme))
     (turned_some program c.requires.ready.executable 0 (assignment program.theory values) q p c.in_ok-walk.field-0 c.in-Some.turn
     c.in-Some.is
     (of_plan program c.requires.ready.executable 0 (assignment program.theory values) q (plan_of_part c.whole.result) p c.in_ok-walk.field-0
     c.whole.ensures.whole
     (subst (λ l. TurnsOr program 0 (assignment program.theory l) q (plan_of_part c.whole.result) c.in_ok-walk.field-0) same
     c.in_ok-walk.ensures.turns)))
-    c.in_ok-rules-in-Some.ensures.tree
+    (ap blank_tree c.in_ok-scheme-in-Some.ensures.equal)

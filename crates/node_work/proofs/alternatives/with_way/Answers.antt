@@ -1,6 +1,5 @@
 use Rattle.std.proofs.Common.{◌≡◌, ◌∷◌, [], map, ap, ◌∙◌}
 use Rattle.std.proofs.lemmas.List.{map-append}
-use Rattle.rule_model.specs.Derivations.{derivation_of}
 use Rattle.node_values.proofs.Finding.{of_some}
 use Rattle.symbolic_plans.specs.OpenPlans.{open_plan_of}
 use Rattle.symbolic_plans.specs.Plans.{plan_of}
@@ -20,5 +19,5 @@ returns-in_ok-push-in-Some-clause-added c =
     (way_of c.in-Some.way)
     (ap (map way_of) (c.in_ok-push-in-Some.ensures.items) ∙ map-append way_of c.args.ways.items (c.in-Some.way ∷ []))
     (of_some (λ a. IsWayOf program b (way_of a)) found c.in-Some.way c.in-Some.is c.in_ok-way_along.ensures.way)
-    (of_some (λ a. derivation_of a.rules ≡ blank_tree (plan_of c.args.composite.now.scheme)) found c.in-Some.way c.in-Some.is
+    (of_some (λ a. (way_of a).rules ≡ blank_tree (plan_of c.args.composite.now.scheme)) found c.in-Some.way c.in-Some.is
     c.in_ok-way_along.ensures.rules)

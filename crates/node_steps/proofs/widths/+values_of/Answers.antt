@@ -2,7 +2,7 @@ use Rattle.std.proofs.Common.{rules, ◌≡◌, ◌∙◌, ap}
 use Rattle.std.specs.Fn.{iterate}
 use Rattle.symbolic_plans.specs.Plans.{below, plan_of}
 use Rattle.node_steps.proofs.Runs.{width_run}
-use Rattle.node_steps.proofs.blanks.+values_of.Goals as goal
+use Rattle.node_steps.proofs.widths.+values_of.Goals as goal
 
 pub returns-in_ok-own-in-Under : goal.returns-in_ok-own-in-Under
 returns-in_ok-own-in-Under t c =
