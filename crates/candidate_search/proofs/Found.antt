@@ -37,7 +37,7 @@ or_false : (b : Bool) → b || false ≡ b
 or_false true = refl
 or_false false = refl
 
-filter_all : {A : Type 0} (xs : List A) → filter (λ x. true) xs ≡ xs
+pub filter_all : {A : Type 0} (xs : List A) → filter (λ x. true) xs ≡ xs
 filter_all [] = refl
 filter_all (x ∷ xs) = ap (λ z. x ∷ z) (filter_all xs)
 

@@ -1,3 +1,4 @@
 pub mod Found
+pub mod Slots
 pub mod Unmarked
 pub mod Wanted

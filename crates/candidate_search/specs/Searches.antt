@@ -3,6 +3,7 @@ use Rattle.std.specs.Prelude.{ℕ, ◌≡◌, ◌+◌, ◌≤◌, ◌<◌, not, 
 use Rattle.std.specs.Prelude.{option_map}
 use Rattle.spec_core.specs.Theories.{Theory}
 use Rattle.rule_model.specs.declared.offer.Field.{Field}
+use Rattle.rule_model.specs.declared.offer.Field.TheVariants.{Give, Take}
 use Rattle.rule_model.specs.declared.offer.Offer.{Offer}
 use Rattle.rule_model.specs.declared.rules.Slot.{Slot}
 use Rattle.rule_model.specs.Actions.{at_gate}
@@ -12,6 +13,7 @@ use Rattle.symbolic_rules.specs.Trees.{has_mark}
 use Rattle.decision_trees.specs.Rules.{Query, meeting, any, unseen, beyond, any_beyond, beyond_or_unseen}
 use Rattle.symbolic_composites.specs.Kinds.{same_kind}
 use Rattle.symbolic_composites.specs.OpenFields.{OpenField, all_choices, any_marked, given_in}
+use Rattle.symbolic_composites.specs.OpenFields as open_fields
 use Rattle.symbolic_composites.specs.Composites.{from_option}
 use Rattle.symbolic_plans.specs.OpenPlans.{OpenPlan}
 use Rattle.candidate_laws.specs.Asked.{TreeQuery}
@@ -74,7 +76,16 @@ module _ (theory : Theory) where
       then (if all_may_meet theory fs choices fields then Some choices else None)
       else each_meeting fs choices fields
 
+-- what a field of an offer gives
+abbrev pub given_by : Field → Option (List ℕ)
+given_by (Give v) = Some v
+given_by (Take sort) = None
+
 module _ (theory : Theory) (w : Windows) where
+  -- of the slots that a field may have with what a field of an offer gives, those with which it may meet that
+  abbrev pub meeting_slots : OpenField → Field → List Slot
+  meeting_slots f field = filter (λ slot. may_meet theory f (slot ∷ []) field) (open_fields.choices theory w (given_by field) f)
+
   -- the slots that the fields of a composite may have so that its action may meet the offer, if there are any
   abbrev pub slots_taking : Offer → OpenPlan → Option (List (List Slot))
   slots_taking offer p =

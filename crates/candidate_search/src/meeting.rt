@@ -1,21 +1,27 @@
 // Fields that may meet the fields of an offer.
 
-ghost use Rattle.std.specs.Prelude.{◌≡◌, ◌++◌, ◌∷◌, [], IfOk, filter, map, option_map};
-ghost use Rattle.spec_core.specs.Theories.{theory_of};
+ghost use Rattle.std.specs.Prelude.{◌≡◌, ◌∷◌, ◌++◌, None, [], IfOk, Some, false, filter, if◌then◌else◌, map, option_map};
+ghost use Rattle.spec_core.specs.Theories.{Theory, theory_of};
+ghost use Rattle.rule_model.specs.declared.rules.Slot.TheVariants.{Of};
+ghost use Rattle.symbolic_composites.specs.OpenFields as fields;
 ghost use Rattle.symbolic_plans.specs.Plans.{field_of};
+ghost use Rattle.symbolic_rules.specs.Tables.{windows_in};
 ghost use Rattle.candidate_laws.specs.Waiting as waiting;
 ghost use Rattle.candidate_search.specs.Searches as searches;
 
 use rule_model::offer::Field;
 use rule_model::rules::{Slot, Slots};
 use spec_core::equation::DataSpec;
+use spec_core::items::Sort;
 use spec_core::memory::Memory;
 use spec_core::value::Value;
+use spec_core::window::Window;
 use std::alloc::Global;
 use std::slice;
 use symbolic_plans::column::{Column, sort_of_value};
-use symbolic_trees::choices::is_same;
-use symbolic_trees::ways::{any_marked, copies};
+use symbolic_rules::values_at;
+use symbolic_trees::choices::{choices_of, is_same};
+use symbolic_trees::ways::any_marked;
 
 // Whether one of these slots has this value.
 fn is_slot(value: &Value, slots: &[Slot]) -> bool
@@ -71,41 +77,100 @@ fn all_may_meet(
     }
 }
 
-// Appends a slot with which a field may meet a field of an offer, and no other one.
-fn put_meeting(
-    alloc: Global,
-    algebra: &DataSpec,
-    column: &Column,
-    field: &Field,
-    slot: &Slot,
-    all: &mut Vec<Slot>,
-) -> Result<(), Memory>
-    ensures { IfOk result (λ _. all.new.items ≡
-        all.old.items ++
-        filter (λ own. waiting.may_meet (theory_of algebra.now) (field_of column.now) (own ∷ []) field.now) (slot.now ∷ [])) }
+// The slot of a value, where it meets what is offered; else no slot.
+fn told_slots(alloc: Global, value: &Value, meets: bool) -> Result<Slots, Memory>
+    ensures { IfOk result (λ slots. slots ≡ if meets then Of value.now ∷ [] else []) }
 {
-    if may_meet(algebra, column, slice::from_ref(slot), field) {
-        all.push(slot.copy(alloc)?)?;
+    let mut all = Vec::new(alloc);
+    if meets {
+        all.push(Slot::Of(value.copy(alloc)?))?;
+    }
+    Ok(Slots::new(all))
+}
+
+// Appends the slot of a value, where it is the given one.
+fn put_same(alloc: Global, value: &Value, given: &Value, all: &mut Vec<Slot>) -> Result<(), Memory>
+    ensures { IfOk result (λ _. all.new.items ≡
+        all.old.items ++ filter (λ own. waiting.is_slot given.now (own ∷ [])) (Of value.now ∷ [])) }
+{
+    if is_same(value, given) {
+        all.push(Slot::Of(value.copy(alloc)?))?;
     }
     Ok(())
 }
 
-// Those of the slots with which a field may meet a field of an offer.
+// The slots of those values that are the given one.
+fn same_slots(alloc: Global, values: &[Value], given: &Value) -> Result<Vec<Slot>, Memory>
+    ensures { IfOk result (λ all. all.items ≡ filter (λ own. waiting.is_slot given.now (own ∷ [])) (map Of values.now)) }
+{
+    let mut all = Vec::new(alloc);
+    for value in values {
+        put_same(alloc, value, given, &mut all)?;
+    }
+    Ok(all)
+}
+
+// Of the slots of a field for which no expression tells a value, those with the value that an offer gives.
+fn given_slots(
+    alloc: Global,
+    windows: &[Window],
+    sort: Sort,
+    given: &Value,
+) -> Result<Slots, Memory>
+    ensures { IfOk result (λ slots. (theory : Theory) → slots ≡ filter (λ own. waiting.is_slot given.now (own ∷ []))
+        (fields.choices theory (windows_in windows.now) (Some given.now) (fields.blank false sort.0))) }
+{
+    let mut all = same_slots(alloc, values_at(windows, sort), given)?;
+    if !all.is_empty() {
+        return Ok(Slots::new(all));
+    }
+    all.push(Slot::Of(given.copy(alloc)?))?;
+    Ok(Slots::new(all))
+}
+
+// All slots of a field, where no offer gives its value.
+fn slots_of_column(
+    alloc: Global,
+    algebra: &DataSpec,
+    windows: &[Window],
+    column: &Column,
+) -> Result<Slots, Memory>
+    ensures { IfOk result (λ slots. slots ≡ fields.choices (theory_of algebra.now) (windows_in windows.now) None (field_of column.now)) }
+{
+    let mut all = choices_of(alloc, algebra, windows, &[], slice::from_ref(column))?;
+    match all.pop() {
+        None => unreachable!(),
+        Some(slots) => Ok(slots),
+    }
+}
+
+// The slots with which a field, for which no expression gives a mark, may meet a field of an offer.
 fn meeting_slots(
     alloc: Global,
     algebra: &DataSpec,
+    windows: &[Window],
     column: &Column,
     field: &Field,
-    slots: &[Slot],
 ) -> Result<Slots, Memory>
+    requires unmarked { fields.is_marked (field_of column.now) ≡ false }
     ensures { IfOk result (λ kept. kept ≡
-        filter (λ own. waiting.may_meet (theory_of algebra.now) (field_of column.now) (own ∷ []) field.now) slots.now) }
+        searches.meeting_slots (theory_of algebra.now) (windows_in windows.now) (field_of column.now) field.now) }
 {
-    let mut all = Vec::new(alloc);
-    for slot in slots {
-        put_meeting(alloc, algebra, column, field, slot, &mut all)?;
+    match column {
+        Column::Told(value, _) => {
+            told_slots(alloc, value, may_meet(algebra, column, &[], field))
+        }
+        Column::Blank(sort, _) => match field {
+            Field::Give(given) => given_slots(alloc, windows, *sort, given),
+            Field::Take(other) => {
+                if sort.0 == other.0 {
+                    slots_of_column(alloc, algebra, windows, column)
+                } else {
+                    Ok(Slots::new(Vec::new(alloc)))
+                }
+            }
+        },
     }
-    Ok(Slots::new(all))
 }
 
 // Slots of a field before those of others.
@@ -119,82 +184,87 @@ fn in_front(first: Slots, others: Vec<Slots>) -> Result<Vec<Slots>, Memory>
     }
 }
 
-// Of the slots that each field may have, those with which it may meet the offer's field; None where there isn't a field for each.
+// Of the slots that each field may have with what an offer gives, those with which it may meet the offer's field; None where there isn't a
+// field for each. No expression gives a mark.
 #[cycle(each_meeting)]
 fn each_meeting(
     alloc: Global,
     algebra: &DataSpec,
+    windows: &[Window],
     columns: &[Column],
-    choices: &[Slots],
     offered: &[Field],
 ) -> Result<Option<Vec<Slots>>, Memory>
+    requires unmarked { fields.any_marked (map field_of columns.now) ≡ false }
     ensures { IfOk result (λ o. option_map (λ all. all.items) o ≡
-        searches.each_meeting (theory_of algebra.now) (map field_of columns.now) choices.now offered.now) }
+        searches.each_meeting (theory_of algebra.now) (map field_of columns.now)
+        (fields.all_choices (theory_of algebra.now) (windows_in windows.now) (fields.given_in offered.now) (map field_of columns.now))
+        offered.now) }
 {
     match columns {
         [] => match offered {
-            [] => Ok(Some(copies(alloc, choices)?)),
+            [] => Ok(Some(Vec::new(alloc))),
             [_, ..] => Ok(None),
         },
-        [column, columns @ ..] => match choices {
+        [column, columns @ ..] => match offered {
             [] => Ok(None),
-            [slots, choices @ ..] => match offered {
-                [] => Ok(None),
-                [field, offered @ ..] => {
-                    let slots = slots.as_slice();
-                    first_meeting(
-                        alloc, algebra, column, slots, field, columns, choices, offered,
-                    )
-                }
-            },
+            [field, offered @ ..] => {
+                first_meeting(alloc, algebra, windows, column, field, columns, offered)
+            }
         },
     }
 }
 
-// The same, with the first field and its slots.
+// The same, with the first field.
 #[cycle(each_meeting)]
+#[tactic(auto, using(crate::proofs::Slots::with_first))]
 fn first_meeting(
     alloc: Global,
     algebra: &DataSpec,
+    windows: &[Window],
     column: &Column,
-    slots: &[Slot],
     field: &Field,
     columns: &[Column],
-    choices: &[Slots],
     offered: &[Field],
 ) -> Result<Option<Vec<Slots>>, Memory>
+    requires first { fields.is_marked (field_of column.now) ≡ false }
+    requires others { fields.any_marked (map field_of columns.now) ≡ false }
     ensures { IfOk result (λ o. option_map (λ all. all.items) o ≡
-        searches.each_meeting (theory_of algebra.now) (field_of column.now ∷ map field_of columns.now) (slots.now ∷ choices.now)
+        searches.each_meeting (theory_of algebra.now) (field_of column.now ∷ map field_of columns.now)
+        (fields.all_choices (theory_of algebra.now) (windows_in windows.now) (fields.given_in (field.now ∷ offered.now))
+        (field_of column.now ∷ map field_of columns.now))
         (field.now ∷ offered.now)) }
 {
-    match each_meeting(alloc, algebra, columns, choices, offered)? {
+    match each_meeting(alloc, algebra, windows, columns, offered)? {
         None => Ok(None),
         Some(others) => {
-            let first = meeting_slots(alloc, algebra, column, field, slots)?;
+            let first = meeting_slots(alloc, algebra, windows, column, field)?;
             Ok(Some(in_front(first, others)?))
         }
     }
 }
 
-/// Of the slots that each field may have, those with which it may meet the offer's field; where an expression gives a mark, all of them, if
-/// the fields may meet with them; None where they don't.
+/// Of the slots that each field may have with what an offer gives, those with which it may meet the offer's field; where an expression gives
+/// a mark, all of them, if the fields may meet with them; None where they don't.
 pub fn all_meeting(
     alloc: Global,
     algebra: &DataSpec,
+    windows: &[Window],
     columns: &[Column],
-    choices: Vec<Slots>,
     offered: &[Field],
 ) -> Result<Option<Vec<Slots>>, Memory>
     ensures meeting { IfOk result (λ o. option_map (λ all. all.items) o ≡
-        searches.all_meeting (theory_of algebra.now) (map field_of columns.now) choices.items offered.now) }
+        searches.all_meeting (theory_of algebra.now) (map field_of columns.now)
+        (fields.all_choices (theory_of algebra.now) (windows_in windows.now) (fields.given_in offered.now) (map field_of columns.now))
+        offered.now) }
 {
     if any_marked(columns) {
+        let choices = choices_of(alloc, algebra, windows, offered, columns)?;
         if all_may_meet(algebra, columns, &choices, offered) {
             Ok(Some(choices))
         } else {
             Ok(None)
         }
     } else {
-        each_meeting(alloc, algebra, columns, &choices, offered)
+        each_meeting(alloc, algebra, windows, columns, offered)
     }
 }

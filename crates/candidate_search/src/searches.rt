@@ -72,8 +72,7 @@ fn slots_taking(
 {
     if same_kind(composite.kind, ActionKind::At(offer.gate)) {
         let offered = offer.fields.as_slice();
-        let choices = choices_of(alloc, algebra, windows, offered, &composite.columns)?;
-        all_meeting(alloc, algebra, &composite.columns, choices, offered)
+        all_meeting(alloc, algebra, windows, &composite.columns, offered)
     } else {
         Ok(None)
     }
