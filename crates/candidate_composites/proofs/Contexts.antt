@@ -1,5 +1,5 @@
 -- What the operators above a part make of its plans, one operator after the other.
-use Rattle.std.proofs.Common.{ℕ, ◌≡◌, ◌+◌, ◌++◌, ◌&&◌, ◌||◌, ◌∙◌, not, List, [], ◌∷◌, map, filter, flat_map, refl, sym, ap, Bool, true, false, cond}
+use Rattle.std.proofs.Common.{ℕ, ◌≡◌, ◌++◌, ◌&&◌, ◌||◌, ◌∙◌, not, List, [], ◌∷◌, map, filter, flat_map, refl, sym, ap, Bool, true, false, cond}
 use Rattle.std.proofs.Common.{if◌then◌else◌, append_assoc, Option, Some, None}
 use Rattle.std.proofs.lemmas.Bool.{or_parts}
 use Rattle.std.proofs.lemmas.List.Concat.{flat_map-append}
@@ -18,7 +18,8 @@ use Rattle.candidate_composites.specs.Known.{PlacedPlan, made, awaited, stepped,
 use Rattle.candidate_composites.specs.Known.{placed_partners, placed_over_two}
 use Rattle.candidate_composites.specs.Contexts.{Turn, below_row, disabled, alone_by, over_by, turned_by, through, all_through, some_joint}
 use Rattle.candidate_composites.specs.Joining.{Joins, beside_those, is_offered, lets, right_of}
-use Rattle.candidate_composites.specs.Kept.{is_kept, kept_at, kept_plans}
+use Rattle.candidate_composites.specs.Kept.{is_kept, kept_at, kept_plans, prunes}
+use Rattle.candidate_composites.specs.declared.listed.Listed.{Listed}
 
 -- The lowest operator first, and those above it then.
 
@@ -109,8 +110,8 @@ none_offered gates ps e k = by_tests (is_alone gates k) (is_offered k ps) (all_a
     by_tests false true h = let no : false ≡ true = h refl in absurd cc
     by_tests false false h = refl
 
-same_right : (prunes : Bool) (gates : Synchronised) (ps : List PlacedPlan) (c : Joins) → some_joint gates ps ≡ false →
-    LetSame (right_of prunes (beside gates) ps c) (right_of prunes (beside gates) [] c)
+same_right : (b : Bool) (gates : Synchronised) (ps : List PlacedPlan) (c : Joins) → some_joint gates ps ≡ false →
+    LetSame (right_of b (beside gates) ps c) (right_of b (beside gates) [] c)
 same_right true gates ps c e = none_offered gates ps e
 same_right false gates ps c e = λ k. refl
 
@@ -119,34 +120,35 @@ same_filter f g e [] = refl
 same_filter f g e (p ∷ ps) =
     ap (λ b. cond b (p ∷ filter f ps) (filter f ps)) (e p) ∙ ap (λ z. cond (g p) (p ∷ z) z) (same_filter f g e ps)
 
-same_at : (v : Sought) (c d : Joins) → LetSame c d → (g : ℕ) (work : Option Work) → kept_at v c g work ≡ kept_at v d g work
-same_at v c d e g None = refl
-same_at v c d e g (Some work) =
+same_at : (l : Listed) (v : Sought) (c d : Joins) → LetSame c d → (g : ℕ) (work : Option Work) →
+    kept_at l v c g work ≡ kept_at l v d g work
+same_at l v c d e g None = refl
+same_at l v c d e g (Some work) =
     ap (map made)
     (same_filter (λ (p : OpenPlan). is_kept v c p.kind) (λ (p : OpenPlan). is_kept v d p.kind) (λ p. ap (λ b. b && is_sought v p.kind) (e p.kind))
     work.plans)
 
-right_same : (prunes : Bool) (o : Binary) (ps : List PlacedPlan) (c d : Joins) → LetSame c d →
-    LetSame (right_of prunes o ps c) (right_of prunes o ps d)
-right_same prunes choosing ps c d e = e
+right_same : (b : Bool) (o : Binary) (ps : List PlacedPlan) (c d : Joins) → LetSame c d →
+    LetSame (right_of b o ps c) (right_of b o ps d)
+right_same b choosing ps c d e = e
 right_same true (beside gates) ps c d e = λ k. refl
 right_same false (beside gates) ps c d e = e
-right_same prunes disabling ps c d e = e
+right_same b disabling ps c d e = e
 
 module _ (theory : Theory) where
-  pub same_kept : (prunes : Bool) (t : Shape) (v : Sought) (c d : Joins) → LetSame c d →
-      kept_plans theory prunes t v c ≡ kept_plans theory prunes t v d
-  same_kept prunes (leaf n) v c d e = same_at v c d e n.generation n.work
-  same_kept prunes ended v c d e = refl
-  same_kept prunes (over o x) v c d e = refl
-  same_kept prunes (between o x y) v c d e =
-      let ps = kept_plans theory prunes x v c in
-      let qs = kept_plans theory prunes x v d in
-      let first : ps ≡ qs = same_kept prunes x v c d e in
-      ap (λ z. placed_over_two theory o ps (kept_plans theory prunes y v (right_of prunes o z c))) first
+  pub same_kept : (l : Listed) (t : Shape) (v : Sought) (c d : Joins) → LetSame c d →
+      kept_plans theory l t v c ≡ kept_plans theory l t v d
+  same_kept l (leaf n) v c d e = same_at l v c d e n.generation n.work
+  same_kept l ended v c d e = refl
+  same_kept l (over o x) v c d e = refl
+  same_kept l (between o x y) v c d e =
+      let ps = kept_plans theory l x v c in
+      let qs = kept_plans theory l x v d in
+      let first : ps ≡ qs = same_kept l x v c d e in
+      ap (λ z. placed_over_two theory o ps (kept_plans theory l y v (right_of (prunes l) o z c))) first
       ∙ ap (placed_over_two theory o ps)
-      (same_kept prunes y v (right_of prunes o qs c) (right_of prunes o qs d) (right_same prunes o qs c d e))
-      ∙ ap (λ z. placed_over_two theory o z (kept_plans theory prunes y v (right_of prunes o qs d))) first
+      (same_kept l y v (right_of (prunes l) o qs c) (right_of (prunes l) o qs d) (right_same (prunes l) o qs c d e))
+      ∙ ap (λ z. placed_over_two theory o z (kept_plans theory l y v (right_of (prunes l) o qs d))) first
 
   none_together : (gates : Synchronised) (ps qs : List PlacedPlan) → some_joint gates ps ≡ false →
       flat_map (stepped (with_another gates) (placed_partners theory gates qs)) ps ≡ []
@@ -159,29 +161,30 @@ module _ (theory : Theory) where
       ∙ none_together gates ps qs parts.1
 
   -- what is left then of a parallel composition, above all operators
-  pub sides_alone : (prunes : Bool) (gates : Synchronised) (x y : Shape) (v : Sought) (c : Joins) (ts us vs : List Turn) →
+  pub sides_alone : (l : Listed) (gates : Synchronised) (x y : Shape) (v : Sought) (c : Joins) (ts us vs : List Turn) →
       us ≡ alone_by gates Parl ∷ ts →
       vs ≡ alone_by gates Parr ∷ ts →
       (a b d : List PlacedPlan) →
-      some_joint gates (kept_plans theory prunes x v c) ≡ false →
-      b ≡ a ++ all_through us (kept_plans theory prunes x v c) →
-      d ≡ b ++ all_through vs (kept_plans theory prunes y v (right_of prunes (beside gates) [] c)) →
-      d ≡ a ++ all_through ts (kept_plans theory prunes (between (beside gates) x y) v c)
-  sides_alone prunes gates x y v c ts us vs h k a b d e f g =
-      let ps = kept_plans theory prunes x v c in
-      let qs = kept_plans theory prunes y v (right_of prunes (beside gates) ps c) in
-      let rs = kept_plans theory prunes y v (right_of prunes (beside gates) [] c) in
+      some_joint gates (kept_plans theory l x v c) ≡ false →
+      b ≡ a ++ all_through us (kept_plans theory l x v c) →
+      d ≡ b ++ all_through vs (kept_plans theory l y v (right_of (prunes l) (beside gates) [] c)) →
+      d ≡ a ++ all_through ts (kept_plans theory l (between (beside gates) x y) v c)
+  sides_alone l gates x y v c ts us vs h k a b d e f g =
+      let ps = kept_plans theory l x v c in
+      let qs = kept_plans theory l y v (right_of (prunes l) (beside gates) ps c) in
+      let rs = kept_plans theory l y v (right_of (prunes l) (beside gates) [] c) in
       let same : rs ≡ qs =
-      sym (same_kept prunes y v (right_of prunes (beside gates) ps c) (right_of prunes (beside gates) [] c) (same_right prunes gates ps c e)) in
+      sym (same_kept l y v (right_of (prunes l) (beside gates) ps c) (right_of (prunes l) (beside gates) [] c)
+      (same_right (prunes l) gates ps c e)) in
       one_behind ts a b d (placed_alone gates Parl ps) (placed_alone gates Parr rs)
       (f ∙ ap (λ z. a ++ z) (rises_alone gates Parl ts us ps h)) (g ∙ ap (λ z. b ++ z) (rises_alone gates Parr ts vs rs k))
       ∙ ap (λ z. a ++ all_through ts (placed_alone gates Parl ps ++ placed_alone gates Parr z)) same
       ∙ ap (λ z. a ++ all_through ts (placed_alone gates Parl ps ++ z)) (sym (no_more (placed_alone gates Parr qs)))
       ∙ ap (λ z. a ++ all_through ts (placed_alone gates Parl ps ++ (placed_alone gates Parr qs ++ z))) (sym (none_together gates ps qs e))
     where
-      no_more : (l : List PlacedPlan) → l ++ [] ≡ l
+      no_more : (zs : List PlacedPlan) → zs ++ [] ≡ zs
       no_more [] = refl
-      no_more (z ∷ l) = ap (λ k. z ∷ k) (no_more l)
+      no_more (z ∷ zs) = ap (λ k. z ∷ k) (no_more zs)
 
   -- all three parts of a parallel composition, one behind the other
   pub sides_and_both : (gates : Synchronised) (ps qs : List PlacedPlan) (ts us vs : List Turn) →

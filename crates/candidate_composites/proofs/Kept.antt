@@ -1,5 +1,5 @@
 -- What is made of nodes' composites whose actions are sought has all that is sought.
-use Rattle.std.proofs.Common.{ℕ, ◌≡◌, ◌++◌, ◌&&◌, ◌||◌, ◌∙◌, not, List, [], ◌∷◌, map, filter, flat_map, refl, sym, ap, Bool, true, false, cond, if◌then◌else◌}
+use Rattle.std.proofs.Common.{ℕ, ◌≡◌, ◌++◌, ◌&&◌, ◌||◌, ◌∙◌, List, [], ◌∷◌, map, filter, flat_map, refl, sym, ap, Bool, true, false, cond, if◌then◌else◌}
 use Rattle.std.proofs.Common.{Option, Some, None}
 use Rattle.std.proofs.lemmas.Bool.{or_parts}
 use Rattle.std.proofs.lemmas.List.Concat.{flat_map-append}
@@ -23,7 +23,9 @@ use Rattle.candidate_composites.specs.Known.{PlanOrGap, PlacedPlan, made, awaite
 use Rattle.candidate_composites.specs.Known.{stepped, turned_there, placed_over_one}
 use Rattle.candidate_composites.specs.Known.{placed_alone, placed_at, placed_partners, placed_over_two, placed_plans, known_plans, sought_plans}
 use Rattle.candidate_composites.specs.Joining.{Joins, free, is_offered, lets, right_of}
-use Rattle.candidate_composites.specs.Kept.{is_kept, kept_at, kept_plans, node_waits, prunes_for, some_waits}
+use Rattle.candidate_composites.specs.Kept.{is_kept, kept_at, kept_plans, listed_for, node_waits, prunes, some_waits}
+use Rattle.candidate_composites.specs.declared.listed.Listed.{Listed}
+use Rattle.candidate_composites.specs.declared.listed.Listed.TheVariants.{All, Pruned, Expanded}
 use Rattle.candidate_composites.proofs.Placed.{placed_are_known}
 use Rattle.candidate_composites.proofs.Those.{sift, fill, sift_stepped, sift_turned, as_stepped, kind_of_either, same_either, one_over, one_alone}
 use Rattle.candidate_composites.proofs.Those.{partners_sought, all_partners}
@@ -33,16 +35,18 @@ use Rattle.candidate_composites.proofs.Whole.{AllMade, all_plans, all_over, all_
 abbrev Covers : (Kind → Bool) → Sought → Type 0
 Covers f v = (k : Kind) → is_sought v k ≡ true → f k ≡ true
 
--- where something is left out it is said what is sought
-abbrev Allowed : Bool → Sought → Type 0
-Allowed true every_kind = ⊥
-Allowed true (these_kinds ks) = Unit {0}
-Allowed false v = Unit {0}
+-- with the gaps: where something is left out it is said what is sought
+abbrev Allowed : Listed → Sought → Type 0
+Allowed All v = Unit {0}
+Allowed Pruned every_kind = ⊥
+Allowed Pruned (these_kinds ks) = Unit {0}
+Allowed Expanded v = ⊥
 
-allowed_below : (prunes : Bool) (step : Step) (v : Sought) → Allowed prunes v → Allowed prunes (sought_below step v)
-allowed_below true step every_kind a = absurd a
-allowed_below true step (these_kinds ks) a = tt
-allowed_below false step v a = tt
+allowed_below : (l : Listed) (step : Step) (v : Sought) → Allowed l v → Allowed l (sought_below step v)
+allowed_below All step v a = tt
+allowed_below Pruned step every_kind a = absurd a
+allowed_below Pruned step (these_kinds ks) a = tt
+allowed_below Expanded step v a = absurd a
 
 either_still : (a b c : Bool) → a || b ≡ true → (b ≡ true → c ≡ true) → a || c ≡ true
 either_still true b c e h = refl
@@ -125,23 +129,25 @@ is_itself gates k ks e = by_test (is_alone gates k) (one_passes k (becomes_one (
     by_test false f = f
 
 -- the right side of a parallel composition, of what it does alone and of what it does with an action that the left side may do
-right_alone : (prunes : Bool) (gates : Synchronised) (ps : List PlacedPlan) (u : Sought) (c : Joins) (v : Sought) → Allowed prunes v →
-    Covers (is_kept u c) v → Covers (is_kept u (right_of prunes (beside gates) ps c)) (sought_below (by_itself gates) v)
-right_alone false gates ps u c v a h k e = covers_itself gates (is_kept u c) v h k e
-right_alone true gates ps u c every_kind a h k e = absurd a
-right_alone true gates ps u c (these_kinds ks) a h k e =
+right_alone : (l : Listed) (gates : Synchronised) (ps : List PlacedPlan) (u : Sought) (c : Joins) (v : Sought) → Allowed l v →
+    Covers (is_kept u c) v → Covers (is_kept u (right_of (prunes l) (beside gates) ps c)) (sought_below (by_itself gates) v)
+right_alone All gates ps u c v a h k e = covers_itself gates (is_kept u c) v h k e
+right_alone Pruned gates ps u c every_kind a h k e = absurd a
+right_alone Pruned gates ps u c (these_kinds ks) a h k e =
     both_so (is_alone gates k || is_offered k ps) (is_sought u k) (first_so (is_alone gates k) (is_offered k ps) (is_itself gates k ks e))
     (and_second (lets c k) (is_sought u k) (covers_itself gates (is_kept u c) (these_kinds ks) h k e))
+right_alone Expanded gates ps u c v a h k e = absurd a
 
-right_with : (prunes : Bool) (gates : Synchronised) (ps : List PlacedPlan) (u : Sought) (c : Joins) (v : Sought) (j : Kind) →
-    Allowed prunes v → Covers (is_kept u c) v → is_offered j ps ≡ true →
-    Covers (is_kept u (right_of prunes (beside gates) ps c)) (sought_below (as_another j) v)
-right_with false gates ps u c v j a h i k e = covers_as j (is_kept u c) v h k e
-right_with true gates ps u c every_kind j a h i k e = absurd a
-right_with true gates ps u c (these_kinds ks) j a h i k e =
+right_with : (l : Listed) (gates : Synchronised) (ps : List PlacedPlan) (u : Sought) (c : Joins) (v : Sought) (j : Kind) →
+    Allowed l v → Covers (is_kept u c) v → is_offered j ps ≡ true →
+    Covers (is_kept u (right_of (prunes l) (beside gates) ps c)) (sought_below (as_another j) v)
+right_with All gates ps u c v j a h i k e = covers_as j (is_kept u c) v h k e
+right_with Pruned gates ps u c every_kind j a h i k e = absurd a
+right_with Pruned gates ps u c (these_kinds ks) j a h i k e =
     both_so (is_alone gates k || is_offered k ps) (is_sought u k)
     (either_so (is_alone gates k) (is_offered k ps) (ap (λ z. is_offered z ps) (sym (is_same j k ks e)) ∙ i))
     (and_second (lets c k) (is_sought u k) (covers_as j (is_kept u c) (these_kinds ks) h k e))
+right_with Expanded gates ps u c v j a h i k e = absurd a
 
 -- the kind above an operator over one part
 abbrev above : Unary → Kind → Kind
@@ -178,10 +184,12 @@ kept_sought f v h (p ∷ ps) = by_test (f p.kind) (h p.kind) (kept_sought f v h 
     by_test true i e = ap (λ z. (if is_sought v p.kind then element p ∷ [] else []) ++ z) e
     by_test false i e = e ∙ without (is_sought v p.kind) i
 
-at_node : (u : Sought) (c : Joins) (v : Sought) → Covers (is_kept u c) v → (g : ℕ) (work : Option Work) →
-    sift v (kept_at u c g work) ≡ sift v (placed_at g work)
-at_node u c v h g None = refl
-at_node u c v h g (Some work) = kept_sought (is_kept u c) v h work.plans
+at_node : (l : Listed) (u : Sought) (c : Joins) (v : Sought) → Allowed l v → Covers (is_kept u c) v → (g : ℕ) (work : Option Work) →
+    sift v (kept_at l u c g work) ≡ sift v (placed_at g work)
+at_node All u c v a h g None = refl
+at_node Pruned u c v a h g None = refl
+at_node Expanded u c v a h g None = absurd a
+at_node l u c v a h g (Some work) = kept_sought (is_kept u c) v h work.plans
 
 -- two fillings that agree at what may be of these kinds
 same_fill : (f g : OpenPlan → List PlanOrGap) (w : Sought) (ps all : List PlacedPlan) →
@@ -293,49 +301,49 @@ module _ (theory : Theory) where
       same : (p : OpenPlan) → is_offered p.kind ps ≡ true → partners_sought theory gates v p qs ≡ partners_sought theory gates v p ss
       same p i = ap (λ z. if is_joint gates p.kind then fill (λ q. map element (plans_joint theory gates p q)) z else []) (f p.kind i)
 
-  two_parts : (prunes : Bool) (o : Binary) (u : Sought) (c : Joins) (v : Sought) → Allowed prunes v → Covers (is_kept u c) v →
+  two_parts : (l : Listed) (o : Binary) (u : Sought) (c : Joins) (v : Sought) → Allowed l v → Covers (is_kept u c) v →
       (ps qs rs ss : List PlacedPlan) →
-      ((w : Sought) → Allowed prunes w → Covers (is_kept u c) w → sift w ps ≡ sift w rs) →
-      ((w : Sought) → Allowed prunes w → Covers (is_kept u (right_of prunes o ps c)) w → sift w qs ≡ sift w ss) →
+      ((w : Sought) → Allowed l w → Covers (is_kept u c) w → sift w ps ≡ sift w rs) →
+      ((w : Sought) → Allowed l w → Covers (is_kept u (right_of (prunes l) o ps c)) w → sift w qs ≡ sift w ss) →
       sift v (placed_over_two theory o ps qs) ≡ sift v (placed_over_two theory o rs ss)
-  two_parts prunes choosing u c v a h ps qs rs ss e f =
+  two_parts l choosing u c v a h ps qs rs ss e f =
       join v (map (turned_there (under_row Chl)) ps) (map (turned_there (under_row Chr)) qs) (map (turned_there (under_row Chl)) rs)
       (map (turned_there (under_row Chr)) ss) (turns v (under_row Chl) (λ p. refl) ps rs (e v a h))
       (turns v (under_row Chr) (λ p. refl) qs ss (f v a h))
-  two_parts prunes (beside gates) u c v a h ps qs rs ss e f =
+  two_parts l (beside gates) u c v a h ps qs rs ss e f =
       let rights = placed_alone gates Parr qs in
       let others = placed_alone gates Parr ss in
       let first = flat_map (stepped (with_another gates) (placed_partners theory gates qs)) ps in
       let second = flat_map (stepped (with_another gates) (placed_partners theory gates ss)) rs in
-      let below = allowed_below prunes (by_itself gates) v a in
+      let below = allowed_below l (by_itself gates) v a in
       join v (placed_alone gates Parl ps) (rights ++ first) (placed_alone gates Parl rs) (others ++ second)
       (alones gates Parl v ps rs (e (sought_below (by_itself gates) v) below (covers_itself gates (is_kept u c) v h)))
       (join v rights first others second
-      (alones gates Parr v qs ss (f (sought_below (by_itself gates) v) below (right_alone prunes gates ps u c v a h)))
+      (alones gates Parr v qs ss (f (sought_below (by_itself gates) v) below (right_alone l gates ps u c v a h)))
       (boths gates v ps qs rs ss
-      (e (sought_below (with_another gates) v) (allowed_below prunes (with_another gates) v a) (covers_with gates (is_kept u c) v h))
-      (λ j i. f (sought_below (as_another j) v) (allowed_below prunes (as_another j) v a) (right_with prunes gates ps u c v j a h i))))
-  two_parts prunes disabling u c v a h ps qs rs ss e f =
+      (e (sought_below (with_another gates) v) (allowed_below l (with_another gates) v a) (covers_with gates (is_kept u c) v h))
+      (λ j i. f (sought_below (as_another j) v) (allowed_below l (as_another j) v a) (right_with l gates ps u c v j a h i))))
+  two_parts l disabling u c v a h ps qs rs ss e f =
       join v (map (turned_there plan_by_disabling) ps) (map (turned_there (under_row Distake)) qs) (map (turned_there plan_by_disabling) rs)
       (map (turned_there (under_row Distake)) ss)
       (turns v plan_by_disabling
       (λ p. kind_of_either (is_end p.kind) (under_row Disend p) (under_row Disstep p) ∙ same_either (is_end p.kind) p.kind) ps rs (e v a h))
       (turns v (under_row Distake) (λ p. refl) qs ss (f v a h))
 
-  kept_are : (prunes : Bool) (t : Shape) (u : Sought) (c : Joins) (v : Sought) → Allowed prunes v → Covers (is_kept u c) v →
-      sift v (kept_plans theory prunes t u c) ≡ sift v (placed_plans theory t)
-  kept_are prunes (leaf n) u c v a h = at_node u c v h n.generation n.work
-  kept_are prunes ended u c v a h = refl
-  kept_are prunes (over o x) u c v a h =
-      part_over o v (kept_plans theory prunes x (sought_below (under_one o) u) free)
+  kept_are : (l : Listed) (t : Shape) (u : Sought) (c : Joins) (v : Sought) → Allowed l v → Covers (is_kept u c) v →
+      sift v (kept_plans theory l t u c) ≡ sift v (placed_plans theory t)
+  kept_are l (leaf n) u c v a h = at_node l u c v a h n.generation n.work
+  kept_are l ended u c v a h = refl
+  kept_are l (over o x) u c v a h =
+      part_over o v (kept_plans theory l x (sought_below (under_one o) u) free)
       ∙ ap (fill (λ p. element (over_one o p) ∷ []))
-      (kept_are prunes x (sought_below (under_one o) u) free (sought_below (under_one o) v) (allowed_below prunes (under_one o) v a)
+      (kept_are l x (sought_below (under_one o) u) free (sought_below (under_one o) v) (allowed_below l (under_one o) v a)
       (covers_below o u c v h))
       ∙ sym (part_over o v (placed_plans theory x))
-  kept_are prunes (between o x y) u c v a h =
-      let ps = kept_plans theory prunes x u c in
-      two_parts prunes o u c v a h ps (kept_plans theory prunes y u (right_of prunes o ps c)) (placed_plans theory x) (placed_plans theory y)
-      (λ w b i. kept_are prunes x u c w b i) (λ w b i. kept_are prunes y u (right_of prunes o ps c) w b i)
+  kept_are l (between o x y) u c v a h =
+      let ps = kept_plans theory l x u c in
+      two_parts l o u c v a h ps (kept_plans theory l y u (right_of (prunes l) o ps c)) (placed_plans theory x) (placed_plans theory y)
+      (λ w b i. kept_are l x u c w b i) (λ w b i. kept_are l y u (right_of (prunes l) o ps c) w b i)
 
   -- where whatever there is is sought, and nothing is left out, all are made
 
@@ -343,45 +351,45 @@ module _ (theory : Theory) where
   all_kept [] = refl
   all_kept (p ∷ ps) = ap (λ z. p ∷ z) (all_kept ps)
 
-  all_at_node : (g : ℕ) (work : Option Work) → kept_at every_kind free g work ≡ placed_at g work
+  all_at_node : (g : ℕ) (work : Option Work) → kept_at All every_kind free g work ≡ placed_at g work
   all_at_node g None = refl
   all_at_node g (Some work) = ap (map made) (all_kept work.plans)
 
-  still_free : (o : Binary) (ps : List PlacedPlan) → right_of false o ps free ≡ free
+  still_free : (o : Binary) (ps : List PlacedPlan) → right_of (prunes All) o ps free ≡ free
   still_free choosing ps = refl
   still_free (beside gates) ps = refl
   still_free disabling ps = refl
 
-  every_is_kept : (t : Shape) → kept_plans theory false t every_kind free ≡ placed_plans theory t
+  every_is_kept : (t : Shape) → kept_plans theory All t every_kind free ≡ placed_plans theory t
   every_is_kept (leaf n) = all_at_node n.generation n.work
   every_is_kept ended = refl
   every_is_kept (over o x) = ap (map (placed_over_one o)) (every_is_kept x)
   every_is_kept (between o x y) =
-      let ps = kept_plans theory false x every_kind free in
-      ap (λ c. placed_over_two theory o ps (kept_plans theory false y every_kind c)) (still_free o ps)
-      ∙ ap (λ z. placed_over_two theory o z (kept_plans theory false y every_kind free)) (every_is_kept x)
+      let ps = kept_plans theory All x every_kind free in
+      ap (λ c. placed_over_two theory o ps (kept_plans theory All y every_kind c)) (still_free o ps)
+      ∙ ap (λ z. placed_over_two theory o z (kept_plans theory All y every_kind free)) (every_is_kept x)
       ∙ ap (placed_over_two theory o (placed_plans theory x)) (every_is_kept y)
 
   -- the same where something is left out, and no node waits
 
-  kept_made : (v : Sought) (c : Joins) (g : ℕ) (work : Option Work) → node_waits work ≡ false → AllMade (kept_at v c g work)
+  kept_made : (v : Sought) (c : Joins) (g : ℕ) (work : Option Work) → node_waits work ≡ false → AllMade (kept_at Pruned v c g work)
   kept_made v c g None e = let no : true ≡ false = e in absurd cc
   kept_made v c g (Some work) e = all_plans (filter (λ (p : OpenPlan). is_kept v c p.kind) work.plans)
 
-  all_kept_made : (t : Shape) (v : Sought) (c : Joins) → some_waits t ≡ false → AllMade (kept_plans theory true t v c)
+  all_kept_made : (t : Shape) (v : Sought) (c : Joins) → some_waits t ≡ false → AllMade (kept_plans theory Pruned t v c)
   all_kept_made (leaf n) v c e = kept_made v c n.generation n.work e
   all_kept_made ended v c e = tt
   all_kept_made (over o x) v c e =
-      all_over o (kept_plans theory true x (sought_below (under_one o) v) free) (all_kept_made x (sought_below (under_one o) v) free e)
+      all_over o (kept_plans theory Pruned x (sought_below (under_one o) v) free) (all_kept_made x (sought_below (under_one o) v) free e)
   all_kept_made (between o x y) v c e =
       let n = or_parts (some_waits x) (some_waits y) e in
-      let ps = kept_plans theory true x v c in
-      all_between theory o ps (kept_plans theory true y v (right_of true o ps c)) (all_kept_made x v c n.0)
-      (all_kept_made y v (right_of true o ps c) n.1)
+      let ps = kept_plans theory Pruned x v c in
+      all_between theory o ps (kept_plans theory Pruned y v (right_of (prunes Pruned) o ps c)) (all_kept_made x v c n.0)
+      (all_kept_made y v (right_of (prunes Pruned) o ps c) n.1)
 
-  pruned_is_kept : (t : Shape) → some_waits t ≡ false → kept_plans theory true t every_kind free ≡ placed_plans theory t
+  pub pruned_is_kept : (t : Shape) → some_waits t ≡ false → kept_plans theory Pruned t every_kind free ≡ placed_plans theory t
   pruned_is_kept t e =
-      let ps = kept_plans theory true t every_kind free in
+      let ps = kept_plans theory Pruned t every_kind free in
       let qs = placed_plans theory t in
       let ks = kinds_in ps ++ kinds_in qs in
       let a = all_kept_made t every_kind free e in
@@ -389,25 +397,25 @@ module _ (theory : Theory) where
       back ps a
       ∙ ap (map placed_again)
       (sym (all_sifted ps ks a (λ k i. one_of_first k (kinds_in ps) (kinds_in qs) i))
-      ∙ kept_are true t every_kind free (these_kinds ks) tt (λ k i. refl)
+      ∙ kept_are Pruned t every_kind free (these_kinds ks) tt (λ k i. refl)
       ∙ all_sifted qs ks b (λ k i. one_of_second k (kinds_in ps) (kinds_in qs) i))
       ∙ sym (back qs b)
 
-  all_are_kept : (t : Shape) (b : Bool) → some_waits t ≡ b → kept_plans theory (not b) t every_kind free ≡ placed_plans theory t
+  all_are_kept : (t : Shape) (b : Bool) → some_waits t ≡ b → kept_plans theory (if b then All else Pruned) t every_kind free ≡ placed_plans theory t
   all_are_kept t true e = every_is_kept t
   all_are_kept t false e = pruned_is_kept t e
 
   pub kept_are_sought : (t : Shape) (v : Sought) (parts : List Part) →
-      map placed_of parts ≡ kept_plans theory (prunes_for v t) t v free →
+      map placed_of parts ≡ kept_plans theory (listed_for v t) t v free →
       flat_map (plans_sought v) (map placed_of parts) ≡ sought_plans theory t v
   kept_are_sought t every_kind parts e = ap (sift every_kind) (e ∙ all_are_kept t (some_waits t) refl)
   kept_are_sought t (these_kinds ks) parts e =
-      ap (sift (these_kinds ks)) e ∙ kept_are true t (these_kinds ks) free (these_kinds ks) tt (λ k i. i)
+      ap (sift (these_kinds ks)) e ∙ kept_are Pruned t (these_kinds ks) free (these_kinds ks) tt (λ k i. i)
 
   pub every_is_placed : (t : Shape) (parts : List Part) →
-      map placed_of parts ≡ kept_plans theory (prunes_for every_kind t) t every_kind free → map placed_of parts ≡ placed_plans theory t
+      map placed_of parts ≡ kept_plans theory (listed_for every_kind t) t every_kind free → map placed_of parts ≡ placed_plans theory t
   every_is_placed t parts e = e ∙ all_are_kept t (some_waits t) refl
 
   pub every_is_known : (t : Shape) (parts : List Part) →
-      map placed_of parts ≡ kept_plans theory (prunes_for every_kind t) t every_kind free → map part_of parts ≡ known_plans theory t
+      map placed_of parts ≡ kept_plans theory (listed_for every_kind t) t every_kind free → map part_of parts ≡ known_plans theory t
   every_is_known t parts e = placed_are_known theory t parts (every_is_placed t parts e)

@@ -1,5 +1,6 @@
 pub mod StandingFirst
 pub mod Contexts
+pub mod Expanded
 pub mod Kept
 pub mod Placed
 pub mod Runs

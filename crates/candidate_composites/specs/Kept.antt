@@ -1,9 +1,9 @@
--- What the code makes of the composites of a tree: those that are made of nodes' composites whose actions are sought at the whole, and all
--- gaps. A parallel composition changes the kind of no action, so an action of a node is sought where it is below the operators over one part.
--- Where it is told so, what the right side of a parallel composition could do only together with the left one is left out where the left
--- side can't do it. That drops gaps from which nothing comes that is sought, unless whatever there is is sought: then it isn't done while a
--- node waits.
-use Rattle.std.specs.Prelude.{ℕ, ◌&&◌, ◌||◌, not, List, [], ◌∷◌, map, filter, Option, Some, None, Bool, true, false}
+-- What the code makes of the composites of a tree: those that are made of nodes' composites whose actions are sought at the whole, and the
+-- gaps, unless the composites of expanded nodes alone are listed. A parallel composition changes the kind of no action, so an action of a
+-- node is sought where it is below the operators over one part. Unless all are listed, what the right side of a parallel composition could
+-- do only together with the left one is left out where the left side can't do it. That drops gaps from which nothing comes that is sought,
+-- unless whatever there is is sought: then, with the gaps, all are listed while a node waits.
+use Rattle.std.specs.Prelude.{ℕ, ◌&&◌, ◌||◌, List, [], ◌∷◌, map, filter, Option, Some, None, Bool, true, false, if◌then◌else◌}
 use Rattle.spec_core.specs.Theories.{Theory}
 use Rattle.rule_model.specs.Actions.{Kind}
 use Rattle.symbolic_plans.specs.OpenPlans.{OpenPlan}
@@ -12,6 +12,8 @@ use Rattle.node_trees.specs.Rests.{Work}
 use Rattle.node_trees.specs.Shapes.{Shape, leaf, ended, over, between}
 use Rattle.candidate_composites.specs.Known.{PlacedPlan, made, awaited, placed_over_one, placed_over_two}
 use Rattle.candidate_composites.specs.Joining.{Joins, free, lets, right_of}
+use Rattle.candidate_composites.specs.declared.listed.Listed.{Listed}
+use Rattle.candidate_composites.specs.declared.listed.Listed.TheVariants.{All, Pruned, Expanded}
 
 -- some node of the tree waits for its expansion
 
@@ -26,24 +28,36 @@ some_waits (over o x) = some_waits x
 some_waits (between o x y) = some_waits x || some_waits y
 
 -- what can't come up by the left sides of parallel compositions is left out
-abbrev pub prunes_for : Sought → Shape → Bool
-prunes_for every_kind t = not (some_waits t)
-prunes_for (these_kinds ks) t = true
+abbrev pub prunes : Listed → Bool
+prunes All = false
+prunes Pruned = true
+prunes Expanded = true
+
+-- there is a gap in the place of each node that waits
+abbrev pub has_gaps : Listed → Bool
+has_gaps All = true
+has_gaps Pruned = true
+has_gaps Expanded = false
+
+-- what is listed of the composites that are sought, with the gaps
+abbrev pub listed_for : Sought → Shape → Listed
+listed_for every_kind t = if some_waits t then All else Pruned
+listed_for (these_kinds ks) t = Pruned
 
 -- an action of a part is sought, and may come up
 abbrev pub is_kept : Sought → Joins → Kind → Bool
 is_kept v c k = lets c k && is_sought v k
 
 -- of the plans of a node those whose actions are kept
-abbrev pub kept_at : Sought → Joins → ℕ → Option Work → List PlacedPlan
-kept_at v c g None = awaited g [] ∷ []
-kept_at v c g (Some work) = map made (filter (λ (p : OpenPlan). is_kept v c p.kind) work.plans)
+abbrev pub kept_at : Listed → Sought → Joins → ℕ → Option Work → List PlacedPlan
+kept_at l v c g None = if has_gaps l then awaited g [] ∷ [] else []
+kept_at l v c g (Some work) = map made (filter (λ (p : OpenPlan). is_kept v c p.kind) work.plans)
 
 -- of a tree
-abbrev pub kept_plans : Theory → Bool → Shape → Sought → Joins → List PlacedPlan
-kept_plans theory prunes (leaf n) v c = kept_at v c n.generation n.work
-kept_plans theory prunes ended v c = []
-kept_plans theory prunes (over o x) v c = map (placed_over_one o) (kept_plans theory prunes x (sought_below (under_one o) v) free)
-kept_plans theory prunes (between o x y) v c =
-    placed_over_two theory o (kept_plans theory prunes x v c)
-    (kept_plans theory prunes y v (right_of prunes o (kept_plans theory prunes x v c) c))
+abbrev pub kept_plans : Theory → Listed → Shape → Sought → Joins → List PlacedPlan
+kept_plans theory l (leaf n) v c = kept_at l v c n.generation n.work
+kept_plans theory l ended v c = []
+kept_plans theory l (over o x) v c = map (placed_over_one o) (kept_plans theory l x (sought_below (under_one o) v) free)
+kept_plans theory l (between o x y) v c =
+    placed_over_two theory o (kept_plans theory l x v c)
+    (kept_plans theory l y v (right_of (prunes l) o (kept_plans theory l x v c) c))

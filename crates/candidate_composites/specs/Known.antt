@@ -171,3 +171,14 @@ module _ (theory : Theory) where
   -- of the plans and gaps of a tree those of whose actions some kind is sought
   abbrev pub sought_plans : Shape → sought.Sought → List PlanOrGap
   sought_plans t v = flat_map (plans_sought v) (placed_plans t)
+
+-- Of those the ones of which every participant is an expanded node.
+
+-- the plan, where it is no gap
+abbrev pub plans_in : PlacedPlan → List OpenPlan
+plans_in (made p) = p ∷ []
+plans_in (awaited g steps) = []
+
+-- the plans of a tree's composites of which every participant is an expanded node, in the order of trees of rules
+abbrev pub expanded_plans : Theory → Shape → List OpenPlan
+expanded_plans theory t = flat_map plans_in (placed_plans theory t)

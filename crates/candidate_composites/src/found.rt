@@ -1,10 +1,10 @@
 // Composites of a part of a tree, while those of the whole are made.
 
-ghost use Rattle.std.specs.Prelude.{◌≡◌, ◌+◌, IfOk, IsFalse, IsTrue, map};
+ghost use Rattle.std.specs.Prelude.{◌≡◌, ◌+◌, IfOk, IsFalse, IsTrue, flat_map, map};
 ghost use Rattle.std.specs.Fn.{iterate};
 ghost use Rattle.symbolic_plans.specs.Plans.{plan_of, below};
 ghost use Rattle.symbolic_plans.specs.OpenPlans.{kind_in, open_plan_of};
-ghost use Rattle.candidate_composites.specs.Known.{found_of, over_one, own_or_made, placed_of, under_run};
+ghost use Rattle.candidate_composites.specs.Known.{found_of, over_one, own_or_made, placed_of, plans_in, under_run};
 ghost use Rattle.node_trees.specs.Shapes.{unary_of};
 
 use crate::operators::by_single;
@@ -230,6 +230,20 @@ pub fn parts<'a>(alloc: Global, those: Vec<Found<'a>>) -> Result<Vec<Part<'a>>, 
     let mut all = Vec::new(alloc);
     for found in those {
         all.push(part(alloc, found)?)?;
+    }
+    Ok(all)
+}
+
+/// The composites among these.
+pub fn composites(alloc: Global, those: Vec<Found<'_>>) -> Result<Vec<OpenComposite>, Memory>
+    ensures those { IfOk result (λ all. map open_plan_of all.items ≡ flat_map plans_in (map found_of those.entry.items)) }
+{
+    let mut all = Vec::new(alloc);
+    for found in those {
+        match found {
+            Found::Gap(_, _) => {}
+            Found::Composite(composite) => all.push(composite.take(alloc)?)?,
+        }
     }
     Ok(all)
 }

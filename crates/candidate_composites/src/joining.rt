@@ -6,9 +6,11 @@ ghost use Rattle.symbolic_plans.specs.OpenPlans.{kind_in};
 ghost use Rattle.node_trees.specs.Shapes.{beside};
 ghost use Rattle.candidate_composites.specs.Joining as joining;
 ghost use Rattle.candidate_composites.specs.Joining.{joining_of, right_of};
+ghost use Rattle.candidate_composites.specs.Kept.{prunes};
 ghost use Rattle.candidate_composites.specs.Known.{found_of};
 
 use crate::found::Found;
+use crate::listed::Listed;
 use spec_core::code::GateSet;
 use symbolic_plans::composite::ActionKind;
 use symbolic_plans::kind::{is_alone, same_kind};
@@ -58,14 +60,15 @@ impl<'a, 'b> Joining<'a, 'b> {
 /// Which actions of the right side of a parallel composition may come up, where its left side has these composites and gaps. It takes no
 /// memory.
 pub fn right_of<'a, 'b>(
-    prunes: bool,
+    listed: Listed,
     gates: &'a GateSet,
     left: &'b [Found<'a>],
     above: Joining<'a, 'b>,
 ) -> Joining<'a, 'b>
-    ensures { joining_of result ≡ right_of prunes (beside (synchronised_of gates.now)) (map found_of left.now) (joining_of above.entry) }
+    ensures { joining_of result ≡
+        right_of (prunes listed) (beside (synchronised_of gates.now)) (map found_of left.now) (joining_of above.entry) }
 {
-    if prunes {
+    if listed.prunes() {
         Joining::Beside(gates, left)
     } else {
         above

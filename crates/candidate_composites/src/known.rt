@@ -7,14 +7,15 @@ ghost use Rattle.symbolic_plans.specs.OpenPlans.{open_plan_of};
 ghost use Rattle.node_trees.specs.Shapes as nodes;
 ghost use Rattle.node_trees.specs.Shapes.{between, shape_of, held_of};
 ghost use Rattle.candidate_composites.specs.Known.{part_of, known_plans, made, found_of, placed_of, placed_plans, sought_in, plans_sought};
-ghost use Rattle.candidate_composites.specs.Known.{has_made, placed_over_two, sought_plans};
+ghost use Rattle.candidate_composites.specs.Known.{expanded_plans, has_made, placed_over_two, sought_plans};
 ghost use Rattle.candidate_composites.specs.Contexts.{all_through, turns_of};
 ghost use Rattle.candidate_composites.specs.Joining.{free, joining_of};
-ghost use Rattle.candidate_composites.specs.Kept.{is_kept, kept_at, kept_plans, node_waits, prunes_for, some_waits};
+ghost use Rattle.candidate_composites.specs.Kept.{is_kept, kept_at, kept_plans, listed_for, node_waits, some_waits};
 
 use crate::context::{Context, Turn, put_all_through, put_through};
-use crate::found::{Found, Given, parts};
+use crate::found::{Found, Given, composites, parts};
 use crate::joining::{Joining, right_of};
+use crate::listed::Listed;
 use crate::operators::{all_together, some_joint};
 use crate::part::Part;
 use crate::sought::{Sought, sought_below};
@@ -49,13 +50,17 @@ pub fn some_waits(branch: &Branch) -> bool
     }
 }
 
-// Whether what can't come up by the left sides of parallel compositions is left out.
-fn prunes_for(branch: &Branch, sought: &Sought) -> bool
-    ensures { result ≡ prunes_for (sought_in sought.now) (shape_of branch.now) }
+// What is listed of the composites that are sought.
+fn listed_for(branch: &Branch, sought: &Sought) -> Listed
+    ensures { result ≡ listed_for (sought_in sought.now) (shape_of branch.now) }
 {
     match sought {
-        Sought::Every => !some_waits(branch),
-        Sought::These(_) => true,
+        Sought::Every => if some_waits(branch) {
+            Listed::All
+        } else {
+            Listed::Pruned
+        },
+        Sought::These(_) => Listed::Pruned,
     }
 }
 
@@ -96,24 +101,28 @@ fn put_own<'a>(
     Ok(())
 }
 
-// Appends what the operators above make of those composites of a node whose actions are sought, and may come up, or of a gap.
+// Appends what the operators above make of those composites of a node whose actions are sought, and may come up; or of a gap, where gaps
+// are listed.
 #[inline(never)]
 fn put_at_node<'a>(
     alloc: Global,
     node: &'a Node,
+    listed: Listed,
     sought: &Sought,
     joining: Joining<'a, '_>,
     context: &Context<'a, '_>,
     all: &mut Vec<Found<'a>>,
 ) -> Result<(), Memory>
     ensures { IfOk result (λ _. map found_of all.new.items ≡ map found_of all.old.items ++ all_through (turns_of context.now)
-        (kept_at (sought_in sought.now) (joining_of joining.entry) (held_of node.now).generation (held_of node.now).work)) }
+        (kept_at listed (sought_in sought.now) (joining_of joining.entry) (held_of node.now).generation (held_of node.now).work)) }
 {
     match &node.work {
-        None => {
+        None => if listed.has_gaps() {
             let gap = Found::Gap(node.generation, Vec::new(alloc));
             put_through(alloc, context, gap, all)
-        }
+        } else {
+            Ok(())
+        },
         Some(expansion) => { put_own(alloc, &expansion.composites, sought, joining, context, all) }
     }
 }
@@ -152,14 +161,15 @@ fn put_parallel<'a>(
     gates: &'a GateSet,
     left: &'a Branch,
     right: &'a Branch,
-    prunes: bool,
+    listed: Listed,
     sought: &Sought,
     joining: Joining<'a, '_>,
     context: &Context<'a, '_>,
     all: &mut Vec<Found<'a>>,
 ) -> Result<(), Memory>
     ensures { IfOk result (λ _. map found_of all.new.items ≡ map found_of all.old.items ++ all_through (turns_of context.now)
-        (kept_plans (theory_of algebra.now) prunes (between (nodes.beside (synchronised_of gates.now)) (shape_of left.now) (shape_of right.now))
+        (kept_plans (theory_of algebra.now) listed
+        (between (nodes.beside (synchronised_of gates.now)) (shape_of left.now) (shape_of right.now))
         (sought_in sought.now) (joining_of joining.entry))) }
 {
     let mut first = Vec::new(alloc);
@@ -167,20 +177,20 @@ fn put_parallel<'a>(
         alloc,
         algebra,
         left,
-        prunes,
+        listed,
         sought,
         joining,
         &Context::Whole,
         &mut first,
     )?;
     if some_joint(gates, &first) {
-        let above = right_of(prunes, gates, &first, joining);
+        let above = right_of(listed, gates, &first, joining);
         let mut second = Vec::new(alloc);
         put_kept(
             alloc,
             algebra,
             right,
-            prunes,
+            listed,
             sought,
             above,
             &Context::Whole,
@@ -190,31 +200,30 @@ fn put_parallel<'a>(
     } else {
         let at_left = Context::under(Turn::Left(gates), &*context);
         put_all_through(alloc, &at_left, first, all)?;
-        let above = right_of(prunes, gates, &[], joining);
+        let above = right_of(listed, gates, &[], joining);
         let at_right = Context::under(Turn::Right(gates), &*context);
-        put_kept(alloc, algebra, right, prunes, sought, above, &at_right, all)
+        put_kept(alloc, algebra, right, listed, sought, above, &at_right, all)
     }
 }
 
-// Appends what the operators above make of the composites of a tree that are made of those of its nodes whose actions are sought at the whole,
-// and of the gaps with the steps from them up to the whole. Where it prunes, what a right side could do only together with a left side that
-// can't is left out.
+// Appends what the operators above make of the composites of a tree that are made of those of its nodes whose actions are sought at the
+// whole, and of the gaps with the steps from them up to the whole, as far as they are listed.
 #[cycle(put_kept)]
 fn put_kept<'a>(
     alloc: Global,
     algebra: &DataSpec,
     branch: &'a Branch,
-    prunes: bool,
+    listed: Listed,
     sought: &Sought,
     joining: Joining<'a, '_>,
     context: &Context<'a, '_>,
     all: &mut Vec<Found<'a>>,
 ) -> Result<(), Memory>
     ensures { IfOk result (λ _. map found_of all.new.items ≡ map found_of all.old.items ++ all_through (turns_of context.now)
-        (kept_plans (theory_of algebra.now) prunes (shape_of branch.now) (sought_in sought.now) (joining_of joining.entry))) }
+        (kept_plans (theory_of algebra.now) listed (shape_of branch.now) (sought_in sought.now) (joining_of joining.entry))) }
 {
     match branch {
-        Branch::Leaf(node) => put_at_node(alloc, node, sought, joining, &*context, all),
+        Branch::Leaf(node) => put_at_node(alloc, node, listed, sought, joining, &*context, all),
         Branch::Ended => Ok(()),
         Branch::Over(operator, part) => {
             let below = sought_below(alloc, &Step::Under(operator), sought)?;
@@ -223,7 +232,7 @@ fn put_kept<'a>(
                 alloc,
                 algebra,
                 part,
-                prunes,
+                listed,
                 &below,
                 Joining::Free,
                 &under,
@@ -233,28 +242,53 @@ fn put_kept<'a>(
         Branch::Between(operator, left, right) => match operator {
             Double::Choice => {
                 let at_left = Context::under(Turn::First, &*context);
-                put_kept(alloc, algebra, left, prunes, sought, joining, &at_left, all)?;
+                put_kept(alloc, algebra, left, listed, sought, joining, &at_left, all)?;
                 let at_right = Context::under(Turn::Second, &*context);
                 put_kept(
-                    alloc, algebra, right, prunes, sought, joining, &at_right, all,
+                    alloc, algebra, right, listed, sought, joining, &at_right, all,
                 )
             }
             Double::Disable => {
                 let at_left = Context::under(Turn::Disabled, &*context);
-                put_kept(alloc, algebra, left, prunes, sought, joining, &at_left, all)?;
+                put_kept(alloc, algebra, left, listed, sought, joining, &at_left, all)?;
                 let at_right = Context::under(Turn::Disabling, &*context);
                 put_kept(
-                    alloc, algebra, right, prunes, sought, joining, &at_right, all,
+                    alloc, algebra, right, listed, sought, joining, &at_right, all,
                 )
             }
             Double::Par(gates) => put_parallel(
-                alloc, algebra, gates, left, right, prunes, sought, joining, context, all,
+                alloc, algebra, gates, left, right, listed, sought, joining, context, all,
             ),
         },
     }
 }
 
-// The same as parts, of the whole.
+// The composites of the whole that are listed, of those that are made of nodes' composites whose actions are sought, and the gaps.
+fn kept_found<'a>(
+    alloc: Global,
+    algebra: &DataSpec,
+    branch: &'a Branch,
+    listed: Listed,
+    sought: &Sought,
+) -> Result<Vec<Found<'a>>, Memory>
+    ensures { IfOk result (λ all. map found_of all.items ≡
+        kept_plans (theory_of algebra.now) listed (shape_of branch.now) (sought_in sought.now) free) }
+{
+    let mut all = Vec::new(alloc);
+    put_kept(
+        alloc,
+        algebra,
+        branch,
+        listed,
+        sought,
+        Joining::Free,
+        &Context::Whole,
+        &mut all,
+    )?;
+    Ok(all)
+}
+
+// The same as parts.
 fn kept_parts<'a>(
     alloc: Global,
     algebra: &DataSpec,
@@ -262,20 +296,10 @@ fn kept_parts<'a>(
     sought: &Sought,
 ) -> Result<Vec<Part<'a>>, Memory>
     ensures { IfOk result (λ all. map placed_of all.items ≡ kept_plans (theory_of algebra.now)
-        (prunes_for (sought_in sought.now) (shape_of branch.now)) (shape_of branch.now) (sought_in sought.now) free) }
+        (listed_for (sought_in sought.now) (shape_of branch.now)) (shape_of branch.now) (sought_in sought.now) free) }
 {
-    let prunes = prunes_for(branch, sought);
-    let mut all = Vec::new(alloc);
-    put_kept(
-        alloc,
-        algebra,
-        branch,
-        prunes,
-        sought,
-        Joining::Free,
-        &Context::Whole,
-        &mut all,
-    )?;
+    let listed = listed_for(branch, sought);
+    let all = kept_found(alloc, algebra, branch, listed, sought)?;
     parts(alloc, all)
 }
 
@@ -290,6 +314,19 @@ pub fn known_composites<'a>(
     ensures known { IfOk result (λ all. map part_of all.items ≡ known_plans (theory_of algebra.now) (shape_of branch.now)) }
 {
     kept_parts(alloc, algebra, branch, &Sought::Every)
+}
+
+/// The composites of a tree of which every participant is an expanded node, in the order of trees of rules. It recurs as deep as operators
+/// nest, and makes nothing of nodes that wait.
+pub fn expanded_composites(
+    alloc: Global,
+    algebra: &DataSpec,
+    branch: &Branch,
+) -> Result<Vec<OpenComposite>, Memory>
+    ensures expanded { IfOk result (λ all. map open_plan_of all.items ≡ expanded_plans (theory_of algebra.now) (shape_of branch.now)) }
+{
+    let all = kept_found(alloc, algebra, branch, Listed::Expanded, &Sought::Every)?;
+    composites(alloc, all)
 }
 
 /// The composites of a tree whose actions are sought, and each gap from below whose steps such an action can come, in the same order; beside

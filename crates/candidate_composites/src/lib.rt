@@ -7,6 +7,7 @@ mod found;
 mod joining;
 pub mod known;
 pub mod laws;
+mod listed;
 mod operators;
 pub mod part;
 pub mod sought;

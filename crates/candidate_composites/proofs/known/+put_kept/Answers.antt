@@ -7,7 +7,7 @@ use Rattle.node_trees.specs.Shapes.{shape_of, unary_of, over, between, choosing,
 use Rattle.candidate_composites.specs.Known.{found_of, sought_in, placed_over_two}
 use Rattle.candidate_composites.specs.Contexts.{over_by, all_through, some_joint, turns_of}
 use Rattle.candidate_composites.specs.Joining.{joining_of, right_of, free}
-use Rattle.candidate_composites.specs.Kept.{kept_plans}
+use Rattle.candidate_composites.specs.Kept.{kept_plans, prunes}
 use Rattle.candidate_composites.proofs.Contexts.{rises_over, rises_whole, chosen, interrupted, sides_alone}
 use Rattle.candidate_composites.proofs.known.+put_kept.Goals as goal
 
@@ -23,9 +23,9 @@ put_kept-returns-in_ok-below-in-Over t c =
     let shape : shape_of c.args.branch.now ≡ over o x = search rules in
     IfOk-weaker c.put_kept.result _ _
     (λ _ e. e
-    ∙ ap (λ u. a ++ all_through (over_by o ∷ ts) (kept_plans theory c.args.prunes x u free)) c.in_ok-below-in-Over.ensures
-    ∙ ap (λ z. a ++ z) (rises_over o ts (kept_plans theory c.args.prunes x (sought_below (under_one o) v) free))
-    ∙ ap (λ s. a ++ all_through ts (kept_plans theory c.args.prunes s v j)) (sym shape))
+    ∙ ap (λ u. a ++ all_through (over_by o ∷ ts) (kept_plans theory c.args.listed x u free)) c.in_ok-below-in-Over.ensures
+    ∙ ap (λ z. a ++ z) (rises_over o ts (kept_plans theory c.args.listed x (sought_below (under_one o) v) free))
+    ∙ ap (λ s. a ++ all_through ts (kept_plans theory c.args.listed s v j)) (sym shape))
     c.put_kept.ensures
 
 pub put_kept-returns-in_ok-put_kept-in-Choice : goal.put_kept-returns-in_ok-put_kept-in-Choice
@@ -39,11 +39,11 @@ put_kept-returns-in_ok-put_kept-in-Choice t c =
     let y = shape_of c.deref-in-Choice-2.result.now in
     let shape : shape_of c.args.branch.now ≡ between choosing x y = search rules in
     IfOk-weaker c.put_kept-in-Choice-2.result _ _
-    (λ _ e. chosen theory (kept_plans theory c.args.prunes x v j) (kept_plans theory c.args.prunes y v j) ts
+    (λ _ e. chosen theory (kept_plans theory c.args.listed x v j) (kept_plans theory c.args.listed y v j) ts
     (turns_of c.under-at_left.result) (turns_of c.under-at_right.result) c.under-at_left.ensures c.under-at_right.ensures a
     (map found_of c.put_kept-in-Choice.new.all.items) (map found_of c.put_kept-in-Choice-2.new.all.items)
     c.in_ok-put_kept-in-Choice.ensures e
-    ∙ ap (λ s. a ++ all_through ts (kept_plans theory c.args.prunes s v j)) (sym shape))
+    ∙ ap (λ s. a ++ all_through ts (kept_plans theory c.args.listed s v j)) (sym shape))
     c.put_kept-in-Choice-2.ensures
 
 pub put_kept-returns-in_ok-put_kept-in-Disable : goal.put_kept-returns-in_ok-put_kept-in-Disable
@@ -57,12 +57,12 @@ put_kept-returns-in_ok-put_kept-in-Disable t c =
     let y = shape_of c.deref-in-Disable-2.result.now in
     let shape : shape_of c.args.branch.now ≡ between disabling x y = search rules in
     IfOk-weaker c.put_kept-in-Disable-2.result _ _
-    (λ _ e. interrupted theory (kept_plans theory c.args.prunes x v j) (kept_plans theory c.args.prunes y v j) ts
+    (λ _ e. interrupted theory (kept_plans theory c.args.listed x v j) (kept_plans theory c.args.listed y v j) ts
     (turns_of c.under-at_left-in-Disable.result) (turns_of c.under-at_right-in-Disable.result) c.under-at_left-in-Disable.ensures
     c.under-at_right-in-Disable.ensures a
     (map found_of c.put_kept-in-Disable.new.all.items) (map found_of c.put_kept-in-Disable-2.new.all.items)
     c.in_ok-put_kept-in-Disable.ensures e
-    ∙ ap (λ s. a ++ all_through ts (kept_plans theory c.args.prunes s v j)) (sym shape))
+    ∙ ap (λ s. a ++ all_through ts (kept_plans theory c.args.listed s v j)) (sym shape))
     c.put_kept-in-Disable-2.ensures
 
 pub put_kept-returns-in-Par : goal.put_kept-returns-in-Par
@@ -77,7 +77,7 @@ put_kept-returns-in-Par t c =
     let y = shape_of c.deref-in-Par-2.result.now in
     let shape : shape_of c.args.branch.now ≡ between (beside gates) x y = search rules in
     IfOk-weaker c.put_parallel.result _ _
-    (λ _ e. e ∙ ap (λ s. a ++ all_through ts (kept_plans theory c.args.prunes s v j)) (sym shape))
+    (λ _ e. e ∙ ap (λ s. a ++ all_through ts (kept_plans theory c.args.listed s v j)) (sym shape))
     c.put_parallel.ensures
 
 pub put_parallel-returns-in_ok-put_kept-2 : goal.put_parallel-returns-in_ok-put_kept-2
@@ -88,21 +88,21 @@ put_parallel-returns-in_ok-put_kept-2 t c =
     let ts = turns_of c.args.context.now in
     let a = map found_of c.args.all.now.items in
     let gates = synchronised_of c.args.gates.now in
-    let ps = kept_plans theory c.args.prunes (shape_of c.args.left.now) v j in
-    let above = right_of c.args.prunes (beside gates) ps j in
-    let rs = kept_plans theory c.args.prunes (shape_of c.args.right.now) v (joining_of c.right_of-above.result) in
-    let qs = kept_plans theory c.args.prunes (shape_of c.args.right.now) v above in
+    let ps = kept_plans theory c.args.listed (shape_of c.args.left.now) v j in
+    let above = right_of (prunes c.args.listed) (beside gates) ps j in
+    let rs = kept_plans theory c.args.listed (shape_of c.args.right.now) v (joining_of c.right_of-above.result) in
+    let qs = kept_plans theory c.args.listed (shape_of c.args.right.now) v above in
     let first : map found_of c.put_kept.new.all.items ≡ ps =
     c.in_ok-put_kept.ensures ∙ ap (λ l. map found_of l ++ all_through [] ps) c.new-first.ensures.items ∙ rises_whole ps in
     let joins : joining_of c.right_of-above.result ≡ above =
     c.right_of-above.ensures
-    ∙ ap (λ l. right_of c.args.prunes (beside gates) (map found_of l) j) c.deref-then-some_joint.ensures.value
-    ∙ ap (λ l. right_of c.args.prunes (beside gates) l j) first in
+    ∙ ap (λ l. right_of (prunes c.args.listed) (beside gates) (map found_of l) j) c.deref-then-some_joint.ensures.value
+    ∙ ap (λ l. right_of (prunes c.args.listed) (beside gates) l j) first in
     let second : map found_of c.put_kept-then-some_joint.new.all.items ≡ qs =
     c.in_ok-put_kept-2.ensures
     ∙ ap (λ l. map found_of l ++ all_through [] rs) c.new-second.ensures.items
     ∙ rises_whole rs
-    ∙ ap (kept_plans theory c.args.prunes (shape_of c.args.right.now) v) joins in
+    ∙ ap (kept_plans theory c.args.listed (shape_of c.args.right.now) v) joins in
     IfOk-weaker c.put_beside.result _ _
     (λ _ e. e
     ∙ ap (λ l. a ++ all_through ts (placed_over_two theory (beside gates) l (map found_of c.put_kept-then-some_joint.new.all.items))) first
@@ -120,7 +120,7 @@ put_parallel-returns-in_ok-put_all_through t c =
     let gates = synchronised_of c.args.gates.now in
     let x = shape_of c.args.left.now in
     let y = shape_of c.args.right.now in
-    let ps = kept_plans theory c.args.prunes x v j in
+    let ps = kept_plans theory c.args.listed x v j in
     let first : map found_of c.put_kept.new.all.items ≡ ps =
     c.in_ok-put_kept.ensures ∙ ap (λ l. map found_of l ++ all_through [] ps) c.new-first.ensures.items ∙ rises_whole ps in
     let none : some_joint gates ps ≡ false =
@@ -130,10 +130,10 @@ put_parallel-returns-in_ok-put_all_through t c =
     let us = turns_of c.under-at_left.result in
     let vs = turns_of c.under-at_right.result in
     let left : b ≡ a ++ all_through us ps = c.in_ok-put_all_through.ensures ∙ ap (λ l. a ++ all_through us l) first in
-    let joins : joining_of c.right_of-above-else-some_joint.result ≡ right_of c.args.prunes (beside gates) [] j =
+    let joins : joining_of c.right_of-above-else-some_joint.result ≡ right_of (prunes c.args.listed) (beside gates) [] j =
     c.right_of-above-else-some_joint.ensures in
     IfOk-weaker c.put_kept-else-some_joint.result _ _
-    (λ _ e. sides_alone theory c.args.prunes gates x y v j ts us vs c.under-at_left.ensures c.under-at_right.ensures a b
+    (λ _ e. sides_alone theory c.args.listed gates x y v j ts us vs c.under-at_left.ensures c.under-at_right.ensures a b
     (map found_of c.put_kept-else-some_joint.new.all.items) none left
-    (e ∙ ap (λ k. b ++ all_through vs (kept_plans theory c.args.prunes y v k)) joins))
+    (e ∙ ap (λ k. b ++ all_through vs (kept_plans theory c.args.listed y v k)) joins))
     c.put_kept-else-some_joint.ensures
