@@ -1,6 +1,7 @@
 pub mod Alike
 pub mod Sums
 pub mod Below
+pub mod Expanded
 pub mod Limited
 pub mod Worked
 pub use Rattle.candidate_composites.proofs.Placed

@@ -5,14 +5,13 @@ ghost use Rattle.spec_core.specs.Code.{program_of};
 ghost use Rattle.spec_core.specs.Ready.{IsReady};
 ghost use Rattle.symbolic_plans.specs.OpenPlans.{kind_in, open_plan_of};
 ghost use Rattle.symbolic_plans.specs.Plans.{field_of, plan_of};
-ghost use Rattle.candidate_composites.specs.Known.{known_plans, part_of};
+ghost use Rattle.candidate_composites.specs.Known.{expanded_plans};
 ghost use Rattle.node_trees.specs.Shapes.{shape_of, stands_for};
 ghost use Rattle.symbolic_rules.specs.Tables.{windows_in};
 ghost use Rattle.candidate_count.specs.Counts as counts;
-ghost use Rattle.candidate_count.specs.Counts.{limited, ways_to_fill, tuples, turned_tuples, offers_of_plan, offers_of_part, offers_of_tree};
+ghost use Rattle.candidate_count.specs.Counts.{limited, ways_to_fill, tuples, turned_tuples, offers_of_plan, offers_of_tree};
 
 use crate::trees::has_predicate;
-use candidate_composites::part::Part;
 use node_trees::branch::Branch;
 use spec_core::code::Checked;
 use spec_core::window::Window;
@@ -131,29 +130,22 @@ fn composite_count(
     }
 }
 
-// How often a part of the tree's composites counts; a gap doesn't.
-fn part_count(checked: &Checked, windows: &[Window], tree: &Branch, part: &Part<'_>) -> u64
-    requires ready { IsReady (program_of checked.now) }
-    ensures { result ≡ limited (offers_of_part (program_of checked.now) (windows_in windows.now)
-        (stands_for (program_of checked.now) (shape_of tree.now)) (part_of part.now)) }
-{
-    match part {
-        Part::Gap(_, _) => 0,
-        Part::Composite(composite) => composite_count(checked, windows, tree, composite),
-    }
-}
-
 /// How many possible agreements the tree has, of those of which every participant is an expanded node: each of its composites counts once
 /// where its action is at a gate and no participant has a selection predicate, else once for each way to fill its open fields with values
 /// of their windows. All above the limit comes to one more than the limit. It takes no memory, and goes once along each composite.
-pub fn count_offers(checked: &Checked, windows: &[Window], tree: &Branch, parts: &[Part<'_>]) -> u64
+pub fn count_offers(
+    checked: &Checked,
+    windows: &[Window],
+    tree: &Branch,
+    composites: &[OpenComposite],
+) -> u64
     requires ready { IsReady (program_of checked.now) }
-    requires parts { map part_of parts.now ≡ known_plans (program_of checked.now).theory (shape_of tree.now) }
+    requires plans { map open_plan_of composites.now ≡ expanded_plans (program_of checked.now).theory (shape_of tree.now) }
     ensures counted { result ≡ limited (offers_of_tree (program_of checked.now) (windows_in windows.now) (shape_of tree.now)) }
 {
     let mut total = 0;
-    for part in parts {
-        total = plus(total, part_count(checked, windows, tree, part));
+    for composite in composites {
+        total = plus(total, composite_count(checked, windows, tree, composite));
     }
     total
 }
