@@ -1,24 +1,14 @@
 -- The composites of a tree of nodes of which every participant is expanded, gate by gate. (This profile.)
-use Rattle.std.specs.Prelude.{ℕ, ◌≡◌, ◌<◌, ◌≤◌, ◌==◌, List, [], ◌∷◌, map, filter, flat_map, Option, Some, None, Bool, true, false}
+use Rattle.std.specs.Prelude.{ℕ, ◌≡◌, ◌<◌, ◌≤◌, ◌==◌, List, [], map, filter, Option, Some, None, Bool, true, false}
 use Rattle.spec_core.specs.Code.{Program}
-use Rattle.spec_core.specs.Theories.{Theory}
 use Rattle.rule_model.specs.Actions.{Kind, inside, ends, at_gate}
 use Rattle.symbolic_rules.specs.Windows.{Windows}
 use Rattle.symbolic_plans.specs.declared.composite.OpenComposite.{OpenComposite}
 use Rattle.symbolic_plans.specs.OpenPlans.{OpenPlan, open_plan_of}
 use Rattle.node_trees.specs.Shapes.{Shape}
 use Rattle.candidate_composites.specs.Kept.{some_waits}
-use Rattle.candidate_composites.specs.Known.{PlacedPlan, made, awaited, placed_plans}
+use Rattle.candidate_composites.specs.Known.{made, placed_plans, expanded_plans}
 use Rattle.candidate_count.specs.Counts.{limited, offers_limit, offers_of_tree}
-
--- the plan, where it is no gap
-abbrev pub plans_in : PlacedPlan → List OpenPlan
-plans_in (made p) = p ∷ []
-plans_in (awaited g steps) = []
-
--- the plans of the composites of which every participant is an expanded node, in the order of trees of rules
-abbrev pub expanded_plans : Theory → Shape → List OpenPlan
-expanded_plans theory t = flat_map plans_in (placed_plans theory t)
 
 -- the action is at the gate; where none is given, it is internal or the termination
 abbrev pub is_at : Option ℕ → Kind → Bool

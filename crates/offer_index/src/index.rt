@@ -1,18 +1,16 @@
 // An index of the composites of a tree.
 
-ghost use Rattle.std.specs.Prelude.{◌≡◌, ◌∷◌, [], IfOk, OnErr, OnOk, MatchOption, flat_map, map};
+ghost use Rattle.std.specs.Prelude.{◌≡◌, ◌∷◌, [], IfOk, OnErr, OnOk, MatchOption};
 ghost use Rattle.spec_core.specs.Code.{program_of};
 ghost use Rattle.spec_core.specs.Ready.{IsReady};
 ghost use Rattle.symbolic_rules.specs.Tables.{windows_in};
 ghost use Rattle.symbolic_plans.specs.OpenPlans.{kind_in, open_plan_of};
-ghost use Rattle.candidate_composites.specs.Known.{placed_of};
 ghost use Rattle.node_trees.specs.Shapes.{shape_of};
 ghost use Rattle.offer_index.specs.Index as index;
-ghost use Rattle.offer_index.specs.Index.{IsIndexOf, Lists, plans_at, plans_in, plans_of};
+ghost use Rattle.offer_index.specs.Index.{IsIndexOf, plans_at, plans_of};
 ghost use Rattle.offer_index.specs.Left.{gate_of, plans_left};
 
-use candidate_composites::known::known_composites;
-use candidate_composites::part::Part;
+use candidate_composites::known::expanded_composites;
 use candidate_count::counting::{OFFERS_LIMIT, count_offers};
 use node_trees::branch::Branch;
 use spec_core::code::Checked;
@@ -68,30 +66,6 @@ fn is_at(gate: Option<Gate>, kind: ActionKind) -> bool
     }
 }
 
-// The composites among parts of a tree.
-fn composites_in(alloc: Global, parts: Vec<Part<'_>>) -> Result<Vec<OpenComposite>, Memory>
-    ensures { IfOk result (λ all. plans_of all.items ≡ flat_map plans_in (map placed_of parts.entry.items)) }
-{
-    let mut all = Vec::new(alloc);
-    for part in parts {
-        match part {
-            Part::Gap(_, _) => {}
-            Part::Composite(composite) => all.push(composite)?,
-        }
-    }
-    Ok(all)
-}
-
-// The same, where there aren't more possible agreements than are looked at; else none.
-fn listed(alloc: Global, total: u64, parts: Vec<Part<'_>>) -> Result<Vec<OpenComposite>, Memory>
-    ensures { IfOk result (λ all. Lists total (plans_of all.items) (flat_map plans_in (map placed_of parts.entry.items))) }
-{
-    if total > OFFERS_LIMIT {
-        return Ok(Vec::new(alloc));
-    }
-    composites_in(alloc, parts)
-}
-
 impl OfferIndex {
     /// The index of a tree. It recurs as deep as operators nest.
     pub fn new(
@@ -103,9 +77,14 @@ impl OfferIndex {
         requires ready { IsReady (program_of checked.now) }
         ensures index { IfOk result (IsIndexOf (program_of checked.now) (windows_in windows.now) (shape_of tree.now)) }
     {
-        let parts = known_composites(alloc, &checked.algebra, tree)?;
-        let total = count_offers(checked, windows, tree, &parts);
-        let composites = listed(alloc, total, parts)?;
+        let composites = expanded_composites(alloc, &checked.algebra, tree)?;
+        let total = count_offers(checked, windows, tree, &composites);
+        if total > OFFERS_LIMIT {
+            return Ok(OfferIndex {
+                total,
+                composites: Vec::new(alloc),
+            });
+        }
         Ok(OfferIndex { total, composites })
     }
 

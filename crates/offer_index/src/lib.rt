@@ -3,6 +3,6 @@
 
 pub mod index;
 
-pub use candidate_composites::known::{known_composites, some_waits};
+pub use candidate_composites::known::{expanded_composites, some_waits};
 pub use symbolic_plans::composite::OpenComposite;
 pub use symbolic_plans::scheme::Scheme;
