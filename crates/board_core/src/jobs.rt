@@ -34,7 +34,7 @@ use candidate_verdicts::pieces::Piece;
 use candidates::job::NodeJob;
 use node_trees::expansion::Expansion;
 use node_trees::origin::{Gen, Origin};
-use offer_index::known_composites;
+use offer_index::expanded_composites;
 use rule_model::reply::LimitKind;
 use spec_core::memory::Memory;
 use spec_core::window::Window;
@@ -111,8 +111,8 @@ impl Board {
         }
         self.log_is_a_derivation();
         let tree = self.record.tree().root();
-        let parts = known_composites(alloc, &self.record.checked().algebra, tree)?;
-        Ok(count_offers(self.record.checked(), &self.windows, tree, &parts))
+        let composites = expanded_composites(alloc, &self.record.checked().algebra, tree)?;
+        Ok(count_offers(self.record.checked(), &self.windows, tree, &composites))
     }
 
     /// Whether the job is to find what a node shows, and the behaviour has more than 1,048,576 possible agreements, of those of which every
