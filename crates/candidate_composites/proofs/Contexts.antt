@@ -10,7 +10,7 @@ use Rattle.symbolic_composites.specs.Kinds.{is_alone, is_joint, same_kind}
 use Rattle.symbolic_plans.specs.declared.scheme.Row.{Row}
 use Rattle.symbolic_plans.specs.declared.scheme.Row.TheVariants.{Chl, Chr, Parl, Parr, Distake}
 use Rattle.symbolic_plans.specs.OpenPlans.{OpenPlan, under_row, plans_alone, plans_joint, plan_by_disabling}
-use Rattle.candidate_laws.specs.Sought.{Sought, is_sought, by_itself, with_another, as_another}
+use Rattle.candidate_laws.specs.Sought.{Sought, is_sought, seeks_some, sought_below, by_itself, with_another, as_another}
 use Rattle.candidate_laws.proofs.Sought.{kinds_same}
 use Rattle.node_trees.specs.Rests.{Work}
 use Rattle.node_trees.specs.Shapes.{Shape, leaf, ended, over, between, Unary, Binary, choosing, beside, disabling}
@@ -18,7 +18,7 @@ use Rattle.candidate_composites.specs.Known.{PlacedPlan, made, awaited, stepped,
 use Rattle.candidate_composites.specs.Known.{placed_partners, placed_over_two}
 use Rattle.candidate_composites.specs.Contexts.{Turn, below_row, disabled, alone_by, over_by, turned_by, through, all_through, some_joint}
 use Rattle.candidate_composites.specs.Joining.{Joins, beside_those, is_offered, lets, right_of}
-use Rattle.candidate_composites.specs.Kept.{is_kept, kept_at, kept_plans, prunes}
+use Rattle.candidate_composites.specs.Kept.{is_kept, kept_at, kept_over_two, kept_plans, meeting, prunes, staying}
 use Rattle.candidate_composites.specs.declared.listed.Listed.{Listed}
 
 -- The lowest operator first, and those above it then.
@@ -135,6 +135,15 @@ right_same true (beside gates) ps c d e = λ k. refl
 right_same false (beside gates) ps c d e = e
 right_same b disabling ps c d e = e
 
+-- where some of them meet the right side, nothing is left out of them
+pub all_meet : (gates : Synchronised) (v : Sought) (ps : List PlacedPlan) → some_joint gates (meeting (beside gates) v ps) ≡ true →
+    meeting (beside gates) v ps ≡ ps
+all_meet gates v ps e = by_test (seeks_some (sought_below (with_another gates) v)) e
+  where
+    by_test : (b : Bool) → some_joint gates (if b then ps else []) ≡ true → (if b then ps else []) ≡ ps
+    by_test true f = refl
+    by_test false f = let no : false ≡ true = f in absurd cc
+
 module _ (theory : Theory) where
   pub same_kept : (l : Listed) (t : Shape) (v : Sought) (c d : Joins) → LetSame c d →
       kept_plans theory l t v c ≡ kept_plans theory l t v d
@@ -145,10 +154,10 @@ module _ (theory : Theory) where
       let ps = kept_plans theory l x v c in
       let qs = kept_plans theory l x v d in
       let first : ps ≡ qs = same_kept l x v c d e in
-      ap (λ z. placed_over_two theory o ps (kept_plans theory l y v (right_of (prunes l) o z c))) first
-      ∙ ap (placed_over_two theory o ps)
-      (same_kept l y v (right_of (prunes l) o qs c) (right_of (prunes l) o qs d) (right_same (prunes l) o qs c d e))
-      ∙ ap (λ z. placed_over_two theory o z (kept_plans theory l y v (right_of (prunes l) o qs d))) first
+      let ms = meeting o v qs in
+      ap (λ z. kept_over_two theory o (staying o v z) (meeting o v z) (kept_plans theory l y v (right_of (prunes l) o (meeting o v z) c))) first
+      ∙ ap (kept_over_two theory o (staying o v qs) ms)
+      (same_kept l y v (right_of (prunes l) o ms c) (right_of (prunes l) o ms d) (right_same (prunes l) o ms c d e))
 
   none_together : (gates : Synchronised) (ps qs : List PlacedPlan) → some_joint gates ps ≡ false →
       flat_map (stepped (with_another gates) (placed_partners theory gates qs)) ps ≡ []
@@ -165,38 +174,39 @@ module _ (theory : Theory) where
       us ≡ alone_by gates Parl ∷ ts →
       vs ≡ alone_by gates Parr ∷ ts →
       (a b d : List PlacedPlan) →
-      some_joint gates (kept_plans theory l x v c) ≡ false →
-      b ≡ a ++ all_through us (kept_plans theory l x v c) →
+      some_joint gates (meeting (beside gates) v (kept_plans theory l x v c)) ≡ false →
+      b ≡ a ++ all_through us (staying (beside gates) v (kept_plans theory l x v c)) →
       d ≡ b ++ all_through vs (kept_plans theory l y v (right_of (prunes l) (beside gates) [] c)) →
       d ≡ a ++ all_through ts (kept_plans theory l (between (beside gates) x y) v c)
   sides_alone l gates x y v c ts us vs h k a b d e f g =
-      let ps = kept_plans theory l x v c in
-      let qs = kept_plans theory l y v (right_of (prunes l) (beside gates) ps c) in
+      let ps = staying (beside gates) v (kept_plans theory l x v c) in
+      let ms = meeting (beside gates) v (kept_plans theory l x v c) in
+      let qs = kept_plans theory l y v (right_of (prunes l) (beside gates) ms c) in
       let rs = kept_plans theory l y v (right_of (prunes l) (beside gates) [] c) in
       let same : rs ≡ qs =
-      sym (same_kept l y v (right_of (prunes l) (beside gates) ps c) (right_of (prunes l) (beside gates) [] c)
-      (same_right (prunes l) gates ps c e)) in
+      sym (same_kept l y v (right_of (prunes l) (beside gates) ms c) (right_of (prunes l) (beside gates) [] c)
+      (same_right (prunes l) gates ms c e)) in
       one_behind ts a b d (placed_alone gates Parl ps) (placed_alone gates Parr rs)
       (f ∙ ap (λ z. a ++ z) (rises_alone gates Parl ts us ps h)) (g ∙ ap (λ z. b ++ z) (rises_alone gates Parr ts vs rs k))
       ∙ ap (λ z. a ++ all_through ts (placed_alone gates Parl ps ++ placed_alone gates Parr z)) same
       ∙ ap (λ z. a ++ all_through ts (placed_alone gates Parl ps ++ z)) (sym (no_more (placed_alone gates Parr qs)))
-      ∙ ap (λ z. a ++ all_through ts (placed_alone gates Parl ps ++ (placed_alone gates Parr qs ++ z))) (sym (none_together gates ps qs e))
+      ∙ ap (λ z. a ++ all_through ts (placed_alone gates Parl ps ++ (placed_alone gates Parr qs ++ z))) (sym (none_together gates ms qs e))
     where
       no_more : (zs : List PlacedPlan) → zs ++ [] ≡ zs
       no_more [] = refl
       no_more (z ∷ zs) = ap (λ k. z ∷ k) (no_more zs)
 
   -- all three parts of a parallel composition, one behind the other
-  pub sides_and_both : (gates : Synchronised) (ps qs : List PlacedPlan) (ts us vs : List Turn) →
+  pub sides_and_both : (gates : Synchronised) (ps ms qs : List PlacedPlan) (ts us vs : List Turn) →
       us ≡ alone_by gates Parl ∷ ts →
       vs ≡ alone_by gates Parr ∷ ts →
       (a b c d : List PlacedPlan) →
       b ≡ a ++ all_through us ps →
       c ≡ b ++ all_through vs qs →
-      d ≡ c ++ all_through ts (flat_map (stepped (with_another gates) (placed_partners theory gates qs)) ps) →
-      d ≡ a ++ all_through ts (placed_over_two theory (beside gates) ps qs)
-  sides_and_both gates ps qs ts us vs h k a b c d e f g =
-      let both = flat_map (stepped (with_another gates) (placed_partners theory gates qs)) ps in
+      d ≡ c ++ all_through ts (flat_map (stepped (with_another gates) (placed_partners theory gates qs)) ms) →
+      d ≡ a ++ all_through ts (kept_over_two theory (beside gates) ps ms qs)
+  sides_and_both gates ps ms qs ts us vs h k a b c d e f g =
+      let both = flat_map (stepped (with_another gates) (placed_partners theory gates qs)) ms in
       one_behind ts a b d (placed_alone gates Parl ps) (placed_alone gates Parr qs ++ both)
       (e ∙ ap (λ z. a ++ z) (rises_alone gates Parl ts us ps h))
       (one_behind ts b c d (placed_alone gates Parr qs) both (f ∙ ap (λ z. b ++ z) (rises_alone gates Parr ts vs qs k)) g)

@@ -6,24 +6,24 @@ use Rattle.std.proofs.lemmas.List.{map-append, append-nil}
 use Rattle.std.proofs.lemmas.List.Concat.{flat_map-append}
 use Rattle.spec_core.specs.Theories.{Theory}
 use Rattle.spec_core.specs.Code.{Synchronised}
-use Rattle.rule_model.specs.Actions.{Kind, inside}
+use Rattle.rule_model.specs.Actions.{Kind}
 use Rattle.decision_trees.specs.Gaps.{OrGap, gap, element, in_its_place}
 use Rattle.symbolic_composites.specs.Kinds.{is_alone, is_end, same_kind}
 use Rattle.symbolic_composites.proofs.Tests.{same_kind_so}
 use Rattle.symbolic_plans.specs.declared.scheme.Row.TheVariants.{Chl, Chr, Parl, Parr, Distake, Disend, Disstep}
 use Rattle.symbolic_plans.specs.OpenPlans.{OpenPlan, under_row, plans_alone, plan_by_disabling}
-use Rattle.candidate_laws.specs.Sought.{Sought, every_kind, these_kinds, is_one_kind, is_sought, seeks_some, becomes_one, is_one_above}
+use Rattle.candidate_laws.specs.Sought.{Sought, these_kinds, is_one_kind, is_sought, seeks_some, becomes_one, is_one_above}
 use Rattle.candidate_laws.specs.Sought.{under_one, by_itself, with_another, sought_below}
-use Rattle.candidate_laws.proofs.Sought.{kinds_same, none_beside}
+use Rattle.candidate_laws.proofs.Sought.{kinds_same}
 use Rattle.node_trees.specs.declared.origin.Gen.{Gen}
 use Rattle.node_trees.specs.Rests.{Work}
 use Rattle.node_trees.specs.Shapes.{Shape, over, between, Unary, choosing, beside, disabling}
 use Rattle.candidate_composites.specs.Foremost.{StandFirst, are_alone, gaps_of}
 use Rattle.candidate_composites.specs.Joining.{free}
 use Rattle.candidate_composites.specs.Kept.{is_kept}
-use Rattle.candidate_composites.specs.Known.{PlanOrGap, PlacedPlan, made, awaited, has_made, plans_sought, over_one, stepped, turned_there}
+use Rattle.candidate_composites.specs.Known.{PlanOrGap, PlacedPlan, made, has_made, plans_sought, over_one, stepped, turned_there}
 use Rattle.candidate_composites.specs.Known.{placed_alone, placed_at, placed_partners, placed_plans, sought_plans}
-use Rattle.candidate_composites.proofs.Those.{sift, fill, sift_turned, kind_of_either, same_either, partners_sought}
+use Rattle.candidate_composites.proofs.Those.{sift, fill, nothing_sought, sift_turned, kind_of_either, same_either, partners_sought}
 use Rattle.candidate_composites.proofs.Kept.{alone_sifted, both_sifted, either_so, first_so, part_over}
 
 -- gaps stay where others are put in the places of elements
@@ -101,16 +101,6 @@ module _ {A : Type 0} (gens before : List Gen) (l m : List (OrGap A)) where
       StandFirst alone more (gaps_of gens ++ m) → StandFirst alone more (gaps_of before ++ (l ++ m))
   and_behind alone more e i =
       subst (StandFirst alone more) (ap (λ z. z ++ m) (sym e) ∙ append_assoc (gaps_of before) l m) i
-
--- where nothing is sought there is nothing
-pub nothing_sought : (v : Sought) → seeks_some v ≡ false → (ps : List PlacedPlan) → sift v ps ≡ []
-nothing_sought every_kind e ps = let no : true ≡ false = e in absurd cc
-nothing_sought (these_kinds (k ∷ ks)) e ps = let no : true ≡ false = e in absurd cc
-nothing_sought (these_kinds []) e [] = refl
-nothing_sought (these_kinds []) e (made p ∷ ps) = nothing_sought (these_kinds []) e ps
-nothing_sought (these_kinds []) e (awaited n steps ∷ ps) =
-    ap (λ z. (if z then gap n ∷ [] else []) ++ sift (these_kinds []) ps) (none_beside steps (these_kinds []) inside refl)
-    ∙ nothing_sought (these_kinds []) e ps
 
 -- of a node that has no composite whose action is sought
 pub none_kept : (v : Sought) (ps : List OpenPlan) → has_made (map made (filter (λ (p : OpenPlan). is_kept v free p.kind) ps)) ≡ false →

@@ -27,7 +27,7 @@ use Rattle.symbolic_plans.specs.OpenPlans.{OpenPlan, composite_of, under_row, tu
 use Rattle.symbolic_plans.specs.OpenPlans.{plan_by_disabling}
 use Rattle.symbolic_plans.specs.Laws.{PlansAreOfComposites}
 use Rattle.symbolic_plans.proofs.Made.{plans_make_composites}
-use Rattle.candidate_laws.specs.Sought.{Sought, is_sought, seeks_some, Step, under_one, by_itself, with_another, as_another, sought_below, sought_at}
+use Rattle.candidate_laws.specs.Sought.{Sought, every_kind, these_kinds, is_sought, seeks_some, Step, under_one, by_itself, with_another, as_another, sought_below, sought_at}
 use Rattle.candidate_laws.specs.Waiting.{sought_of, each_as, where_asked, together, waiting_composites}
 use Rattle.candidate_laws.proofs.Sought.{kinds_same, below_is_above, none_is_sought, none_beside}
 use Rattle.node_trees.specs.Rests.{Work}
@@ -46,6 +46,16 @@ at_last (s ∷ steps) step v = ap (sought_below s) (at_last steps step v)
 -- of plans with gaps those of whose actions some kind is sought
 abbrev pub sift : Sought → List PlacedPlan → List PlanOrGap
 sift v ps = flat_map (plans_sought v) ps
+
+-- where nothing is sought there is nothing
+pub nothing_sought : (v : Sought) → seeks_some v ≡ false → (ps : List PlacedPlan) → sift v ps ≡ []
+nothing_sought every_kind e ps = let no : true ≡ false = e in absurd cc
+nothing_sought (these_kinds (k ∷ ks)) e ps = let no : true ≡ false = e in absurd cc
+nothing_sought (these_kinds []) e [] = refl
+nothing_sought (these_kinds []) e (made p ∷ ps) = nothing_sought (these_kinds []) e ps
+nothing_sought (these_kinds []) e (awaited n steps ∷ ps) =
+    ap (λ z. (if z then gap n ∷ [] else []) ++ sift (these_kinds []) ps) (none_beside steps (these_kinds []) inside refl)
+    ∙ nothing_sought (these_kinds []) e ps
 
 -- others in the places of plans
 abbrev pub fill : (OpenPlan → List PlanOrGap) → List PlanOrGap → List PlanOrGap

@@ -12,7 +12,7 @@ use Rattle.node_trees.specs.Rests.{Work}
 use Rattle.node_trees.specs.Shapes.{Shape, leaf, ended, over, between, Unary, Binary, choosing, beside, disabling}
 use Rattle.candidate_composites.specs.Known.{PlacedPlan, made, awaited, stepped, turned_there, placed_over_one, placed_alone}
 use Rattle.candidate_composites.specs.Known.{placed_at, placed_partners, placed_over_two, placed_plans}
-use Rattle.candidate_composites.specs.Kept.{node_waits, some_waits}
+use Rattle.candidate_composites.specs.Kept.{kept_over_two, node_waits, some_waits}
 
 -- none of these is a gap
 abbrev pub AllMade : List PlacedPlan → Type 0
@@ -65,18 +65,24 @@ module _ (theory : Theory) where
           all_stepped (as_another p.kind) (λ q. map made (plans_joint theory gates p q)) (λ q. all_plans (plans_joint theory gates p q)) qs a
       by_test false = tt
 
-  pub all_between : (o : Binary) (ps qs : List PlacedPlan) → AllMade ps → AllMade qs → AllMade (placed_over_two theory o ps qs)
-  all_between choosing ps qs a b =
+  pub all_kept_between : (o : Binary) (ps ms qs : List PlacedPlan) → AllMade ps → AllMade ms → AllMade qs →
+      AllMade (kept_over_two theory o ps ms qs)
+  all_kept_between choosing ps ms qs a m b =
       join (map (turned_there (under_row Chl)) ps) (map (turned_there (under_row Chr)) qs) (all_turned (under_row Chl) ps a)
       (all_turned (under_row Chr) qs b)
-  all_between (beside gates) ps qs a b =
-      let together = flat_map (stepped (with_another gates) (placed_partners theory gates qs)) ps in
+  all_kept_between (beside gates) ps ms qs a m b =
+      let together = flat_map (stepped (with_another gates) (placed_partners theory gates qs)) ms in
       join (placed_alone gates Parl ps) (placed_alone gates Parr qs ++ together) (all_alone gates Parl ps a)
       (join (placed_alone gates Parr qs) together (all_alone gates Parr qs b)
-      (all_stepped (with_another gates) (placed_partners theory gates qs) (all_partners gates qs b) ps a))
-  all_between disabling ps qs a b =
+      (all_stepped (with_another gates) (placed_partners theory gates qs) (all_partners gates qs b) ms m))
+  all_kept_between disabling ps ms qs a m b =
       join (map (turned_there plan_by_disabling) ps) (map (turned_there (under_row Distake)) qs) (all_turned plan_by_disabling ps a)
       (all_turned (under_row Distake) qs b)
+
+  all_between : (o : Binary) (ps qs : List PlacedPlan) → AllMade ps → AllMade qs → AllMade (placed_over_two theory o ps qs)
+  all_between choosing ps qs a b = all_kept_between choosing ps ps qs a a b
+  all_between (beside gates) ps qs a b = all_kept_between (beside gates) ps ps qs a a b
+  all_between disabling ps qs a b = all_kept_between disabling ps ps qs a a b
 
   pub all_made : (t : Shape) → some_waits t ≡ false → AllMade (placed_plans theory t)
   all_made (leaf n) e = at_node n.generation n.work e

@@ -2,15 +2,20 @@
 -- gaps, unless the composites of expanded nodes alone are listed. A parallel composition changes the kind of no action, so an action of a
 -- node is sought where it is below the operators over one part. Unless all are listed, what the right side of a parallel composition could
 -- do only together with the left one is left out where the left side can't do it. That drops gaps from which nothing comes that is sought,
--- unless whatever there is is sought: then, with the gaps, all are listed while a node waits.
-use Rattle.std.specs.Prelude.{ℕ, ◌&&◌, ◌||◌, List, [], ◌∷◌, map, filter, Option, Some, None, Bool, true, false, if◌then◌else◌}
+-- unless whatever there is is sought: then, with the gaps, all are listed while a node waits. What the left side of a parallel composition
+-- does alone, or together with the right one, is left out where nothing is sought of that; so a gap there doesn't stand twice.
+use Rattle.std.specs.Prelude.{ℕ, ◌++◌, ◌&&◌, ◌||◌, List, [], ◌∷◌, map, filter, flat_map, Option, Some, None, Bool}
+use Rattle.std.specs.Prelude.{true, false, if◌then◌else◌}
 use Rattle.spec_core.specs.Theories.{Theory}
 use Rattle.rule_model.specs.Actions.{Kind}
+use Rattle.symbolic_plans.specs.declared.scheme.Row.TheVariants.{Parl, Parr}
 use Rattle.symbolic_plans.specs.OpenPlans.{OpenPlan}
-use Rattle.candidate_laws.specs.Sought.{Sought, every_kind, these_kinds, is_sought, under_one, sought_below}
+use Rattle.candidate_laws.specs.Sought.{Sought, Step, every_kind, these_kinds, is_sought, seeks_some, under_one, by_itself, with_another}
+use Rattle.candidate_laws.specs.Sought.{sought_below}
 use Rattle.node_trees.specs.Rests.{Work}
-use Rattle.node_trees.specs.Shapes.{Shape, leaf, ended, over, between}
-use Rattle.candidate_composites.specs.Known.{PlacedPlan, made, awaited, placed_over_one, placed_over_two}
+use Rattle.node_trees.specs.Shapes.{Shape, leaf, ended, over, between, Binary, choosing, beside, disabling}
+use Rattle.candidate_composites.specs.Known.{PlacedPlan, made, awaited, stepped, placed_alone, placed_over_one, placed_over_two}
+use Rattle.candidate_composites.specs.Known.{placed_partners}
 use Rattle.candidate_composites.specs.Joining.{Joins, free, lets, right_of}
 use Rattle.candidate_composites.specs.declared.listed.Listed.{Listed}
 use Rattle.candidate_composites.specs.declared.listed.Listed.TheVariants.{All, Pruned, Expanded}
@@ -53,11 +58,35 @@ abbrev pub kept_at : Listed → Sought → Joins → ℕ → Option Work → Lis
 kept_at l v c g None = if has_gaps l then awaited g [] ∷ [] else []
 kept_at l v c g (Some work) = map made (filter (λ (p : OpenPlan). is_kept v c p.kind) work.plans)
 
+-- these, where something is sought below a step from them
+abbrev pub where_sought : Step → Sought → List PlacedPlan → List PlacedPlan
+where_sought step v ps = if seeks_some (sought_below step v) then ps else []
+
+-- those of the left side of an operator that stay by themselves
+abbrev pub staying : Binary → Sought → List PlacedPlan → List PlacedPlan
+staying choosing v ps = ps
+staying (beside gates) v ps = where_sought (by_itself gates) v ps
+staying disabling v ps = ps
+
+-- those of it that may meet the right side
+abbrev pub meeting : Binary → Sought → List PlacedPlan → List PlacedPlan
+meeting choosing v ps = ps
+meeting (beside gates) v ps = where_sought (with_another gates) v ps
+meeting disabling v ps = ps
+
+-- of an operator over two parts, where of its left side these stay by themselves, and these may meet the right side
+abbrev pub kept_over_two : Theory → Binary → List PlacedPlan → List PlacedPlan → List PlacedPlan → List PlacedPlan
+kept_over_two theory choosing ps ms qs = placed_over_two theory choosing ps qs
+kept_over_two theory (beside gates) ps ms qs =
+    placed_alone gates Parl ps ++
+    (placed_alone gates Parr qs ++ flat_map (stepped (with_another gates) (placed_partners theory gates qs)) ms)
+kept_over_two theory disabling ps ms qs = placed_over_two theory disabling ps qs
+
 -- of a tree
 abbrev pub kept_plans : Theory → Listed → Shape → Sought → Joins → List PlacedPlan
 kept_plans theory l (leaf n) v c = kept_at l v c n.generation n.work
 kept_plans theory l ended v c = []
 kept_plans theory l (over o x) v c = map (placed_over_one o) (kept_plans theory l x (sought_below (under_one o) v) free)
 kept_plans theory l (between o x y) v c =
-    placed_over_two theory o (kept_plans theory l x v c)
-    (kept_plans theory l y v (right_of (prunes l) o (kept_plans theory l x v c) c))
+    kept_over_two theory o (staying o v (kept_plans theory l x v c)) (meeting o v (kept_plans theory l x v c))
+    (kept_plans theory l y v (right_of (prunes l) o (meeting o v (kept_plans theory l x v c)) c))

@@ -1,16 +1,20 @@
 // The composites of a tree of nodes, as far as they are known.
 
-ghost use Rattle.std.specs.Prelude.{◌≡◌, ◌++◌, IfOk, map, filter, flat_map};
+ghost use Rattle.std.specs.Prelude.{◌≡◌, ◌++◌, ◌∷◌, IfOk, map, filter, flat_map};
 ghost use Rattle.spec_core.specs.Code.{synchronised_of};
 ghost use Rattle.spec_core.specs.Theories.{theory_of};
 ghost use Rattle.symbolic_plans.specs.OpenPlans.{open_plan_of};
+ghost use Rattle.symbolic_plans.specs.declared.scheme.Row.TheVariants.{Parl};
+ghost use Rattle.candidate_laws.specs.Sought.{by_itself, with_another};
 ghost use Rattle.node_trees.specs.Shapes as nodes;
 ghost use Rattle.node_trees.specs.Shapes.{between, shape_of, held_of};
 ghost use Rattle.candidate_composites.specs.Known.{part_of, known_plans, made, found_of, placed_of, placed_plans, sought_in, plans_sought};
-ghost use Rattle.candidate_composites.specs.Known.{expanded_plans, has_made, placed_over_two, sought_plans};
-ghost use Rattle.candidate_composites.specs.Contexts.{all_through, turns_of};
+ghost use Rattle.candidate_composites.specs.Known.{expanded_plans, has_made, sought_plans};
+ghost use Rattle.candidate_composites.specs.Contexts as contexts;
+ghost use Rattle.candidate_composites.specs.Contexts.{all_through, alone_by, turns_of};
 ghost use Rattle.candidate_composites.specs.Joining.{free, joining_of};
-ghost use Rattle.candidate_composites.specs.Kept.{is_kept, kept_at, kept_plans, listed_for, node_waits, some_waits};
+ghost use Rattle.candidate_composites.specs.Kept.{is_kept, kept_at, kept_over_two, kept_plans, listed_for, node_waits, some_waits};
+ghost use Rattle.candidate_composites.specs.Kept.{where_sought};
 
 use crate::context::{Context, Turn, put_all_through, put_through};
 use crate::found::{Found, Given, composites, parts};
@@ -127,6 +131,45 @@ fn put_at_node<'a>(
     }
 }
 
+// Whether the left side of a parallel composition has something that it may do together with the right one, and of which something is
+// sought.
+#[inline(never)]
+fn some_meets(
+    alloc: Global,
+    gates: &GateSet,
+    sought: &Sought,
+    left: &[Found<'_>],
+) -> Result<bool, Memory>
+    ensures { IfOk result (λ some. some ≡ contexts.some_joint (synchronised_of gates.now)
+        (where_sought (with_another (synchronised_of gates.now)) (sought_in sought.now) (map found_of left.now))) }
+{
+    let below = sought_below(alloc, &Step::Together(gates), sought)?;
+    Ok(below.seeks_some() && some_joint(gates, left))
+}
+
+// Appends what the operators above make of what the left side of a parallel composition does alone, if something is sought of that.
+#[inline(never)]
+fn put_left<'a>(
+    alloc: Global,
+    gates: &'a GateSet,
+    sought: &Sought,
+    left: Vec<Found<'a>>,
+    context: &Context<'a, '_>,
+    all: &mut Vec<Found<'a>>,
+) -> Result<(), Memory>
+    ensures { IfOk result (λ _. map found_of all.new.items ≡ map found_of all.old.items ++
+        all_through (alone_by (synchronised_of gates.now) Parl ∷ turns_of context.now)
+        (where_sought (by_itself (synchronised_of gates.now)) (sought_in sought.now) (map found_of left.entry.items))) }
+{
+    let below = sought_below(alloc, &Step::Alone(gates), sought)?;
+    if below.seeks_some() {
+        let at_left = Context::under(Turn::Left(gates), &*context);
+        put_all_through(alloc, &at_left, left, all)
+    } else {
+        Ok(())
+    }
+}
+
 // Appends what the operators above make of what the sides of a parallel composition do alone, and of what they do together. What both do
 // together is made first, so that what one side does alone is made of its composites themselves and not of copies.
 #[inline(never)]
@@ -134,25 +177,27 @@ fn put_beside<'a>(
     alloc: Global,
     algebra: &DataSpec,
     gates: &'a GateSet,
+    sought: &Sought,
     left: Vec<Found<'a>>,
     right: Vec<Found<'a>>,
     context: &Context<'a, '_>,
     all: &mut Vec<Found<'a>>,
 ) -> Result<(), Memory>
     ensures { IfOk result (λ _. map found_of all.new.items ≡ map found_of all.old.items ++ all_through (turns_of context.now)
-        (placed_over_two (theory_of algebra.now) (nodes.beside (synchronised_of gates.now)) (map found_of left.entry.items)
-        (map found_of right.entry.items))) }
+        (kept_over_two (theory_of algebra.now) (nodes.beside (synchronised_of gates.now))
+        (where_sought (by_itself (synchronised_of gates.now)) (sought_in sought.now) (map found_of left.entry.items))
+        (map found_of left.entry.items) (map found_of right.entry.items))) }
 {
     let together = all_together(alloc, algebra, gates, &left, &right)?;
-    let at_left = Context::under(Turn::Left(gates), &*context);
-    put_all_through(alloc, &at_left, left, all)?;
+    put_left(alloc, gates, sought, left, &*context, all)?;
     let at_right = Context::under(Turn::Right(gates), &*context);
     put_all_through(alloc, &at_right, right, all)?;
     put_all_through(alloc, context, together, all)
 }
 
-// Appends what `put_kept` says of a parallel composition. Where its left side has nothing that it may do together with the right one, the
-// right side's composites go at once where those of the whole go; else the sides' lists are made by themselves.
+// Appends what `put_kept` says of a parallel composition. Where its left side has nothing that it may do together with the right one and of
+// which something is sought, the right side's composites go at once where those of the whole go; else the sides' lists are made by
+// themselves.
 #[cycle(put_kept)]
 #[inline(never)]
 fn put_parallel<'a>(
@@ -183,7 +228,8 @@ fn put_parallel<'a>(
         &Context::Whole,
         &mut first,
     )?;
-    if some_joint(gates, &first) {
+    let meets = some_meets(alloc, gates, sought, &first)?;
+    if meets {
         let above = right_of(listed, gates, &first, joining);
         let mut second = Vec::new(alloc);
         put_kept(
@@ -196,10 +242,9 @@ fn put_parallel<'a>(
             &Context::Whole,
             &mut second,
         )?;
-        put_beside(alloc, algebra, gates, first, second, &*context, all)
+        put_beside(alloc, algebra, gates, sought, first, second, &*context, all)
     } else {
-        let at_left = Context::under(Turn::Left(gates), &*context);
-        put_all_through(alloc, &at_left, first, all)?;
+        put_left(alloc, gates, sought, first, &*context, all)?;
         let above = right_of(listed, gates, &[], joining);
         let at_right = Context::under(Turn::Right(gates), &*context);
         put_kept(alloc, algebra, right, listed, sought, above, &at_right, all)

@@ -1,14 +1,15 @@
-use Rattle.std.proofs.Common.{◌≡◌, ◌++◌, ◌∙◌, ◌∷◌, [], false, sym, ap, map, rules}
+use Rattle.std.proofs.Common.{◌≡◌, ◌++◌, ◌∙◌, ◌∷◌, [], false, true, refl, sym, ap, map, rules}
 use Rattle.std.proofs.lemmas.Result.{IfOk-weaker}
 use Rattle.spec_core.specs.Theories.{theory_of}
 use Rattle.spec_core.specs.Code.{synchronised_of}
 use Rattle.candidate_laws.specs.Sought.{under_one, sought_below}
 use Rattle.node_trees.specs.Shapes.{shape_of, unary_of, over, between, choosing, beside, disabling}
-use Rattle.candidate_composites.specs.Known.{found_of, sought_in, placed_over_two}
-use Rattle.candidate_composites.specs.Contexts.{over_by, all_through, some_joint, turns_of}
+use Rattle.candidate_composites.specs.Known.{found_of, sought_in}
+use Rattle.candidate_composites.specs.Contexts.{over_by, all_through, alone_by, some_joint, turns_of}
 use Rattle.candidate_composites.specs.Joining.{joining_of, right_of, free}
-use Rattle.candidate_composites.specs.Kept.{kept_plans, prunes}
-use Rattle.candidate_composites.proofs.Contexts.{rises_over, rises_whole, chosen, interrupted, sides_alone}
+use Rattle.candidate_composites.specs.Kept.{kept_over_two, kept_plans, meeting, prunes, staying}
+use Rattle.symbolic_plans.specs.declared.scheme.Row.TheVariants.{Parl}
+use Rattle.candidate_composites.proofs.Contexts.{all_meet, rises_over, rises_whole, chosen, interrupted, sides_alone}
 use Rattle.candidate_composites.proofs.known.+put_kept.Goals as goal
 
 pub put_kept-returns-in_ok-below-in-Over : goal.put_kept-returns-in_ok-below-in-Over
@@ -89,51 +90,62 @@ put_parallel-returns-in_ok-put_kept-2 t c =
     let a = map found_of c.args.all.now.items in
     let gates = synchronised_of c.args.gates.now in
     let ps = kept_plans theory c.args.listed (shape_of c.args.left.now) v j in
-    let above = right_of (prunes c.args.listed) (beside gates) ps j in
+    let ms = meeting (beside gates) v ps in
+    let above = right_of (prunes c.args.listed) (beside gates) ms j in
     let rs = kept_plans theory c.args.listed (shape_of c.args.right.now) v (joining_of c.right_of-above.result) in
     let qs = kept_plans theory c.args.listed (shape_of c.args.right.now) v above in
+    let those = map found_of c.put_kept-then-meets.new.all.items in
     let first : map found_of c.put_kept.new.all.items ≡ ps =
     c.in_ok-put_kept.ensures ∙ ap (λ l. map found_of l ++ all_through [] ps) c.new-first.ensures.items ∙ rises_whole ps in
+    let some : some_joint gates ms ≡ true =
+    sym (c.in_ok-meets.ensures
+    ∙ ap (λ l. some_joint gates (meeting (beside gates) v (map found_of l))) c.deref.ensures.value
+    ∙ ap (λ l. some_joint gates (meeting (beside gates) v l)) first)
+    ∙ c.if-meets.true in
+    let meet : ms ≡ ps = all_meet gates v ps some in
     let joins : joining_of c.right_of-above.result ≡ above =
     c.right_of-above.ensures
-    ∙ ap (λ l. right_of (prunes c.args.listed) (beside gates) (map found_of l) j) c.deref-then-some_joint.ensures.value
-    ∙ ap (λ l. right_of (prunes c.args.listed) (beside gates) l j) first in
-    let second : map found_of c.put_kept-then-some_joint.new.all.items ≡ qs =
+    ∙ ap (λ l. right_of (prunes c.args.listed) (beside gates) (map found_of l) j) c.deref-then-meets.ensures.value
+    ∙ ap (λ l. right_of (prunes c.args.listed) (beside gates) l j) (first ∙ sym meet) in
+    let second : those ≡ qs =
     c.in_ok-put_kept-2.ensures
     ∙ ap (λ l. map found_of l ++ all_through [] rs) c.new-second.ensures.items
     ∙ rises_whole rs
     ∙ ap (kept_plans theory c.args.listed (shape_of c.args.right.now) v) joins in
     IfOk-weaker c.put_beside.result _ _
     (λ _ e. e
-    ∙ ap (λ l. a ++ all_through ts (placed_over_two theory (beside gates) l (map found_of c.put_kept-then-some_joint.new.all.items))) first
-    ∙ ap (λ l. a ++ all_through ts (placed_over_two theory (beside gates) ps l)) second)
+    ∙ ap (λ l. a ++ all_through ts (kept_over_two theory (beside gates) (staying (beside gates) v l) l those)) first
+    ∙ ap (λ l. a ++ all_through ts (kept_over_two theory (beside gates) (staying (beside gates) v ps) ps l)) second
+    ∙ ap (λ l. a ++ all_through ts (kept_over_two theory (beside gates) (staying (beside gates) v ps) l qs)) (sym meet))
     c.put_beside.ensures
 
-pub put_parallel-returns-in_ok-put_all_through : goal.put_parallel-returns-in_ok-put_all_through
-put_parallel-returns-in_ok-put_all_through t c =
+pub put_parallel-returns-in_ok-put_left : goal.put_parallel-returns-in_ok-put_left
+put_parallel-returns-in_ok-put_left t c =
     let theory = theory_of c.args.algebra.now in
     let v = sought_in c.args.sought.now in
     let j = joining_of c.args.joining in
     let ts = turns_of c.args.context.now in
     let a = map found_of c.args.all.now.items in
-    let b = map found_of c.put_all_through.new.all.items in
+    let b = map found_of c.put_left.new.all.items in
     let gates = synchronised_of c.args.gates.now in
     let x = shape_of c.args.left.now in
     let y = shape_of c.args.right.now in
     let ps = kept_plans theory c.args.listed x v j in
     let first : map found_of c.put_kept.new.all.items ≡ ps =
     c.in_ok-put_kept.ensures ∙ ap (λ l. map found_of l ++ all_through [] ps) c.new-first.ensures.items ∙ rises_whole ps in
-    let none : some_joint gates ps ≡ false =
-    sym (ap (λ l. some_joint gates (map found_of l)) c.deref.ensures.value ∙ ap (some_joint gates) first)
-    ∙ sym c.some_joint.ensures
-    ∙ c.if-some_joint.false in
-    let us = turns_of c.under-at_left.result in
+    let none : some_joint gates (meeting (beside gates) v ps) ≡ false =
+    sym (c.in_ok-meets.ensures
+    ∙ ap (λ l. some_joint gates (meeting (beside gates) v (map found_of l))) c.deref.ensures.value
+    ∙ ap (λ l. some_joint gates (meeting (beside gates) v l)) first)
+    ∙ c.if-meets.false in
+    let us = alone_by gates Parl ∷ ts in
     let vs = turns_of c.under-at_right.result in
-    let left : b ≡ a ++ all_through us ps = c.in_ok-put_all_through.ensures ∙ ap (λ l. a ++ all_through us l) first in
-    let joins : joining_of c.right_of-above-else-some_joint.result ≡ right_of (prunes c.args.listed) (beside gates) [] j =
-    c.right_of-above-else-some_joint.ensures in
-    IfOk-weaker c.put_kept-else-some_joint.result _ _
-    (λ _ e. sides_alone theory c.args.listed gates x y v j ts us vs c.under-at_left.ensures c.under-at_right.ensures a b
-    (map found_of c.put_kept-else-some_joint.new.all.items) none left
+    let left : b ≡ a ++ all_through us (staying (beside gates) v ps) =
+    c.in_ok-put_left.ensures ∙ ap (λ l. a ++ all_through us (staying (beside gates) v l)) first in
+    let joins : joining_of c.right_of-above-else-meets.result ≡ right_of (prunes c.args.listed) (beside gates) [] j =
+    c.right_of-above-else-meets.ensures in
+    IfOk-weaker c.put_kept-else-meets.result _ _
+    (λ _ e. sides_alone theory c.args.listed gates x y v j ts us vs refl c.under-at_right.ensures a b
+    (map found_of c.put_kept-else-meets.new.all.items) none left
     (e ∙ ap (λ k. b ++ all_through vs (kept_plans theory c.args.listed y v k)) joins))
-    c.put_kept-else-some_joint.ensures
+    c.put_kept-else-meets.ensures
