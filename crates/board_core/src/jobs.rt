@@ -195,6 +195,7 @@ impl Board {
         if !self.goes_on() {
             return Ok(None);
         }
+        self.list_composites(alloc)?;
         match self.first_tasks(alloc, more)? {
             None => Ok(None),
             Some((task, tasks)) => {

@@ -11,6 +11,7 @@ ghost use Rattle.board_core.specs.Views.{pieces, program, state, tree};
 use crate::board::Board;
 use candidate_verdicts::pieces::Pieces;
 use node_trees::branch::Branch;
+use offer_index::some_waits;
 use rule_model::reply::Reply;
 use spec_core::memory::Memory;
 use std::alloc::Global;
@@ -26,10 +27,10 @@ fn has_several(branch: &Branch) -> bool {
 }
 
 impl Board {
-    /// Whether the last look found no node that waits, so that the next job is to find what a node shows. Nothing is claimed of it: whoever
-    /// asks for jobs reckons with it how many are worth asking for. It takes no memory.
+    /// Whether no node waits, so that the next job is to find what a node shows. Nothing is claimed of it: whoever asks for jobs reckons with
+    /// it how many are worth asking for, and whether one is likely to be needed. It takes no memory.
     pub fn is_expanded(&self) -> bool {
-        self.index.is_some()
+        self.index.is_some() || !some_waits(self.record.tree().root())
     }
 
     /// Whether the behaviour that is reached has several nodes. Nothing is claimed of it, as of `is_expanded`. It takes no memory.
