@@ -2,3 +2,4 @@ pub mod Driving
 pub mod Going
 pub mod Taking
 pub mod Handing
+pub mod Quiet

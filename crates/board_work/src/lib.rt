@@ -4,6 +4,7 @@
 pub mod handing_in;
 pub mod outcome;
 pub mod performing;
+pub mod settling;
 pub mod working;
 
 pub use node_trees::expansion::Expansion;

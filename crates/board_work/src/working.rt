@@ -104,6 +104,17 @@ impl More {
         }
     }
 
+    /// Whether a job is likely to come before the next entry: behind an entry, where some node waits; behind jobs to expand nodes, always; and
+    /// behind those to find what nodes show, never. Nothing is claimed of it: whoever goes by it looks first for what is likelier. It takes no
+    /// memory.
+    pub fn expects_job(&self, board: &Board) -> bool {
+        if self.begun {
+            !self.verdicts
+        } else {
+            !board.is_expanded()
+        }
+    }
+
     /// With the job behind this one, if no entry comes before and it is of the same kind.
     pub fn grown(self) -> More
         ensures next { result.count ≡ self.after }

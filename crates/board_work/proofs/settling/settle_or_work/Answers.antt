@@ -1,0 +1,22 @@
+use Rattle.std.proofs.lemmas.Result.{IfOk-weaker}
+use Rattle.board_work.proofs.Going.{one_session}
+use Rattle.board_work.proofs.Handing.{handed_twice}
+use Rattle.board_work.proofs.Quiet.{come_later}
+use Rattle.board_work.proofs.settling.settle_or_work.Goals as goal
+
+pub returns-clause-entry : goal.returns-clause-entry
+returns-clause-entry c =
+    IfOk-weaker c.settle_else_work.result _ _
+    (λ progress h e. come_later c.args.board.now c.work_if_expected.new.board c.settle_else_work.new.board c.work_if_expected.ensures.handed (h e))
+    c.settle_else_work.ensures.entry
+
+pub returns-clause-work : goal.returns-clause-work
+returns-clause-work c =
+    IfOk-weaker c.settle_else_work.result _ _
+    (λ progress h e. handed_twice c.args.board.now c.work_if_expected.new.board c.settle_else_work.new.board c.work_if_expected.ensures.handed (h e))
+    c.settle_else_work.ensures.work
+
+pub returns-clause-session : goal.returns-clause-session
+returns-clause-session c =
+    one_session c.args.board.now c.work_if_expected.new.board c.settle_else_work.new.board c.work_if_expected.ensures.handed.session
+    c.settle_else_work.ensures.session
