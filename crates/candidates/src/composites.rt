@@ -6,7 +6,7 @@ ghost use Rattle.node_trees.specs.Shapes.{shape_of};
 ghost use Rattle.candidate_composites.specs.Known.{placed_plans};
 ghost use Rattle.candidates.specs.Composites.{AreAllOf, listed_or};
 
-use candidate_composites::known::known_composites;
+use candidate_composites::known::{known_composites, some_waits};
 use candidate_composites::part::Part;
 use log_states::pending::Pending;
 use node_trees::branch::{Branch, Double, Single};
@@ -87,8 +87,9 @@ fn may_meet(branch: &Branch, offers: &[Pending]) -> bool {
     false
 }
 
-/// What is listed of the composites of a tree: those that are lent, where some are; else all with the gaps, unless one may meet a pending
-/// offer. Where no offer may be met there will be searches for more than the action of one gate.
+/// What is listed of the composites of a tree: those that are lent, where some are; else all with the gaps, unless some node waits or one may
+/// meet a pending offer. Where no offer may be met there will be searches for more than the action of one gate; but what is listed while some
+/// node waits serves one look, which is mostly over at the first gap.
 pub fn listed<'a>(
     alloc: Global,
     algebra: &DataSpec,
@@ -103,7 +104,7 @@ pub fn listed<'a>(
     if let Some(all) = lent {
         return Ok(Composites::Lent(all));
     }
-    if may_meet(tree, offers) {
+    if some_waits(tree) || may_meet(tree, offers) {
         return Ok(Composites::Unlisted);
     }
     let parts = known_composites(alloc, algebra, tree)?;
