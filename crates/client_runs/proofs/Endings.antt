@@ -1,5 +1,5 @@
 -- How sessions end.
-use Rattle.std.proofs.Common.{◌≡◌, ◌⊎◌, inl, inr, List, [], refl, sym, subst, Option, Some, None, Bool}
+use Rattle.std.proofs.Common.{◌≡◌, inl, inr, List, [], refl, sym, subst, Option, Some, None, Bool}
 use Rattle.rule_model.specs.declared.action.Action.{Action}
 use Rattle.rule_model.specs.declared.action.Action.TheVariants.{Inner, Exit, At}
 use Rattle.rule_model.specs.Derivations.{Derivation}

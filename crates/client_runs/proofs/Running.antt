@@ -1,9 +1,9 @@
 -- How runs go on, on boards.
-use Rattle.std.proofs.Common.{ℕ, inl, inr, ◌≡◌, ◌⊎◌, ◌∙◌, List, [], ◌∷◌, ◌++◌, length, map, refl, sym, ap, subst, Option, Some, None, IfSome, IfNone, is_some, false, append_assoc}
+use Rattle.std.proofs.Common.{ℕ, inl, inr, ◌≡◌, ◌⊎◌, ◌∙◌, List, [], ◌∷◌, ◌++◌, length, map, refl, sym, ap, subst, Option, Some, None, append_assoc}
 use Rattle.spec_core.specs.declared.code.Checked.{Checked}
 use Rattle.spec_core.specs.declared.settings.Settings.{Settings}
 use Rattle.spec_core.specs.Code.{Program, program_of}
-use Rattle.rule_model.specs.declared.reply.LimitKind.TheVariants.{Offers, Steps}
+use Rattle.rule_model.specs.declared.reply.LimitKind.TheVariants.{Steps}
 use Rattle.rule_model.specs.Behaviours.{Behaviour}
 use Rattle.rule_model.specs.Code.{IsStart}
 use Rattle.rule_model.specs.Events.{Ending, Event, left, pended}
@@ -15,19 +15,13 @@ use Rattle.log_states.specs.Clients.{numbers_from}
 use Rattle.log_states.specs.Possible.{MayLeave, MayOffer}
 use Rattle.board_laws.specs.declared.stop_reason.StopReason.{StopReason}
 use Rattle.board_laws.specs.declared.stop_reason.StopReason.TheVariants.{Limit}
-use Rattle.candidates.specs.Jobs.{is_out}
-use Rattle.candidates.specs.Models.{job_of}
-use Rattle.board_laws.specs.StoppingLaws.{GiveReasons}
 use Rattle.board_laws.specs.Reasons.{IsAskedByRules, IsReasonToStop}
 use Rattle.board_work.specs.Ends.{IsEndingOf}
 use Rattle.board_work.specs.Runs.{IsClientRun, IsRun, IsSettledAt, clients_for, run_begins, run_goes_on, run_leaves, run_offers, run_stops, run_tells}
-use Rattle.board_core.specs.Settled.{HasSettled, IsQuiet, IsSettled, WhyQuiet, settled_next, settled_stopped, settled_limit, quiet_stopped}
-use Rattle.board_core.specs.Settled.{quiet_undecided, quiet_nothing, quiet_limit}
-use Rattle.board_core.specs.Views.{BoardView, program, events, needed_at, pieces, state, tree, windows, SameLog, SameSession, SameSetting}
-use Rattle.board_core.specs.Working.{WhyNone, first_reason}
-use Rattle.board_core.proofs.Knowing.{free_is_needed}
+use Rattle.board_core.specs.Settled.{HasSettled, IsSettled, settled_next, settled_stopped, settled_limit}
+use Rattle.board_core.specs.Views.{BoardView, program, events, state, SameLog, SameSession, SameSetting}
+use Rattle.board_core.specs.Working.{first_reason}
 use Rattle.board_work.specs.Handed.{HandsIn, StopsNow}
-use Rattle.board_work.proofs.Driving.{asked_at}
 use Rattle.client_runs.specs.Runs.{Continues, HasBegun, IsEndedRun, IsRunOn, IsSettledOn}
 
 -- a run of the old board's specification and settings is one of the new one's
@@ -70,17 +64,6 @@ module _ (old new : BoardView) (same : SameSession old new) where
           run_tells (Limit Steps) (events old) h.event (state old) f h.log
           (run_stops (Limit Steps) f (for_stop start wishes (events old) (state old) old.stop None e run) limit.at tt) told h.possible
 
-  -- where it settles nothing, the run stays, or is stopped
-  pub quiet : IsQuiet old new → Continues old new
-  quiet h start wishes run = moved start new.stop wishes (events new) (state new) (kept h.log start new.stop wishes (by_why h.why))
-    where
-      by_why : WhyQuiet old new → IsRun (program old) old.settings start new.stop wishes (events old) (state old)
-      by_why (quiet_stopped reason e f none) = for_stop start wishes (events old) (state old) old.stop new.stop (e ∙ sym f) run
-      by_why (quiet_undecided e f rules busy undecided) = for_stop start wishes (events old) (state old) old.stop new.stop (e ∙ sym f) run
-      by_why (quiet_nothing e f rules next known) = for_stop start wishes (events old) (state old) old.stop new.stop (e ∙ sym f) run
-      by_why (quiet_limit e f limit none) =
-          run_stops (Limit Steps) f (for_stop start wishes (events old) (state old) old.stop None e run) limit tt
-
   -- nothing has happened
   pub same_run : SameLog old new → new.stop ≡ old.stop → Continues old new
   same_run log stop start wishes run =
@@ -110,25 +93,6 @@ handed old new h = by_stop h.stop
     by_stop : (new.stop ≡ old.stop) ⊎ StopsNow old new → Continues old new
     by_stop (inl same) = same_run old new h.session h.log same
     by_stop (inr (reason, is_so, asked, stop)) = stopped old new h.session h.log reason is_so asked stop
-
--- where no job is handed out
-pub none_taken : (old new : BoardView) → SameSession old new → SameLog old new →
-    GiveReasons (program old) old.settings (windows old) (tree old) (pieces old) (state old) → WhyNone old new → Continues old new
-none_taken old new same log give (inl none) = same_run old new same log none.1
-none_taken old new same log give (inr many) =
-    stopped old new same log (Limit Offers) (give.offers many.many)
-    (many.looks, asked_at old give many.job many.verdict (free_is_needed (is_out (map job_of old.out)) (needed_at old) many.job many.first))
-    (many.stop ∙ sym (ap (λ (o : Option StopReason). first_reason o (Limit Offers)) many.running))
-
--- after what it settles, if anything
-pub after_settling : (a b : BoardView) → SameSession a b → (o : Option ℕ) (n : ℕ) → IfSome o (λ m. HasSettled a b × (m ≡ n)) →
-    IfNone o (IsQuiet a b) → Continues a b
-after_settling a b same (Some m) n h k = settled a b same h.0
-after_settling a b same None n h k = quiet a b same k
-
-pub was_quiet : (a b : BoardView) (o : Option ℕ) → is_some o ≡ false → IfNone o (IsQuiet a b) → IsQuiet a b
-was_quiet a b None e k = k
-was_quiet a b (Some m) e k = absurd (let never : ⊥ = cc in never)
 
 -- what the client does, where nothing else is left to be done
 module _ (old new : BoardView) (setting : SameSetting old new) (settled : IsSettledOn old) (stop : new.stop ≡ old.stop) where

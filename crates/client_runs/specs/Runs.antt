@@ -1,5 +1,5 @@
 -- Runs of boards.
-use Rattle.std.specs.Prelude.{ℕ, ◌≡◌, ◌⊎◌, List, [], Option, Some, None}
+use Rattle.std.specs.Prelude.{ℕ, ◌≡◌, List, [], Option}
 use Rattle.spec_core.specs.declared.settings.Settings.{Settings}
 use Rattle.spec_core.specs.Code.{Program}
 use Rattle.rule_model.specs.Behaviours.{Behaviour}
@@ -7,12 +7,11 @@ use Rattle.rule_model.specs.Code.{IsStart}
 use Rattle.rule_model.specs.Events.{Ending, Event}
 use Rattle.rule_model.specs.Wishes.{Wish}
 use Rattle.rule_model.specs.States.{State, start_state}
-use Rattle.decision_trees.specs.Rules.{nothing}
 use Rattle.board_laws.specs.declared.stop_reason.StopReason.{StopReason}
 use Rattle.log_states.specs.Clients.{numbers_from}
 use Rattle.board_work.specs.Ends.{IsEndingOf}
 use Rattle.board_work.specs.Runs.{IsRun, IsSettledAt}
-use Rattle.board_core.specs.Awaiting.{AwaitsClients}
+pub use Rattle.board_work.specs.Settling.{IsSettledOn}
 use Rattle.board_core.specs.Views as views
 use Rattle.board_core.specs.Views.{BoardView}
 
@@ -23,11 +22,6 @@ IsRunOn start wishes v = IsRun (views.program v) v.settings start v.stop wishes 
 -- each run that led to the first board leads on to the second
 abbrev pub Continues : BoardView → BoardView → Type 0
 Continues old new = (start : State) (wishes : List Wish) → IsRunOn start wishes old → IsRunOn start wishes new
-
--- nothing is left to be done on a board; where it hasn't stopped, and doesn't wait for its clients, what is known decides so
-pub record IsSettledOn (v : BoardView) : Type 0 where
-  pub at : IsSettledAt (views.program v) v.settings v.stop (views.state v)
-  pub known : v.stop ≡ None → AwaitsClients (views.state v) ⊎ (views.decided_at v ≡ Some nothing)
 
 -- the session of a board has begun, with so many clients
 pub record HasBegun (clients : ℕ) (v : BoardView) : Type 0 where

@@ -1,48 +1,27 @@
 // Settling, until nothing is left.
 
-ghost use Rattle.std.specs.Prelude.{◌≡◌, IfOk, IsTrue, OnOk};
+ghost use Rattle.std.specs.Prelude.{IfOk, IsTrue, OnOk};
 ghost use Rattle.board_core.specs.Views.{SameSession};
 ghost use Rattle.board_work.specs.Going.{GoesOn};
 ghost use Rattle.client_runs.specs.Runs.{Continues, IsSettledOn};
 
 use board_core::board::Board;
-use board_core::job::Batch;
-use board_work::working::{More, work_on};
+use board_work::settling::{Progress, settle_or_work};
+use board_work::working::More;
 use spec_core::memory::Memory;
 use std::alloc::Global;
 
-// Whether the board has stopped just where it had before.
-fn is_as_before(before: bool, after: bool) -> bool
-    ensures { IsTrue result → before ≡ after }
-{
-    before == after
-}
-
-// One entry, or one job, and up to so many others with it; whether nothing was left.
+// One entry, or one job, and others with it; whether nothing was left.
 fn settle_once(alloc: Global, board: &mut Board, more: &mut More) -> Result<bool, Memory>
     ensures continues { OnOk result (Continues board.old board.new) }
     ensures goes_on { OnOk result (GoesOn board.old board.new) }
     ensures settled { IfOk result (λ done. IsTrue done → IsSettledOn board.new) }
     ensures session { SameSession board.old board.new }
 {
-    if board.settle(alloc)?.is_some() {
-        *more = More::at_first();
-        return Ok(false);
-    }
-    board.give_back_all();
-    board.jobs_give_reasons();
-    let before = board.stopped();
-    let asked = more.with_next(board);
-    match board.take_jobs(alloc, asked.count)? {
-        None => {
-            let after = board.stopped();
-            Ok(is_as_before(before, after))
-        }
-        Some(Batch { first, others }) => {
-            work_on(alloc, board, first, others)?;
-            *more = asked.grown();
-            Ok(false)
-        }
+    match settle_or_work(alloc, board, more)? {
+        Progress::Entry => Ok(false),
+        Progress::Work => Ok(false),
+        Progress::Nothing => Ok(true),
     }
 }
 

@@ -1,4 +1,4 @@
-use Rattle.std.proofs.Common.{◌≡◌, refl}
+use Rattle.std.proofs.Common.{refl}
 use Rattle.board_work.proofs.Going as going
 use Rattle.client_runs.proofs.Running.{onward}
 use Rattle.client_runs.proofs.settling_all.settle_all.Goals as goal
