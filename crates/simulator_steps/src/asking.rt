@@ -5,14 +5,13 @@ ghost use Rattle.std.specs.List.{slice_get};
 ghost use Rattle.rule_model.specs.Events.{Event, event_of, pended};
 ghost use Rattle.rule_model.specs.States.{after_offer};
 ghost use Rattle.board_core.specs.JobValues.{GivesValues};
-ghost use Rattle.board_core.specs.Settled.{HasSettled};
 ghost use Rattle.board_core.specs.Views.{events, program, state, SameNodes, SameSession, SameSetting};
 ghost use Rattle.simulator_steps.specs.Asking.{ComesNext, EndsWith, IsAnswer, IsAnswered, IsAtRest, KeepsBehaviour, OnlyWaits, TellsLast, TellsOf};
 
 use board_core::board::Board;
-use board_core::job::Batch;
 use board_record::PendFault;
-use board_work::working::{More, work_on};
+use board_work::settling::{Progress, settle_or_work};
+use board_work::working::More;
 use rule_model::action::Action;
 use rule_model::log::Entry;
 use rule_model::offer::Offer;
@@ -29,25 +28,16 @@ pub enum Answered {
     Told(Reply),
 }
 
-// One entry, if what is known decides it, or else one job, and up to so many others with it. Whether it was an entry.
+// One entry, or one job, and others with it. Whether it was an entry.
 fn settle_once(alloc: Global, board: &mut Board, more: &mut More) -> Result<bool, Memory>
-    ensures entry { IfOk result (λ settled. IsTrue settled → HasSettled board.old board.new) }
+    ensures entry { IfOk result (λ settled. IsTrue settled → ComesNext board.old board.new) }
     ensures job { IfOk result (λ settled. settled ≡ false → OnlyWaits board.old board.new) }
     ensures session { SameSession board.old board.new }
 {
-    if board.settle(alloc)?.is_some() {
-        return Ok(true);
-    }
-    board.give_back_all();
-    board.jobs_give_reasons();
-    let asked = more.with_next(board);
-    match board.take_jobs(alloc, asked.count)? {
-        None => Ok(false),
-        Some(Batch { first, others }) => {
-            work_on(alloc, board, first, others)?;
-            *more = asked.grown();
-            Ok(false)
-        }
+    match settle_or_work(alloc, board, more)? {
+        Progress::Entry => Ok(true),
+        Progress::Work => Ok(false),
+        Progress::Nothing => Ok(false),
     }
 }
 

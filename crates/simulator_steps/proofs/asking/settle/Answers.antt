@@ -1,6 +1,6 @@
 use Rattle.std.proofs.Common.{refl, rules}
 use Rattle.board_work.proofs.Going.{one_session}
-use Rattle.simulator_steps.proofs.Waiting.{at_first, comes, onward}
+use Rattle.simulator_steps.proofs.Waiting.{at_first, comes_later, onward}
 use Rattle.simulator_steps.proofs.asking.settle.Goals as goal
 
 pub loop-init : goal.loop-init
@@ -8,7 +8,7 @@ loop-init c = record { waits = at_first c.args.board.now; session = (((refl, ref
 
 pub returns-then-branch-clause-next : goal.returns-then-branch-clause-next
 returns-then-branch-clause-next c =
-    comes c.args.board.now c.loop.board c.settle_once.new.board c.loop.invariant.waits (c.in_ok-settle_once.ensures.entry (search rules))
+    comes_later c.args.board.now c.loop.board c.settle_once.new.board c.loop.invariant.waits (c.in_ok-settle_once.ensures.entry (search rules))
 
 pub loop-preserved : goal.loop-preserved
 loop-preserved c =
