@@ -6,4 +6,3 @@ pub mod Constructs
 pub mod Generations
 pub mod Posting
 pub mod Differences
-pub mod Agreements

@@ -3,7 +3,6 @@
 
 pub mod blanks;
 pub mod branch;
-pub mod composite;
 pub mod expansion;
 pub mod find;
 pub mod fresh;

@@ -105,8 +105,8 @@ pub fn put_rows(rules: &Rules, rows: &mut Vec<u64>) -> Result<(), Memory>
     }
 }
 
-/// Appends these values.
-pub fn put_all(alloc: Global, chosen: &[Slot], slots: &mut Vec<Slot>) -> Result<(), Memory>
+// Appends these values.
+fn put_all(alloc: Global, chosen: &[Slot], slots: &mut Vec<Slot>) -> Result<(), Memory>
     ensures all { IfOk result (λ _. slots.new.items ≡ slots.old.items ++ chosen.now) }
 {
     for slot in chosen {
