@@ -31,9 +31,9 @@ pub fn window(alloc: Global, algebra: &DataSpec, sort: Sort, k: u32) -> Result<W
     requires orthogonal { IsOrthogonal (theory_of algebra.now) }
     ensures window { IfOk result (λ w. IsWindow (theory_of algebra.now) sort.0 k w.values.items w.complete) }
 {
-    let open = open_sorts(alloc, algebra)?;
+    let those_open = open_sorts(alloc, algebra)?;
     let windows = closed_windows(alloc, algebra, k as usize + 1)?;
-    first_values(alloc, algebra, &open, &windows, sort, k)
+    first_values(alloc, algebra, &those_open, &windows, sort, k)
 }
 
 /// The windows of all sorts, in the order of their numbers, each as `window` has it. The rounds over the constructors are gone through
@@ -45,41 +45,54 @@ pub fn windows(alloc: Global, algebra: &DataSpec, k: u32) -> Result<Vec<Window>,
     ensures windows { IfOk result (λ all. AreBySorts (theory_of algebra.now) k all.items) }
     ensures all { IfOk result (λ all. length all.items ≡ length (theory_of algebra.now).sorts) }
 {
-    let open = open_sorts(alloc, algebra)?;
+    let those_open = open_sorts(alloc, algebra)?;
     let windows = closed_windows(alloc, algebra, k as usize + 1)?;
     let mut all = Vec::new(alloc);
     for number in 0..algebra.signature.sorts.len() {
-        let window = first_values(alloc, algebra, &open, &windows, Sort(number as u32), k)?;
+        let window = first_values(
+            alloc,
+            algebra,
+            &those_open,
+            &windows,
+            Sort(number as u32),
+            k,
+        )?;
         all.push(window)?;
     }
     Ok(all)
 }
 
 // Whether a sort has no more values than these: they are no more than the limit, and the sort isn't open.
-fn are_all(algebra: &DataSpec, open: &NumberSet, sort: Sort, count: usize, limit: usize) -> bool
-    requires open { AreOpen (theory_of algebra.now) open.now }
+fn are_all(
+    algebra: &DataSpec,
+    those_open: &NumberSet,
+    sort: Sort,
+    count: usize,
+    limit: usize,
+) -> bool
+    requires open { AreOpen (theory_of algebra.now) those_open.now }
     ensures { IsTrue result ↔ ((IsOpen (theory_of algebra.now) sort.0 → ⊥) × (count ≤ limit)) }
 {
-    count <= limit && !open.has(sort.0)
+    count <= limit && !those_open.has(sort.0)
 }
 
 // The first values of a sort, from windows of one value more.
 fn first_values(
     alloc: Global,
     algebra: &DataSpec,
-    open: &NumberSet,
+    those_open: &NumberSet,
     windows: &[OrderedValues],
     sort: Sort,
     k: u32,
 ) -> Result<Window, Memory>
-    requires open { AreOpen (theory_of algebra.now) open.now }
+    requires open { AreOpen (theory_of algebra.now) those_open.now }
     requires windows { AreWindows (theory_of algebra.now) (k + 1) (windows_of windows.now) }
     requires closed { IsClosed (theory_of algebra.now) (k + 1) (windows_of windows.now) }
     ensures { IfOk result (λ w. IsWindow (theory_of algebra.now) sort.0 k w.values.items w.complete) }
 {
     let limit = k as usize;
     let mut values = copy_values(alloc, values_of(windows, sort))?;
-    let complete = are_all(algebra, open, sort, values.len(), limit);
+    let complete = are_all(algebra, those_open, sort, values.len(), limit);
     values.truncate(limit);
     Ok(Window { values, complete })
 }
