@@ -1,7 +1,7 @@
 // The ways in which one node can act: what is done along a tree of rules with blanks, and what is left then.
 #![tactic(auto, using(crate::proofs::Memory::memory))]
 
-pub mod choices;
+mod choices;
 mod entering;
 mod fields;
 pub mod laws;
