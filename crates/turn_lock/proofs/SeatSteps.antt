@@ -36,19 +36,20 @@ module _ {T E F : Type 0} (list : T → List E) (fixed : T → F) (maker : E →
   abbrev O : Origin E F
   O = origin_of list fixed opened seats
 
-  pub opening_keeps_rule : (len : ℕ) →
+  pub opening_keeps_rule : (len : ℕ) (bells : List ℕ) →
       len ≡ length (list opened) → 1 ≤ seats → NamesBelow maker seats (list opened) →
-      Rule (opening (0 ∷ 0 ∷ len ∷ []) (Some opened ∷ []) (first_view list fixed maker opened seats))
-  opening_keeps_rule len size some_seat named = let v0 : V = first_view list fixed maker opened seats in record {
+      Rule (opening (0 ∷ 0 ∷ len ∷ bells) (Some opened ∷ []) (first_view list fixed maker opened seats))
+  opening_keeps_rule len bells size some_seat named = let v0 : V = first_view list fixed maker opened seats in record {
     ticket = 0;
     serving = 0;
+    bells = bells;
     longest = list opened;
     out = false;
     made = 1;
     holder = λ _. 0;
     place = λ _. 0;
     first_at = 0;
-    words_are = λ i. 0 ∷ 0 ∷ size i ∷ [];
+    words_are = λ i. 0 ∷ 0 ∷ size i ∷ bells;
     ordered = (omega arith, omega arith, some_seat);
     slot = (opened, refl, refl, refl);
     began = begins_all (list opened);
@@ -90,6 +91,7 @@ module _ {T E F : Type 0} (list : T → List E) (fixed : T → F) (maker : E →
       let o = r.ordered in let p = (me.accounts alive).0 in record {
         ticket = r.ticket;
         serving = r.serving;
+        bells = r.bells;
         longest = r.longest;
         out = r.out;
         made = made + 1;
@@ -197,6 +199,7 @@ module _ {T E F : Type 0} (list : T → List E) (fixed : T → F) (maker : E →
       record {
         ticket = r.ticket;
         serving = r.serving;
+        bells = r.bells;
         longest = r.longest;
         out = r.out;
         made = r.made;

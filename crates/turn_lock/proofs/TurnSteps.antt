@@ -1,5 +1,5 @@
--- Each step of a turn keeps the rule: draw, look, publish, pass.
-use Rattle.std.proofs.Common.{◌≡◌, ◌≢◌, ℕ, ◌+◌, ◌-◌, ◌%◌, ◌^◌, ◌<◌, ◌≤◌, eqb, Bool, true, false, true≢false, List, [], ◌∷◌, length, get_or}
+-- Each step of a turn keeps the rule: draw, look, publish, pass, ring.
+use Rattle.std.proofs.Common.{◌≡◌, ◌≢◌, ℕ, zero, suc, ◌+◌, ◌-◌, ◌%◌, ◌^◌, ◌<◌, ◌≤◌, eqb, Bool, true, false, true≢false, List, [], ◌∷◌, length, get_or}
 use Rattle.std.proofs.Common.{set, Option, Some, refl, sym, ap, ◌∙◌, subst, ⊎_elim, arith, eq-eqb, ne_eqb}
 use Rattle.std.proofs.lemmas.List.{set-get_or}
 use Rattle.std.proofs.lemmas.Bool.{cases_Bool, both_ways}
@@ -16,10 +16,17 @@ use Rattle.turn_lock.specs.declared.rule.Phase.{Phase}
 use Rattle.turn_lock.specs.declared.rule.Phase.TheVariants.{Idle, Drawn, Called, Published}
 use Rattle.turn_lock.specs.Entries.{Begins, made_by, NamesBelow, Continues}
 use Rattle.turn_lock.specs.Rule.{HasTicket, HasSlot, FitsPhase, AnswersFor, accounts_of, origin_of, IsSlot, FitsView, KeepsRule}
-use Rattle.turn_lock.specs.Steps.{in_phase, with_lists, drew, passed, looked, published}
+use Rattle.turn_lock.specs.Steps.{in_phase, with_lists, drew, passed, rang, looked, published}
 use Rattle.turn_lock.proofs.Places.{put, put_here, put_else, set_at, at_changed}
 use Rattle.turn_lock.proofs.EntryLists.{begins_all, begins_on, made_by_more, continues_itself, names_below_longer}
 use Rattle.turn_lock.proofs.Accounts.{place_of_number, all_fit_longer}
+
+-- a change behind the first three words leaves these
+set_behind : (i n a b c : ℕ) (rest : List ℕ) → 3 ≤ i → (rest' : List ℕ) × (set (a ∷ b ∷ c ∷ rest) i n ≡ a ∷ b ∷ c ∷ rest')
+set_behind zero n a b c rest behind = absurd (omega arith)
+set_behind (suc zero) n a b c rest behind = absurd (omega arith)
+set_behind (suc (suc zero)) n a b c rest behind = absurd (omega arith)
+set_behind (suc (suc (suc i))) n a b c rest behind = (set rest i n, refl)
 
 module _ {T E F : Type 0} (list : T → List E) (fixed : T → F) (maker : E → Option ℕ) (opened : T) (seats : ℕ) where
   abbrev V : Type 0
@@ -43,7 +50,7 @@ module _ {T E F : Type 0} (list : T → List E) (fixed : T → F) (maker : E →
   moved : (s : St) (r : Rule s) (id : ℕ) (v : V) → get_elem? s.views id ≡ some v → v.spent ≡ false
       → (words' : List ℕ) (homes' : Homes) (ticket' serving' : ℕ) (longest' : List E) (out' : Bool) (holder' : ℕ → ℕ) (phase' : Phase)
       (seen' own' : List E)
-      → words' ≡ ticket' ∷ serving' ∷ length longest' ∷ [] → (serving' ≤ ticket') × (ticket' < 2 ^ 64) →
+      → words' ≡ ticket' ∷ serving' ∷ length longest' ∷ r.bells → (serving' ≤ ticket') × (ticket' < 2 ^ 64) →
       IsSlot list fixed (fixed opened) out' longest' homes'
       → Continues maker v.account.number r.longest longest' → Begins seen' longest' → made_by maker v.account.number longest' ≡ own'
       → FitsPhase serving' ticket' longest' out' holder' id seen' phase'
@@ -61,6 +68,7 @@ module _ {T E F : Type 0} (list : T → List E) (fixed : T → F) (maker : E →
       let me = r.each id v at in let accounts = me.accounts alive in let p = accounts.0 in record {
         ticket = ticket';
         serving = serving';
+        bells = r.bells;
         longest = longest';
         out = out';
         made = r.made;
@@ -110,17 +118,41 @@ module _ {T E F : Type 0} (list : T → List E) (fixed : T → F) (maker : E →
         numbers = λ n l. at_changed (AnswersFor n) s.views id v w at (λ a. a) (r.place n) (r.numbers n l);
       }
 
+  -- a step that changes bells alone
+  but_bells : (s : St) (r : Rule s) (words' bells' : List ℕ) (id : ℕ) (v : V) →
+      words' ≡ r.ticket ∷ r.serving ∷ length r.longest ∷ bells' → get_elem? s.views id ≡ some v →
+      Rule record { words = words'; homes = s.homes; views = set s.views id v }
+  but_bells s r words' bells' id v are at =
+      subst Rule (λ k. let z : St = record { words = words'; homes = s.homes; views = sym (set_again s.views id v at) k } in z) record {
+        ticket = r.ticket;
+        serving = r.serving;
+        bells = bells';
+        longest = r.longest;
+        out = r.out;
+        made = r.made;
+        holder = r.holder;
+        place = r.place;
+        first_at = r.first_at;
+        words_are = are;
+        ordered = r.ordered;
+        slot = r.slot;
+        began = r.began;
+        named = r.named;
+        unmade = r.unmade;
+        each = r.each;
+        queue = r.queue;
+        busy = r.busy;
+        first_seat = r.first_seat;
+        numbers = r.numbers;
+      }
+
   -- a step that changes nothing
   unchanged : (s : St) (r : Rule s) (i id : ℕ) (v : V) →
       get_elem? s.views id ≡ some v →
       Rule record { words = set s.words i (get_or s.words i 0); homes = s.homes; views = set s.views id v }
-  unchanged s r i id v at =
-      subst Rule (λ k.
-      let z : St = record { words = sym (set-get_or s.words i 0) k; homes = s.homes; views = sym (set_again s.views id v at) k } in
-      z)
-      r
+  unchanged s r i id v at = but_bells s r (set s.words i (get_or s.words i 0)) r.bells id v (set-get_or s.words i 0 ∙ r.words_are) at
 
-  word : (s : St) (r : Rule s) (i : ℕ) → get_or s.words i 0 ≡ get_or (r.ticket ∷ r.serving ∷ length r.longest ∷ []) i 0
+  word : (s : St) (r : Rule s) (i : ℕ) → get_or s.words i 0 ≡ get_or (r.ticket ∷ r.serving ∷ length r.longest ∷ r.bells) i 0
   word s r i = ap (λ w. get_or w i 0) r.words_are
 
   -- whoever has the slot has a ticket
@@ -181,7 +213,7 @@ module _ {T E F : Type 0} (list : T → List E) (fixed : T → F) (maker : E →
         subst (λ b. Rule (stepped s 0 (either b (t + 1) n) id me.1 w keeps)) (sym (eq-eqb n t hit))
             (moved s r id v at alive (set s.words 0 (t + 1)) s.homes (r.ticket + 1) r.serving r.longest r.out (put r.holder r.ticket id)
             (Drawn n) v.account.seen v.account.own
-            (ap (λ ws. set ws 0 (t + 1)) r.words_are ∙ (λ k. (sym same k + 1) ∷ r.serving ∷ length r.longest ∷ []))
+            (ap (λ ws. set ws 0 (t + 1)) r.words_are ∙ (λ k. (sym same k + 1) ∷ r.serving ∷ length r.longest ∷ r.bells))
             (omega arith, omega arith) r.slot (continues_itself maker v.account.number r.longest) p.prefix p.own (
               omega arith,
               omega arith,
@@ -305,7 +337,7 @@ module _ {T E F : Type 0} (list : T → List E) (fixed : T → F) (maker : E →
         keeps,
         tt,
         moved s r id v at alive (set s.words 2 len) s.homes r.ticket r.serving given true r.holder (Published t) given own
-            (ap (λ ws. set ws 2 len) r.words_are ∙ (λ i. r.ticket ∷ r.serving ∷ size i ∷ [])) (o.0, o.1) (slot_is s r true k.3) on
+            (ap (λ ws. set ws 2 len) r.words_are ∙ (λ i. r.ticket ∷ r.serving ∷ size i ∷ r.bells)) (o.0, o.1) (slot_is s r true k.3) on
             (begins_all given) refl
             (k.0, k.1, k.2, refl, refl)
             (λ j u apart _ known.
@@ -345,7 +377,7 @@ module _ {T E F : Type 0} (list : T → List E) (fixed : T → F) (maker : E →
         subst (λ c. Rule (stepped s 1 ((n + 1) % 2 ^ 64) id c w gives)) (sym carried)
             (moved s r id v at alive (set s.words 1 ((n + 1) % 2 ^ 64)) (set s.homes 0 (some (Some x))) r.ticket (r.serving + 1)
             r.longest false r.holder Idle v.account.seen v.account.own
-            (ap (λ ws. set ws 1 ((n + 1) % 2 ^ 64)) r.words_are ∙ (λ i. r.ticket ∷ next i ∷ length r.longest ∷ [])) (omega arith, o.1)
+            (ap (λ ws. set ws 1 ((n + 1) % 2 ^ 64)) r.words_are ∙ (λ i. r.ticket ∷ next i ∷ length r.longest ∷ r.bells)) (omega arith, o.1)
             (x, ap (λ h. set h 0 (some (Some x))) (slot_is s r true k.3), has ∙ k.4, stays)
             (continues_itself maker v.account.number r.longest) p.prefix p.own tt
             (λ j u apart _ known.
@@ -356,4 +388,15 @@ module _ {T E F : Type 0} (list : T → List E) (fixed : T → F) (maker : E →
             (r.queue u (omega arith) hi))
             (λ e. absurd (true≢false (sym e)))),
         (λ i. (w, (let left : List (ℕ × Option T) → List (ℕ × Option T) = rest in left (carried i)))),
+      )
+
+  pub ring_keeps_rule : (slots id i : ℕ) (me : M) → 3 ≤ i →
+      Allows Rule slots id me i (λ n. (n + 1) % 2 ^ 64) (rang (step slots i 1 0 none) me)
+  ring_keeps_rule slots id i me behind s r deep at _ =
+      let n : ℕ = (get_or s.words i 0 + 1) % 2 ^ 64 in let x = set_behind i n r.ticket r.serving (length r.longest) r.bells behind in (
+        me.0,
+        keeps,
+        tt,
+        but_bells s r (set s.words i n) x.0 id me.0 (ap (λ ws. set ws i n) r.words_are ∙ x.1) at,
+        refl,
       )

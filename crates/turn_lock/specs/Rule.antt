@@ -1,6 +1,6 @@
 -- The rule of the lock: which seat has which ticket, where the value is, and what each seat has seen of the list.
 -- The lock has three words, `ticket` (the next ticket), `serving` (the ticket whose turn it is) and the length of the list,
--- and one slot for the value.
+-- behind them the bells, at which threads sleep, and one slot for the value.
 use Rattle.std.specs.Prelude.{◌≡◌, ◌⊎◌, ℕ, ◌^◌, ◌<◌, ◌≤◌, Bool, true, false, List, [], ◌∷◌, length, Option, Some}
 use mathlib.Core.Option.{some, none}
 use mathlib.Core.Option as maybe
@@ -103,18 +103,20 @@ module _ {T E F : Type 0} (list : T → List E) (fixed : T → F) (maker : E →
     pub first : v.is_first ≡ true → (v.spent ≡ false) × (v.next ≡ made) × (j ≡ first_at)
 
   -- The rule, of a lock that was made round `opened` with so many seats. It says what is there: the next ticket, the ticket
-  -- that is served, the longest list, whether the slot is out, how many numbers were made, the view with each ticket, the
-  -- view that answers for each number, and where the first seat's view stands
+  -- that is served, the bells, the longest list, whether the slot is out, how many numbers were made, the view with each
+  -- ticket, the view that answers for each number, and where the first seat's view stands
   pub record KeepsRule (opened : T) (seats : ℕ) (s : State (Option T) (View E F)) : Type 0 where
     pub ticket : ℕ
     pub serving : ℕ
+    pub bells : List ℕ
     pub longest : List E
     pub out : Bool
     pub made : ℕ
     pub holder : ℕ → ℕ
     pub place : ℕ → ℕ
     pub first_at : ℕ
-    pub words_are : s.words ≡ ticket ∷ serving ∷ length longest ∷ []
+    -- the bells may hold anything
+    pub words_are : s.words ≡ ticket ∷ serving ∷ length longest ∷ bells
     pub ordered : (serving ≤ ticket) × (ticket < 2 ^ 64) × (made ≤ seats)
     -- at home the slot has a value with the longest list and the lock's fixed part
     pub slot : IsSlot list fixed (fixed opened) out longest s.homes

@@ -45,6 +45,10 @@ module _ {T E F : Type 0} where
   abbrev pub passed : Step (Option T) → Me (Option T) (View E F) → ℕ → Me (Option T) (View E F) → Type 0
   passed st m found m' = m' ≡ (in_phase m.0 Idle, [])
 
+  -- ring a bell: the seat stays as it is
+  abbrev pub rang : Step (Option T) → Me (Option T) (View E F) → ℕ → Me (Option T) (View E F) → Type 0
+  rang st m found m' = m' ≡ m
+
   module _ (list : T → List E) (fixed : T → F) (maker : E → Option ℕ) where
     -- What is known of the value that a seat gets with its turn: its list begins with all that the seat has seen, the
     -- seat's own entries there are those that it made, the entries name seats of the lock alone, and its fixed part is the

@@ -76,6 +76,15 @@ impl<T, E, F> Play<Option<T>, View<E, F>> for Pass {
     ghost then = { passed };
 }
 
+/// Rings the bell of the next ticket.
+pub(crate) struct Ring;
+
+impl<T, E, F> Play<Option<T>, View<E, F>> for Ring {
+    ghost use Rattle.turn_lock.specs.Steps.{rang};
+
+    ghost then = { rang };
+}
+
 /// Splits a seat off the first one.
 pub(crate) struct Deal<T> {
     of: PhantomData<T>,

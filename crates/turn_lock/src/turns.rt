@@ -9,7 +9,7 @@ ghost use Rattle.turn_lock.specs.Rule.{first_view};
 ghost use Rattle.turn_lock.specs.Steps.{IsResting, HasTurn, Gets, in_phase, with_lists};
 ghost use Rattle.turn_lock.specs.Closing.{AllNoted};
 
-use crate::plays::{Deal, Draw, Gather, Look, MadeWith, Pass, Publish, Publishes};
+use crate::plays::{Deal, Draw, Gather, Look, MadeWith, Pass, Publish, Publishes, Ring};
 use crate::rule::{Opening, TurnRule, View};
 use crate::seat::{Place, TurnSeat};
 use crate::standing::Standing;
@@ -27,6 +27,13 @@ const TICKET: usize = 0;
 const SERVING: usize = 1;
 
 const LENGTH: usize = 2;
+
+// Behind them stand the bells, at which threads wait for their turn: the word of the first, and how many there are.
+const FIRST_BELL: usize = 3;
+
+const BELLS: usize = 64;
+
+const WORDS: usize = FIRST_BELL + BELLS;
 
 // The slot of the value.
 const VALUE: usize = 0;
@@ -60,7 +67,9 @@ impl<T: Standing> Model for Turns<T> {
       seats = l.table.shared.key.seats;
     } };
 
-    ghost invariant = { λ l. (l.table.shared.table_id.words ≡ 3) × (l.table.shared.table_id.slots ≡ 1) × (1 ≤ l.table.shared.key.seats) };
+    ghost use Rattle.turn_lock.specs.declared.turns.TheConstants.{WORDS};
+
+    ghost invariant = { λ l. (l.table.shared.table_id.words ≡ WORDS) × (l.table.shared.table_id.slots ≡ 1) × (1 ≤ l.table.shared.key.seats) };
 }
 
 /// The value, while its turn is held.
@@ -71,7 +80,7 @@ pub struct Held<T> {
 
 // Draws a ticket. A try that another seat forestalled changes nothing, and is made again.
 fn draw<T: Standing, R: Wait>(rt: &R, top: &Top<T>, place: &mut Place<T>) -> u64
-    requires table { (place.old.table_id ≡ top.now.table_id) × (top.now.table_id.words ≡ 3) }
+    requires table { (place.old.table_id ≡ top.now.table_id) × (top.now.table_id.words ≡ WORDS) }
     requires resting { IsResting place.old }
     ensures { (place.new.table_id ≡ place.old.table_id) × (place.new.me ≡ (in_phase place.old.me.0 (Drawn result), [])) }
 {
@@ -92,14 +101,22 @@ fn draw<T: Standing, R: Wait>(rt: &R, top: &Top<T>, place: &mut Place<T>) -> u64
     unreachable!()
 }
 
-// Looks until the ticket is served, and then has the slot. After a few looks the thread sleeps until the turn is passed on.
+// The word at which the thread with this ticket sleeps.
+fn bell_of(ticket: u64) -> usize
+    ensures { (FIRST_BELL ≤ result) × (result < WORDS) }
+{
+    FIRST_BELL + ticket as usize % BELLS
+}
+
+// Looks until the ticket is served, and then has the slot. After a few looks the thread sleeps until its bell is rung. It
+// reads the bell before it looks, so a ring that comes after the look is seen.
 fn wait<T: Standing, J: MadeWith<T::Fixed>, R: Wait>(
     rt: &R,
     top: &Top<T>,
     place: &mut Place<T>,
     ticket: u64,
 )
-    requires table { (place.old.table_id ≡ top.now.table_id) × (top.now.table_id.words ≡ 3) × (top.now.table_id.slots ≡ 1) }
+    requires table { (place.old.table_id ≡ top.now.table_id) × (top.now.table_id.words ≡ WORDS) × (top.now.table_id.slots ≡ 1) }
     requires drawn { (place.old.me.0.phase ≡ Drawn ticket) × (place.old.me.0.spent ≡ false) × (place.old.me.1 ≡ []) }
     requires made_with { (J.fixed_part ≡ Some (T.fixed top.now.key.value.value)) × (J.seats ≡ top.now.key.seats) }
     ensures table { place.new.table_id ≡ place.old.table_id }
@@ -107,14 +124,15 @@ fn wait<T: Standing, J: MadeWith<T::Fixed>, R: Wait>(
         × (place.new.me ≡ (with_lists place.old.me.0 (Called ticket) (T.list x) place.old.me.0.account.own, (0, Some x) ∷ []))
         × Gets T.list T.fixed T.maker J.fixed_part J.seats place.old.me.0 x }
 {
+    let bell = bell_of(ticket);
     let backoff = Backoff::new();
     for _ in rt.forever() {
-        let served = top.peek(SERVING);
+        let rung = top.peek(bell);
         if top.load::<Look<T, J>>(place, SERVING) == ticket {
             return;
         }
         if backoff.is_completed() {
-            top.park(rt, SERVING, (served % WORD) as u32);
+            top.park(rt, bell, (rung % WORD) as u32);
         } else {
             backoff.snooze();
         }
@@ -124,7 +142,7 @@ fn wait<T: Standing, J: MadeWith<T::Fixed>, R: Wait>(
 
 // Publishes the length of the list that the turn leaves.
 fn publish<T: Standing, J: Publishes<T::Entry>>(top: &Top<T>, place: &mut Place<T>, value: &T)
-    requires table { (place.old.table_id ≡ top.now.table_id) × (top.now.table_id.words ≡ 3) }
+    requires table { (place.old.table_id ≡ top.now.table_id) × (top.now.table_id.words ≡ WORDS) }
     requires turn { HasTurn place.old }
     requires list { (J.given ≡ T.list value.now)
         × Continues T.maker place.old.me.0.account.number place.old.me.0.account.seen (T.list value.now) }
@@ -139,6 +157,16 @@ fn publish<T: Standing, J: Publishes<T::Entry>>(top: &Top<T>, place: &mut Place<
     top.store::<Publish<T, J>>(place, LENGTH, value.length());
 }
 
+// Wakes the thread with this ticket, where it sleeps.
+fn ring<T: Standing>(top: &Top<T>, place: &mut Place<T>, ticket: u64)
+    requires table { (place.old.table_id ≡ top.now.table_id) × (top.now.table_id.words ≡ WORDS) }
+    ensures same { (place.new.table_id ≡ place.old.table_id) × (place.new.me ≡ place.old.me) }
+{
+    let bell = bell_of(ticket);
+    top.fetch_add::<Ring>(place, bell, 1);
+    top.wake_all(bell);
+}
+
 // Splits all seats but the first off the first one.
 fn deal<T: Standing>(
     top: &Top<T>,
@@ -146,7 +174,7 @@ fn deal<T: Standing>(
     count: u32,
     row: &mut Vec<TurnSeat<T>>,
 ) -> Result<(), Memory>
-    requires table { (first.old.table_id ≡ top.now.table_id) × (top.now.table_id.words ≡ 3) }
+    requires table { (first.old.table_id ≡ top.now.table_id) × (top.now.table_id.words ≡ WORDS) }
     requires count { (1 ≤ count) × (count ≡ top.now.key.seats) }
     requires first { first.old.me ≡ (first_view T.list T.fixed T.maker top.now.key.value.value count, []) }
     requires row { row.old.items ≡ [] }
@@ -164,7 +192,7 @@ fn deal<T: Standing>(
 
 // Joins all seats into one.
 fn gather<T: Standing>(top: &Top<T>, mut place: Place<T>, mut seats: Vec<TurnSeat<T>>) -> Place<T>
-    requires table { (place.table_id ≡ top.now.table_id) × (top.now.table_id.words ≡ 3) }
+    requires table { (place.table_id ≡ top.now.table_id) × (top.now.table_id.words ≡ WORDS) }
     requires first { IsResting place }
     requires others { AllByRecursion (IsAtRest top.now.table_id) seats.items }
     ensures same { (result.table_id ≡ place.table_id) × IsResting result }
@@ -191,14 +219,15 @@ impl<T: Standing> Turns<T> {
         ensures lock { IfOk result (λ r. (r.0.fixed ≡ T.fixed value) × (r.0.seats ≡ seats)) }
         ensures seats { IfOk result (λ r. r.1.items ≡ new_seats T.maker r.0.id (T.list value) seats) }
     {
-        let length = value.length();
+        let mut words = [0; WORDS];
+        words[LENGTH] = value.length();
         let about = Opening {
             value: Snapshot::of(&value),
             seats: u64::from(seats),
         };
         let mut slots = Vec::new(alloc);
         slots.push(Some(value))?;
-        let Ok((table, mut first)) = Table::new(alloc, &[0, 0, length], slots, &about) else {
+        let Ok((table, mut first)) = Table::new(alloc, &words, slots, &about) else {
             return Err(Memory);
         };
         let mut row = Vec::new(alloc);
@@ -241,8 +270,8 @@ impl<T: Standing> Turns<T> {
         publish::<T, Brand>(top, &mut seat.place, &value);
         let left = top.exchange(&mut seat.place, VALUE, Some(value));
         let None = left else { unreachable!() };
-        top.fetch_add::<Pass>(&mut seat.place, SERVING, 1);
-        top.wake_all(SERVING);
+        let served = top.fetch_add::<Pass>(&mut seat.place, SERVING, 1);
+        ring(top, &mut seat.place, served.wrapping_add(1));
     }
 
     /// Takes the value out, where all seats that `new` gave are handed back and none holds the turn. It takes no memory.

@@ -6,8 +6,8 @@ use Rattle.turn_lock.specs.declared.rule.Phase.TheVariants.{Published}
 use Rattle.turn_lock.proofs.TurnSteps.{pass_keeps_rule}
 use Rattle.turn_lock.proofs.turns.Turns.give.Goals as goal
 
-pub fetch_add-requires : goal.fetch_add-requires
-fetch_add-requires g c =
+pub fetch_add-served-requires : goal.fetch_add-served-requires
+fetch_add-served-requires g c =
     let turn = c.seat.invariant.1 (ap (λ s. s.holds_turn) c.seat.view_is ∙ c.requires.turn) in
     let v = c.seat.inside.place.me.0 in let x = c.args.held.value in let t = turn.0.0 in
     let w = with_lists v (Published t) (g.T.Standing.list x) (made_by g.T.Standing.maker v.account.number (g.T.Standing.list x)) in

@@ -1,5 +1,6 @@
-use Rattle.std.proofs.Common.{rules, ◌≡◌, ℕ, sym, ap, subst, ◌∙◌, [], ◌∷◌, length, Some, arith}
+use Rattle.std.proofs.Common.{rules, ◌≡◌, ℕ, sym, ap, subst, ◌∙◌, [], ◌∷◌, length, replicate, Some, arith}
 use Rattle.atomic_table.specs.Table.{opening}
+use Rattle.turn_lock.specs.declared.turns.TheConstants.{BELLS}
 use Rattle.turn_lock.specs.Seats.{SeatModel, new_seat, new_seats}
 use Rattle.turn_lock.specs.Steps.{is_in_turn}
 use Rattle.turn_lock.specs.Rule.{KeepsRule, first_view}
@@ -12,10 +13,11 @@ new-requires g c =
     let L = g.T.Standing.list in
     let F = g.T.Standing.fixed in let M = g.T.Standing.maker in let seats : ℕ = c.from.result in let opened = c.of.result.value in
     let items : c.push.new.self.items ≡ Some opened ∷ [] = search rules in
-    let size : c.length-length.result ≡ length (L opened) = search rules in let count : seats ≡ c.args.seats = search rules in
-    subst (λ l. KeepsRule L F M opened seats (opening (0 ∷ 0 ∷ c.length-length.result ∷ []) l (first_view L F M opened seats)))
-    (sym items)
-    (opening_keeps_rule L F M opened seats c.length-length.result size (omega (arith, c.requires.some_seat)) (search rules))
+    let len : ℕ = c.length.result in
+    let size : len ≡ length (L opened) = search rules in
+    let count : seats ≡ c.args.seats = search rules in
+    subst (λ l. KeepsRule L F M opened seats (opening (0 ∷ 0 ∷ len ∷ replicate BELLS 0) l (first_view L F M opened seats))) (sym items)
+    (opening_keeps_rule L F M opened seats len (replicate BELLS 0) size (omega (arith, c.requires.some_seat)) (search rules))
 
 pub returns-clause-seats : goal.returns-clause-seats
 returns-clause-seats g c =
