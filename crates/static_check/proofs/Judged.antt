@@ -18,6 +18,7 @@ use Rattle.static_call_cycles.specs.Unguarded.{unguarded_refusals}
 use Rattle.static_check.specs.Bodies.{Setting, Placed, ending_refusals, AreBodiesRead, calls_from}
 use Rattle.static_check.specs.Compiled.{data_context, setting, start_site, process_nodes, body_nodes, program_if_read, IsJudged}
 use Rattle.static_check.specs.Steps.{AreReadSoFar, IsStartRead, program_with_if}
+use Rattle.static_check.specs.Views.{data_of}
 
 -- the program is that of the bodies and of the specification's behaviour
 is_program : (theory : Theory) (spec : Spec) (processes from : ℕ) (old code : List Node) (bodies : Option (List Placed)) (start : Option Read) → processes ≡ length old
@@ -66,28 +67,28 @@ judged theory spec first bodies last nodes start processes program refusals plac
           (unguarded_refusals (map (λ e. e.process.name.text) (entries spec)) (calls_from (setting theory spec) 0 (entries spec)));
     }
 
--- the same, by what the values of the program are
-pub judged_by : (theory : Theory) (spec : Spec) (c d e : Context) (g : ℕ) (t : List Entry) (first bodies last : Output) (nodes : Option (List Node)) (start : Option ℕ)
-    (processes : ℕ) (program : Option Program) (refusals : List Refusal) (f : Option Functionality) (calls : List (List Call))
-    → c ≡ data_context theory → d ≡ data_context theory → e ≡ data_context theory → g ≡ length (gates_in spec.gates) → t ≡ entries spec
-    → length first.code ≡ length t → first.refusals ≡ opening_refusals c spec ++ table_refusals c t
-    → AreReadSoFar (record { context = d; gates = g; table = t }) t first bodies nodes → f ≡ declared c spec.functionality
-    → IsStartRead (start_site (record { context = e; gates = g; table = t }) spec) (behaviour_written spec.behaviour) bodies last (ending_refusals None spec.name.place f) start
-    → calls ≡ calls_from (record { context = d; gates = g; table = t }) 0 t
-    → refusals ≡ last.refusals ++ unguarded_refusals (map (λ e. e.process.name.text) t) calls
-    → processes ≡ length t → program ≡ program_with_if theory spec processes nodes last.code start → IsJudged theory spec program refusals
-judged_by theory spec c d e g t first bodies last nodes start processes program refusals f calls cis dis eis gis tis places opening h fis s made cycles many put =
-    let all : Context → Setting = λ x. record { context = x; gates = g; table = t } in
-    let whole : (x : Context) → x ≡ data_context theory → all x ≡ setting theory spec =
-    λ x q. ap all q ∙ ap (λ n. record { context = data_context theory; gates = n; table = t }) gis
-    ∙ ap (λ es. record { context = data_context theory; gates = length (gates_in spec.gates); table = es }) tis in
-    let names : List Entry → List (List ℕ) = λ es. map (λ e. e.process.name.text) es in
-    judged theory spec first bodies last nodes start processes program refusals (places ∙ ap length tis)
-    (opening ∙ ap (λ z. opening_refusals z spec ++ table_refusals z t) cis ∙ ap (λ es. opening_refusals (data_context theory) spec ++ table_refusals (data_context theory) es) tis)
-    (subst (λ es. AreReadSoFar (setting theory spec) es first bodies nodes) tis (subst (λ a. AreReadSoFar a t first bodies nodes) (whole d dis) h))
-    (subst (λ m. IsStartRead (start_site (setting theory spec) spec) (behaviour_written spec.behaviour) bodies last (ending_refusals None spec.name.place m) start)
-    (fis ∙ ap (λ z. declared z spec.functionality) cis)
-    (subst (λ a. IsStartRead (start_site a spec) (behaviour_written spec.behaviour) bodies last (ending_refusals None spec.name.place f) start) (whole e eis) s))
-    (cycles ∙ ap (λ z. last.refusals ++ unguarded_refusals (names t) z) (made ∙ ap (λ a. calls_from a 0 t) (whole d dis))
-    ∙ ap (λ es. last.refusals ++ unguarded_refusals (names es) (calls_from (setting theory spec) 0 es)) tis)
-    (many ∙ ap length tis) put
+-- the same, by settings that are known to be that of the specification
+pub judged_in : (theory : Theory) (spec : Spec) (all again : Setting) (first bodies last : Output) (nodes : Option (List Node)) (start : Option ℕ) (processes : ℕ)
+    (program : Option Program) (refusals : List Refusal) (ends : Option Functionality) (calls : List (List Call)) → all ≡ setting theory spec → again ≡ setting theory spec
+    → length first.code ≡ length (entries spec)
+    → first.refusals ≡ opening_refusals (data_context theory) spec ++ table_refusals (data_context theory) (entries spec)
+    → AreReadSoFar all all.table first bodies nodes → ends ≡ declared (data_context theory) spec.functionality
+    → IsStartRead (start_site again spec) (behaviour_written spec.behaviour) bodies last (ending_refusals None spec.name.place ends) start
+    → calls ≡ calls_from all 0 all.table → refusals ≡ last.refusals ++ unguarded_refusals (map (λ e. e.process.name.text) all.table) calls
+    → processes ≡ length all.table → program ≡ program_with_if theory spec processes nodes last.code start → IsJudged theory spec program refusals
+judged_in theory spec all again first bodies last nodes start processes program refusals ends calls is too places opening h known s made cycles many put =
+    judged theory spec first bodies last nodes start processes program refusals places opening
+    (subst (λ a. AreReadSoFar a a.table first bodies nodes) is h)
+    (subst (λ m. IsStartRead (start_site (setting theory spec) spec) (behaviour_written spec.behaviour) bodies last (ending_refusals None spec.name.place m) start) known
+    (subst (λ a. IsStartRead (start_site a spec) (behaviour_written spec.behaviour) bodies last (ending_refusals None spec.name.place ends) start) too s))
+    (cycles ∙ ap (λ z. last.refusals ++ unguarded_refusals (map (λ e. e.process.name.text) all.table) z) made
+    ∙ ap (λ a. last.refusals ++ unguarded_refusals (map (λ e. e.process.name.text) a.table) (calls_from a 0 a.table)) is)
+    (many ∙ ap (λ a. length a.table) is) put
+
+-- the setting of a specification
+pub its_setting : (theory : Theory) (spec : Spec) (c : Context) (gates : ℕ) (table : List Entry) → c ≡ data_context theory → gates ≡ length (gates_in spec.gates)
+    → table ≡ entries spec → record { context = data_of c; gates = gates; table = table } ≡ setting theory spec
+its_setting theory spec c gates table in_context of_gates of_table =
+    ap (λ k. record { context = data_of k; gates = gates; table = table }) in_context
+    ∙ ap (λ n. record { context = data_context theory; gates = n; table = table }) of_gates
+    ∙ ap (λ es. record { context = data_context theory; gates = length (gates_in spec.gates); table = es }) of_table

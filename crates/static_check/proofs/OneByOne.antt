@@ -1,8 +1,8 @@
 -- Bodies are read one after another.
-use Rattle.std.proofs.Common.{ℕ, zero, suc, pred, ◌≡◌, ◌∙◌, ◌<◌, ◌≤◌, ◌+◌, refl, sym, ap, subst, arith, List, [], ◌∷◌, ◌++◌, length, get_or, take, drop, map, append_assoc, append-nil, Option, Some, None}
+use Rattle.std.proofs.Common.{ℕ, zero, suc, pred, ◌≡◌, ◌∙◌, ◌<◌, ◌+◌, refl, sym, ap, subst, arith, List, [], ◌∷◌, ◌++◌, length, get_or, take, drop, map, append_assoc, append-nil, Option, Some, None}
 use Rattle.std.specs.Prelude.{option_map}
 use Rattle.std.specs.List.{slice_get}
-use Rattle.std.proofs.lemmas.List.{length-append, length-map, length-take-le, map-append, drop_all, take_all}
+use Rattle.std.proofs.lemmas.List.{length-append, length-map, length-take-le, map-append}
 use Rattle.std.proofs.lemmas.Option.{slice_get-map, same_Some, none-some}
 use Rattle.lotos_ast.specs.declared.refusal.Refusal.{Refusal}
 use Rattle.static_constructs.specs.Constructs.{Construct}
@@ -207,10 +207,6 @@ body_next all table i e old mid now nodes more node within at h b is =
     subst (λ es. AreReadSoFar all es old now more) (sym (front_next table i e within at))
     (one_read all (whole (take i table)) (entry_of e) old mid now nodes more node i counts h b is)
 
-pub bodies_all : (all : Setting) (table : List code.Entry) (i : ℕ) (old now : Output) (nodes : Option (List Node)) → length table ≤ i
-    → AreReadSoFar all (map entry_of (take i table)) old now nodes → AreReadSoFar all (map entry_of table) old now nodes
-bodies_all all table i old now nodes past h = subst (λ es. AreReadSoFar all (whole es) old now nodes) (take_all i table past) h
-
 pub calls_next : (all : Setting) (table : List code.Entry) (i : ℕ) (e : code.Entry) (now more rest : List (List Call)) (calls : List Call) → i < length table → e ≡ get_or table i e
     → now ++ calls_from all i (map entry_of (drop i table)) ≡ rest → calls ≡ calls_at_once (body_site all i (entry_of e)) (entry_of e).process.body
     → more ≡ now ++ calls ∷ [] → more ++ calls_from all (i + 1) (map entry_of (drop (i + 1) table)) ≡ rest
@@ -219,11 +215,6 @@ calls_next all table i e now more rest calls within at h made put =
     ap (λ z. z ++ others) put ∙ append_assoc now (calls ∷ []) others
     ∙ ap (λ z. now ++ (z ∷ others)) made
     ∙ ap (λ es. now ++ calls_from all i (whole es)) (sym (dropped-next table i e within at)) ∙ h
-
-pub calls_all : (all : Setting) (table : List code.Entry) (i : ℕ) (now rest : List (List Call)) → length table ≤ i
-    → now ++ calls_from all i (map entry_of (drop i table)) ≡ rest → now ≡ rest
-calls_all all table i now rest past h =
-    sym (append-nil now) ∙ ap (λ es. now ++ calls_from all i (whole es)) (sym (drop_all i table past)) ∙ h
 
 -- the behaviour of the specification
 

@@ -27,17 +27,18 @@ pub fn places(alloc: Global, count: usize) -> Result<Vec<CodeNode>, Memory>
 }
 
 // Puts the nodes behind the first so many of others behind these.
-fn add_behind(nodes: &mut Vec<CodeNode>, count: usize, code: Vec<CodeNode>) -> Result<(), Memory>
+fn add_behind(
+    nodes: &mut Vec<CodeNode>,
+    count: usize,
+    mut code: Vec<CodeNode>,
+) -> Result<(), Memory>
     ensures { OnOk result (map node_of nodes.new.items ≡ map node_of nodes.old.items ++ drop count (map node_of code.items)) }
 {
-    let mut number = 0;
-    for node in code {
-        if number >= count {
-            nodes.push(node)?;
-        } else {
-            number += 1;
-        }
+    if count >= code.len() {
+        return Ok(());
     }
+    let mut others = code.split_off(count)?;
+    nodes.append(&mut others)?;
     Ok(())
 }
 

@@ -180,9 +180,9 @@ fn read_body<'a>(
     let construct = body_of(alloc, entry)?;
     let calls = calls_at_once(alloc, site, &construct)?;
     let found = read(alloc, site, &construct, out)?;
-    let node = process_node_if(alloc, setting, entry, site, &found, out)?;
     let heading = heading_at(setting.headings, number);
     add_body_ending(alloc, site.sorts(), entry, heading, &found, out)?;
+    let node = process_node_if(alloc, setting, entry, site, &found, out)?;
     Ok(Body { node, calls })
 }
 

@@ -1,15 +1,18 @@
 // What a specification comes to, and everything that is refused of it.
 
 ghost use Rattle.std.specs.Prelude.{◌≡◌, ◌<◌, ◌^◌, ◌-◌, ◌++◌, [], IfOk, OnOk, map, length, option_map, vec_len};
-ghost use Rattle.static_readings.specs.Views.{output_of};
+ghost use Rattle.static_readings.specs.Views.{functionality_of, output_of};
 ghost use Rattle.static_call_cycles.specs.Unguarded.{unguarded_refusals};
-ghost use Rattle.static_processes.specs.Headings.{opening_refusals, table_refusals};
+ghost use Rattle.static_processes.specs.Headings.{declared, opening_refusals, table_refusals};
+ghost use Rattle.static_processes.specs.Processes.{entries};
 ghost use Rattle.static_processes.specs.Views.{entry_of};
 ghost use Rattle.sort_overloads.specs.Views.{context_of};
 ghost use Rattle.spec_core.specs.Code.{program_of};
 ghost use Rattle.spec_core.specs.Theories.{theory_of};
+ghost use Rattle.static_check.specs.Compiled as compiled;
 ghost use Rattle.static_check.specs.Compiled.{data_context, IsJudged};
-ghost use Rattle.static_check.specs.Views.{data_of};
+ghost use Rattle.static_check.specs.Steps.{HasHeadings};
+ghost use Rattle.static_check.specs.Views.{data_of, setting_of};
 
 use crate::assembly::{places, program_if};
 use crate::bodies::read_bodies;
@@ -31,6 +34,7 @@ use static_processes::heading::{declared, gates_in, headings};
 use static_processes::named_parts::NamedParts;
 use static_processes::refusals::{add_opening_refusals, add_table_refusals};
 use static_processes::table::processes;
+use static_readings::functionality::Functionality;
 use static_readings::output::Output;
 use static_readings::site::Site;
 use std::alloc::Global;
@@ -123,29 +127,70 @@ fn add_cycles(
     add_unguarded(alloc, &names, calls, refusals)
 }
 
+// What a specification comes to over its data in this setting. Given are how it is declared to end, if that is known, places for the nodes
+// of processes, and what is refused of headings.
+fn judge_behaviour<'a>(
+    alloc: Global,
+    setting: &Setting<'a, '_>,
+    spec: &'a Spec,
+    algebra: &DataSpec,
+    ends: &Option<Functionality>,
+    site: &mut Site<'a>,
+    mut out: Output,
+) -> Result<Judged, Memory>
+    requires setting { setting_of site.old.context setting.now ≡ compiled.setting (theory_of algebra.now) spec.now }
+    requires headings { HasHeadings (setting_of site.old.context setting.now) setting.now }
+    requires ends { option_map functionality_of ends.now ≡ declared (data_context (theory_of algebra.now)) spec.now.functionality }
+    requires places { length (output_of out).code ≡ length (entries spec.now) }
+    requires refusals { (output_of out).refusals ≡ opening_refusals (data_context (theory_of algebra.now)) spec.now
+        ++ table_refusals (data_context (theory_of algebra.now)) (entries spec.now) }
+    ensures { IfOk result (λ j. IsJudged (theory_of algebra.now) spec.now (option_map program_of j.program) j.refusals.items) }
+{
+    let bodies = read_bodies(alloc, setting, site, &mut out)?;
+    let start = read_start(alloc, setting, spec, ends, site, &mut out)?;
+    add_cycles(alloc, setting.table, &bodies.calls, &mut out.refusals)?;
+    let processes = counted(setting.table.len())?;
+    let Output { code, refusals } = out;
+    let program = program_if(alloc, spec, algebra, bodies.nodes, processes, code, start)?;
+    Ok(Judged { program, refusals })
+}
+
+// What a specification comes to over its data in this setting, with these sorts and operations in scope.
+fn judge_in<'a>(
+    alloc: Global,
+    setting: &Setting<'a, '_>,
+    spec: &'a Spec,
+    algebra: &DataSpec,
+    scope: Scope,
+) -> Result<Judged, Memory>
+    requires context { context_of scope ≡ data_context (theory_of algebra.now) }
+    requires setting { setting_of (context_of scope) setting.now ≡ compiled.setting (theory_of algebra.now) spec.now }
+    requires headings { HasHeadings (setting_of (context_of scope) setting.now) setting.now }
+    requires few_operations { vec_len scope.signature.ops < 2 ^ 32 }
+    requires few_sorts { vec_len scope.signature.sorts < 2 ^ 32 - 1 }
+    ensures { IfOk result (λ j. IsJudged (theory_of algebra.now) spec.now (option_map program_of j.program) j.refusals.items) }
+{
+    let out = opened(alloc, &scope, spec, setting.table)?;
+    let ends = declared(alloc, &scope, &spec.functionality)?;
+    let mut site = data_site(alloc, scope)?;
+    judge_behaviour(alloc, setting, spec, algebra, &ends, &mut site, out)
+}
+
 /// What a specification comes to over its data, and everything that is refused of it: in headings, of bodies and of the specification's own
 /// behaviour, and calls of processes that call themselves at once.
 pub fn judge(alloc: Global, spec: &Spec, algebra: &DataSpec) -> Result<Judged, Memory>
     ensures { IfOk result (λ j. IsJudged (theory_of algebra.now) spec.now (option_map program_of j.program) j.refusals.items) }
 {
+    let gates = counted(gates_in(&spec.gates).len())?;
     let table = processes(alloc, spec)?;
     let scope = data_scope(alloc, algebra)?;
     let headings = headings(alloc, &scope, &table)?;
     let parts = NamedParts::of(alloc, &table, &headings)?;
-    let mut out = opened(alloc, &scope, spec, &table)?;
-    let declared = declared(alloc, &scope, &spec.functionality)?;
-    let mut site = data_site(alloc, scope)?;
     let setting = Setting {
-        gates: counted(gates_in(&spec.gates).len())?,
+        gates,
         table: &table,
         headings: &headings,
         parts: &parts,
     };
-    let bodies = read_bodies(alloc, &setting, &mut site, &mut out)?;
-    let start = read_start(alloc, &setting, spec, &declared, &mut site, &mut out)?;
-    add_cycles(alloc, &table, &bodies.calls, &mut out.refusals)?;
-    let processes = counted(table.len())?;
-    let Output { code, refusals } = out;
-    let program = program_if(alloc, spec, algebra, bodies.nodes, processes, code, start)?;
-    Ok(Judged { program, refusals })
+    judge_in(alloc, &setting, spec, algebra, scope)
 }

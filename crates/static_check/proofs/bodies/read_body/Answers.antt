@@ -20,12 +20,16 @@ pub returns-clause-read : goal.returns-clause-read
 returns-clause-read c =
     let e = entry_of c.args.entry.now in
     let read = output_of c.read.new.out in
+    let found = option_map functionality_of c.in_ok-found.found in
+    let there = setting_of c.read.new.site.context c.args.setting.now in
     body_read (setting_of c.args.site.now.context c.args.setting.now) c.args.number e (output_of c.args.out.now) read (output_of c.add_body_ending.new.out)
-    (option_map functionality_of c.in_ok-found.found) (option_map node_of c.in_ok-node.node) c.enter_body.new.site c.in_ok-enter_body.ensures
-    (read_as c.enter_body.new.site e.process.body (construct_of c.in_ok-construct.construct) (output_of c.args.out.now) read (option_map functionality_of c.in_ok-found.found)
+    found (option_map node_of c.in_ok-node.node) c.enter_body.new.site c.in_ok-enter_body.ensures
+    (read_as c.enter_body.new.site e.process.body (construct_of c.in_ok-construct.construct) (output_of c.args.out.now) read found
     (sym c.in_ok-construct.ensures) c.in_ok-found.ensures.read)
-    (c.in_ok-node.ensures ∙ ap (λ z. option_map (λ _. node_over (setting_of z.context c.args.setting.now) e z.context.variables (pred (length read.code)))
-    (option_map functionality_of c.in_ok-found.found)) c.in_ok-found.ensures.site)
+    (c.in_ok-node.ensures
+    ∙ ap (λ code. option_map (λ _. node_over there e c.read.new.site.context.variables (pred (length code))) found) c.in_ok-add_body_ending.ensures.code
+    ∙ ap (λ z. option_map (λ _. node_over (setting_of z.context c.args.setting.now) e z.context.variables (pred (length read.code))) found)
+    c.in_ok-found.ensures.site)
     c.in_ok-add_body_ending.ensures.code
     (λ x is.
     let n = c.sorts.ensures ∙ ap (λ z. length z.context.sorts) (c.in_ok-found.ensures.site ∙ c.in_ok-enter_body.ensures) in
