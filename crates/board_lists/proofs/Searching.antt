@@ -1,5 +1,5 @@
 -- A search goes on behind what it meets.
-use Rattle.std.proofs.Common.{◌≡◌, ◌++◌, ◌∙◌, inl, List, [], ◌∷◌, refl, sym, ap, subst, Option, None, Some}
+use Rattle.std.proofs.Common.{◌≡◌, ◌++◌, ◌∙◌, inl, List, [], ◌∷◌, flat_map, refl, sym, ap, subst, Option, None, Some}
 use Rattle.std.proofs.Common.{option_map, append_assoc, append-nil}
 use Rattle.spec_core.specs.Lists.{IsOneOf}
 use Rattle.spec_core.proofs.Lists.{cons_not_empty, right_empty}
@@ -10,7 +10,7 @@ use Rattle.rule_model.specs.declared.rules.Rules.{Rules}
 use Rattle.rule_model.specs.Derivations.{Derivation, derivation_of}
 use Rattle.board_laws.specs.Gaps.{OrGap, all_known}
 use Rattle.board_laws.specs.Known.{where_known}
-use Rattle.board_laws.specs.Rules.{Query}
+use Rattle.board_laws.specs.Rules.{Query, any, any_beyond}
 use Rattle.board_laws.proofs.Parts.{searches_in_parts}
 use Rattle.board_laws.specs.Lazy.{first}
 use Rattle.candidate_composites.specs.Windows.{Windows}
@@ -18,9 +18,15 @@ use Rattle.candidate_verdicts.specs.Known.{NodePart, Pieces, known_show, missing
 use Rattle.candidate_verdicts.proofs.Missing.{missing_parts_are_missing}
 use Rattle.board_core.specs.Shapes.{Shape}
 use Rattle.board_core.specs.declared.job.Job.{Job}
-use Rattle.board_core.specs.Views.{BoardView}
+use Rattle.board_core.specs.Views.{BoardView, program, tree, windows}
+use Rattle.candidate_laws.specs.Asked.{TreeQuery}
+use Rattle.candidate_laws.specs.Sought.{every_kind}
+use Rattle.candidate_search.specs.Searches.{for_offer}
+use Rattle.candidate_composites.specs.Known.{PlacedPlan, placed_plans, plans_sought, sought_plans}
+use Rattle.candidates.specs.Listed.{kinds_sought, trees_sought}
+use Rattle.candidates.proofs.Asking.{sought_alone}
 use Rattle.board_lists.specs.declared.looking.Seen.TheVariants as seen
-use Rattle.board_lists.specs.Looking.{HasPassed, Says, looked_through, verdict_at}
+use Rattle.board_lists.specs.Looking.{AsksForAll, HasPassed, IsForAll, Says, looked_through, verdict_at}
 
 -- a part is missing where it isn't known what is shown
 pub some_missing : (theory : Theory) (w : Windows) (pieces : Pieces) (t : Shape) (d : Derivation) → known_show theory w pieces t d ≡ None →
@@ -32,7 +38,21 @@ some_missing theory w pieces t d unknown none =
     first_of_none [] e = refl
     first_of_none (part ∷ parts) e = let never : ⊥ = cc in absurd never
 
+-- a query for whatever the behaviour may do looks for all kinds of actions
+all_sought : (q : TreeQuery) → AsksForAll q → every_kind ≡ kinds_sought (for_offer q)
+all_sought any all = refl
+all_sought any_beyond all = refl
+all_sought _ all = absurd all
+
 module _ (v : BoardView) (q : Query Offer) where
+  -- so it looks for the same trees where the parts are those that are sought
+  pub looks_through : IsForAll q → (ps : List PlacedPlan) →
+      flat_map (plans_sought every_kind) ps ≡ sought_plans (program v).theory (tree v) every_kind →
+      trees_sought (program v).theory (windows v) q ps ≡ looked_through v q
+  looks_through all ps sought =
+      sought_alone (program v).theory (windows v) q every_kind ps (placed_plans (program v).theory (tree v))
+      (subst (λ k. every_kind ≡ kinds_sought k) all.same (all_sought all.query all.all)) sought
+
   pub met_is_listed : (jobs : List Job) (found : List Derivation) (left : List (OrGap Derivation)) → HasPassed v q jobs found left →
       (x : OrGap Derivation) (rest : List (OrGap Derivation)) → left ≡ x ∷ rest → IsOneOf x (looked_through v q)
   met_is_listed jobs found left h x rest e =

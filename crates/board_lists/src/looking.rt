@@ -1,6 +1,6 @@
 // Looks for the first trees of rules for which a query asks, as far as what is known of a board's nodes says which they are.
 
-ghost use Rattle.std.specs.Prelude.{◌≡◌, IfOk, None};
+ghost use Rattle.std.specs.Prelude.{◌≡◌, IfOk, None, map};
 ghost use Rattle.rule_model.specs.Derivations.{derivation_of};
 ghost use Rattle.candidate_search.specs.Searches.{query_of};
 ghost use Rattle.candidate_verdicts.specs.Known.{known_show};
@@ -8,11 +8,15 @@ ghost use Rattle.candidates.specs.Walks.{met_of};
 ghost use Rattle.board_core.specs.Views.{pieces, program, tree, windows};
 ghost use Rattle.board_laws.specs.Gaps.{element};
 ghost use Rattle.candidates.specs.Models.{job_of};
-ghost use Rattle.board_lists.specs.Looking.{ComesOfSearch, FindsOut, IsForAll, IsLooked, Says};
+ghost use Rattle.candidate_composites.specs.Known.{placed_of};
+ghost use Rattle.candidates.specs.Listed.{trees_sought};
+ghost use Rattle.board_lists.specs.Looking.{ComesOfSearch, FindsOut, IsForAll, IsLooked, Says, looked_through};
 
 use board_core::board::Board;
 use board_core::job::Job;
-use candidate_composites::known::known_composites;
+use candidate_composites::known::sought_composites;
+use candidate_composites::part::Part;
+use candidate_composites::sought::Sought;
 use candidate_search::searches::TreeSearch;
 use candidate_verdicts::asked::verdict;
 use candidate_verdicts::shown::first_missing;
@@ -93,6 +97,25 @@ fn comes_to(those: Vec<Rules>, jobs: Vec<Job>) -> Looked
     }
 }
 
+// The composites of a board's nodes of which trees for which a query asks are looked for, and the gaps.
+fn parts_of<'a>(
+    alloc: Global,
+    board: &'a Board,
+    search: &TreeSearch<'_>,
+) -> Result<Vec<Part<'a>>, Memory>
+    requires all { IsForAll (query_of search.now) }
+    ensures { IfOk result (λ all.
+        trees_sought (program board.now).theory (windows board.now) (query_of search.now) (map placed_of all.items) ≡
+        looked_through board.now (query_of search.now)) }
+{
+    sought_composites(
+        alloc,
+        &board.checked().algebra,
+        board.nodes(),
+        &Sought::Every,
+    )
+}
+
 /// The first trees for which a query asks, at most so many; or the jobs that are to be done before it is known which they are: those of the
 /// trees that may be among them, up to the first node that isn't expanded.
 pub fn first_trees(
@@ -108,7 +131,7 @@ pub fn first_trees(
     board.what_is_known_is_so();
     board.generations_are_sound();
     let algebra = &board.checked().algebra;
-    let parts = known_composites(alloc, algebra, board.nodes())?;
+    let parts = parts_of(alloc, board, &search)?;
     let mut walk = Walk::new(algebra, board.windows(), search, &parts);
     let mut those = Vec::new(alloc);
     let mut jobs = Vec::new(alloc);

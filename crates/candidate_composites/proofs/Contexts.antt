@@ -1,24 +1,21 @@
 -- What the operators above a part make of its plans, one operator after the other.
-use Rattle.std.proofs.Common.{ℕ, ◌≡◌, ◌++◌, ◌&&◌, ◌||◌, ◌∙◌, not, List, [], ◌∷◌, map, filter, flat_map, refl, sym, ap, Bool, true, false, cond}
-use Rattle.std.proofs.Common.{if◌then◌else◌, append_assoc, Option, Some, None}
+use Rattle.std.proofs.Common.{◌≡◌, ◌++◌, ◌∙◌, List, [], ◌∷◌, map, flat_map, refl, sym, ap, Bool, true, false}
+use Rattle.std.proofs.Common.{if◌then◌else◌, append_assoc}
 use Rattle.std.proofs.lemmas.Bool.{or_parts}
 use Rattle.std.proofs.lemmas.List.Concat.{flat_map-append}
 use Rattle.spec_core.specs.Theories.{Theory}
 use Rattle.spec_core.specs.Code.{Synchronised}
-use Rattle.rule_model.specs.Actions.{Kind, inside, ends, at_gate}
-use Rattle.symbolic_composites.specs.Kinds.{is_alone, is_joint, same_kind}
+use Rattle.symbolic_composites.specs.Kinds.{is_joint}
 use Rattle.symbolic_plans.specs.declared.scheme.Row.{Row}
 use Rattle.symbolic_plans.specs.declared.scheme.Row.TheVariants.{Chl, Chr, Parl, Parr, Distake}
-use Rattle.symbolic_plans.specs.OpenPlans.{OpenPlan, under_row, plans_alone, plans_joint, plan_by_disabling}
-use Rattle.candidate_laws.specs.Sought.{Sought, is_sought, seeks_some, sought_below, by_itself, with_another, as_another}
-use Rattle.candidate_laws.proofs.Sought.{kinds_same}
-use Rattle.node_trees.specs.Rests.{Work}
-use Rattle.node_trees.specs.Shapes.{Shape, leaf, ended, over, between, Unary, Binary, choosing, beside, disabling}
+use Rattle.symbolic_plans.specs.OpenPlans.{under_row, plans_alone, plans_joint, plan_by_disabling}
+use Rattle.candidate_laws.specs.Sought.{Sought, by_itself, with_another, as_another}
+use Rattle.node_trees.specs.Shapes.{Shape, between, Unary, choosing, beside, disabling}
 use Rattle.candidate_composites.specs.Known.{PlacedPlan, made, awaited, stepped, turned_there, placed_over_one, placed_alone}
 use Rattle.candidate_composites.specs.Known.{placed_partners, placed_over_two}
 use Rattle.candidate_composites.specs.Contexts.{Turn, below_row, disabled, alone_by, over_by, turned_by, through, all_through, some_joint}
-use Rattle.candidate_composites.specs.Joining.{Joins, beside_those, is_offered, lets, right_of}
-use Rattle.candidate_composites.specs.Kept.{is_kept, kept_at, kept_over_two, kept_plans, meeting, prunes, staying}
+use Rattle.candidate_composites.specs.Joining.{Joins, right_of}
+use Rattle.candidate_composites.specs.Kept.{kept_over_two, kept_plans, meeting, offering, prunes, staying}
 use Rattle.candidate_composites.specs.declared.listed.Listed.{Listed}
 
 -- The lowest operator first, and those above it then.
@@ -77,88 +74,17 @@ one_behind ts a b c ps qs e f =
     ∙ append_assoc a (all_through ts ps) (all_through ts qs)
     ∙ ap (λ z. a ++ z) (sym (flat_map-append (through ts) ps qs))
 
--- Where a left side has nothing that it may do together with the right one.
+-- What a left side says of the right one: all, where some of it meets the right side, and else nothing.
 
-either_alone : (gates : Synchronised) (k : Kind) → is_joint gates k ≡ false → is_alone gates k ≡ true
-either_alone gates inside e = refl
-either_alone gates ends e = let no : true ≡ false = e in absurd cc
-either_alone gates (at_gate g) e = ap not e
+pub all_offered : (gates : Synchronised) (v : Sought) (ps : List PlacedPlan) → some_joint gates (meeting (beside gates) v ps) ≡ true →
+    offering (beside gates) v ps ≡ ps
+all_offered gates v ps e = ap (λ (b : Bool). if b then ps else []) e
 
-all_alone : (gates : Synchronised) (ps : List PlacedPlan) → some_joint gates ps ≡ false → (k : Kind) → is_offered k ps ≡ true →
-    is_alone gates k ≡ true
-all_alone gates [] e k f = let no : false ≡ true = f in absurd cc
-all_alone gates (awaited g steps ∷ ps) e k f = let no : true ≡ false = e in absurd cc
-all_alone gates (made p ∷ ps) e k f =
-    let parts = or_parts (is_joint gates p.kind) (some_joint gates ps) e in
-    by_kind (same_kind p.kind k) refl parts.0 f (all_alone gates ps parts.1 k)
-  where
-    by_kind : (b : Bool) → same_kind p.kind k ≡ b → is_joint gates p.kind ≡ false → b || is_offered k ps ≡ true →
-        (is_offered k ps ≡ true → is_alone gates k ≡ true) → is_alone gates k ≡ true
-    by_kind true s j g h = ap (is_alone gates) (sym (kinds_same p.kind k s)) ∙ either_alone gates p.kind j
-    by_kind false s j g h = h g
-
--- both let the same kinds come up
-abbrev LetSame : Joins → Joins → Type 0
-LetSame c d = (k : Kind) → lets c k ≡ lets d k
-
-none_offered : (gates : Synchronised) (ps : List PlacedPlan) → some_joint gates ps ≡ false →
-    LetSame (beside_those gates ps) (beside_those gates [])
-none_offered gates ps e k = by_tests (is_alone gates k) (is_offered k ps) (all_alone gates ps e k)
-  where
-    by_tests : (a b : Bool) → (b ≡ true → a ≡ true) → a || b ≡ a || false
-    by_tests true b h = refl
-    by_tests false true h = let no : false ≡ true = h refl in absurd cc
-    by_tests false false h = refl
-
-same_right : (b : Bool) (gates : Synchronised) (ps : List PlacedPlan) (c : Joins) → some_joint gates ps ≡ false →
-    LetSame (right_of b (beside gates) ps c) (right_of b (beside gates) [] c)
-same_right true gates ps c e = none_offered gates ps e
-same_right false gates ps c e = λ k. refl
-
-same_filter : (f g : OpenPlan → Bool) → ((p : OpenPlan) → f p ≡ g p) → (ps : List OpenPlan) → filter f ps ≡ filter g ps
-same_filter f g e [] = refl
-same_filter f g e (p ∷ ps) =
-    ap (λ b. cond b (p ∷ filter f ps) (filter f ps)) (e p) ∙ ap (λ z. cond (g p) (p ∷ z) z) (same_filter f g e ps)
-
-same_at : (l : Listed) (v : Sought) (c d : Joins) → LetSame c d → (g : ℕ) (work : Option Work) →
-    kept_at l v c g work ≡ kept_at l v d g work
-same_at l v c d e g None = refl
-same_at l v c d e g (Some work) =
-    ap (map made)
-    (same_filter (λ (p : OpenPlan). is_kept v c p.kind) (λ (p : OpenPlan). is_kept v d p.kind) (λ p. ap (λ b. b && is_sought v p.kind) (e p.kind))
-    work.plans)
-
-right_same : (b : Bool) (o : Binary) (ps : List PlacedPlan) (c d : Joins) → LetSame c d →
-    LetSame (right_of b o ps c) (right_of b o ps d)
-right_same b choosing ps c d e = e
-right_same true (beside gates) ps c d e = λ k. refl
-right_same false (beside gates) ps c d e = e
-right_same b disabling ps c d e = e
-
--- where some of them meet the right side, nothing is left out of them
-pub all_meet : (gates : Synchronised) (v : Sought) (ps : List PlacedPlan) → some_joint gates (meeting (beside gates) v ps) ≡ true →
-    meeting (beside gates) v ps ≡ ps
-all_meet gates v ps e = by_test (seeks_some (sought_below (with_another gates) v)) e
-  where
-    by_test : (b : Bool) → some_joint gates (if b then ps else []) ≡ true → (if b then ps else []) ≡ ps
-    by_test true f = refl
-    by_test false f = let no : false ≡ true = f in absurd cc
+none_offered : (gates : Synchronised) (v : Sought) (ps : List PlacedPlan) → some_joint gates (meeting (beside gates) v ps) ≡ false →
+    offering (beside gates) v ps ≡ []
+none_offered gates v ps e = ap (λ (b : Bool). if b then ps else []) e
 
 module _ (theory : Theory) where
-  pub same_kept : (l : Listed) (t : Shape) (v : Sought) (c d : Joins) → LetSame c d →
-      kept_plans theory l t v c ≡ kept_plans theory l t v d
-  same_kept l (leaf n) v c d e = same_at l v c d e n.generation n.work
-  same_kept l ended v c d e = refl
-  same_kept l (over o x) v c d e = refl
-  same_kept l (between o x y) v c d e =
-      let ps = kept_plans theory l x v c in
-      let qs = kept_plans theory l x v d in
-      let first : ps ≡ qs = same_kept l x v c d e in
-      let ms = meeting o v qs in
-      ap (λ z. kept_over_two theory o (staying o v z) (meeting o v z) (kept_plans theory l y v (right_of (prunes l) o (meeting o v z) c))) first
-      ∙ ap (kept_over_two theory o (staying o v qs) ms)
-      (same_kept l y v (right_of (prunes l) o ms c) (right_of (prunes l) o ms d) (right_same (prunes l) o ms c d e))
-
   none_together : (gates : Synchronised) (ps qs : List PlacedPlan) → some_joint gates ps ≡ false →
       flat_map (stepped (with_another gates) (placed_partners theory gates qs)) ps ≡ []
   none_together gates [] qs e = refl
@@ -179,13 +105,13 @@ module _ (theory : Theory) where
       d ≡ b ++ all_through vs (kept_plans theory l y v (right_of (prunes l) (beside gates) [] c)) →
       d ≡ a ++ all_through ts (kept_plans theory l (between (beside gates) x y) v c)
   sides_alone l gates x y v c ts us vs h k a b d e f g =
-      let ps = staying (beside gates) v (kept_plans theory l x v c) in
-      let ms = meeting (beside gates) v (kept_plans theory l x v c) in
-      let qs = kept_plans theory l y v (right_of (prunes l) (beside gates) ms c) in
+      let left = kept_plans theory l x v c in
+      let ps = staying (beside gates) v left in
+      let ms = meeting (beside gates) v left in
+      let qs = kept_plans theory l y v (right_of (prunes l) (beside gates) (offering (beside gates) v left) c) in
       let rs = kept_plans theory l y v (right_of (prunes l) (beside gates) [] c) in
       let same : rs ≡ qs =
-      sym (same_kept l y v (right_of (prunes l) (beside gates) ms c) (right_of (prunes l) (beside gates) [] c)
-      (same_right (prunes l) gates ms c e)) in
+      ap (λ z. kept_plans theory l y v (right_of (prunes l) (beside gates) z c)) (sym (none_offered gates v left e)) in
       one_behind ts a b d (placed_alone gates Parl ps) (placed_alone gates Parr rs)
       (f ∙ ap (λ z. a ++ z) (rises_alone gates Parl ts us ps h)) (g ∙ ap (λ z. b ++ z) (rises_alone gates Parr ts vs rs k))
       ∙ ap (λ z. a ++ all_through ts (placed_alone gates Parl ps ++ placed_alone gates Parr z)) same

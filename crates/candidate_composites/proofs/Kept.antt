@@ -1,11 +1,11 @@
 -- What is made of nodes' composites whose actions are sought has all that is sought.
-use Rattle.std.proofs.Common.{ℕ, ◌≡◌, ◌++◌, ◌&&◌, ◌||◌, ◌∙◌, not, List, [], ◌∷◌, map, filter, flat_map, refl, sym, ap, Bool, true, false, cond, if◌then◌else◌}
+use Rattle.std.proofs.Common.{ℕ, ◌≡◌, ◌++◌, ◌&&◌, ◌||◌, ◌∙◌, List, [], ◌∷◌, map, filter, flat_map, refl, sym, ap, Bool, true, false, cond, if◌then◌else◌}
 use Rattle.std.proofs.Common.{Option, Some, None}
 use Rattle.std.proofs.lemmas.Bool.{or_parts}
 use Rattle.std.proofs.lemmas.List.Concat.{flat_map-append}
 use Rattle.spec_core.specs.Theories.{Theory}
 use Rattle.spec_core.specs.Code.{Synchronised}
-use Rattle.rule_model.specs.Actions.{Kind, inside, ends}
+use Rattle.rule_model.specs.Actions.{Kind, inside}
 use Rattle.symbolic_rules.specs.MayDerive.{renamed_kind}
 use Rattle.decision_trees.specs.Gaps.{element, gap}
 use Rattle.symbolic_composites.specs.Kinds.{is_alone, is_joint, is_hidden, is_end, same_kind}
@@ -14,21 +14,21 @@ use Rattle.symbolic_plans.specs.declared.scheme.Row.{Row}
 use Rattle.symbolic_plans.specs.declared.scheme.Row.TheVariants.{Chl, Chr, Parl, Parr, Distake, Disend, Disstep}
 use Rattle.symbolic_plans.specs.OpenPlans.{OpenPlan, under_row, plans_alone, plans_joint, plan_by_disabling}
 use Rattle.candidate_laws.specs.Sought.{Sought, every_kind, these_kinds, is_one_kind, is_sought, seeks_some, under_one, by_itself, with_another}
-use Rattle.candidate_laws.specs.Sought.{Step, as_another, changing, kind_above, is_one_above, becomes_one, sought_at, sought_below}
+use Rattle.candidate_laws.specs.Sought.{Step, as_another, kind_above, is_one_above, becomes_one, sought_at, sought_below}
 use Rattle.candidate_laws.proofs.Sought.{below_is_above, kinds_same}
 use Rattle.node_trees.specs.Rests.{Work}
 use Rattle.node_trees.specs.Shapes.{Shape, leaf, ended, over, between, Unary, hidden, relabelled, enabled, Binary, choosing, beside, disabling}
-use Rattle.candidate_composites.specs.declared.part.Part.{Part}
-use Rattle.candidate_composites.specs.Known.{PlanOrGap, PlacedPlan, made, awaited, plan_or_gap, plans_sought, placed_of, part_of, over_one}
+use Rattle.candidate_composites.specs.Known.{PlanOrGap, PlacedPlan, made, awaited, plan_or_gap, plans_sought, over_one}
 use Rattle.candidate_composites.specs.Known.{stepped, turned_there, placed_over_one}
-use Rattle.candidate_composites.specs.Known.{placed_alone, placed_at, placed_partners, placed_over_two, placed_plans, known_plans, sought_plans}
+use Rattle.candidate_composites.specs.Known.{placed_alone, placed_at, placed_partners, placed_over_two, placed_plans, sought_plans}
 use Rattle.candidate_composites.specs.Joining.{Joins, free, is_offered, lets, right_of}
-use Rattle.candidate_composites.specs.Kept.{is_kept, kept_at, kept_over_two, kept_plans, listed_for, meeting, node_waits, prunes, some_waits}
-use Rattle.candidate_composites.specs.Kept.{staying, where_sought}
+use Rattle.candidate_composites.specs.Contexts.{some_joint}
+use Rattle.candidate_composites.specs.Kept.{is_kept, keeps, kept_at, kept_over_two, kept_plans, listed_for, meeting, node_waits, offering}
+use Rattle.candidate_composites.specs.Kept.{prunes, some_waits, staying, where_sought}
 use Rattle.candidate_composites.specs.declared.listed.Listed.{Listed}
 use Rattle.candidate_composites.specs.declared.listed.Listed.TheVariants.{All, Pruned, Expanded}
-use Rattle.candidate_composites.proofs.Placed.{placed_are_known}
-use Rattle.candidate_composites.proofs.Those.{sift, fill, nothing_sought, sift_stepped, sift_turned, as_stepped, kind_of_either, same_either}
+use Rattle.candidate_composites.proofs.Within.{IsWithin, where_sifted}
+use Rattle.candidate_composites.proofs.Those.{sift, fill, sift_stepped, sift_turned, as_stepped, kind_of_either, same_either}
 use Rattle.candidate_composites.proofs.Those.{one_over, one_alone}
 use Rattle.candidate_composites.proofs.Those.{partners_sought, all_partners}
 use Rattle.candidate_composites.proofs.Whole.{AllMade, all_plans, all_over, all_kept_between, all_made}
@@ -151,77 +151,38 @@ right_with Pruned gates ps u c (these_kinds ks) j a h i k e =
     (and_second (lets c k) (is_sought u k) (covers_as j (is_kept u c) (these_kinds ks) h k e))
 right_with Expanded gates ps u c v j a h i k e = absurd a
 
--- What is left out of a left side where nothing is sought of it.
-
--- an action of these kinds stays what it is above the step, and none other does
-abbrev Lets : Step → (Kind → Bool) → Type 0
-Lets step f = (k : Kind) → kind_above step k ≡ (if f k then Some k else None)
-
--- whatever is sought here is sought there
-abbrev IsWithin : Sought → Sought → Type 0
-IsWithin v u = (k : Kind) → is_sought v k ≡ true → is_sought u k ≡ true
-
-one_is_some : (w : Sought) (k : Kind) → is_sought w k ≡ true → seeks_some w ≡ true
-one_is_some every_kind k e = refl
-one_is_some (these_kinds []) k e = e
-one_is_some (these_kinds (j ∷ ks)) k e = refl
-
-module _ (step : Step) (f : Kind → Bool) (lets_those : Lets step f) (u v : Sought) (within : IsWithin v u) where
-  found_above : (k : Kind) (b : Bool) → f k ≡ b → kind_above step k ≡ (if b then Some k else None)
-  found_above k b e = lets_those k ∙ ap (λ (z : Bool). if z then Some k else None) e
-
-  sought_there : (k : Kind) → f k ≡ true → is_sought v k ≡ true → seeks_some (sought_below step u) ≡ true
-  sought_there k e h =
-      one_is_some (sought_below step u) k (below_is_above step u k k (found_above k true e) ∙ within k h)
-
-  by_first : (ks : List Kind) (k : Kind) → v ≡ these_kinds ks → becomes_one step ks k ≡ true → (b : Bool) → f k ≡ b →
-      seeks_some (sought_below step u) ≡ true
-  by_first ks k i e true h =
-      sought_there k h (ap (λ w. is_sought w k) i ∙ (sym (ap (is_one_above ks) (found_above k true h)) ∙ e))
-  by_first ks k i e false h =
-      let no : false ≡ true = sym (ap (is_one_above ks) (found_above k false h)) ∙ e in
-      absurd cc
-
-  by_list : (ks ms : List Kind) → v ≡ these_kinds ks →
-      ((k : Kind) → is_one_kind k ms ≡ true → becomes_one step ks k ≡ true) → seeks_some (these_kinds ms) ≡ true →
-      seeks_some (sought_below step u) ≡ true
-  by_list ks [] i h e = let no : false ≡ true = e in absurd cc
-  by_list ks (m ∷ ms) i h e =
-      by_first ks m i (h m (first_so (same_kind m m) (is_one_kind m ms) (same_kind_so m m refl))) (f m) refl
-
-  some_below : (k : Kind) → f k ≡ true → (w : Sought) → v ≡ w → seeks_some (sought_below step w) ≡ true →
-      seeks_some (sought_below step u) ≡ true
-  some_below k e every_kind i h = sought_there k e (ap (λ w. is_sought w k) i)
-  some_below k e (these_kinds ks) i h =
-      let others = filter (λ j. not (is_one_kind j ks)) (changing step) in
-      by_list ks (filter (becomes_one step ks) (ks ++ others)) i (λ j g. one_passes j (becomes_one step ks) (ks ++ others) g) h
-
-  -- where nothing is sought below the step, nothing is left out by leaving all out
-  where_sifted : (k : Kind) → f k ≡ true → (ps : List PlacedPlan) →
-      sift (sought_below step v) (where_sought step u ps) ≡ sift (sought_below step v) ps
-  where_sifted k e ps = by_test (seeks_some (sought_below step u)) refl
-    where
-      none_there : (b : Bool) → seeks_some (sought_below step v) ≡ b → seeks_some (sought_below step u) ≡ false →
-          seeks_some (sought_below step v) ≡ false
-      none_there false h i = h
-      none_there true h i = let no : true ≡ false = sym (some_below k e v refl h) ∙ i in absurd cc
-
-      by_test : (b : Bool) → seeks_some (sought_below step u) ≡ b →
-          sift (sought_below step v) (if b then ps else []) ≡ sift (sought_below step v) ps
-      by_test true h = refl
-      by_test false h =
-          sym (nothing_sought (sought_below step v) (none_there (seeks_some (sought_below step v)) refl h) ps)
-
 kept_within : (u : Sought) (c : Joins) (v : Sought) → Covers (is_kept u c) v → IsWithin v u
 kept_within u c v h k e = and_second (lets c k) (is_sought u k) (h k e)
 
-stays_sifted : (gates : Synchronised) (u : Sought) (c : Joins) (v : Sought) → Covers (is_kept u c) v → (ps : List PlacedPlan) →
-    sift (sought_below (by_itself gates) v) (staying (beside gates) u ps) ≡ sift (sought_below (by_itself gates) v) ps
-stays_sifted gates u c v h ps = where_sifted (by_itself gates) (is_alone gates) (λ k. refl) u v (kept_within u c v h) inside refl ps
+-- What the left side says of the right one, where they meet.
 
-meets_sifted : (gates : Synchronised) (u : Sought) (c : Joins) (v : Sought) → Covers (is_kept u c) v → (ps : List PlacedPlan) →
-    sift (sought_below (with_another gates) v) (meeting (beside gates) u ps) ≡ sift (sought_below (with_another gates) v) ps
-meets_sifted gates u c v h ps = where_sifted (with_another gates) (is_joint gates) (λ k. refl) u v (kept_within u c v h) ends refl ps
+joint_offered : (gates : Synchronised) (k : Kind) (ps : List PlacedPlan) → is_joint gates k ≡ true → is_offered k ps ≡ true →
+    some_joint gates ps ≡ true
+joint_offered gates k [] j e = let no : false ≡ true = e in absurd cc
+joint_offered gates k (awaited g steps ∷ ps) j e = refl
+joint_offered gates k (made p ∷ ps) j e = by_kind (same_kind p.kind k) refl e (joint_offered gates k ps j)
+  where
+    by_kind : (b : Bool) → same_kind p.kind k ≡ b → b || is_offered k ps ≡ true → (is_offered k ps ≡ true → some_joint gates ps ≡ true) →
+        is_joint gates p.kind || some_joint gates ps ≡ true
+    by_kind true s f h = first_so (is_joint gates p.kind) (some_joint gates ps) (ap (is_joint gates) (kinds_same p.kind k s) ∙ j)
+    by_kind false s f h = either_so (is_joint gates p.kind) (some_joint gates ps) (h f)
+
+offered_of_all : (u : Sought) (k : Kind) (ps : List PlacedPlan) → is_offered k (filter (keeps u) ps) ≡ true → is_offered k ps ≡ true
+offered_of_all u k [] e = e
+offered_of_all u k (made p ∷ ps) e =
+    either_still (same_kind p.kind k) (is_offered k (filter (keeps u) ps)) (is_offered k ps) e (offered_of_all u k ps)
+offered_of_all u k (awaited g steps ∷ ps) e = refl
+
+meeting_is_offered : (gates : Synchronised) (u : Sought) (ps : List PlacedPlan) (k : Kind) → is_joint gates k ≡ true →
+    is_offered k (meeting (beside gates) u ps) ≡ true → is_offered k (offering (beside gates) u ps) ≡ true
+meeting_is_offered gates u ps k j e =
+    ap (λ (b : Bool). is_offered k (if b then ps else [])) (joint_offered gates k (meeting (beside gates) u ps) j e)
+    ∙ by_test (seeks_some (sought_below (with_another gates) u)) e
+  where
+    by_test : (b : Bool) → is_offered k (if b then filter (keeps (sought_below (with_another gates) u)) ps else []) ≡ true →
+        is_offered k ps ≡ true
+    by_test true f = offered_of_all (sought_below (with_another gates) u) k ps f
+    by_test false f = let no : false ≡ true = f in absurd cc
 
 -- the kind above an operator over one part
 abbrev above : Unary → Kind → Kind
@@ -362,7 +323,8 @@ module _ (theory : Theory) where
 
   boths : (gates : Synchronised) (v : Sought) (ps qs rs ss : List PlacedPlan) →
       sift (sought_below (with_another gates) v) ps ≡ sift (sought_below (with_another gates) v) rs →
-      ((j : Kind) → is_offered j ps ≡ true → sift (sought_below (as_another j) v) qs ≡ sift (sought_below (as_another j) v) ss) →
+      ((j : Kind) → is_joint gates j ≡ true → is_offered j ps ≡ true →
+      sift (sought_below (as_another j) v) qs ≡ sift (sought_below (as_another j) v) ss) →
       sift v (flat_map (stepped (with_another gates) (placed_partners theory gates qs)) ps) ≡
       sift v (flat_map (stepped (with_another gates) (placed_partners theory gates ss)) rs)
   boths gates v ps qs rs ss e f =
@@ -373,12 +335,21 @@ module _ (theory : Theory) where
       ∙ sym (both_sifted gates v rs ss)
     where
       same : (p : OpenPlan) → is_offered p.kind ps ≡ true → partners_sought theory gates v p qs ≡ partners_sought theory gates v p ss
-      same p i = ap (λ z. if is_joint gates p.kind then fill (λ q. map element (plans_joint theory gates p q)) z else []) (f p.kind i)
+      same p i = by_joint (is_joint gates p.kind) refl
+        where
+          those : List PlanOrGap → List PlanOrGap
+          those l = fill (λ q. map element (plans_joint theory gates p q)) l
+
+          by_joint : (b : Bool) → is_joint gates p.kind ≡ b →
+              (if b then those (sift (sought_below (as_another p.kind) v) qs) else []) ≡
+              (if b then those (sift (sought_below (as_another p.kind) v) ss) else [])
+          by_joint true h = ap those (f p.kind h i)
+          by_joint false h = refl
 
   two_parts : (l : Listed) (o : Binary) (u : Sought) (c : Joins) (v : Sought) → Allowed l v → Covers (is_kept u c) v →
       (ps qs rs ss : List PlacedPlan) →
       ((w : Sought) → Allowed l w → Covers (is_kept u c) w → sift w ps ≡ sift w rs) →
-      ((w : Sought) → Allowed l w → Covers (is_kept u (right_of (prunes l) o (meeting o u ps) c)) w → sift w qs ≡ sift w ss) →
+      ((w : Sought) → Allowed l w → Covers (is_kept u (right_of (prunes l) o (offering o u ps) c)) w → sift w qs ≡ sift w ss) →
       sift v (kept_over_two theory o (staying o u ps) (meeting o u ps) qs) ≡ sift v (placed_over_two theory o rs ss)
   two_parts l choosing u c v a h ps qs rs ss e f =
       join v (map (turned_there (under_row Chl)) ps) (map (turned_there (under_row Chr)) qs) (map (turned_there (under_row Chl)) rs)
@@ -389,18 +360,21 @@ module _ (theory : Theory) where
       let others = placed_alone gates Parr ss in
       let lefts = staying (beside gates) u ps in
       let ms = meeting (beside gates) u ps in
+      let those = offering (beside gates) u ps in
       let first = flat_map (stepped (with_another gates) (placed_partners theory gates qs)) ms in
       let second = flat_map (stepped (with_another gates) (placed_partners theory gates ss)) rs in
       let below = allowed_below l (by_itself gates) v a in
+      let within = kept_within u c v h in
       join v (placed_alone gates Parl lefts) (rights ++ first) (placed_alone gates Parl rs) (others ++ second)
       (alones gates Parl v lefts rs
-      (stays_sifted gates u c v h ps ∙ e (sought_below (by_itself gates) v) below (covers_itself gates (is_kept u c) v h)))
+      (where_sifted (by_itself gates) v u within ps ∙ e (sought_below (by_itself gates) v) below (covers_itself gates (is_kept u c) v h)))
       (join v rights first others second
-      (alones gates Parr v qs ss (f (sought_below (by_itself gates) v) below (right_alone l gates ms u c v a h)))
+      (alones gates Parr v qs ss (f (sought_below (by_itself gates) v) below (right_alone l gates those u c v a h)))
       (boths gates v ms qs rs ss
-      (meets_sifted gates u c v h ps
+      (where_sifted (with_another gates) v u within ps
       ∙ e (sought_below (with_another gates) v) (allowed_below l (with_another gates) v a) (covers_with gates (is_kept u c) v h))
-      (λ j i. f (sought_below (as_another j) v) (allowed_below l (as_another j) v a) (right_with l gates ms u c v j a h i))))
+      (λ j d i. f (sought_below (as_another j) v) (allowed_below l (as_another j) v a)
+      (right_with l gates those u c v j a h (meeting_is_offered gates u ps j d i)))))
   two_parts l disabling u c v a h ps qs rs ss e f =
       join v (map (turned_there plan_by_disabling) ps) (map (turned_there (under_row Distake)) qs) (map (turned_there plan_by_disabling) rs)
       (map (turned_there (under_row Distake)) ss)
@@ -420,54 +394,26 @@ module _ (theory : Theory) where
       ∙ sym (part_over o v (placed_plans theory x))
   kept_are l (between o x y) u c v a h =
       let ps = kept_plans theory l x u c in
-      let above = right_of (prunes l) o (meeting o u ps) c in
+      let above = right_of (prunes l) o (offering o u ps) c in
       two_parts l o u c v a h ps (kept_plans theory l y u above) (placed_plans theory x) (placed_plans theory y)
       (λ w b i. kept_are l x u c w b i) (λ w b i. kept_are l y u above w b i)
 
-  -- where whatever there is is sought, and nothing is left out, all are made
-
-  all_kept : (ps : List OpenPlan) → filter (λ (p : OpenPlan). is_kept every_kind free p.kind) ps ≡ ps
-  all_kept [] = refl
-  all_kept (p ∷ ps) = ap (λ z. p ∷ z) (all_kept ps)
-
-  all_at_node : (g : ℕ) (work : Option Work) → kept_at All every_kind free g work ≡ placed_at g work
-  all_at_node g None = refl
-  all_at_node g (Some work) = ap (map made) (all_kept work.plans)
-
-  still_free : (o : Binary) (ps : List PlacedPlan) → right_of (prunes All) o ps free ≡ free
-  still_free choosing ps = refl
-  still_free (beside gates) ps = refl
-  still_free disabling ps = refl
-
-  all_over_two : (o : Binary) (ps qs : List PlacedPlan) →
-      kept_over_two theory o (staying o every_kind ps) (meeting o every_kind ps) qs ≡ placed_over_two theory o ps qs
-  all_over_two choosing ps qs = refl
-  all_over_two (beside gates) ps qs = refl
-  all_over_two disabling ps qs = refl
-
-  every_is_kept : (t : Shape) → kept_plans theory All t every_kind free ≡ placed_plans theory t
-  every_is_kept (leaf n) = all_at_node n.generation n.work
-  every_is_kept ended = refl
-  every_is_kept (over o x) = ap (map (placed_over_one o)) (every_is_kept x)
-  every_is_kept (between o x y) =
-      let ps = kept_plans theory All x every_kind free in
-      let ms = meeting o every_kind ps in
-      ap (λ c. kept_over_two theory o (staying o every_kind ps) ms (kept_plans theory All y every_kind c)) (still_free o ms)
-      ∙ all_over_two o ps (kept_plans theory All y every_kind free)
-      ∙ ap (λ z. placed_over_two theory o z (kept_plans theory All y every_kind free)) (every_is_kept x)
-      ∙ ap (placed_over_two theory o (placed_plans theory x)) (every_is_kept y)
-
-  -- the same where something is left out, and no node waits
+  -- where no node waits, and whatever there is is sought, all are made
 
   kept_made : (v : Sought) (c : Joins) (g : ℕ) (work : Option Work) → node_waits work ≡ false → AllMade (kept_at Pruned v c g work)
   kept_made v c g None e = let no : true ≡ false = e in absurd cc
   kept_made v c g (Some work) e = all_plans (filter (λ (p : OpenPlan). is_kept v c p.kind) work.plans)
 
+  all_keeping : (v : Sought) (ps : List PlacedPlan) → AllMade ps → AllMade (filter (keeps v) ps)
+  all_keeping v [] a = tt
+  all_keeping v (made p ∷ ps) a = all_keeping v ps a
+  all_keeping v (awaited g steps ∷ ps) a = absurd a
+
   all_where : (step : Step) (v : Sought) (ps : List PlacedPlan) → AllMade ps → AllMade (where_sought step v ps)
   all_where step v ps a = by_test (seeks_some (sought_below step v))
     where
-      by_test : (b : Bool) → AllMade (if b then ps else [])
-      by_test true = a
+      by_test : (b : Bool) → AllMade (if b then filter (keeps (sought_below step v)) ps else [])
+      by_test true = all_keeping (sought_below step v) ps a
       by_test false = tt
 
   all_staying : (o : Binary) (v : Sought) (ps : List PlacedPlan) → AllMade ps → AllMade (staying o v ps)
@@ -488,7 +434,7 @@ module _ (theory : Theory) where
   all_kept_made (between o x y) v c e =
       let n = or_parts (some_waits x) (some_waits y) e in
       let ps = kept_plans theory Pruned x v c in
-      let above = right_of (prunes Pruned) o (meeting o v ps) c in
+      let above = right_of (prunes Pruned) o (offering o v ps) c in
       let made_left = all_kept_made x v c n.0 in
       all_kept_between theory o (staying o v ps) (meeting o v ps) (kept_plans theory Pruned y v above) (all_staying o v ps made_left)
       (all_meeting o v ps made_left) (all_kept_made y v above n.1)
@@ -507,21 +453,12 @@ module _ (theory : Theory) where
       ∙ all_sifted qs ks b (λ k i. one_of_second k (kinds_in ps) (kinds_in qs) i))
       ∙ sym (back qs b)
 
-  all_are_kept : (t : Shape) (b : Bool) → some_waits t ≡ b → kept_plans theory (if b then All else Pruned) t every_kind free ≡ placed_plans theory t
-  all_are_kept t true e = every_is_kept t
-  all_are_kept t false e = pruned_is_kept t e
-
-  pub kept_are_sought : (t : Shape) (v : Sought) (parts : List Part) →
-      map placed_of parts ≡ kept_plans theory (listed_for v t) t v free →
-      flat_map (plans_sought v) (map placed_of parts) ≡ sought_plans theory t v
-  kept_are_sought t every_kind parts e = ap (sift every_kind) (e ∙ all_are_kept t (some_waits t) refl)
-  kept_are_sought t (these_kinds ks) parts e =
-      ap (sift (these_kinds ks)) e ∙ kept_are Pruned t (these_kinds ks) free (these_kinds ks) tt (λ k i. i)
-
-  pub every_is_placed : (t : Shape) (parts : List Part) →
-      map placed_of parts ≡ kept_plans theory (listed_for every_kind t) t every_kind free → map placed_of parts ≡ placed_plans theory t
-  every_is_placed t parts e = e ∙ all_are_kept t (some_waits t) refl
-
-  pub every_is_known : (t : Shape) (parts : List Part) →
-      map placed_of parts ≡ kept_plans theory (listed_for every_kind t) t every_kind free → map part_of parts ≡ known_plans theory t
-  every_is_known t parts e = placed_are_known theory t parts (every_is_placed t parts e)
+  pub kept_are_sought : (t : Shape) (v : Sought) →
+      flat_map (plans_sought v) (kept_plans theory (listed_for v t) t v free) ≡ sought_plans theory t v
+  kept_are_sought t every_kind = by_waits (some_waits t) refl
+    where
+      by_waits : (b : Bool) → some_waits t ≡ b →
+          sift every_kind (kept_plans theory (if b then All else Pruned) t every_kind free) ≡ sought_plans theory t every_kind
+      by_waits true e = kept_are All t every_kind free every_kind tt (λ k i. refl)
+      by_waits false e = ap (sift every_kind) (pruned_is_kept t e)
+  kept_are_sought t (these_kinds ks) = kept_are Pruned t (these_kinds ks) free (these_kinds ks) tt (λ k i. i)

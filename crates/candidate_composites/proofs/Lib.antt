@@ -7,6 +7,7 @@ pub mod Runs
 pub mod Staying
 pub mod Those
 pub mod Whole
+pub mod Within
 pub use Rattle.symbolic_composites.proofs.Answers
 pub use Rattle.symbolic_composites.proofs.Lists
 pub use Rattle.symbolic_composites.proofs.Tests

@@ -12,8 +12,7 @@ use Rattle.symbolic_plans.specs.OpenPlans.{OpenPlan, under_row, plans_alone, pla
 use Rattle.candidate_laws.specs.Sought.{Sought, is_sought, seeks_some, sought_at, Step, by_itself, with_another, as_another}
 use Rattle.node_trees.specs.Rests.{Work}
 use Rattle.node_trees.specs.Shapes.{Shape, leaf, ended, over, between, Unary, Binary, choosing, beside, disabling}
-use Rattle.candidate_composites.specs.declared.part.Part.{Part}
-use Rattle.candidate_composites.specs.Known.{PlanOrGap, PlacedPlan, made, awaited, plan_or_gap, plans_sought, placed_of, part_of, turned, over_one, each_turned}
+use Rattle.candidate_composites.specs.Known.{PlanOrGap, PlacedPlan, made, awaited, plan_or_gap, plans_sought, turned, over_one, each_turned}
 use Rattle.candidate_composites.specs.Known.{plans_at, partners, over_two, known_plans, stepped, turned_there, placed_over_one, placed_alone}
 use Rattle.candidate_composites.specs.Known.{placed_at, placed_partners, placed_over_two, placed_plans}
 use Rattle.candidate_composites.specs.Laws.{SoughtPlansAreKnown}
@@ -95,13 +94,6 @@ module _ (theory : Theory) where
       bare_two o (placed_plans theory x) (placed_plans theory y)
       ∙ ap (λ z. over_two theory o z (bare (placed_plans theory y))) (bare_are_known x)
       ∙ ap (over_two theory o (known_plans theory x)) (bare_are_known y)
-
-  bare_parts : (parts : List Part) → map part_of parts ≡ bare (map placed_of parts)
-  bare_parts [] = refl
-  bare_parts (part ∷ parts) = ap (λ z. part_of part ∷ z) (bare_parts parts)
-
-  pub placed_are_known : (t : Shape) (parts : List Part) → map placed_of parts ≡ placed_plans theory t → map part_of parts ≡ known_plans theory t
-  placed_are_known t parts h = bare_parts parts ∙ ap bare h ∙ bare_are_known t
 
 -- what is sought is known
 sifted_is : (v : Sought) (ps : List PlacedPlan) (x : PlanOrGap) → IsOneOf x (flat_map (plans_sought v) ps) → IsOneOf x (bare ps)

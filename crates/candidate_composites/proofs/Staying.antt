@@ -35,7 +35,7 @@ is_sought_below (step ∷ steps) k v e h =
     let p = parts (becomes_one step (k ∷ []) k) (stays steps k) e in
     below_is_above step (sought_at steps v) k k (stays_above step k p.0) ∙ is_sought_below steps k v p.1 h
 
-some_is_sought : (v : Sought) (k : Kind) → is_sought v k ≡ true → seeks_some v ≡ true
+pub some_is_sought : (v : Sought) (k : Kind) → is_sought v k ≡ true → seeks_some v ≡ true
 some_is_sought every_kind k e = refl
 some_is_sought (these_kinds []) k e = e
 some_is_sought (these_kinds (j ∷ ks)) k e = refl

@@ -32,7 +32,7 @@ use Rattle.candidate_laws.specs.Waiting.{sought_of, each_as, where_asked, togeth
 use Rattle.candidate_laws.proofs.Sought.{kinds_same, below_is_above, none_is_sought, none_beside}
 use Rattle.node_trees.specs.Rests.{Work}
 use Rattle.node_trees.specs.Shapes as nodes
-use Rattle.node_trees.specs.Shapes.{Held, Shape, leaf, ended, over, between, Unary, hidden, enabled, Binary, choosing, beside, disabling}
+use Rattle.node_trees.specs.Shapes.{Shape, leaf, ended, over, between, Unary, hidden, enabled, Binary, choosing, beside, disabling}
 use Rattle.node_trees.specs.Shapes.{under as above_one, first_of, second_of}
 use Rattle.candidate_composites.specs.Known.{PlanOrGap, PlacedPlan, made, awaited, plans_sought, over_one, stepped, turned_there, placed_over_one}
 use Rattle.candidate_composites.specs.Known.{placed_alone, placed_at, placed_partners, placed_plans}

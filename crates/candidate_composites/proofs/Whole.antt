@@ -1,5 +1,5 @@
 -- Where no node waits, there is no gap among the plans of a tree.
-use Rattle.std.proofs.Common.{ℕ, ◌≡◌, ◌++◌, List, [], ◌∷◌, map, flat_map, Bool, true, false, if◌then◌else◌, Option, Some, None}
+use Rattle.std.proofs.Common.{ℕ, ◌≡◌, ◌++◌, List, [], ◌∷◌, map, flat_map, refl, ap, Bool, true, false, if◌then◌else◌, Option, Some, None}
 use Rattle.std.proofs.lemmas.Bool.{or_parts}
 use Rattle.spec_core.specs.Theories.{Theory}
 use Rattle.spec_core.specs.Code.{Synchronised}
@@ -11,7 +11,7 @@ use Rattle.candidate_laws.specs.Sought.{Step, by_itself, with_another, as_anothe
 use Rattle.node_trees.specs.Rests.{Work}
 use Rattle.node_trees.specs.Shapes.{Shape, leaf, ended, over, between, Unary, Binary, choosing, beside, disabling}
 use Rattle.candidate_composites.specs.Known.{PlacedPlan, made, awaited, stepped, turned_there, placed_over_one, placed_alone}
-use Rattle.candidate_composites.specs.Known.{placed_at, placed_partners, placed_over_two, placed_plans}
+use Rattle.candidate_composites.specs.Known.{placed_at, placed_partners, placed_over_two, placed_plans, plans_in, expanded_plans}
 use Rattle.candidate_composites.specs.Kept.{kept_over_two, node_waits, some_waits}
 
 -- none of these is a gap
@@ -91,3 +91,12 @@ module _ (theory : Theory) where
   all_made (between o x y) e =
       let n = or_parts (some_waits x) (some_waits y) e in
       all_between o (placed_plans theory x) (placed_plans theory y) (all_made x n.0) (all_made y n.1)
+
+  made_again : (ps : List PlacedPlan) → AllMade ps → map made (flat_map plans_in ps) ≡ ps
+  made_again [] a = refl
+  made_again (made p ∷ ps) a = ap (λ z. made p ∷ z) (made_again ps a)
+  made_again (awaited g steps ∷ ps) a = absurd a
+
+  -- so those of which every participant is an expanded node are all
+  pub expanded_are_all : (t : Shape) → some_waits t ≡ false → map made (expanded_plans theory t) ≡ placed_plans theory t
+  expanded_are_all t e = made_again (placed_plans theory t) (all_made t e)

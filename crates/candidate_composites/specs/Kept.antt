@@ -2,8 +2,9 @@
 -- gaps, unless the composites of expanded nodes alone are listed. A parallel composition changes the kind of no action, so an action of a
 -- node is sought where it is below the operators over one part. Unless all are listed, what the right side of a parallel composition could
 -- do only together with the left one is left out where the left side can't do it. That drops gaps from which nothing comes that is sought,
--- unless whatever there is is sought: then, with the gaps, all are listed while a node waits. What the left side of a parallel composition
--- does alone, or together with the right one, is left out where nothing is sought of that; so a gap there doesn't stand twice.
+-- unless whatever there is is sought: then, with the gaps, what right sides could do is all listed while a node waits. A gap of the left side
+-- of a parallel composition is left out of what that side does alone, and of what it does together with the right one, where nothing comes
+-- of it there that is sought; so of the two ways from a gap up through each of many operators, few are followed up.
 use Rattle.std.specs.Prelude.{ℕ, ◌++◌, ◌&&◌, ◌||◌, List, [], ◌∷◌, map, filter, flat_map, Option, Some, None, Bool}
 use Rattle.std.specs.Prelude.{true, false, if◌then◌else◌}
 use Rattle.spec_core.specs.Theories.{Theory}
@@ -11,11 +12,12 @@ use Rattle.rule_model.specs.Actions.{Kind}
 use Rattle.symbolic_plans.specs.declared.scheme.Row.TheVariants.{Parl, Parr}
 use Rattle.symbolic_plans.specs.OpenPlans.{OpenPlan}
 use Rattle.candidate_laws.specs.Sought.{Sought, Step, every_kind, these_kinds, is_sought, seeks_some, under_one, by_itself, with_another}
-use Rattle.candidate_laws.specs.Sought.{sought_below}
+use Rattle.candidate_laws.specs.Sought.{sought_at, sought_below}
 use Rattle.node_trees.specs.Rests.{Work}
 use Rattle.node_trees.specs.Shapes.{Shape, leaf, ended, over, between, Binary, choosing, beside, disabling}
 use Rattle.candidate_composites.specs.Known.{PlacedPlan, made, awaited, stepped, placed_alone, placed_over_one, placed_over_two}
 use Rattle.candidate_composites.specs.Known.{placed_partners}
+use Rattle.candidate_composites.specs.Contexts.{some_joint}
 use Rattle.candidate_composites.specs.Joining.{Joins, free, lets, right_of}
 use Rattle.candidate_composites.specs.declared.listed.Listed.{Listed}
 use Rattle.candidate_composites.specs.declared.listed.Listed.TheVariants.{All, Pruned, Expanded}
@@ -58,9 +60,14 @@ abbrev pub kept_at : Listed → Sought → Joins → ℕ → Option Work → Lis
 kept_at l v c g None = if has_gaps l then awaited g [] ∷ [] else []
 kept_at l v c g (Some work) = map made (filter (λ (p : OpenPlan). is_kept v c p.kind) work.plans)
 
--- these, where something is sought below a step from them
+-- it is a plan, or a gap from below whose steps something comes that is sought
+abbrev pub keeps : Sought → PlacedPlan → Bool
+keeps v (made p) = true
+keeps v (awaited g steps) = seeks_some (sought_at steps v)
+
+-- those of these that are kept below a step, where something is sought there
 abbrev pub where_sought : Step → Sought → List PlacedPlan → List PlacedPlan
-where_sought step v ps = if seeks_some (sought_below step v) then ps else []
+where_sought step v ps = if seeks_some (sought_below step v) then filter (keeps (sought_below step v)) ps else []
 
 -- those of the left side of an operator that stay by themselves
 abbrev pub staying : Binary → Sought → List PlacedPlan → List PlacedPlan
@@ -73,6 +80,12 @@ abbrev pub meeting : Binary → Sought → List PlacedPlan → List PlacedPlan
 meeting choosing v ps = ps
 meeting (beside gates) v ps = where_sought (with_another gates) v ps
 meeting disabling v ps = ps
+
+-- those of it that say what the right side may do with it: all, where some may meet it
+abbrev pub offering : Binary → Sought → List PlacedPlan → List PlacedPlan
+offering choosing v ps = ps
+offering (beside gates) v ps = if some_joint gates (meeting (beside gates) v ps) then ps else []
+offering disabling v ps = ps
 
 -- of an operator over two parts, where of its left side these stay by themselves, and these may meet the right side
 abbrev pub kept_over_two : Theory → Binary → List PlacedPlan → List PlacedPlan → List PlacedPlan → List PlacedPlan
@@ -89,4 +102,4 @@ kept_plans theory l ended v c = []
 kept_plans theory l (over o x) v c = map (placed_over_one o) (kept_plans theory l x (sought_below (under_one o) v) free)
 kept_plans theory l (between o x y) v c =
     kept_over_two theory o (staying o v (kept_plans theory l x v c)) (meeting o v (kept_plans theory l x v c))
-    (kept_plans theory l y v (right_of (prunes l) o (meeting o v (kept_plans theory l x v c)) c))
+    (kept_plans theory l y v (right_of (prunes l) o (offering o v (kept_plans theory l x v c)) c))

@@ -82,9 +82,6 @@ abbrev pub found_of : Found → PlacedPlan
 found_of (found.Gap generation steps) = awaited generation.0 (map step_of steps.items)
 found_of (found.Composite c) = made (own_or_made c)
 
-abbrev pub part_of : Part → PlanOrGap
-part_of part = plan_or_gap (placed_of part)
-
 -- another plan in the place of a plan; a gap stays
 abbrev pub turned : (OpenPlan → OpenPlan) → PlanOrGap → PlanOrGap
 turned f (element p) = element (f p)

@@ -1,6 +1,6 @@
 // Which gaps stand first among what is sought of a tree.
 
-ghost use Rattle.std.specs.Prelude.{◌≡◌, ◌++◌, IfOk, flat_map, map, true};
+ghost use Rattle.std.specs.Prelude.{◌≡◌, ◌++◌, IfOk, false, flat_map, map, true};
 ghost use Rattle.spec_core.specs.Code.{synchronised_of};
 ghost use Rattle.spec_core.specs.Theories.{Theory};
 ghost use Rattle.symbolic_plans.specs.OpenPlans.{kind_in};
@@ -57,12 +57,22 @@ fn are_alone(gates: &GateSet, kinds: &[ActionKind]) -> bool
     }
 }
 
+// Whether a parallel composition synchronises at every gate.
+fn is_every(gates: &GateSet) -> bool
+    ensures { result ≡ false → kinds.every_alone (synchronised_of gates.now) ≡ kinds.every_kind }
+{
+    match gates {
+        GateSet::Every => true,
+        GateSet::These(_) => false,
+    }
+}
+
 // Whether the same is sought of a side of a parallel composition alone as of the whole.
 fn is_same_alone(gates: &GateSet, sought: &Sought) -> bool
     ensures { result ≡ true → kinds.sought_below (by_itself (synchronised_of gates.now)) (sought_in sought.now) ≡ sought_in sought.now }
 {
     match sought {
-        Sought::Every => true,
+        Sought::Every => !is_every(gates),
         Sought::These(kinds) => are_alone(gates, kinds),
     }
 }

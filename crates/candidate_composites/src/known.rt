@@ -8,11 +8,12 @@ ghost use Rattle.symbolic_plans.specs.declared.scheme.Row.TheVariants.{Parl};
 ghost use Rattle.candidate_laws.specs.Sought.{by_itself, with_another};
 ghost use Rattle.node_trees.specs.Shapes as nodes;
 ghost use Rattle.node_trees.specs.Shapes.{between, shape_of, held_of};
-ghost use Rattle.candidate_composites.specs.Known.{part_of, known_plans, made, found_of, placed_of, placed_plans, sought_in, plans_sought};
+ghost use Rattle.candidate_composites.specs.Known.{made, found_of, placed_of, placed_partners, sought_in, plans_sought, stepped};
 ghost use Rattle.candidate_composites.specs.Known.{expanded_plans, has_made, sought_plans};
 ghost use Rattle.candidate_composites.specs.Contexts as contexts;
 ghost use Rattle.candidate_composites.specs.Contexts.{all_through, alone_by, turns_of};
 ghost use Rattle.candidate_composites.specs.Joining.{free, joining_of};
+ghost use Rattle.candidate_composites.specs.Kept as kept;
 ghost use Rattle.candidate_composites.specs.Kept.{is_kept, kept_at, kept_over_two, kept_plans, listed_for, node_waits, some_waits};
 ghost use Rattle.candidate_composites.specs.Kept.{where_sought};
 
@@ -20,7 +21,7 @@ use crate::context::{Context, Turn, put_all_through, put_through};
 use crate::found::{Found, Given, composites, parts};
 use crate::joining::{Joining, right_of};
 use crate::listed::Listed;
-use crate::operators::{all_together, some_joint};
+use crate::operators::{all_together, keeps, some_joint};
 use crate::part::Part;
 use crate::sought::{Sought, sought_below};
 use crate::step::Step;
@@ -143,8 +144,34 @@ fn some_meets(
     ensures { IfOk result (λ some. some ≡ contexts.some_joint (synchronised_of gates.now)
         (where_sought (with_another (synchronised_of gates.now)) (sought_in sought.now) (map found_of left.now))) }
 {
+    if left.is_empty() {
+        return Ok(false);
+    }
     let below = sought_below(alloc, &Step::Together(gates), sought)?;
-    Ok(below.seeks_some() && some_joint(gates, left))
+    if below.seeks_some() {
+        some_joint(alloc, gates, &below, left)
+    } else {
+        Ok(false)
+    }
+}
+
+// Appends what the operators above make of these, without the gaps of which nothing comes that is sought.
+fn put_keeping<'a>(
+    alloc: Global,
+    sought: &Sought,
+    those: Vec<Found<'a>>,
+    context: &Context<'a, '_>,
+    all: &mut Vec<Found<'a>>,
+) -> Result<(), Memory>
+    ensures { IfOk result (λ _. map found_of all.new.items ≡ map found_of all.old.items ++
+        all_through (turns_of context.now) (filter (kept.keeps (sought_in sought.now)) (map found_of those.entry.items))) }
+{
+    for found in those {
+        if keeps(alloc, sought, &found)? {
+            put_through(alloc, context, found, all)?;
+        }
+    }
+    Ok(())
 }
 
 // Appends what the operators above make of what the left side of a parallel composition does alone, if something is sought of that.
@@ -161,12 +188,36 @@ fn put_left<'a>(
         all_through (alone_by (synchronised_of gates.now) Parl ∷ turns_of context.now)
         (where_sought (by_itself (synchronised_of gates.now)) (sought_in sought.now) (map found_of left.entry.items))) }
 {
+    if left.is_empty() {
+        return Ok(());
+    }
     let below = sought_below(alloc, &Step::Alone(gates), sought)?;
     if below.seeks_some() {
         let at_left = Context::under(Turn::Left(gates), &*context);
-        put_all_through(alloc, &at_left, left, all)
+        put_keeping(alloc, &below, left, &at_left, all)
     } else {
         Ok(())
+    }
+}
+
+// What both sides of a parallel composition do together, of what is sought there.
+fn kept_together<'a>(
+    alloc: Global,
+    algebra: &DataSpec,
+    gates: &'a GateSet,
+    sought: &Sought,
+    left: &[Found<'a>],
+    right: &[Found<'a>],
+) -> Result<Vec<Found<'a>>, Memory>
+    ensures { IfOk result (λ all. map found_of all.items ≡ flat_map (stepped (with_another (synchronised_of gates.now))
+        (placed_partners (theory_of algebra.now) (synchronised_of gates.now) (map found_of right.now)))
+        (where_sought (with_another (synchronised_of gates.now)) (sought_in sought.now) (map found_of left.now))) }
+{
+    let below = sought_below(alloc, &Step::Together(gates), sought)?;
+    if below.seeks_some() {
+        all_together(alloc, algebra, gates, &below, left, right)
+    } else {
+        Ok(Vec::new(alloc))
     }
 }
 
@@ -186,9 +237,10 @@ fn put_beside<'a>(
     ensures { IfOk result (λ _. map found_of all.new.items ≡ map found_of all.old.items ++ all_through (turns_of context.now)
         (kept_over_two (theory_of algebra.now) (nodes.beside (synchronised_of gates.now))
         (where_sought (by_itself (synchronised_of gates.now)) (sought_in sought.now) (map found_of left.entry.items))
-        (map found_of left.entry.items) (map found_of right.entry.items))) }
+        (where_sought (with_another (synchronised_of gates.now)) (sought_in sought.now) (map found_of left.entry.items))
+        (map found_of right.entry.items))) }
 {
-    let together = all_together(alloc, algebra, gates, &left, &right)?;
+    let together = kept_together(alloc, algebra, gates, sought, &left, &right)?;
     put_left(alloc, gates, sought, left, &*context, all)?;
     let at_right = Context::under(Turn::Right(gates), &*context);
     put_all_through(alloc, &at_right, right, all)?;
@@ -333,34 +385,6 @@ fn kept_found<'a>(
     Ok(all)
 }
 
-// The same as parts.
-fn kept_parts<'a>(
-    alloc: Global,
-    algebra: &DataSpec,
-    branch: &'a Branch,
-    sought: &Sought,
-) -> Result<Vec<Part<'a>>, Memory>
-    ensures { IfOk result (λ all. map placed_of all.items ≡ kept_plans (theory_of algebra.now)
-        (listed_for (sought_in sought.now) (shape_of branch.now)) (shape_of branch.now) (sought_in sought.now) free) }
-{
-    let listed = listed_for(branch, sought);
-    let all = kept_found(alloc, algebra, branch, listed, sought)?;
-    parts(alloc, all)
-}
-
-/// The composites of a tree, in the order of trees of rules, with a gap in the place of each node that isn't expanded, and the steps from
-/// there up to the whole. It recurs as deep as operators nest.
-pub fn known_composites<'a>(
-    alloc: Global,
-    algebra: &DataSpec,
-    branch: &'a Branch,
-) -> Result<Vec<Part<'a>>, Memory>
-    ensures placed { IfOk result (λ all. map placed_of all.items ≡ placed_plans (theory_of algebra.now) (shape_of branch.now)) }
-    ensures known { IfOk result (λ all. map part_of all.items ≡ known_plans (theory_of algebra.now) (shape_of branch.now)) }
-{
-    kept_parts(alloc, algebra, branch, &Sought::Every)
-}
-
 /// The composites of a tree of which every participant is an expanded node, in the order of trees of rules. It recurs as deep as operators
 /// nest, and makes nothing of nodes that wait.
 pub fn expanded_composites(
@@ -374,8 +398,9 @@ pub fn expanded_composites(
     composites(alloc, all)
 }
 
-/// The composites of a tree whose actions are sought, and each gap from below whose steps such an action can come, in the same order; beside
-/// them there may be others, which aren't sought. It recurs as deep as operators nest.
+/// The composites of a tree whose actions are sought, and each gap from below whose steps such an action can come, in the order of trees of
+/// rules, with the steps from each gap up to the whole; beside them there may be others, which aren't sought. It recurs as deep as operators
+/// nest.
 pub fn sought_composites<'a>(
     alloc: Global,
     algebra: &DataSpec,
@@ -385,5 +410,7 @@ pub fn sought_composites<'a>(
     ensures sought { IfOk result (λ all. flat_map (plans_sought (sought_in sought.now)) (map placed_of all.items) ≡
         sought_plans (theory_of algebra.now) (shape_of branch.now) (sought_in sought.now)) }
 {
-    kept_parts(alloc, algebra, branch, sought)
+    let listed = listed_for(branch, sought);
+    let all = kept_found(alloc, algebra, branch, listed, sought)?;
+    parts(alloc, all)
 }

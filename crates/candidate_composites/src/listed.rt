@@ -3,8 +3,8 @@
 ghost use Rattle.std.specs.Prelude.{◌≡◌};
 ghost use Rattle.candidate_composites.specs.Kept as kept;
 
-/// All composites, with a gap in the place of each node that waits; the same, without what can't come up by the left sides of parallel
-/// compositions; and the latter without gaps.
+/// Composites, and gaps in the places of nodes that wait; the same, without what right sides of parallel compositions can't do by their left
+/// sides; and the latter without gaps.
 #[derive(Clone, Copy)]
 pub enum Listed {
     All,
@@ -13,7 +13,7 @@ pub enum Listed {
 }
 
 impl Listed {
-    /// Whether what can't come up by the left sides of parallel compositions is left out. It takes no memory.
+    /// Whether what right sides of parallel compositions can't do by their left sides is left out. It takes no memory.
     pub fn prunes(self) -> bool
         ensures { result ≡ kept.prunes self }
     {

@@ -1,6 +1,6 @@
 // What operators make of the composites of their parts, as far as these are known.
 
-ghost use Rattle.std.specs.Prelude.{◌≡◌, ◌∷◌, [], ◌++◌, IfOk, map, flat_map, option_map};
+ghost use Rattle.std.specs.Prelude.{◌≡◌, ◌∷◌, [], ◌++◌, IfOk, filter, map, flat_map, option_map};
 ghost use Rattle.spec_core.specs.Code.{synchronised_of};
 ghost use Rattle.spec_core.specs.Theories.{theory_of};
 ghost use Rattle.symbolic_plans.specs.OpenPlans.{open_plan_of, plans_joint};
@@ -8,10 +8,12 @@ ghost use Rattle.symbolic_composites.specs.Composites.{from_option};
 ghost use Rattle.node_trees.specs.Shapes.{unary_of};
 ghost use Rattle.candidate_laws.specs.Sought.{with_another, as_another};
 ghost use Rattle.candidate_composites.specs.Known.{made, awaited, step_of, found_of, own_or_made, over_one, stepped, under_run};
-ghost use Rattle.candidate_composites.specs.Known.{placed_partners};
+ghost use Rattle.candidate_composites.specs.Known.{placed_partners, sought_in};
 ghost use Rattle.candidate_composites.specs.Contexts as contexts;
+ghost use Rattle.candidate_composites.specs.Kept as kept;
 
 use crate::found::{Found, Given, copied_below};
+use crate::sought::{Sought, seeks_some_at};
 use crate::step::Step;
 use node_trees::branch::Single;
 use node_trees::origin::Gen;
@@ -271,11 +273,22 @@ fn put_together<'a>(
     }
 }
 
-/// What both sides of a parallel composition do together.
+/// Whether it is a composite, or a gap from below whose steps something comes that is sought.
+pub fn keeps(alloc: Global, sought: &Sought, found: &Found<'_>) -> Result<bool, Memory>
+    ensures { IfOk result (λ b. b ≡ kept.keeps (sought_in sought.now) (found_of found.now)) }
+{
+    match found {
+        Found::Gap(_, steps) => seeks_some_at(alloc, steps, sought),
+        Found::Composite(_) => Ok(true),
+    }
+}
+
+/// What both sides of a parallel composition do together, without the gaps of its left side of which nothing comes that is sought.
 pub fn all_together<'a>(
     alloc: Global,
     algebra: &DataSpec,
     gates: &'a GateSet,
+    sought: &Sought,
     left: &[Found<'a>],
     right: &[Found<'a>],
 ) -> Result<Vec<Found<'a>>, Memory>
@@ -283,27 +296,48 @@ pub fn all_together<'a>(
         map found_of all.items ≡
         flat_map (stepped (with_another (synchronised_of gates.now))
         (placed_partners (theory_of algebra.now) (synchronised_of gates.now) (map found_of right.now)))
-        (map found_of left.now)) }
+        (filter (kept.keeps (sought_in sought.now)) (map found_of left.now))) }
 {
     let mut all = Vec::new(alloc);
     for part in left {
-        put_together(alloc, algebra, gates, part, right, &mut all)?;
+        if keeps(alloc, sought, part)? {
+            put_together(alloc, algebra, gates, part, right, &mut all)?;
+        }
     }
     Ok(all)
 }
 
-/// Whether one of these may be what both sides of a parallel composition do together. It takes no memory.
-#[inline(never)]
-pub fn some_joint(gates: &GateSet, those: &[Found<'_>]) -> bool
-    ensures { result ≡ contexts.some_joint (synchronised_of gates.now) (map found_of those.now) }
+// Whether it may be what both sides of a parallel composition do together.
+fn may_be_joint(
+    alloc: Global,
+    gates: &GateSet,
+    sought: &Sought,
+    found: &Found<'_>,
+) -> Result<bool, Memory>
+    ensures { IfOk result (λ b.
+        b ≡ contexts.some_joint (synchronised_of gates.now) (filter (kept.keeps (sought_in sought.now)) (found_of found.now ∷ []))) }
 {
-    match those {
-        [] => false,
-        [first, rest @ ..] => match first {
-            Found::Gap(_, _) => true,
-            Found::Composite(composite) => {
-                is_joint(gates, composite.kind()) || some_joint(gates, rest)
-            }
-        },
+    match found {
+        Found::Gap(_, steps) => seeks_some_at(alloc, steps, sought),
+        Found::Composite(composite) => Ok(is_joint(gates, composite.kind())),
     }
+}
+
+/// Whether one of these may be what both sides of a parallel composition do together, but for the gaps of which nothing comes that is sought.
+#[inline(never)]
+pub fn some_joint(
+    alloc: Global,
+    gates: &GateSet,
+    sought: &Sought,
+    those: &[Found<'_>],
+) -> Result<bool, Memory>
+    ensures { IfOk result (λ some.
+        some ≡ contexts.some_joint (synchronised_of gates.now) (filter (kept.keeps (sought_in sought.now)) (map found_of those.now))) }
+{
+    for found in those {
+        if may_be_joint(alloc, gates, sought, found)? {
+            return Ok(true);
+        }
+    }
+    Ok(false)
 }

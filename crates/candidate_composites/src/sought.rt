@@ -1,8 +1,8 @@
 // Which actions are looked for at the parts of a tree.
 
-ghost use Rattle.std.specs.Prelude.{◌≡◌, ◌++◌, ◌&&◌, not, IfOk, List, map, filter, option_map, true};
+ghost use Rattle.std.specs.Prelude.{◌≡◌, ◌++◌, ◌∷◌, [], ◌&&◌, not, IfOk, List, map, filter, option_map, true};
 ghost use Rattle.std.specs.Prelude.{Some, None, if◌then◌else◌};
-ghost use Rattle.spec_core.specs.Code.{Relabelling, relabelling_of};
+ghost use Rattle.spec_core.specs.Code.{Relabelling, relabelling_of, synchronised_of};
 ghost use Rattle.spec_core.specs.Numbers.{gate_number};
 ghost use Rattle.rule_model.specs.Actions as actions;
 ghost use Rattle.symbolic_plans.specs.OpenPlans.{kind_in};
@@ -14,6 +14,7 @@ ghost use Rattle.candidate_composites.specs.Staying.{may_become, stays};
 
 use crate::step::Step;
 use node_trees::branch::Single;
+use spec_core::code::GateSet;
 use spec_core::items::Gate;
 use spec_core::memory::Memory;
 use std::alloc::Global;
@@ -85,15 +86,15 @@ fn becomes_one(step: &Step<'_>, kinds: &[ActionKind], kind: ActionKind) -> bool
     }
 }
 
-// Each gate as the kind of an action.
-fn at_gates(alloc: Global, gates: &[Gate]) -> Result<Vec<ActionKind>, Memory>
-    ensures { IfOk result (λ all. map kind_in all.items ≡ map actions.at_gate (map gate_number gates.now)) }
+// Appends each gate as the kind of an action.
+fn put_gates(gates: &[Gate], all: &mut Vec<ActionKind>) -> Result<(), Memory>
+    ensures { IfOk result (λ _.
+        map kind_in all.new.items ≡ map kind_in all.old.items ++ map actions.at_gate (map gate_number gates.now)) }
 {
-    let mut all = Vec::new(alloc);
     for gate in gates {
         all.push(ActionKind::At(*gate))?;
     }
-    Ok(all)
+    Ok(())
 }
 
 // Each gate that a relabelling names, as the kind of an action.
@@ -113,7 +114,11 @@ fn changing_over(alloc: Global, operator: &Single) -> Result<Vec<ActionKind>, Me
     ensures { IfOk result (λ all. map kind_in all.items ≡ sought.changing (sought.under_one (unary_of operator.now))) }
 {
     match operator {
-        Single::Hide(gates) => at_gates(alloc, gates),
+        Single::Hide(gates) => {
+            let mut all = Vec::new(alloc);
+            put_gates(gates, &mut all)?;
+            Ok(all)
+        }
         Single::Relabel(pairs) => at_named(alloc, pairs),
         Single::Enable { .. } => {
             let mut all = Vec::new(alloc);
@@ -217,19 +222,49 @@ fn those_below(
     Ok(all)
 }
 
+// Actions of one kind.
+fn only(alloc: Global, kind: ActionKind) -> Result<Sought, Memory>
+    ensures { IfOk result (λ v. sought_in v ≡ sought.these_kinds (kind_in kind ∷ [])) }
+{
+    let mut kinds = Vec::new(alloc);
+    kinds.push(kind)?;
+    Ok(Sought::These(kinds))
+}
+
+// Of actions of whatever kind, what a side of a parallel composition does alone.
+fn every_alone(alloc: Global, gates: &GateSet) -> Result<Sought, Memory>
+    ensures { IfOk result (λ v. sought_in v ≡ sought.every_alone (synchronised_of gates.now)) }
+{
+    match gates {
+        GateSet::Every => only(alloc, ActionKind::Inner),
+        GateSet::These(_) => Ok(Sought::Every),
+    }
+}
+
+// The same of what both sides do together.
+fn every_joint(alloc: Global, gates: &GateSet) -> Result<Sought, Memory>
+    ensures { IfOk result (λ v. sought_in v ≡ sought.every_joint (synchronised_of gates.now)) }
+{
+    match gates {
+        GateSet::Every => Ok(Sought::Every),
+        GateSet::These(gates) => {
+            let mut kinds = Vec::new(alloc);
+            kinds.push(ActionKind::Exit)?;
+            put_gates(gates, &mut kinds)?;
+            Ok(Sought::These(kinds))
+        }
+    }
+}
+
 // What is sought below a step, where whatever there is is sought above it.
 fn every_below(alloc: Global, step: &Step<'_>) -> Result<Sought, Memory>
     ensures { IfOk result (λ v. sought_in v ≡ sought.every_below (step_of step.now)) }
 {
     match step {
         Step::Under(_) => Ok(Sought::Every),
-        Step::Alone(_) => Ok(Sought::Every),
-        Step::Together(_) => Ok(Sought::Every),
-        Step::Beside(kind) => {
-            let mut kinds = Vec::new(alloc);
-            kinds.push(*kind)?;
-            Ok(Sought::These(kinds))
-        }
+        Step::Alone(gates) => every_alone(alloc, gates),
+        Step::Together(gates) => every_joint(alloc, gates),
+        Step::Beside(kind) => only(alloc, *kind),
     }
 }
 
@@ -243,15 +278,21 @@ pub(crate) fn sought_below(alloc: Global, step: &Step<'_>, above: &Sought) -> Re
     }
 }
 
-// What is sought below steps, of which the first one is the lowest.
-fn sought_at(alloc: Global, steps: &[Step<'_>], whole: Sought) -> Result<Sought, Memory>
-    ensures { IfOk result (λ v. sought_in v ≡ sought.sought_at (map step_of steps.now) (sought_in whole)) }
+// What is sought below steps: the lowest, and those above it, of which the first one is the lowest.
+fn sought_at(
+    alloc: Global,
+    lowest: &Step<'_>,
+    others: &[Step<'_>],
+    whole: &Sought,
+) -> Result<Sought, Memory>
+    ensures { IfOk result (λ v.
+        sought_in v ≡ sought.sought_at (step_of lowest.now ∷ map step_of others.now) (sought_in whole.now)) }
 {
-    match steps {
-        [] => Ok(whole),
+    match others {
+        [] => sought_below(alloc, lowest, whole),
         [step, rest @ ..] => {
-            let above = sought_at(alloc, rest, whole)?;
-            sought_below(alloc, step, &above)
+            let above = sought_at(alloc, step, rest, whole)?;
+            sought_below(alloc, lowest, &above)
         }
     }
 }
@@ -292,14 +333,19 @@ fn some_stays(steps: &[Step<'_>], whole: &Sought) -> bool
 
 /// Whether actions of some kind are sought below steps, of which the first one is the lowest. It recurs as often as there are steps, unless
 /// an action of the first kind that is sought at the whole stays of that kind.
-pub fn seeks_some_at(alloc: Global, steps: &[Step<'_>], whole: Sought) -> Result<bool, Memory>
-    ensures seeks { IfOk result (λ b. b ≡ seeks_some (sought.sought_at (map step_of steps.now) (sought_in whole))) }
+pub fn seeks_some_at(alloc: Global, steps: &[Step<'_>], whole: &Sought) -> Result<bool, Memory>
+    ensures seeks { IfOk result (λ b. b ≡ seeks_some (sought.sought_at (map step_of steps.now) (sought_in whole.now))) }
 {
-    if some_stays(steps, &whole) {
+    if some_stays(steps, whole) {
         return Ok(true);
     }
-    let below = sought_at(alloc, steps, whole)?;
-    Ok(below.seeks_some())
+    match steps {
+        [] => Ok(whole.seeks_some()),
+        [lowest, others @ ..] => {
+            let below = sought_at(alloc, lowest, others, whole)?;
+            Ok(below.seeks_some())
+        }
+    }
 }
 
 impl Sought {

@@ -3,7 +3,7 @@ use Rattle.std.proofs.Common.{ℕ, ◌≡◌, ◌==◌, ◌++◌, ◌&&◌, ◌|
 use Rattle.std.proofs.Common.{Bool, true, false, cond, if◌then◌else◌}
 use Rattle.std.proofs.lemmas.Bool.Decides.{Decides-eqb}
 use Rattle.std.proofs.lemmas.Bool.{or_left}
-use Rattle.spec_core.specs.Code.{Relabelling}
+use Rattle.spec_core.specs.Code.{Relabelling, every_gate, these_gates}
 use Rattle.spec_core.proofs.Lists.{filter_none}
 use Rattle.rule_model.specs.Actions.{Kind, inside, ends, at_gate, among, renamed}
 use Rattle.symbolic_composites.specs.Kinds.{is_alone, is_joint, same_kind}
@@ -121,7 +121,7 @@ changes (as_another j) ks k e f = by_test (same_kind j k) e
     by_test false g = g
 
 -- the kinds that are sought below are those that become one of these
-those_below : (step : Step) (ks : List Kind) (k : Kind) → is_sought (sought_below step (these_kinds ks)) k ≡ becomes_one step ks k
+pub those_below : (step : Step) (ks : List Kind) (k : Kind) → is_sought (sought_below step (these_kinds ks)) k ≡ becomes_one step ks k
 those_below step ks k =
     one_of_those (becomes_one step ks) k (ks ++ filter (λ j. not (is_one_kind j ks)) (changing step))
     ∙ ap (λ z. becomes_one step ks k && z) (one_of_both k ks (filter (λ j. not (is_one_kind j ks)) (changing step)))
@@ -138,8 +138,18 @@ pub below_is_above : (step : Step) (v : Sought) (k j : Kind) → kind_above step
     is_sought (sought_below step v) k ≡ is_sought v j
 below_is_above step (these_kinds ks) k j h = those_below step ks k ∙ ap (is_one_above ks) h
 below_is_above (under_one o) every_kind k j h = refl
-below_is_above (by_itself gates) every_kind k j h = refl
-below_is_above (with_another gates) every_kind k j h = refl
+below_is_above (by_itself every_gate) every_kind inside j h = refl
+below_is_above (by_itself every_gate) every_kind ends j h = let no : ⊥ = cc in absurd no
+below_is_above (by_itself every_gate) every_kind (at_gate g) j h = let no : ⊥ = cc in absurd no
+below_is_above (by_itself (these_gates gates)) every_kind k j h = refl
+below_is_above (with_another every_gate) every_kind k j h = refl
+below_is_above (with_another (these_gates gates)) every_kind inside j h = let no : ⊥ = cc in absurd no
+below_is_above (with_another (these_gates gates)) every_kind ends j h = refl
+below_is_above (with_another (these_gates gates)) every_kind (at_gate g) j h = gate_among g gates ∙ by_test (among g gates) h
+  where
+    by_test : (b : Bool) → (if b then Some (at_gate g) else None) ≡ Some j → b ≡ true
+    by_test true e = refl
+    by_test false e = let no : ⊥ = cc in absurd no
 below_is_above (as_another i) every_kind k j h = by_test (same_kind i k) refl h
   where
     by_test : (b : Bool) → same_kind i k ≡ b → (if b then Some k else None) ≡ Some j → same_kind k i || false ≡ true

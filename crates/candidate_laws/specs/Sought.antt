@@ -1,6 +1,6 @@
 -- Which actions are looked for at the parts of a tree of nodes, so that those that are looked for at the whole are found. (This profile.)
 use Rattle.std.specs.Prelude.{ℕ, ◌≡◌, ◌++◌, ◌||◌, not, Bool, true, false, if◌then◌else◌, List, [], ◌∷◌, map, filter, Option, Some, None}
-use Rattle.spec_core.specs.Code.{Synchronised}
+use Rattle.spec_core.specs.Code.{Synchronised, every_gate, these_gates}
 use Rattle.rule_model.specs.Actions.{Kind, inside, ends, at_gate}
 use Rattle.symbolic_rules.specs.MayDerive.{renamed_kind}
 use Rattle.decision_trees.specs.Rules.{Query, meeting, any, unseen, beyond, any_beyond, beyond_or_unseen}
@@ -75,11 +75,23 @@ is_one_above ks (Some k) = is_one_kind k ks
 abbrev pub becomes_one : Step → List Kind → Kind → Bool
 becomes_one step ks k = is_one_above ks (kind_above step k)
 
--- of all kinds: beside an action of the left side only its own kind
+-- What is sought below a step, where actions of all kinds are sought above it: all kinds, also such as don't come up, unless few do.
+
+-- what a side of a parallel composition does by itself: internal actions only, where every gate is synchronised
+abbrev pub every_alone : Synchronised → Sought
+every_alone every_gate = these_kinds (inside ∷ [])
+every_alone (these_gates gates) = every_kind
+
+-- what both sides do together: terminations, and actions at the gates that are synchronised
+abbrev pub every_joint : Synchronised → Sought
+every_joint every_gate = every_kind
+every_joint (these_gates gates) = these_kinds (ends ∷ map at_gate gates)
+
+-- beside an action of the left side only its own kind
 abbrev pub every_below : Step → Sought
 every_below (under_one o) = every_kind
-every_below (by_itself gates) = every_kind
-every_below (with_another gates) = every_kind
+every_below (by_itself gates) = every_alone gates
+every_below (with_another gates) = every_joint gates
 every_below (as_another j) = these_kinds (j ∷ [])
 
 -- what is sought below the step, so that above it this is found

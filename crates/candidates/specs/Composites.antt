@@ -4,7 +4,7 @@ use Rattle.spec_core.specs.Theories.{Theory}
 use Rattle.symbolic_plans.specs.declared.composite.OpenComposite.{OpenComposite}
 use Rattle.symbolic_plans.specs.OpenPlans.{open_plan_of}
 use Rattle.node_trees.specs.Shapes.{Shape}
-use Rattle.candidate_composites.specs.Known.{PlacedPlan, made, placed_of, placed_plans}
+use Rattle.candidate_composites.specs.Known.{PlacedPlan, made, placed_plans}
 use Rattle.candidates.specs.declared.composites.Composites.{Composites}
 use Rattle.candidates.specs.declared.composites.Composites.TheVariants.{Unlisted, Lent, Listed}
 
@@ -20,4 +20,4 @@ AreAllOf theory t cs = without_gaps cs ≡ placed_plans theory t
 abbrev pub listed_or : Composites → List PlacedPlan → List PlacedPlan
 listed_or Unlisted others = others
 listed_or (Lent all) others = without_gaps all.now
-listed_or (Listed parts) others = map placed_of parts.items
+listed_or (Listed all) others = without_gaps all.items

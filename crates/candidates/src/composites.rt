@@ -6,8 +6,7 @@ ghost use Rattle.node_trees.specs.Shapes.{shape_of};
 ghost use Rattle.candidate_composites.specs.Known.{placed_plans};
 ghost use Rattle.candidates.specs.Composites.{AreAllOf, listed_or};
 
-use candidate_composites::known::{known_composites, some_waits};
-use candidate_composites::part::Part;
+use candidate_composites::known::{expanded_composites, some_waits};
 use log_states::pending::Pending;
 use node_trees::branch::{Branch, Double, Single};
 use node_trees::node::Node;
@@ -25,8 +24,8 @@ pub enum Composites<'a> {
     Unlisted,
     /// All of them, which somebody keeps.
     Lent(&'a [OpenComposite]),
-    /// All of them, and the gaps.
-    Listed(Vec<Part<'a>>),
+    /// All of them.
+    Listed(Vec<OpenComposite>),
 }
 
 // Whether the node may act at a gate: it can, or it isn't expanded.
@@ -87,9 +86,9 @@ fn may_meet(branch: &Branch, offers: &[Pending]) -> bool {
     false
 }
 
-/// What is listed of the composites of a tree: those that are lent, where some are; else all with the gaps, unless some node waits or one may
-/// meet a pending offer. Where no offer may be met there will be searches for more than the action of one gate; but what is listed while some
-/// node waits serves one look, which is mostly over at the first gap.
+/// What is listed of the composites of a tree: those that are lent, where some are; else all, unless some node waits or one may meet a pending
+/// offer. Where no offer may be met there will be searches for more than the action of one gate; but what is listed while some node waits
+/// serves one look, which is mostly over at the first gap.
 pub fn listed<'a>(
     alloc: Global,
     algebra: &DataSpec,
@@ -107,6 +106,6 @@ pub fn listed<'a>(
     if some_waits(tree) || may_meet(tree, offers) {
         return Ok(Composites::Unlisted);
     }
-    let parts = known_composites(alloc, algebra, tree)?;
-    Ok(Composites::Listed(parts))
+    let all = expanded_composites(alloc, algebra, tree)?;
+    Ok(Composites::Listed(all))
 }

@@ -229,8 +229,8 @@ impl<'a> KnownTree<'a> {
             Composites::Lent(all) => {
                 return Walk::over(self.algebra, self.windows, search, *all);
             }
-            Composites::Listed(parts) => {
-                return Walk::new(self.algebra, self.windows, search, parts);
+            Composites::Listed(all) => {
+                return Walk::over(self.algebra, self.windows, search, all);
             }
         }
     }

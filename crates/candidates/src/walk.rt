@@ -154,7 +154,7 @@ fn is_sought_at(alloc: Global, steps: &[Step<'_>], search: &TreeSearch<'_>) -> R
     ensures { IfOk result (λ b. b ≡ seeks_some (sought_at (map step_of steps.now) (kinds_sought (query_of search.now)))) }
 {
     let whole = kinds_sought(alloc, search)?;
-    seeks_some_at(alloc, steps, whole)
+    seeks_some_at(alloc, steps, &whole)
 }
 
 impl<'a, 't> Walk<'a, 't> {

@@ -1,19 +1,13 @@
 -- An index has what its tree has.
-use Rattle.std.proofs.Common.{ℕ, ◌≡◌, ◌<◌, ◌≤◌, ◌∙◌, List, [], ◌∷◌, map, flat_map, refl, ap, arith}
+use Rattle.std.proofs.Common.{ℕ, ◌≡◌, ◌<◌, ◌≤◌, ◌∙◌, List, [], map, ap, arith}
 use Rattle.spec_core.specs.Code.{Program}
 use Rattle.symbolic_rules.specs.Windows.{Windows}
 use Rattle.symbolic_plans.specs.declared.composite.OpenComposite.{OpenComposite}
 use Rattle.node_trees.specs.Shapes.{Shape}
-use Rattle.candidate_composites.specs.Known.{PlacedPlan, made, awaited, placed_plans, plans_in, expanded_plans}
-use Rattle.candidate_composites.proofs.Whole.{AllMade, all_made}
+use Rattle.candidate_composites.specs.Known.{made, expanded_plans}
+use Rattle.candidate_composites.proofs.Whole.{expanded_are_all}
 use Rattle.candidate_count.specs.Counts.{limited, offers_limit, offers_of_tree}
 use Rattle.offer_index.specs.Index.{IsIndexOf, plans_at, plans_of}
-
--- plans without gaps are those among them
-made_again : (ps : List PlacedPlan) → AllMade ps → map made (flat_map plans_in ps) ≡ ps
-made_again [] a = refl
-made_again (made p ∷ ps) a = ap (λ z. made p ∷ z) (made_again ps a)
-made_again (awaited g steps ∷ ps) a = absurd a
 
 -- where there aren't more possible agreements than are looked at, it lists all
 pub is_index : (program : Program) (w : Windows) (t : Shape) (total : ℕ) (all : List OpenComposite) →
@@ -25,7 +19,7 @@ is_index program w t total all plans counted few = record {
     few = λ h. ap (plans_at gate) plans;
     many = λ many. absurd (omega (arith, few, many));
   };
-  whole = λ h none. ap (map made) plans ∙ made_again (placed_plans program.theory t) (all_made program.theory t none);
+  whole = λ h none. ap (map made) plans ∙ expanded_are_all program.theory t none;
 }
 
 -- else none

@@ -7,9 +7,9 @@ use Rattle.node_trees.specs.Shapes.{shape_of, unary_of, over, between, choosing,
 use Rattle.candidate_composites.specs.Known.{found_of, sought_in}
 use Rattle.candidate_composites.specs.Contexts.{over_by, all_through, alone_by, some_joint, turns_of}
 use Rattle.candidate_composites.specs.Joining.{joining_of, right_of, free}
-use Rattle.candidate_composites.specs.Kept.{kept_over_two, kept_plans, meeting, prunes, staying}
+use Rattle.candidate_composites.specs.Kept.{kept_over_two, kept_plans, meeting, offering, prunes, staying}
 use Rattle.symbolic_plans.specs.declared.scheme.Row.TheVariants.{Parl}
-use Rattle.candidate_composites.proofs.Contexts.{all_meet, rises_over, rises_whole, chosen, interrupted, sides_alone}
+use Rattle.candidate_composites.proofs.Contexts.{all_offered, rises_over, rises_whole, chosen, interrupted, sides_alone}
 use Rattle.candidate_composites.proofs.known.+put_kept.Goals as goal
 
 pub put_kept-returns-in_ok-below-in-Over : goal.put_kept-returns-in_ok-below-in-Over
@@ -90,23 +90,21 @@ put_parallel-returns-in_ok-put_kept-2 t c =
     let a = map found_of c.args.all.now.items in
     let gates = synchronised_of c.args.gates.now in
     let ps = kept_plans theory c.args.listed (shape_of c.args.left.now) v j in
-    let ms = meeting (beside gates) v ps in
-    let above = right_of (prunes c.args.listed) (beside gates) ms j in
+    let above = right_of (prunes c.args.listed) (beside gates) (offering (beside gates) v ps) j in
     let rs = kept_plans theory c.args.listed (shape_of c.args.right.now) v (joining_of c.right_of-above.result) in
     let qs = kept_plans theory c.args.listed (shape_of c.args.right.now) v above in
     let those = map found_of c.put_kept-then-meets.new.all.items in
     let first : map found_of c.put_kept.new.all.items ≡ ps =
     c.in_ok-put_kept.ensures ∙ ap (λ l. map found_of l ++ all_through [] ps) c.new-first.ensures.items ∙ rises_whole ps in
-    let some : some_joint gates ms ≡ true =
+    let some : some_joint gates (meeting (beside gates) v ps) ≡ true =
     sym (c.in_ok-meets.ensures
     ∙ ap (λ l. some_joint gates (meeting (beside gates) v (map found_of l))) c.deref.ensures.value
     ∙ ap (λ l. some_joint gates (meeting (beside gates) v l)) first)
     ∙ c.if-meets.true in
-    let meet : ms ≡ ps = all_meet gates v ps some in
     let joins : joining_of c.right_of-above.result ≡ above =
     c.right_of-above.ensures
     ∙ ap (λ l. right_of (prunes c.args.listed) (beside gates) (map found_of l) j) c.deref-then-meets.ensures.value
-    ∙ ap (λ l. right_of (prunes c.args.listed) (beside gates) l j) (first ∙ sym meet) in
+    ∙ ap (λ l. right_of (prunes c.args.listed) (beside gates) l j) (first ∙ sym (all_offered gates v ps some)) in
     let second : those ≡ qs =
     c.in_ok-put_kept-2.ensures
     ∙ ap (λ l. map found_of l ++ all_through [] rs) c.new-second.ensures.items
@@ -114,9 +112,8 @@ put_parallel-returns-in_ok-put_kept-2 t c =
     ∙ ap (kept_plans theory c.args.listed (shape_of c.args.right.now) v) joins in
     IfOk-weaker c.put_beside.result _ _
     (λ _ e. e
-    ∙ ap (λ l. a ++ all_through ts (kept_over_two theory (beside gates) (staying (beside gates) v l) l those)) first
-    ∙ ap (λ l. a ++ all_through ts (kept_over_two theory (beside gates) (staying (beside gates) v ps) ps l)) second
-    ∙ ap (λ l. a ++ all_through ts (kept_over_two theory (beside gates) (staying (beside gates) v ps) l qs)) (sym meet))
+    ∙ ap (λ l. a ++ all_through ts (kept_over_two theory (beside gates) (staying (beside gates) v l) (meeting (beside gates) v l) those)) first
+    ∙ ap (λ l. a ++ all_through ts (kept_over_two theory (beside gates) (staying (beside gates) v ps) (meeting (beside gates) v ps) l)) second)
     c.put_beside.ensures
 
 pub put_parallel-returns-in_ok-put_left : goal.put_parallel-returns-in_ok-put_left

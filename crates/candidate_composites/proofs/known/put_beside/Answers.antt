@@ -14,17 +14,19 @@ pub returns : goal.returns
 returns c =
     let theory = theory_of c.args.algebra.now in
     let gates = synchronised_of c.args.gates.now in
+    let v = sought_in c.args.sought.now in
     let ps = map found_of c.args.left.items in
     let qs = map found_of c.args.right.items in
     let ts = turns_of c.args.context.now in
-    let both : map found_of c.in_ok-together.together.items ≡ flat_map (stepped (with_another gates) (placed_partners theory gates qs)) ps =
+    let lefts = where_sought (by_itself gates) v ps in
+    let ms = where_sought (with_another gates) v ps in
+    let both : map found_of c.in_ok-together.together.items ≡ flat_map (stepped (with_another gates) (placed_partners theory gates qs)) ms =
     c.in_ok-together.ensures
-    ∙ ap (λ l. flat_map (stepped (with_another gates) (placed_partners theory gates (map found_of c.deref-2.result.now))) (map found_of l))
-    c.deref.ensures.value
-    ∙ ap (λ r. flat_map (stepped (with_another gates) (placed_partners theory gates (map found_of r))) ps) c.deref-2.ensures.value in
-    let lefts = where_sought (by_itself gates) (sought_in c.args.sought.now) ps in
+    ∙ ap (λ l. flat_map (stepped (with_another gates) (placed_partners theory gates (map found_of c.deref-2.result.now)))
+    (where_sought (with_another gates) v (map found_of l))) c.deref.ensures.value
+    ∙ ap (λ r. flat_map (stepped (with_another gates) (placed_partners theory gates (map found_of r))) ms) c.deref-2.ensures.value in
     IfOk-weaker c.put_all_through-2.result _ _
-    (λ _ e. sides_and_both theory gates lefts ps qs ts (alone_by gates Parl ∷ ts) (turns_of c.under-at_right.result) refl
+    (λ _ e. sides_and_both theory gates lefts ms qs ts (alone_by gates Parl ∷ ts) (turns_of c.under-at_right.result) refl
     c.under-at_right.ensures (map found_of c.args.all.now.items) (map found_of c.put_left.new.all.items)
     (map found_of c.put_all_through.new.all.items) (map found_of c.put_all_through-2.new.all.items) c.in_ok-put_left.ensures
     c.in_ok-put_all_through.ensures (e ∙ ap (λ z. map found_of c.put_all_through.new.all.items ++ all_through ts z) both))
