@@ -79,11 +79,16 @@ fn name_at(pending: &[Pending], number: u32) -> (u32, u64)
     }
 }
 
-// The tree with a number.
-fn tree_at(those: &[Rules], number: u32) -> Option<&Rules>
-    ensures { option_map (λ d. derivation_of d.now) result ≡ slice_get (map derivation_of those.now) number }
+// The tree with a number, without the others.
+fn tree_at(those: Vec<Rules>, number: u32) -> Option<Rules>
+    ensures { option_map derivation_of result ≡ slice_get (map derivation_of those.items) number }
 {
-    those.get(number as usize)
+    let mut those = those;
+    let place = number as usize;
+    if place >= those.len() {
+        return None;
+    }
+    Some(those.remove(place))
 }
 
 impl Board {
@@ -191,13 +196,13 @@ impl Board {
     /// The behaviour acts by these rules, and the offer named is taken, for which all was made ready, and since then nothing has changed.
     /// There were fewer actions than are allowed. Nodes that live on keep what they stand for; what was known of nodes that are gone is
     /// forgotten, and no job at them is out. It takes no memory.
-    pub fn commit(&mut self, rules: &Rules, by: Option<(u32, u64)>)
-        requires reserved { IsActReserved self.old.session (derivation_of rules.now) by }
-        requires may { MayFollow (program self.old) (state self.old) (tree self.old) by (derivation_of rules.now) }
+    pub fn commit(&mut self, rules: Rules, by: Option<(u32, u64)>)
+        requires reserved { IsActReserved self.old.session (derivation_of rules) by }
+        requires may { MayFollow (program self.old) (state self.old) (tree self.old) by (derivation_of rules) }
         requires running { self.old.stop ≡ None }
         requires below { (state self.old).actions < self.old.settings.steps }
-        ensures acted { HasActed self.old.session self.new.session (derivation_of rules.now) by }
-        ensures step { IsStep (program self.old) (tree self.old) self.old.session.tree.next (derivation_of rules.now) (tree self.new)
+        ensures acted { HasActed self.old.session self.new.session (derivation_of rules) by }
+        ensures step { IsStep (program self.old) (tree self.old) self.old.session.tree.next (derivation_of rules) (tree self.new)
             self.new.session.tree.next self.new.session.tree.gone self.new.session.tree.came }
         ensures nodes { KeepsNodes self.old self.new }
         ensures known { (g : ℕ) (d : Derivation) → pieces self.new g d ≡ without self.new.session.tree.gone (pieces self.old) g d }
@@ -213,19 +218,19 @@ impl Board {
     }
 
     // The behaviour acts by these rules, and the offer named is taken.
-    fn act(&mut self, alloc: Global, rules: &Rules, by: Option<(u32, u64)>) -> Result<(), Memory>
-        requires may { MayFollow (program self.old) (state self.old) (tree self.old) by (derivation_of rules.now) }
+    fn act(&mut self, alloc: Global, rules: Rules, by: Option<(u32, u64)>) -> Result<(), Memory>
+        requires may { MayFollow (program self.old) (state self.old) (tree self.old) by (derivation_of rules) }
         requires running { self.old.stop ≡ None }
         requires rules { GoesByRules (state self.old) }
         requires below { (state self.old).actions < self.old.settings.steps }
-        ensures acted { OnOk result (HasActed self.old.session self.new.session (derivation_of rules.now) by) }
-        ensures stepped { OnOk result (HasStepped self.old self.new (derivation_of rules.now)) }
+        ensures acted { OnOk result (HasActed self.old.session self.new.session (derivation_of rules) by) }
+        ensures stepped { OnOk result (HasStepped self.old self.new (derivation_of rules)) }
         ensures same { OnErr result (IsUnchanged self.old self.new) }
         ensures nodes { KeepsNodes self.old self.new }
         ensures session { SameSession self.old self.new }
         ensures stop { self.new.stop ≡ self.old.stop }
     {
-        self.reserve_step(alloc, rules, by)?;
+        self.reserve_step(alloc, &rules, by)?;
         self.commit(rules, by);
         Ok(())
     }
@@ -329,8 +334,8 @@ impl Board {
     }
 
     // A windowed tree takes the offer with a number.
-    fn take(&mut self, alloc: Global, number: u32, rules: &Rules) -> Result<(), Memory>
-        requires due { IsDue self.old (takes (offer_at (state self.old).pending number) (derivation_of rules.now)) }
+    fn take(&mut self, alloc: Global, number: u32, rules: Rules) -> Result<(), Memory>
+        requires due { IsDue self.old (takes (offer_at (state self.old).pending number) (derivation_of rules)) }
         requires below { (state self.old).actions < self.old.settings.steps }
         requires rules { GoesByRules (state self.old) }
         requires stop { self.old.stop ≡ None }
@@ -344,8 +349,8 @@ impl Board {
     }
 
     // One of these unseen trees acts, which the seed chooses.
-    fn go_on(&mut self, alloc: Global, those: &[Rules]) -> Result<(), Memory>
-        requires due { IsDue self.old (goes_on (map derivation_of those.now)) }
+    fn go_on(&mut self, alloc: Global, those: Vec<Rules>) -> Result<(), Memory>
+        requires due { IsDue self.old (goes_on (map derivation_of those.items)) }
         requires below { (state self.old).actions < self.old.settings.steps }
         requires rules { GoesByRules (state self.old) }
         requires stop { self.old.stop ≡ None }
@@ -443,8 +448,8 @@ impl Board {
         }
         match settled {
             Settled::Unknown | Settled::Nothing => return Ok(false),
-            Settled::Takes(number, rules) => self.take(alloc, number, &rules)?,
-            Settled::GoesOn(those) => self.go_on(alloc, &those)?,
+            Settled::Takes(number, rules) => self.take(alloc, number, rules)?,
+            Settled::GoesOn(those) => self.go_on(alloc, those)?,
             Settled::IsBeyond(number, rules) => self.tell_beyond(alloc, number, rules)?,
             Settled::IsNotNow(number) => self.tell_not_now(alloc, number)?,
             Settled::Deadlocks => self.tell_deadlock(alloc)?,

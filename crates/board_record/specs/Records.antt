@@ -9,7 +9,7 @@ use Rattle.rule_model.specs.Behaviours.{Behaviour}
 use Rattle.rule_model.specs.Code.{IsStart}
 use Rattle.rule_model.specs.Derivations.{Derivation}
 use Rattle.rule_model.specs.Derives.{Derives}
-use Rattle.rule_model.specs.Events.{Event, OfferName, event_of, acted}
+use Rattle.rule_model.specs.Events.{Event, OfferName}
 use Rattle.rule_model.specs.Legal.{IsAgreed, IsDerivation}
 use Rattle.rule_model.specs.States.{State, start_state, after_action}
 use Rattle.board_record.specs.declared.ready_act.ReadyAct.{ReadyAct}
@@ -40,14 +40,12 @@ pub record MayAct (program : Program) (s : State) (d : Derivation) (by : Option 
   pub derives : Derives program s.behaviour d action rest
   pub agreed : IsAgreed program s action by
 
--- the state is the one that the action of the tree that stands ready leads to, whichever behaviour is reached, and the entry tells of it
-pub record IsReadyAct (s : State) (d : Derivation) (by : Option OfferName) (t : Option Ready) (r : ReadyAct) : Type 0 where
-  pub action : Action
-  pub next : IsNextAction t action
-  pub state : (rest : Behaviour) → state_at rest r.state ≡ after_action s action by rest
-  pub entry : event_of r.entry ≡ acted action d by
+-- the action is that of the tree that stands ready, and the state is the one that it leads to, whichever behaviour is reached
+pub record IsReadyAct (s : State) (by : Option OfferName) (t : Option Ready) (r : ReadyAct) : Type 0 where
+  pub next : IsNextAction t r.action
+  pub state : (rest : Behaviour) → state_at rest r.state ≡ after_action s r.action by rest
 
 -- such an act stands ready
-abbrev pub IsReadied : State → Derivation → Option OfferName → Option Ready → Option ReadyAct → Type 0
-IsReadied s d by t None = ⊥
-IsReadied s d by t (Some r) = IsReadyAct s d by t r
+abbrev pub IsReadied : State → Option OfferName → Option Ready → Option ReadyAct → Type 0
+IsReadied s by t None = ⊥
+IsReadied s by t (Some r) = IsReadyAct s by t r

@@ -56,7 +56,7 @@ SameTree old new =
 -- all that the action by these rules needs stands ready, where it takes the offer of this name
 pub record IsActReserved (v : RecordView) (d : Derivation) (by : Option OfferName) : Type 0 where
   pub tree : IsReserved (program v) (shape v.tree) v.tree.next d v.tree.ready
-  pub act : IsReadied (state v) d by v.tree.ready v.ready
+  pub act : IsReadied (state v) by v.tree.ready v.ready
   pub room : 0 < v.room
 
 -- The behaviour has done an action by these rules, to which the client of this offer agreed, or nobody had to. The log has it as its last

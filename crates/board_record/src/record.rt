@@ -368,28 +368,28 @@ impl Record {
         self.entries.reserve(1)?;
         self.tree.reserve_step(alloc, &self.checked, rules)?;
         let action = self.tree.action_next();
-        let ready = ready_act(alloc, &self.session, rules, action, by)?;
+        let ready = ready_act(alloc, &self.session, action, by)?;
         self.ready = Some(ready);
         Ok(())
     }
 
     /// The action by these rules, which was made ready, and since then nothing has changed. It takes no memory.
-    pub fn act(&mut self, rules: &Rules, by: Option<(u32, u64)>)
-        requires reserved { IsActReserved self.old (derivation_of rules.now) by }
-        requires may { MayAct (program self.old) (state self.old) (derivation_of rules.now) by }
+    pub fn act(&mut self, rules: Rules, by: Option<(u32, u64)>)
+        requires reserved { IsActReserved self.old (derivation_of rules) by }
+        requires may { MayAct (program self.old) (state self.old) (derivation_of rules) by }
         requires right { IsRight (program self.old) (shape self.old.tree) }
-        requires follows { Follows (shape self.old.tree) (derivation_of rules.now) }
-        ensures acted { HasActed self.old self.new (derivation_of rules.now) by }
-        ensures step { IsStep (program self.old) (shape self.old.tree) self.old.tree.next (derivation_of rules.now)
+        requires follows { Follows (shape self.old.tree) (derivation_of rules) }
+        ensures acted { HasActed self.old self.new (derivation_of rules) by }
+        ensures step { IsStep (program self.old) (shape self.old.tree) self.old.tree.next (derivation_of rules)
             (shape self.new.tree) self.new.tree.next self.new.tree.gone self.new.tree.came }
         ensures setting { SameSetting self.old self.new }
     {
-        self.tree.step(&self.checked, rules);
+        self.tree.step(&self.checked, &rules);
         match self.ready.take() {
             Some(ready) => {
-                let ReadyAct { state, entry } = ready;
+                let ReadyAct { state, action } = ready;
                 self.session = state;
-                append(&mut self.entries, entry);
+                append(&mut self.entries, Entry::Act(action, rules, by));
             }
             None => unreachable!(),
         }

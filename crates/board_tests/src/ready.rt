@@ -57,7 +57,7 @@ pub fn commit_next(alloc: Global, board: &mut Board) -> Result<bool, Memory> {
         Some((number, rules)) => {
             let name = board.offer_name(number);
             board.reserve_step(alloc, &rules, Some(name))?;
-            board.commit(&rules, Some(name));
+            board.commit(rules, Some(name));
             Ok(true)
         }
     }

@@ -105,9 +105,10 @@ fn act(alloc: Global, board: &mut Board, step: &Candidate) -> Result<Action, Mem
     board.log_is_a_derivation();
     actions_are_at_gates_of_the_heading();
     let action = step.action.copy(alloc)?;
+    let rules = step.rules.copy(alloc)?;
     let by = offered(alloc, board, &action)?;
-    board.reserve_step(alloc, &step.rules, by)?;
-    board.commit(&step.rules, by);
+    board.reserve_step(alloc, &rules, by)?;
+    board.commit(rules, by);
     Ok(action)
 }
 

@@ -5,4 +5,4 @@ use Rattle.board_record.proofs.ready_act.ready_act.Goals as goal
 
 pub returns-clause-state : goal.returns-clause-state
 returns-clause-state c rest =
-    c.in_ok-state.ensures rest ∙ ap (λ a. after_action (state_of c.args.session.now) a c.args.by rest) c.in_ok-copy-3.ensures.equal
+    c.in_ok-state.ensures rest ∙ ap (λ a. after_action (state_of c.args.session.now) a c.args.by rest) c.in_ok-copy.ensures.equal

@@ -1,3 +1,5 @@
+use Rattle.std.proofs.Common.{subst}
+use Rattle.board_record.specs.Views.{HasActed}
 use Rattle.simulator_steps.proofs.Stepping.{at_heading, has_spelled, log_goes_on}
 use Rattle.simulator_steps.proofs.choosing.act.Goals as goal
 
@@ -18,5 +20,6 @@ returns-clause-log c =
       o.offered.0,
       log_goes_on c.args.board.now c.offered.new.board c.reserve_step.new.self c.args.step.now c.requires.step c.in_ok-action.action
           c.in_ok-action.ensures.equal o.setting o.behaviour r.session r.log c.log_is_a_derivation.ensures.ready c.commit.new.self c.in_ok-by.by
-          c.commit.ensures.acted o.offered.0 o.offered.1 o.offered.2,
+          (subst (λ d. HasActed c.reserve_step.new.self.session c.commit.new.self.session d c.in_ok-by.by) c.in_ok-rules.ensures.equal c.commit.ensures.acted)
+          o.offered.0 o.offered.1 o.offered.2,
     )

@@ -3,7 +3,6 @@ use Rattle.rule_model.specs.Derivations.{derivation_of}
 use Rattle.board_laws.specs.Rules.{takes, deadlocks, is_beyond, is_not_now, goes_on, stalls}
 use Rattle.board_offers.specs.Offers.{offer_at}
 use Rattle.board_core.specs.Entries.{entry_of}
-use Rattle.board_core.specs.Settled.{IsDue}
 use Rattle.board_core.specs.Views.{BoardView, state}
 use Rattle.board_core.proofs.Entries.{at_limit}
 use Rattle.board_core.proofs.board.Board.append.Goals as goal
@@ -26,8 +25,7 @@ take-requires-clause-due c =
 pub go_on-requires-clause-due : goal.go_on-requires-clause-due
 go_on-requires-clause-due c =
     let v = c.args.self.now in
-    subst (λ those. IsDue v (goes_on (map derivation_of those))) (sym c.deref.ensures.value)
-    (c.requires.due (goes_on (map derivation_of c.in-GoesOn.those.items)) (sym c.requires.decided ∙ ap (entry_of v) c.in-GoesOn.is))
+    c.requires.due (goes_on (map derivation_of c.in-GoesOn.those.items)) (sym c.requires.decided ∙ ap (entry_of v) c.in-GoesOn.is)
 
 pub tell_beyond-requires-clause-due : goal.tell_beyond-requires-clause-due
 tell_beyond-requires-clause-due c =

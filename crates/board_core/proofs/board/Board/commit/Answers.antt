@@ -36,7 +36,7 @@ invariant_of-self c =
           stays (program v) (program u) v.settings.values v.settings.values v.windows v.windows (tree u) (tree u) (pieces u) (pieces u)
               u.session.tree.next u.session.tree.next (ap program_of c.act.ensures.setting.0) refl refl refl refl refl
               (steps (program v) v.settings.values v.windows (tree v) (tree u) v.session.tree.next u.session.tree.next
-              (derivation_of c.args.rules.now) gone c.act.new.self.tree.came (pieces v) (pieces u) c.act.ensures.step
+              (derivation_of c.args.rules) gone c.act.new.self.tree.came (pieces v) (pieces u) c.act.ensures.step
               (λ g e. c.drop_gone.ensures.gone g e ∙ ap (λ (l : List Gen). without l (pieces v) g e) same)
               c.self.invariant.0.0.0),
           subst (AreOfLiving (tree u) (pieces u)) (sym left)

@@ -1,4 +1,4 @@
-use Rattle.std.proofs.Common.{◌≡◌, ◌∙◌, option_map, ap, map, length, refl, sym, None, Some}
+use Rattle.std.proofs.Common.{◌≡◌, ◌∙◌, option_map, ap, map, length, refl, rules, sym, None, Some}
 use Rattle.std.proofs.lemmas.List.{length-map}
 use Rattle.std.specs.List.{slice_get}
 use Rattle.spec_core.proofs.Lists.{each_slice_get}
@@ -13,19 +13,21 @@ use Rattle.board_core.proofs.board.Board.go_on.Goals as goal
 pub act-requires-clause-may : goal.act-requires-clause-may
 act-requires-clause-may c =
     let v = c.args.self.now in
-    each_slice_get (MayFollow (program v) (state v) (tree v) None) (map derivation_of c.args.those.now) c.drawn-number.result
-    (derivation_of c.in-Some.rules.now) c.requires.due.done.1
-    (sym c.tree_at.ensures ∙ ap (option_map (λ r. derivation_of r.now)) c.in-Some.is)
+    each_slice_get (MayFollow (program v) (state v) (tree v) None) (map derivation_of c.args.those.items) c.drawn-number.result
+    (derivation_of c.in-Some.rules) c.requires.due.done.1
+    (sym c.tree_at.ensures ∙ ap (option_map derivation_of) c.in-Some.is)
 
 pub returns-clause-settled : goal.returns-clause-settled
 returns-clause-settled c =
     let v = c.args.self.now in
-    let trees = map derivation_of c.args.those.now in
-    let d = derivation_of c.in-Some.rules.now in
-    let there : slice_get trees c.drawn-number.result ≡ Some d = sym c.tree_at.ensures ∙ ap (option_map (λ r. derivation_of r.now)) c.in-Some.is in
+    let trees = map derivation_of c.args.those.items in
+    let d = derivation_of c.in-Some.rules in
+    let there : slice_get trees c.drawn-number.result ≡ Some d = sym c.tree_at.ensures ∙ ap (option_map derivation_of) c.in-Some.is in
+    let many : c.len-2.result ≡ length c.args.those.items = search rules in
     let number : c.drawn-number.result ≡ drawn v.settings.seed (state v).actions (length trees) =
     same_draw c.drawn-number.result _ v.settings.seed _ (state v).actions _ (length trees) c.drawn-number.ensures.drawn
-    (ap (λ (z : BoardView). z.settings.seed) c.self.view_is) c.actions.ensures (sym (length-map c.args.those.now derivation_of)) in
+    (ap (λ (z : BoardView). z.settings.seed) c.self.view_is) c.actions.ensures
+    (many ∙ sym (length-map c.args.those.items derivation_of)) in
     on_ok_both c.act.result
     (acts v c.act.new.self (goes_on trees) c.requires.due c.requires.rules c.requires.stop c.act.ensures.stop d None
     (λ a. (c.requires.below, d, ap (slice_get trees) (sym number) ∙ there, a, refl)))

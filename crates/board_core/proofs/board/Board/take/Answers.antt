@@ -11,7 +11,7 @@ pub returns-clause-settled : goal.returns-clause-settled
 returns-clause-settled c =
     let s = state c.args.self.now in
     let p = offer_at s.pending c.args.number in
-    let d = derivation_of c.args.rules.now in
+    let d = derivation_of c.args.rules in
     let name = c.offer_name-name.result in
     on_ok_both c.act.result
     (acts c.args.self.now c.act.new.self (takes p d) c.requires.due c.requires.rules c.requires.stop c.act.ensures.stop d (Some name)

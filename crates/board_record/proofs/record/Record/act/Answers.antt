@@ -1,7 +1,8 @@
-use Rattle.std.proofs.Common.{rules, ◌≡◌, subst, sym, Some}
+use Rattle.std.proofs.Common.{rules, ◌≡◌, refl, subst, sym, Some}
 use Rattle.spec_core.specs.Code.{program_of}
 use Rattle.board_tree.specs.Steps.{Follows}
 use Rattle.board_tree.specs.Views.{shape}
+use Rattle.rule_model.specs.declared.log.Entry.TheVariants as entry
 use Rattle.rule_model.specs.Derivations.{derivation_of}
 use Rattle.board_record.proofs.Acting.{acts, agreed_then, derives_then, events_then, state_then}
 use Rattle.board_record.specs.contracts.record.Record.{the_view}
@@ -15,7 +16,7 @@ invariant_of-self c =
     let v = c.self.inside in
     let p = program_of v.checked in
     let t = shape v.tree in
-    let d = derivation_of c.args.rules.now in
+    let d = derivation_of c.args.rules in
     let r = c.in-Some.ready in
     let is = sym c.self.view_is in
     let reserved = subst (λ z. IsActReserved z d c.args.by) is c.requires.reserved in
@@ -23,9 +24,9 @@ invariant_of-self c =
     let right = subst (λ z. IsRight (program z) (shape z.tree)) is c.requires.right in
     let follows = subst (λ z. Follows (shape z.tree) d) is c.requires.follows in
     let there : v.ready ≡ Some r = search rules in
-    let readied = subst (IsReadied (state_with p t v.session) d c.args.by v.tree.ready) there reserved.act in
-    acts p t v.session d c.args.by v.tree.ready r (shape c.step.new.self) readied v.tree.next c.step.new.self.next
-    c.step.new.self.gone c.step.new.self.came may right follows reserved.tree c.step.ensures.step v.clients
+    let readied = subst (IsReadied (state_with p t v.session) c.args.by v.tree.ready) there reserved.act in
+    acts p t v.session d c.args.by v.tree.ready r (shape c.step.new.self) readied (entry.Act r.action c.args.rules c.args.by) refl
+    v.tree.next c.step.new.self.next c.step.new.self.gone c.step.new.self.came may right follows reserved.tree c.step.ensures.step v.clients
     v.entries.items c.append.new.entries.items (search rules) c.self.invariant
 
 pub returns-clause-acted : goal.returns-clause-acted
@@ -33,16 +34,17 @@ returns-clause-acted c =
     let v = c.self.inside in
     let p = program_of v.checked in
     let t = shape v.tree in
-    let d = derivation_of c.args.rules.now in
+    let d = derivation_of c.args.rules in
     let r = c.in-Some.ready in
     let n = c.step.new.self in
+    let done = entry.Act r.action c.args.rules c.args.by in
     let is = sym c.self.view_is in
     let reserved = subst (λ z. IsActReserved z d c.args.by) is c.requires.reserved in
     let may = subst (λ z. MayAct (program z) (state z) d c.args.by) is c.requires.may in
     let right = subst (λ z. IsRight (program z) (shape z.tree)) is c.requires.right in
     let follows = subst (λ z. Follows (shape z.tree) d) is c.requires.follows in
     let there : v.ready ≡ Some r = search rules in
-    let readied = subst (IsReadied (state_with p t v.session) d c.args.by v.tree.ready) there reserved.act in
+    let readied = subst (IsReadied (state_with p t v.session) c.args.by v.tree.ready) there reserved.act in
     let new = the_view (record {
       checked = v.checked;
       clients = v.clients;
@@ -53,14 +55,14 @@ returns-clause-acted c =
     }) in
     subst (λ z. HasActed z new d c.args.by) c.self.view_is
     (record {
-      action = readied.action;
+      action = r.action;
       derives =
-          derives_then p t v.session d c.args.by v.tree.ready r (shape n) readied v.tree.next n.next n.gone n.came may
+          derives_then p t v.session d c.args.by v.tree.ready r (shape n) readied done refl v.tree.next n.next n.gone n.came may
           right follows reserved.tree c.step.ensures.step;
       agreed =
-          agreed_then p t v.session d c.args.by v.tree.ready r (shape n) readied v.tree.next n.next n.gone n.came may
+          agreed_then p t v.session d c.args.by v.tree.ready r (shape n) readied done refl v.tree.next n.next n.gone n.came may
           right follows reserved.tree c.step.ensures.step;
-      log = events_then p t v.session d c.args.by v.tree.ready r (shape n) readied v.entries.items c.append.new.entries.items (search rules);
-      one_more = (r.entry, search rules);
+      log = events_then p t v.session d c.args.by v.tree.ready r (shape n) readied done refl v.entries.items c.append.new.entries.items (search rules);
+      one_more = (done, search rules);
       state = state_then p t v.session d c.args.by v.tree.ready r (shape n) readied;
     })
