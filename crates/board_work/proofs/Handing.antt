@@ -1,5 +1,5 @@
 -- Boards to which several things were handed in, one after another.
-use Rattle.std.proofs.Common.{ℕ, ◌≡◌, ◌∙◌, ◌⊎◌, List, ◌∷◌, inl, inr, refl, sym, ap, subst, Option, Some, None}
+use Rattle.std.proofs.Common.{ℕ, ◌≡◌, ◌∙◌, ◌⊎◌, List, ◌∷◌, inl, inr, refl, ap, subst, Option, Some, None}
 use Rattle.spec_core.specs.Code.{program_of}
 use Rattle.spec_core.specs.Lists.{Each}
 use Rattle.spec_core.proofs.Lists.{each_implied}
@@ -15,6 +15,7 @@ pub nothing_handed : (v : BoardView) → HandsIn v v
 nothing_handed v = record {
   session = (((refl, refl), refl, refl), refl);
   log = (refl, refl, refl);
+  done = λ job undone. undone;
   stop = inl refl;
 }
 
@@ -47,6 +48,7 @@ pub handed_twice : (a b c : BoardView) → HandsIn a b → HandsIn b c → Hands
 handed_twice a b c x y = record {
   session = one_session a b c x.session y.session;
   log = (y.log.0 ∙ x.log.0, y.log.1 ∙ x.log.1, y.log.2 ∙ x.log.2);
+  done = λ job undone. x.done job (y.done job undone);
   stop = stops a b c x.session x.log x.stop y.stop;
 }
 

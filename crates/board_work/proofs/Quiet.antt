@@ -16,7 +16,7 @@ use Rattle.candidates.specs.declared.job.NodeJob as declared
 use Rattle.candidates.specs.Jobs.{NodeJob, is_out}
 use Rattle.candidates.specs.Models.{job_of}
 use Rattle.board_laws.specs.Lazy.{first}
-use Rattle.board_laws.specs.Needed.{entry_decided}
+use Rattle.board_laws.specs.Needed.{entry_decided, jobs_needed}
 use Rattle.board_laws.specs.Next.{GoesByRules, IsNextOf}
 use Rattle.board_laws.specs.Rules.{Waiting, nothing}
 use Rattle.board_laws.specs.StoppingLaws.{GiveReasons}
@@ -27,7 +27,7 @@ use Rattle.board_core.specs.Awaiting.{AwaitsClients}
 use Rattle.board_core.specs.Jobs.{first_not_out, not_out}
 use Rattle.board_core.specs.Settled.{HasSettled, IsQuiet, WhyQuiet, quiet_stopped, quiet_undecided, quiet_nothing, quiet_limit}
 use Rattle.board_core.specs.Shapes.{Shape}
-use Rattle.board_core.specs.Views.{BoardView, program, state, tree, windows, pieces, decided_at, needed_at, SameLog, SameSession}
+use Rattle.board_core.specs.Views.{BoardView, program, state, tree, windows, pieces, decided_at, needed_at, SameLog, SameNodes, SameSession}
 use Rattle.board_core.specs.Waiting.{waiting_in}
 use Rattle.board_core.specs.Working.{NoneFree, WhyNone, first_free, first_reason, none_stopped, none_ended, none_awaited, none_needed}
 use Rattle.board_core.proofs.Knowing.{free_is_needed}
@@ -36,6 +36,7 @@ use Rattle.board_work.specs.Runs.{IsSettledAt, all_told, none_next}
 use Rattle.board_work.specs.Settling.{HasComeNext, HasNoJob, IsLike, IsSettledOn}
 use Rattle.board_work.proofs.Driving.{asked_at}
 use Rattle.board_work.proofs.Handing.{handed_twice, nothing_handed}
+use Rattle.board_work.proofs.Keeping.{keeps_nodes}
 
 -- nothing is out, so all that is needed is free
 all_kept : (xs : List NodeJob) → not_out (is_out []) xs ≡ xs
@@ -46,11 +47,17 @@ no_first : (xs : List NodeJob) → first xs ≡ None → xs ≡ []
 no_first [] e = refl
 no_first (x ∷ xs) e = let never : ⊥ = cc in absurd never
 
+pub first_left : (v : BoardView) (o : Option NodeJob) → v.out ≡ [] → first_free v ≡ o → first (needed_at v) ≡ o
+first_left v o out free =
+    ap first (sym (all_kept (needed_at v)))
+    ∙ subst (λ (l : List declared.NodeJob). first_not_out (is_out (map job_of l)) (needed_at v) ≡ o) out free
+
 none_left : (v : BoardView) → v.out ≡ [] → first_free v ≡ None → needed_at v ≡ []
-none_left v out free =
-    no_first (needed_at v)
-    (ap first (sym (all_kept (needed_at v)))
-    ∙ subst (λ (l : List declared.NodeJob). first_not_out (is_out (map job_of l)) (needed_at v) ≡ None) out free)
+none_left v out free = no_first (needed_at v) (first_left v None out free)
+
+like_itself : (v : BoardView) → IsLike v v
+like_itself v =
+    record { session = (((refl, refl), refl, refl), refl); log = (refl, refl, refl); nodes = (refl, refl, refl) }
 
 pub like_twice : (a b c : BoardView) → IsLike a b → IsLike b c → IsLike a c
 like_twice a b c x y = record {
@@ -78,6 +85,9 @@ module _ (old new : BoardView) (like : IsLike old new) where
 
   same_decided : decided_at new ≡ decided_at old
   same_decided = same entry_decided
+
+  pub same_needed : needed_at new ≡ needed_at old
+  same_needed = same jobs_needed
 
   next_there : IsNextOf (program old) old.settings (state old) nothing → IsNextOf (program new) new.settings (state new) nothing
   next_there h =
@@ -141,27 +151,39 @@ none_left_behind a b c session quiet h =
 
 -- there was no job, and that didn't stop the session
 pub has_no_job : (a b c : BoardView) → IsLike a b → b.stop ≡ a.stop → b.out ≡ [] → IsLike b c → WhyNone b c →
-    is_some a.stop ≡ is_some c.stop → HasNoJob a c
-has_no_job a b c frees running out stays (inl none) same =
+    is_some c.stop ≡ false → HasNoJob a c
+has_no_job a b c frees running out stays (inl none) runs =
     record { freed = b; frees = frees; running = running; out = out; none = none.0; stays = stays; stop = none.1 }
-has_no_job a b c frees running out stays (inr many) same =
-    absurd (stops_not (sym (ap is_some many.running) ∙ ap is_some running ∙ same ∙ ap is_some many.stop))
+has_no_job a b c frees running out stays (inr many) runs = absurd (stops_not (sym (ap is_some many.stop) ∙ runs))
   where
-    stops_not : false ≡ true → ⊥
+    stops_not : true ≡ false → ⊥
     stops_not e = cc
+
+-- nor was there one where the session had stopped
+pub stopped_has_no_job : (a b : BoardView) → IsLike a b → b.stop ≡ a.stop → b.out ≡ [] → (b.stop ≡ None → ⊥) → HasNoJob a b
+stopped_has_no_job a b frees running out stopped = record {
+  freed = b;
+  frees = frees;
+  running = running;
+  out = out;
+  none = none_stopped stopped;
+  stays = like_itself b;
+  stop = refl;
+}
 
 module _ (old new : BoardView) (session : SameSession old new) where
   -- nothing was handed in
-  pub hands_nothing : SameLog old new → new.stop ≡ old.stop → HandsIn old new
-  hands_nothing log stop = record { session = session; log = log; stop = inl stop }
+  pub hands_nothing : SameLog old new → SameNodes old new → new.stop ≡ old.stop → HandsIn old new
+  hands_nothing log nodes stop = record { session = session; log = log; done = keeps_nodes old new nodes; stop = inl stop }
 
   -- no job was handed out, and that may have stopped the session
-  pub hands_none : SameLog old new → GiveReasons (program old) old.settings (windows old) (tree old) (pieces old) (state old) →
+  pub hands_none : SameLog old new → SameNodes old new → GiveReasons (program old) old.settings (windows old) (tree old) (pieces old) (state old) →
       WhyNone old new → HandsIn old new
-  hands_none log gives (inl none) = hands_nothing log none.1
-  hands_none log gives (inr many) = record {
+  hands_none log nodes gives (inl none) = hands_nothing log nodes none.1
+  hands_none log nodes gives (inr many) = record {
     session = session;
     log = log;
+    done = keeps_nodes old new nodes;
     stop = inr (
       Limit Offers,
       gives.offers many.many,
@@ -175,12 +197,13 @@ module _ (old new : BoardView) (session : SameSession old new) where
   hands_quiet h = by_why h.why
     where
       by_why : WhyQuiet old new → HandsIn old new
-      by_why (quiet_stopped reason e f none) = hands_nothing h.log (f ∙ sym e)
-      by_why (quiet_undecided e f rules busy undecided) = hands_nothing h.log (f ∙ sym e)
-      by_why (quiet_nothing e f rules next known) = hands_nothing h.log (f ∙ sym e)
+      by_why (quiet_stopped reason e f none) = hands_nothing h.log h.nodes (f ∙ sym e)
+      by_why (quiet_undecided e f rules busy undecided) = hands_nothing h.log h.nodes (f ∙ sym e)
+      by_why (quiet_nothing e f rules next known) = hands_nothing h.log h.nodes (f ∙ sym e)
       by_why (quiet_limit e f limit none) = record {
         session = session;
         log = h.log;
+        done = keeps_nodes old new h.nodes;
         stop = inr (Limit Steps, limit, tt, f ∙ sym (ap (λ (o : Option StopReason). first_reason o (Limit Steps)) e));
       }
 

@@ -12,7 +12,7 @@ use Rattle.candidate_verdicts.specs.declared.pieces.Piece.{Piece}
 use Rattle.candidate_verdicts.specs.Known.{NodePart, node_part}
 use Rattle.candidate_verdicts.specs.Stored.{with_piece}
 use Rattle.candidates.specs.Jobs.{NodeJob, to_expand, to_judge}
-use Rattle.board_laws.specs.Needed.{generation_of}
+use Rattle.board_laws.specs.Needed.{IsUndone, generation_of}
 use Rattle.board_core.specs.Views.{BoardView, pieces, program, state, tree, SameLog, SameNodes, SameSession}
 use Rattle.board_core.specs.Working.{HasOrigin, IsFree, IsNeeded, first_reason}
 use Rattle.board_work.specs.declared.outcome.Outcome.{Outcome}
@@ -24,10 +24,19 @@ StopsNow old new =
     (reason : StopReason) × IsReasonToStop (program old) old.settings (state old) reason ×
     IsAskedByRules (program old) old.settings (state old) reason × (new.stop ≡ first_reason old.stop reason)
 
--- the session has the log and the state that it had; it is stopped only for a reason that is so
+-- the job isn't done: the node waits, or nothing is known of the part of a tree of rules
+abbrev pub IsUndoneOn : BoardView → NodeJob → Type 0
+IsUndoneOn v job = IsUndone (pieces v) (tree v) job
+
+-- each job that was done is so still: no node waits that didn't, and of what something was known, something is known
+abbrev pub KeepsDone : BoardView → BoardView → Type 0
+KeepsDone old new = (job : NodeJob) → IsUndoneOn new job → IsUndoneOn old job
+
+-- the session has the log and the state that it had, and each job that was done is so still; it is stopped only for a reason that is so
 pub record HandsIn (old new : BoardView) : Type 0 where
   pub session : SameSession old new
   pub log : SameLog old new
+  pub done : KeepsDone old new
   pub stop : (new.stop ≡ old.stop) ⊎ StopsNow old new
 
 -- The job isn't too late: its node lives and stands for what it stood for, and isn't expanded, where this is to be done.
@@ -86,3 +95,7 @@ module _ (old new : BoardView) where
   -- the job is done: what it was to find is known, or the session has stopped
   abbrev pub IsDone : NodeJob → Type 0
   IsDone job = IsFound job ⊎ (new.stop ≡ None → ⊥)
+
+-- the job is over: it is done, or the session has stopped
+abbrev pub IsOver : BoardView → NodeJob → Type 0
+IsOver v job = (IsUndoneOn v job → ⊥) ⊎ (v.stop ≡ None → ⊥)

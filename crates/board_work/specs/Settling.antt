@@ -1,12 +1,14 @@
 -- Boards on which entries are appended and jobs are done, by turns. (This profile.)
 use Rattle.std.specs.Prelude.{◌≡◌, ◌⊎◌, [], None, Some}
+use Rattle.candidates.specs.Jobs.{NodeJob}
+use Rattle.board_laws.specs.Lazy.{first}
 use Rattle.board_laws.specs.Rules.{nothing}
 use Rattle.board_core.specs.Awaiting.{AwaitsClients}
 use Rattle.board_core.specs.Settled.{HasSettled}
 use Rattle.board_core.specs.Views as views
 use Rattle.board_core.specs.Views.{BoardView, SameLog, SameNodes, SameSession}
-use Rattle.board_core.specs.Working.{NoneFree}
-use Rattle.board_work.specs.Handed.{HandsIn}
+use Rattle.board_core.specs.Working.{IsNeeded, NoneFree}
+use Rattle.board_work.specs.Handed.{HandsIn, IsUndoneOn}
 use Rattle.board_work.specs.Runs.{IsSettledAt}
 
 -- jobs are done, if any, and then the next entry is appended
@@ -31,6 +33,23 @@ pub record HasNoJob (old new : BoardView) : Type 0 where
   pub none : NoneFree freed
   pub stays : IsLike freed new
   pub stop : new.stop ≡ freed.stop
+
+-- the first job that the rules needed, whoever had taken it, is done
+pub record FirstIsDone (old new : BoardView) : Type 0 where
+  pub job : NodeJob
+  pub needed : IsNeeded old job
+  pub is_first : first (views.needed_at old) ≡ Some job
+  pub done : IsUndoneOn new job → ⊥
+
+-- a session that ran has stopped
+pub record HasStopped (old new : BoardView) : Type 0 where
+  pub running : old.stop ≡ None
+  pub stopped : new.stop ≡ None → ⊥
+
+-- What came of jobs was handed in: the first that the rules needed is done, or a reason that is so has stopped the session.
+pub record HasWorked (old new : BoardView) : Type 0 where
+  pub handed : HandsIn old new
+  pub work : FirstIsDone old new ⊎ HasStopped old new
 
 -- nothing is left to be done on a board; where it hasn't stopped, and doesn't wait for its clients, what is known decides so
 pub record IsSettledOn (v : BoardView) : Type 0 where

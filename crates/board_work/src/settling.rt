@@ -1,9 +1,9 @@
 // One step of a session without threads: the next entry, or the next jobs.
 
-ghost use Rattle.std.specs.Prelude.{◌≡◌, IfOk, false};
+ghost use Rattle.std.specs.Prelude.{◌≡◌, IfOk, IsTrue, false};
 ghost use Rattle.board_core.specs.Views.{SameSession};
 ghost use Rattle.board_work.specs.Handed.{HandsIn};
-ghost use Rattle.board_work.specs.Settling.{HasComeNext, HasNoJob, IsSettledOn};
+ghost use Rattle.board_work.specs.Settling.{HasComeNext, HasNoJob, HasWorked, IsLike, IsSettledOn};
 
 use crate::working::{More, work_on};
 use board_core::board::Board;
@@ -16,34 +16,27 @@ use std::alloc::Global;
 pub enum Progress {
     /// The next entry was appended.
     Entry,
-    /// A job was done, and others with it, or there was a reason to stop the session.
+    /// The first job that the rules needed was done, and maybe others with it, or a reason stopped the session.
     Work,
     /// Nothing was left to be done.
     Nothing,
-}
-
-// Whether one holds and the other doesn't.
-fn differ(before: bool, after: bool) -> bool
-    ensures { result ≡ false → before ≡ after }
-{
-    before != after
 }
 
 // Does the first job that the rules need, whoever has taken it, and others of its kind with it, or finds a reason to stop the session;
 // whether there was either.
 fn work_next(alloc: Global, board: &mut Board, more: &mut More) -> Result<bool, Memory>
     ensures handed { HandsIn board.old board.new }
+    ensures work { IfOk result (λ worked. IsTrue worked → HasWorked board.old board.new) }
     ensures none { IfOk result (λ worked. worked ≡ false → HasNoJob board.old board.new) }
 {
     board.give_back_all();
+    if board.stopped() {
+        return Ok(false);
+    }
     board.jobs_give_reasons();
-    let before = board.stopped();
     let asked = more.with_next(board);
     match board.take_jobs(alloc, asked.count)? {
-        None => {
-            let after = board.stopped();
-            Ok(differ(before, after))
-        }
+        None => Ok(board.stopped()),
         Some(Batch { first, others }) => {
             work_on(alloc, board, first, others)?;
             *more = asked.grown();
@@ -55,6 +48,8 @@ fn work_next(alloc: Global, board: &mut Board, more: &mut More) -> Result<bool, 
 // Does the first job, and others with it, where one is likely; whether there was one.
 fn work_if_expected(alloc: Global, board: &mut Board, more: &mut More) -> Result<bool, Memory>
     ensures handed { HandsIn board.old board.new }
+    ensures work { IfOk result (λ worked. IsTrue worked → HasWorked board.old board.new) }
+    ensures none { IfOk result (λ worked. worked ≡ false → IsLike board.old board.new × (board.new.stop ≡ board.old.stop)) }
 {
     if more.expects_job(board) {
         work_next(alloc, board, more)
@@ -66,7 +61,8 @@ fn work_if_expected(alloc: Global, board: &mut Board, more: &mut More) -> Result
 // One entry, where what is known decides it, or else one job, and others with it.
 fn settle_else_work(alloc: Global, board: &mut Board, more: &mut More) -> Result<Progress, Memory>
     ensures entry { IfOk result (λ progress. progress ≡ Progress.Entry → HasComeNext board.old board.new) }
-    ensures work { IfOk result (λ progress. (progress ≡ Progress.Entry → ⊥) → HandsIn board.old board.new) }
+    ensures handed { IfOk result (λ progress. (progress ≡ Progress.Entry → ⊥) → HandsIn board.old board.new) }
+    ensures work { IfOk result (λ progress. progress ≡ Progress.Work → HasWorked board.old board.new) }
     ensures nothing { IfOk result (λ progress. progress ≡ Progress.Nothing → IsSettledOn board.new) }
     ensures session { SameSession board.old board.new }
 {
@@ -85,7 +81,8 @@ fn settle_else_work(alloc: Global, board: &mut Board, more: &mut More) -> Result
 /// the two is looked for first goes by `more`, which says how many jobs are done together, and what comes doesn't depend on it.
 pub fn settle_or_work(alloc: Global, board: &mut Board, more: &mut More) -> Result<Progress, Memory>
     ensures entry { IfOk result (λ progress. progress ≡ Progress.Entry → HasComeNext board.old board.new) }
-    ensures work { IfOk result (λ progress. (progress ≡ Progress.Entry → ⊥) → HandsIn board.old board.new) }
+    ensures handed { IfOk result (λ progress. (progress ≡ Progress.Entry → ⊥) → HandsIn board.old board.new) }
+    ensures work { IfOk result (λ progress. progress ≡ Progress.Work → HasWorked board.old board.new) }
     ensures nothing { IfOk result (λ progress. progress ≡ Progress.Nothing → IsSettledOn board.new) }
     ensures session { SameSession board.old board.new }
 {

@@ -7,7 +7,7 @@ ghost use Rattle.board_laws.specs.Needed.{generation_of};
 ghost use Rattle.node_trees.specs.Origins.{source_of};
 ghost use Rattle.board_core.specs.Views.{program, tree, windows};
 ghost use Rattle.board_core.specs.Working.{HasOrigin, IsNeeded, IsOfValues, IsVerdict};
-ghost use Rattle.board_work.specs.Handed.{HandsIn, IsDone};
+ghost use Rattle.board_work.specs.Handed.{HandsIn, IsDone, IsOver};
 ghost use Rattle.board_work.specs.Outcomes.{IsOutcome};
 
 use crate::handing_in::hand_in;
@@ -197,6 +197,8 @@ pub fn work_on(alloc: Global, board: &mut Board, job: Job, others: Vec<Job>) -> 
     requires values { IsOfValues (program board.old) job }
     requires others { Each (IsOfValues (program board.old)) others.items }
     ensures handed { HandsIn board.old board.new }
+    ensures done { OnOk result (HasOrigin (tree board.old) (generation_of (job_of job.task)) (source_of job.origin) →
+        IsNeeded board.old (job_of job.task) → IsOver board.new (job_of job.task)) }
 {
     let verdicts = is_verdict(&job);
     work(alloc, board, job)?;

@@ -1,10 +1,11 @@
-use Rattle.std.proofs.Common.{◌≡◌, subst}
+use Rattle.std.proofs.Common.{subst}
 use Rattle.candidates.specs.Jobs.{to_expand}
 use Rattle.node_trees.specs.Origins.{source_of}
 use Rattle.board_core.specs.Views.{program, windows}
 use Rattle.board_work.specs.declared.outcome.Outcome.{Outcome}
 use Rattle.board_work.specs.Outcomes.{ComesOf}
 use Rattle.board_work.proofs.Taking.{needed_is_free, unexpanded_gives}
+use Rattle.board_work.proofs.Quiet.{hands_nothing}
 use Rattle.board_work.proofs.handing_in.expanded.Goals as goal
 
 pub post_work-requires-clause-origin : goal.post_work-requires-clause-origin
@@ -28,3 +29,8 @@ returns-in-Stopped-clause-late c = λ late.
       c.has_origin.ensures.has.0 c.if-not-has_origin.false,
       needed_is_free c.args.board.now (to_expand c.args.generation.0) needed,
     ))
+
+pub returns-then-not-has_origin-clause-handed : goal.returns-then-not-has_origin-clause-handed
+returns-then-not-has_origin-clause-handed c =
+    let e = c.give_back.ensures in
+    hands_nothing c.args.board.now c.give_back.new.self e.session e.log e.nodes e.stop

@@ -1,6 +1,7 @@
-use Rattle.std.proofs.Common.{◌≡◌, option_map, refl, subst, sym}
+use Rattle.std.proofs.Common.{inl, option_map, refl, subst, sym}
 use Rattle.rule_model.specs.Derivations.{derivation_of}
 use Rattle.candidates.specs.Jobs.{to_judge}
+use Rattle.candidate_verdicts.specs.declared.pieces.Piece.{Piece}
 use Rattle.candidate_verdicts.specs.Known.{node_part}
 use Rattle.symbolic_actions.specs.Models.{show_of}
 use Rattle.node_trees.specs.Origins.{source_of}
@@ -9,6 +10,8 @@ use Rattle.board_work.specs.declared.outcome.Outcome.{Outcome}
 use Rattle.board_work.specs.Handed.{IsTakenIn}
 use Rattle.board_work.specs.Outcomes.{ComesOf}
 use Rattle.board_work.proofs.Taking.{kept_where, shown_of_node, unshown_gives}
+use Rattle.board_work.proofs.Keeping.{keeps_post, keeps_same}
+use Rattle.board_work.proofs.Quiet.{hands_nothing}
 use Rattle.board_work.proofs.handing_in.judged.Goals as goal
 
 pub judged-requires : goal.judged-requires
@@ -50,3 +53,30 @@ returns-in_ok-judged-in-Judged-clause-taken c = λ in_time.
       nodes = h.tree;
       stop = h.stop;
     })
+
+pub returns-then-not-has_origin-clause-handed : goal.returns-then-not-has_origin-clause-handed
+returns-then-not-has_origin-clause-handed c =
+    let e = c.give_back.ensures in
+    hands_nothing c.args.board.now c.give_back.new.self e.session e.log e.nodes e.stop
+
+pub returns-in_ok-judged-in-Judged-clause-handed : goal.returns-in_ok-judged-in-Judged-clause-handed
+returns-in_ok-judged-in-Judged-clause-handed c =
+    let h = c.in_ok-judged-in-Judged.ensures in
+    let piece : Piece = record { generation = c.args.generation; rules = c.args.rules; shown = c.in-Judged.shown } in
+    record {
+      session = h.session;
+      log = h.log;
+      done =
+          keeps_post c.args.board.now c.judged.new.self piece c.in_ok-judged-in-Judged.field-0 (λ e. (h.posted e).1) (λ e. (h.stale e).1) h.tree;
+      stop = inl h.stop;
+    }
+
+pub returns-in_err-judged-in-Judged-clause-handed : goal.returns-in_err-judged-in-Judged-clause-handed
+returns-in_err-judged-in-Judged-clause-handed c =
+    let h = c.in_err-judged-in-Judged.ensures in
+    record {
+      session = h.session;
+      log = h.log;
+      done = keeps_same c.args.board.now c.judged.new.self h.tree h.known;
+      stop = inl h.stop;
+    }

@@ -12,11 +12,11 @@ returns-in-Entry-clause-continues c =
 
 pub returns-in-Work-clause-continues : goal.returns-in-Work-clause-continues
 returns-in-Work-clause-continues c =
-    handed c.args.board.now c.settle_or_work.new.board (c.in_ok-settle_or_work.ensures.work (λ e. let f = sym c.in-Work.is ∙ e in cc))
+    handed c.args.board.now c.settle_or_work.new.board (c.in_ok-settle_or_work.ensures.handed (λ e. let f = sym c.in-Work.is ∙ e in cc))
 
 pub returns-in-Nothing-clause-continues : goal.returns-in-Nothing-clause-continues
 returns-in-Nothing-clause-continues c =
-    handed c.args.board.now c.settle_or_work.new.board (c.in_ok-settle_or_work.ensures.work (λ e. let f = sym c.in-Nothing.is ∙ e in cc))
+    handed c.args.board.now c.settle_or_work.new.board (c.in_ok-settle_or_work.ensures.handed (λ e. let f = sym c.in-Nothing.is ∙ e in cc))
 
 pub returns-in-Entry-clause-goes_on : goal.returns-in-Entry-clause-goes_on
 returns-in-Entry-clause-goes_on c =
@@ -27,8 +27,8 @@ returns-in-Entry-clause-goes_on c =
 
 pub returns-in-Work-clause-goes_on : goal.returns-in-Work-clause-goes_on
 returns-in-Work-clause-goes_on c =
-    going.handed c.args.board.now c.settle_or_work.new.board (c.in_ok-settle_or_work.ensures.work (λ e. let f = sym c.in-Work.is ∙ e in cc))
+    going.handed c.args.board.now c.settle_or_work.new.board (c.in_ok-settle_or_work.ensures.handed (λ e. let f = sym c.in-Work.is ∙ e in cc))
 
 pub returns-in-Nothing-clause-goes_on : goal.returns-in-Nothing-clause-goes_on
 returns-in-Nothing-clause-goes_on c =
-    going.handed c.args.board.now c.settle_or_work.new.board (c.in_ok-settle_or_work.ensures.work (λ e. let f = sym c.in-Nothing.is ∙ e in cc))
+    going.handed c.args.board.now c.settle_or_work.new.board (c.in_ok-settle_or_work.ensures.handed (λ e. let f = sym c.in-Nothing.is ∙ e in cc))
