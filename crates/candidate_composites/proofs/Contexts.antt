@@ -1,5 +1,5 @@
 -- What the operators above a part make of its plans, one operator after the other.
-use Rattle.std.proofs.Common.{◌≡◌, ◌++◌, ◌∙◌, List, [], ◌∷◌, map, flat_map, refl, sym, ap, Bool, true, false}
+use Rattle.std.proofs.Common.{◌≡◌, ◌++◌, ◌∙◌, List, [], ◌∷◌, map, filter, flat_map, refl, sym, ap, Bool, true, false}
 use Rattle.std.proofs.Common.{if◌then◌else◌, append_assoc}
 use Rattle.std.proofs.lemmas.Bool.{or_parts}
 use Rattle.std.proofs.lemmas.List.Concat.{flat_map-append}
@@ -9,13 +9,13 @@ use Rattle.symbolic_composites.specs.Kinds.{is_joint}
 use Rattle.symbolic_plans.specs.declared.scheme.Row.{Row}
 use Rattle.symbolic_plans.specs.declared.scheme.Row.TheVariants.{Chl, Chr, Parl, Parr, Distake}
 use Rattle.symbolic_plans.specs.OpenPlans.{under_row, plans_alone, plans_joint, plan_by_disabling}
-use Rattle.candidate_laws.specs.Sought.{Sought, by_itself, with_another, as_another}
+use Rattle.candidate_laws.specs.Sought.{Sought, sought_below, by_itself, with_another, as_another}
 use Rattle.node_trees.specs.Shapes.{Shape, between, Unary, choosing, beside, disabling}
 use Rattle.candidate_composites.specs.Known.{PlacedPlan, made, awaited, stepped, turned_there, placed_over_one, placed_alone}
-use Rattle.candidate_composites.specs.Known.{placed_partners, placed_over_two}
+use Rattle.candidate_composites.specs.Known.{placed_over_two}
 use Rattle.candidate_composites.specs.Contexts.{Turn, below_row, disabled, alone_by, over_by, turned_by, through, all_through, some_joint}
 use Rattle.candidate_composites.specs.Joining.{Joins, right_of}
-use Rattle.candidate_composites.specs.Kept.{kept_over_two, kept_plans, meeting, offering, prunes, staying}
+use Rattle.candidate_composites.specs.Kept.{keeps, kept_beside, kept_partners, kept_plans, meeting, offering, prunes, staying}
 use Rattle.candidate_composites.specs.declared.listed.Listed.{Listed}
 
 -- The lowest operator first, and those above it then.
@@ -76,38 +76,37 @@ one_behind ts a b c ps qs e f =
 
 -- What a left side says of the right one: all, where some of it meets the right side, and else nothing.
 
-pub all_offered : (gates : Synchronised) (v : Sought) (ps : List PlacedPlan) → some_joint gates (meeting (beside gates) v ps) ≡ true →
-    offering (beside gates) v ps ≡ ps
-all_offered gates v ps e = ap (λ (b : Bool). if b then ps else []) e
+module _ (gates : Synchronised) (v : Sought) (ps : List PlacedPlan) where
+  pub all_offered : some_joint gates (meeting gates v ps) ≡ true → offering (beside gates) v ps ≡ ps
+  all_offered e = ap (λ (b : Bool). if b then ps else []) e
 
-none_offered : (gates : Synchronised) (v : Sought) (ps : List PlacedPlan) → some_joint gates (meeting (beside gates) v ps) ≡ false →
-    offering (beside gates) v ps ≡ []
-none_offered gates v ps e = ap (λ (b : Bool). if b then ps else []) e
+  none_offered : some_joint gates (meeting gates v ps) ≡ false → offering (beside gates) v ps ≡ []
+  none_offered e = ap (λ (b : Bool). if b then ps else []) e
 
 module _ (theory : Theory) where
-  none_together : (gates : Synchronised) (ps qs : List PlacedPlan) → some_joint gates ps ≡ false →
-      flat_map (stepped (with_another gates) (placed_partners theory gates qs)) ps ≡ []
-  none_together gates [] qs e = refl
-  none_together gates (awaited g steps ∷ ps) qs e = let no : true ≡ false = e in absurd cc
-  none_together gates (made p ∷ ps) qs e =
+  none_together : (gates : Synchronised) (v : Sought) (ps qs : List PlacedPlan) → some_joint gates ps ≡ false →
+      flat_map (stepped (with_another gates) (kept_partners theory gates v qs)) ps ≡ []
+  none_together gates v [] qs e = refl
+  none_together gates v (awaited g steps ∷ ps) qs e = let no : true ≡ false = e in absurd cc
+  none_together gates v (made p ∷ ps) qs e =
       let parts = or_parts (is_joint gates p.kind) (some_joint gates ps) e in
-      let those = flat_map (stepped (as_another p.kind) (λ q. map made (plans_joint theory gates p q))) qs in
-      ap (λ b. (if b then those else []) ++ flat_map (stepped (with_another gates) (placed_partners theory gates qs)) ps) parts.0
-      ∙ none_together gates ps qs parts.1
+      let kept = filter (keeps (sought_below (as_another p.kind) v)) qs in
+      let those = flat_map (stepped (as_another p.kind) (λ q. map made (plans_joint theory gates p q))) kept in
+      ap (λ b. (if b then those else []) ++ flat_map (stepped (with_another gates) (kept_partners theory gates v qs)) ps) parts.0
+      ∙ none_together gates v ps qs parts.1
 
   -- what is left then of a parallel composition, above all operators
   pub sides_alone : (l : Listed) (gates : Synchronised) (x y : Shape) (v : Sought) (c : Joins) (ts us vs : List Turn) →
       us ≡ alone_by gates Parl ∷ ts →
       vs ≡ alone_by gates Parr ∷ ts →
       (a b d : List PlacedPlan) →
-      some_joint gates (meeting (beside gates) v (kept_plans theory l x v c)) ≡ false →
-      b ≡ a ++ all_through us (staying (beside gates) v (kept_plans theory l x v c)) →
+      some_joint gates (meeting gates v (kept_plans theory l x v c)) ≡ false →
+      b ≡ a ++ all_through us (staying gates v (kept_plans theory l x v c)) →
       d ≡ b ++ all_through vs (kept_plans theory l y v (right_of (prunes l) (beside gates) [] c)) →
       d ≡ a ++ all_through ts (kept_plans theory l (between (beside gates) x y) v c)
   sides_alone l gates x y v c ts us vs h k a b d e f g =
       let left = kept_plans theory l x v c in
-      let ps = staying (beside gates) v left in
-      let ms = meeting (beside gates) v left in
+      let ps = staying gates v left in
       let qs = kept_plans theory l y v (right_of (prunes l) (beside gates) (offering (beside gates) v left) c) in
       let rs = kept_plans theory l y v (right_of (prunes l) (beside gates) [] c) in
       let same : rs ≡ qs =
@@ -116,23 +115,24 @@ module _ (theory : Theory) where
       (f ∙ ap (λ z. a ++ z) (rises_alone gates Parl ts us ps h)) (g ∙ ap (λ z. b ++ z) (rises_alone gates Parr ts vs rs k))
       ∙ ap (λ z. a ++ all_through ts (placed_alone gates Parl ps ++ placed_alone gates Parr z)) same
       ∙ ap (λ z. a ++ all_through ts (placed_alone gates Parl ps ++ z)) (sym (no_more (placed_alone gates Parr qs)))
-      ∙ ap (λ z. a ++ all_through ts (placed_alone gates Parl ps ++ (placed_alone gates Parr qs ++ z))) (sym (none_together gates ms qs e))
+      ∙ ap (λ z. a ++ all_through ts (placed_alone gates Parl ps ++ (placed_alone gates Parr qs ++ z)))
+      (sym (none_together gates v (meeting gates v left) qs e))
     where
       no_more : (zs : List PlacedPlan) → zs ++ [] ≡ zs
       no_more [] = refl
       no_more (z ∷ zs) = ap (λ k. z ∷ k) (no_more zs)
 
   -- all three parts of a parallel composition, one behind the other
-  pub sides_and_both : (gates : Synchronised) (ps ms qs : List PlacedPlan) (ts us vs : List Turn) →
+  pub sides_and_both : (gates : Synchronised) (v : Sought) (ps ms qs : List PlacedPlan) (ts us vs : List Turn) →
       us ≡ alone_by gates Parl ∷ ts →
       vs ≡ alone_by gates Parr ∷ ts →
       (a b c d : List PlacedPlan) →
       b ≡ a ++ all_through us ps →
       c ≡ b ++ all_through vs qs →
-      d ≡ c ++ all_through ts (flat_map (stepped (with_another gates) (placed_partners theory gates qs)) ms) →
-      d ≡ a ++ all_through ts (kept_over_two theory (beside gates) ps ms qs)
-  sides_and_both gates ps ms qs ts us vs h k a b c d e f g =
-      let both = flat_map (stepped (with_another gates) (placed_partners theory gates qs)) ms in
+      d ≡ c ++ all_through ts (flat_map (stepped (with_another gates) (kept_partners theory gates v qs)) ms) →
+      d ≡ a ++ all_through ts (kept_beside theory gates v ps ms qs)
+  sides_and_both gates v ps ms qs ts us vs h k a b c d e f g =
+      let both = flat_map (stepped (with_another gates) (kept_partners theory gates v qs)) ms in
       one_behind ts a b d (placed_alone gates Parl ps) (placed_alone gates Parr qs ++ both)
       (e ∙ ap (λ z. a ++ z) (rises_alone gates Parl ts us ps h))
       (one_behind ts b c d (placed_alone gates Parr qs) both (f ∙ ap (λ z. b ++ z) (rises_alone gates Parr ts vs qs k)) g)

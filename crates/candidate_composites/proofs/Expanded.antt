@@ -15,7 +15,7 @@ use Rattle.node_trees.specs.Shapes.{Shape, leaf, ended, over, between, Unary, Bi
 use Rattle.candidate_composites.specs.Known.{PlacedPlan, made, awaited, stepped, turned_there, placed_over_one, placed_alone}
 use Rattle.candidate_composites.specs.Known.{placed_at, placed_partners, placed_over_two, placed_plans, plans_in, expanded_plans}
 use Rattle.candidate_composites.specs.Joining.{Joins, free, right_of}
-use Rattle.candidate_composites.specs.Kept.{kept_at, kept_over_two, kept_plans, meeting, node_waits, offering, some_waits, staying}
+use Rattle.candidate_composites.specs.Kept.{kept_at, kept_over_two, kept_plans, node_waits, offering, some_waits}
 use Rattle.candidate_composites.specs.declared.listed.Listed.TheVariants.{Pruned, Expanded}
 use Rattle.candidate_composites.proofs.Kept.{pruned_is_kept}
 
@@ -140,9 +140,8 @@ module _ (theory : Theory) where
   kept_settled (over o x) v c = ap (map (placed_over_one o)) (kept_settled x (sought_below (under_one o) v) free)
   kept_settled (between o x y) v c =
       let qs = kept_plans theory Pruned (settled x) v c in
-      ap (λ z. kept_over_two theory o (staying o v z) (meeting o v z) (kept_plans theory Expanded y v (right_of true o (offering o v z) c)))
-      (kept_settled x v c)
-      ∙ ap (kept_over_two theory o (staying o v qs) (meeting o v qs)) (kept_settled y v (right_of true o (offering o v qs) c))
+      ap (λ z. kept_over_two theory o v z (kept_plans theory Expanded y v (right_of true o (offering o v z) c))) (kept_settled x v c)
+      ∙ ap (kept_over_two theory o v qs) (kept_settled y v (right_of true o (offering o v qs) c))
 
   pub expanded_are_kept : (t : Shape) → flat_map plans_in (kept_plans theory Expanded t every_kind free) ≡ expanded_plans theory t
   expanded_are_kept t =

@@ -24,10 +24,10 @@ use Rattle.candidate_composites.specs.Known.{placed_alone, placed_at, placed_par
 use Rattle.candidate_composites.specs.Joining.{Joins, free, is_offered, lets, right_of}
 use Rattle.candidate_composites.specs.Contexts.{some_joint}
 use Rattle.candidate_composites.specs.Kept.{is_kept, keeps, kept_at, kept_over_two, kept_plans, listed_for, meeting, node_waits, offering}
-use Rattle.candidate_composites.specs.Kept.{prunes, some_waits, staying, where_sought}
+use Rattle.candidate_composites.specs.Kept.{prunes, some_waits, staying}
 use Rattle.candidate_composites.specs.declared.listed.Listed.{Listed}
 use Rattle.candidate_composites.specs.declared.listed.Listed.TheVariants.{All, Pruned, Expanded}
-use Rattle.candidate_composites.proofs.Within.{IsWithin, where_sifted}
+use Rattle.candidate_composites.proofs.Within.{IsWithin, kept_sifted, where_sifted}
 use Rattle.candidate_composites.proofs.Those.{sift, fill, sift_stepped, sift_turned, as_stepped, kind_of_either, same_either}
 use Rattle.candidate_composites.proofs.Those.{one_over, one_alone}
 use Rattle.candidate_composites.proofs.Those.{partners_sought, all_partners}
@@ -174,9 +174,9 @@ offered_of_all u k (made p ∷ ps) e =
 offered_of_all u k (awaited g steps ∷ ps) e = refl
 
 meeting_is_offered : (gates : Synchronised) (u : Sought) (ps : List PlacedPlan) (k : Kind) → is_joint gates k ≡ true →
-    is_offered k (meeting (beside gates) u ps) ≡ true → is_offered k (offering (beside gates) u ps) ≡ true
+    is_offered k (meeting gates u ps) ≡ true → is_offered k (offering (beside gates) u ps) ≡ true
 meeting_is_offered gates u ps k j e =
-    ap (λ (b : Bool). is_offered k (if b then ps else [])) (joint_offered gates k (meeting (beside gates) u ps) j e)
+    ap (λ (b : Bool). is_offered k (if b then ps else [])) (joint_offered gates k (meeting gates u ps) j e)
     ∙ by_test (seeks_some (sought_below (with_another gates) u)) e
   where
     by_test : (b : Bool) → is_offered k (if b then filter (keeps (sought_below (with_another gates) u)) ps else []) ≡ true →
@@ -314,55 +314,59 @@ back (made p ∷ ps) a = ap (λ z. made p ∷ z) (back ps a)
 back (awaited g steps ∷ ps) a = absurd a
 
 module _ (theory : Theory) where
-  pub both_sifted : (gates : Synchronised) (v : Sought) (ps qs : List PlacedPlan) →
-      sift v (flat_map (stepped (with_another gates) (placed_partners theory gates qs)) ps) ≡
-      fill (λ p. partners_sought theory gates v p qs) (sift (sought_below (with_another gates) v) ps)
-  both_sifted gates v ps qs =
-      sift_stepped (with_another gates) v (placed_partners theory gates qs) (λ p. partners_sought theory gates v p qs)
-      (λ p. all_partners theory gates v p qs) ps
+  -- what both sides do together, where beside each plan of the left side these are looked at of the right one
+  abbrev pub pairs : Synchronised → (OpenPlan → List PlacedPlan) → List PlacedPlan → List PlacedPlan
+  pairs gates beside_it ps = flat_map (stepped (with_another gates) (λ p. placed_partners theory gates (beside_it p) p)) ps
 
-  boths : (gates : Synchronised) (v : Sought) (ps qs rs ss : List PlacedPlan) →
+  pub both_sifted : (gates : Synchronised) (v : Sought) (beside_it : OpenPlan → List PlacedPlan) (ps : List PlacedPlan) →
+      sift v (pairs gates beside_it ps) ≡
+      fill (λ p. partners_sought theory gates v p (beside_it p)) (sift (sought_below (with_another gates) v) ps)
+  both_sifted gates v beside_it ps =
+      sift_stepped (with_another gates) v (λ p. placed_partners theory gates (beside_it p) p)
+      (λ p. partners_sought theory gates v p (beside_it p)) (λ p. all_partners theory gates v p (beside_it p)) ps
+
+  boths : (gates : Synchronised) (v : Sought) (f g : OpenPlan → List PlacedPlan) (ps rs : List PlacedPlan) →
       sift (sought_below (with_another gates) v) ps ≡ sift (sought_below (with_another gates) v) rs →
-      ((j : Kind) → is_joint gates j ≡ true → is_offered j ps ≡ true →
-      sift (sought_below (as_another j) v) qs ≡ sift (sought_below (as_another j) v) ss) →
-      sift v (flat_map (stepped (with_another gates) (placed_partners theory gates qs)) ps) ≡
-      sift v (flat_map (stepped (with_another gates) (placed_partners theory gates ss)) rs)
-  boths gates v ps qs rs ss e f =
-      both_sifted gates v ps qs
-      ∙ same_fill (λ p. partners_sought theory gates v p qs) (λ p. partners_sought theory gates v p ss)
+      ((p : OpenPlan) → is_joint gates p.kind ≡ true → is_offered p.kind ps ≡ true →
+      sift (sought_below (as_another p.kind) v) (f p) ≡ sift (sought_below (as_another p.kind) v) (g p)) →
+      sift v (pairs gates f ps) ≡ sift v (pairs gates g rs)
+  boths gates v f g ps rs e h =
+      both_sifted gates v f ps
+      ∙ same_fill (λ p. partners_sought theory gates v p (f p)) (λ p. partners_sought theory gates v p (g p))
       (sought_below (with_another gates) v) ps ps same (λ k i. i)
-      ∙ ap (fill (λ p. partners_sought theory gates v p ss)) e
-      ∙ sym (both_sifted gates v rs ss)
+      ∙ ap (fill (λ p. partners_sought theory gates v p (g p))) e
+      ∙ sym (both_sifted gates v g rs)
     where
-      same : (p : OpenPlan) → is_offered p.kind ps ≡ true → partners_sought theory gates v p qs ≡ partners_sought theory gates v p ss
+      same : (p : OpenPlan) → is_offered p.kind ps ≡ true → partners_sought theory gates v p (f p) ≡ partners_sought theory gates v p (g p)
       same p i = by_joint (is_joint gates p.kind) refl
         where
           those : List PlanOrGap → List PlanOrGap
           those l = fill (λ q. map element (plans_joint theory gates p q)) l
 
           by_joint : (b : Bool) → is_joint gates p.kind ≡ b →
-              (if b then those (sift (sought_below (as_another p.kind) v) qs) else []) ≡
-              (if b then those (sift (sought_below (as_another p.kind) v) ss) else [])
-          by_joint true h = ap those (f p.kind h i)
-          by_joint false h = refl
+              (if b then those (sift (sought_below (as_another p.kind) v) (f p)) else []) ≡
+              (if b then those (sift (sought_below (as_another p.kind) v) (g p)) else [])
+          by_joint true d = ap those (h p d i)
+          by_joint false d = refl
 
   two_parts : (l : Listed) (o : Binary) (u : Sought) (c : Joins) (v : Sought) → Allowed l v → Covers (is_kept u c) v →
       (ps qs rs ss : List PlacedPlan) →
       ((w : Sought) → Allowed l w → Covers (is_kept u c) w → sift w ps ≡ sift w rs) →
       ((w : Sought) → Allowed l w → Covers (is_kept u (right_of (prunes l) o (offering o u ps) c)) w → sift w qs ≡ sift w ss) →
-      sift v (kept_over_two theory o (staying o u ps) (meeting o u ps) qs) ≡ sift v (placed_over_two theory o rs ss)
+      sift v (kept_over_two theory o u ps qs) ≡ sift v (placed_over_two theory o rs ss)
   two_parts l choosing u c v a h ps qs rs ss e f =
       join v (map (turned_there (under_row Chl)) ps) (map (turned_there (under_row Chr)) qs) (map (turned_there (under_row Chl)) rs)
       (map (turned_there (under_row Chr)) ss) (turns v (under_row Chl) (λ p. refl) ps rs (e v a h))
       (turns v (under_row Chr) (λ p. refl) qs ss (f v a h))
   two_parts l (beside gates) u c v a h ps qs rs ss e f =
+      let lefts = staying gates u ps in
+      let ms = meeting gates u ps in
+      let those = offering (beside gates) u ps in
       let rights = placed_alone gates Parr qs in
       let others = placed_alone gates Parr ss in
-      let lefts = staying (beside gates) u ps in
-      let ms = meeting (beside gates) u ps in
-      let those = offering (beside gates) u ps in
-      let first = flat_map (stepped (with_another gates) (placed_partners theory gates qs)) ms in
-      let second = flat_map (stepped (with_another gates) (placed_partners theory gates ss)) rs in
+      let beside_it = λ (p : OpenPlan). filter (keeps (sought_below (as_another p.kind) u)) qs in
+      let first = pairs gates beside_it ms in
+      let second = pairs gates (λ p. ss) rs in
       let below = allowed_below l (by_itself gates) v a in
       let within = kept_within u c v h in
       join v (placed_alone gates Parl lefts) (rights ++ first) (placed_alone gates Parl rs) (others ++ second)
@@ -370,11 +374,12 @@ module _ (theory : Theory) where
       (where_sifted (by_itself gates) v u within ps ∙ e (sought_below (by_itself gates) v) below (covers_itself gates (is_kept u c) v h)))
       (join v rights first others second
       (alones gates Parr v qs ss (f (sought_below (by_itself gates) v) below (right_alone l gates those u c v a h)))
-      (boths gates v ms qs rs ss
+      (boths gates v beside_it (λ p. ss) ms rs
       (where_sifted (with_another gates) v u within ps
       ∙ e (sought_below (with_another gates) v) (allowed_below l (with_another gates) v a) (covers_with gates (is_kept u c) v h))
-      (λ j d i. f (sought_below (as_another j) v) (allowed_below l (as_another j) v a)
-      (right_with l gates those u c v j a h (meeting_is_offered gates u ps j d i)))))
+      (λ p d i. kept_sifted (as_another p.kind) v u within qs
+      ∙ f (sought_below (as_another p.kind) v) (allowed_below l (as_another p.kind) v a)
+      (right_with l gates those u c v p.kind a h (meeting_is_offered gates u ps p.kind d i)))))
   two_parts l disabling u c v a h ps qs rs ss e f =
       join v (map (turned_there plan_by_disabling) ps) (map (turned_there (under_row Distake)) qs) (map (turned_there plan_by_disabling) rs)
       (map (turned_there (under_row Distake)) ss)
@@ -404,28 +409,6 @@ module _ (theory : Theory) where
   kept_made v c g None e = let no : true ≡ false = e in absurd cc
   kept_made v c g (Some work) e = all_plans (filter (λ (p : OpenPlan). is_kept v c p.kind) work.plans)
 
-  all_keeping : (v : Sought) (ps : List PlacedPlan) → AllMade ps → AllMade (filter (keeps v) ps)
-  all_keeping v [] a = tt
-  all_keeping v (made p ∷ ps) a = all_keeping v ps a
-  all_keeping v (awaited g steps ∷ ps) a = absurd a
-
-  all_where : (step : Step) (v : Sought) (ps : List PlacedPlan) → AllMade ps → AllMade (where_sought step v ps)
-  all_where step v ps a = by_test (seeks_some (sought_below step v))
-    where
-      by_test : (b : Bool) → AllMade (if b then filter (keeps (sought_below step v)) ps else [])
-      by_test true = all_keeping (sought_below step v) ps a
-      by_test false = tt
-
-  all_staying : (o : Binary) (v : Sought) (ps : List PlacedPlan) → AllMade ps → AllMade (staying o v ps)
-  all_staying choosing v ps a = a
-  all_staying (beside gates) v ps a = all_where (by_itself gates) v ps a
-  all_staying disabling v ps a = a
-
-  all_meeting : (o : Binary) (v : Sought) (ps : List PlacedPlan) → AllMade ps → AllMade (meeting o v ps)
-  all_meeting choosing v ps a = a
-  all_meeting (beside gates) v ps a = all_where (with_another gates) v ps a
-  all_meeting disabling v ps a = a
-
   all_kept_made : (t : Shape) (v : Sought) (c : Joins) → some_waits t ≡ false → AllMade (kept_plans theory Pruned t v c)
   all_kept_made (leaf n) v c e = kept_made v c n.generation n.work e
   all_kept_made ended v c e = tt
@@ -435,9 +418,7 @@ module _ (theory : Theory) where
       let n = or_parts (some_waits x) (some_waits y) e in
       let ps = kept_plans theory Pruned x v c in
       let above = right_of (prunes Pruned) o (offering o v ps) c in
-      let made_left = all_kept_made x v c n.0 in
-      all_kept_between theory o (staying o v ps) (meeting o v ps) (kept_plans theory Pruned y v above) (all_staying o v ps made_left)
-      (all_meeting o v ps made_left) (all_kept_made y v above n.1)
+      all_kept_between theory o v ps (kept_plans theory Pruned y v above) (all_kept_made x v c n.0) (all_kept_made y v above n.1)
 
   pub pruned_is_kept : (t : Shape) → some_waits t ≡ false → kept_plans theory Pruned t every_kind free ≡ placed_plans theory t
   pruned_is_kept t e =

@@ -241,7 +241,7 @@ module _ (theory : Theory) (v : Sought) (gates : Synchronised) (x y : Shape) whe
       ∙ ap (λ z. (z ++ sift v right) ++ sift v both) (alone_sifted gates Parl v ps)
       ∙ ap (λ z. (fill (λ p. map element (plans_alone gates Parl p)) (sift (sought_below (by_itself gates) v) ps) ++ z) ++ sift v both)
       (alone_sifted gates Parr v qs)
-      ∙ ap (λ z. filled_alones ++ z) (both_sifted theory gates v ps qs)
+      ∙ ap (λ z. filled_alones ++ z) (both_sifted theory gates v (λ p. qs) ps)
 
   module _ (alone : Bool) (gens before : List Gen) (first : StandFirst alone gens (gaps_of before ++ alones)) where
     filled_first : StandFirst alone gens (gaps_of before ++ filled_alones)

@@ -1,5 +1,5 @@
 -- Where no node waits, there is no gap among the plans of a tree.
-use Rattle.std.proofs.Common.{ℕ, ◌≡◌, ◌++◌, List, [], ◌∷◌, map, flat_map, refl, ap, Bool, true, false, if◌then◌else◌, Option, Some, None}
+use Rattle.std.proofs.Common.{ℕ, ◌≡◌, ◌++◌, List, [], ◌∷◌, map, filter, flat_map, refl, ap, Bool, true, false, if◌then◌else◌, Option, Some, None}
 use Rattle.std.proofs.lemmas.Bool.{or_parts}
 use Rattle.spec_core.specs.Theories.{Theory}
 use Rattle.spec_core.specs.Code.{Synchronised}
@@ -7,12 +7,12 @@ use Rattle.symbolic_composites.specs.Kinds.{is_joint}
 use Rattle.symbolic_plans.specs.declared.scheme.Row.{Row}
 use Rattle.symbolic_plans.specs.declared.scheme.Row.TheVariants.{Chl, Chr, Parl, Parr, Distake}
 use Rattle.symbolic_plans.specs.OpenPlans.{OpenPlan, under_row, plans_alone, plans_joint, plan_by_disabling}
-use Rattle.candidate_laws.specs.Sought.{Step, by_itself, with_another, as_another}
+use Rattle.candidate_laws.specs.Sought.{Sought, Step, seeks_some, sought_below, by_itself, with_another, as_another}
 use Rattle.node_trees.specs.Rests.{Work}
 use Rattle.node_trees.specs.Shapes.{Shape, leaf, ended, over, between, Unary, Binary, choosing, beside, disabling}
 use Rattle.candidate_composites.specs.Known.{PlacedPlan, made, awaited, stepped, turned_there, placed_over_one, placed_alone}
 use Rattle.candidate_composites.specs.Known.{placed_at, placed_partners, placed_over_two, placed_plans, plans_in, expanded_plans}
-use Rattle.candidate_composites.specs.Kept.{kept_over_two, node_waits, some_waits}
+use Rattle.candidate_composites.specs.Kept.{keeps, kept_over_two, kept_partners, meeting, node_waits, some_waits, staying, where_sought}
 
 -- none of these is a gap
 abbrev pub AllMade : List PlacedPlan → Type 0
@@ -65,24 +65,46 @@ module _ (theory : Theory) where
           all_stepped (as_another p.kind) (λ q. map made (plans_joint theory gates p q)) (λ q. all_plans (plans_joint theory gates p q)) qs a
       by_test false = tt
 
-  pub all_kept_between : (o : Binary) (ps ms qs : List PlacedPlan) → AllMade ps → AllMade ms → AllMade qs →
-      AllMade (kept_over_two theory o ps ms qs)
-  all_kept_between choosing ps ms qs a m b =
+  all_between : (o : Binary) (ps qs : List PlacedPlan) → AllMade ps → AllMade qs → AllMade (placed_over_two theory o ps qs)
+  all_between choosing ps qs a b =
       join (map (turned_there (under_row Chl)) ps) (map (turned_there (under_row Chr)) qs) (all_turned (under_row Chl) ps a)
       (all_turned (under_row Chr) qs b)
-  all_kept_between (beside gates) ps ms qs a m b =
-      let together = flat_map (stepped (with_another gates) (placed_partners theory gates qs)) ms in
+  all_between (beside gates) ps qs a b =
+      let together = flat_map (stepped (with_another gates) (placed_partners theory gates qs)) ps in
       join (placed_alone gates Parl ps) (placed_alone gates Parr qs ++ together) (all_alone gates Parl ps a)
       (join (placed_alone gates Parr qs) together (all_alone gates Parr qs b)
-      (all_stepped (with_another gates) (placed_partners theory gates qs) (all_partners gates qs b) ms m))
-  all_kept_between disabling ps ms qs a m b =
+      (all_stepped (with_another gates) (placed_partners theory gates qs) (all_partners gates qs b) ps a))
+  all_between disabling ps qs a b =
       join (map (turned_there plan_by_disabling) ps) (map (turned_there (under_row Distake)) qs) (all_turned plan_by_disabling ps a)
       (all_turned (under_row Distake) qs b)
 
-  all_between : (o : Binary) (ps qs : List PlacedPlan) → AllMade ps → AllMade qs → AllMade (placed_over_two theory o ps qs)
-  all_between choosing ps qs a b = all_kept_between choosing ps ps qs a a b
-  all_between (beside gates) ps qs a b = all_kept_between (beside gates) ps ps qs a a b
-  all_between disabling ps qs a b = all_kept_between disabling ps ps qs a a b
+  -- the same of those that are kept
+
+  all_keeping : (v : Sought) (ps : List PlacedPlan) → AllMade ps → AllMade (filter (keeps v) ps)
+  all_keeping v [] a = tt
+  all_keeping v (made p ∷ ps) a = all_keeping v ps a
+  all_keeping v (awaited g steps ∷ ps) a = absurd a
+
+  all_where : (step : Step) (v : Sought) (ps : List PlacedPlan) → AllMade ps → AllMade (where_sought step v ps)
+  all_where step v ps a = by_test (seeks_some (sought_below step v))
+    where
+      by_test : (b : Bool) → AllMade (if b then filter (keeps (sought_below step v)) ps else [])
+      by_test true = all_keeping (sought_below step v) ps a
+      by_test false = tt
+
+  pub all_kept_between : (o : Binary) (v : Sought) (ps qs : List PlacedPlan) → AllMade ps → AllMade qs →
+      AllMade (kept_over_two theory o v ps qs)
+  all_kept_between choosing v ps qs a b = all_between choosing ps qs a b
+  all_kept_between (beside gates) v ps qs a b =
+      let lefts = placed_alone gates Parl (staying gates v ps) in
+      let rights = placed_alone gates Parr qs in
+      let together = flat_map (stepped (with_another gates) (kept_partners theory gates v qs)) (meeting gates v ps) in
+      join lefts (rights ++ together) (all_alone gates Parl (staying gates v ps) (all_where (by_itself gates) v ps a))
+      (join rights together (all_alone gates Parr qs b)
+      (all_stepped (with_another gates) (kept_partners theory gates v qs)
+      (λ p. all_partners gates (filter (keeps (sought_below (as_another p.kind) v)) qs) (all_keeping (sought_below (as_another p.kind) v) qs b) p)
+      (meeting gates v ps) (all_where (with_another gates) v ps a)))
+  all_kept_between disabling v ps qs a b = all_between disabling ps qs a b
 
   pub all_made : (t : Shape) → some_waits t ≡ false → AllMade (placed_plans theory t)
   all_made (leaf n) e = at_node n.generation n.work e

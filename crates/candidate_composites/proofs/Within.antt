@@ -82,15 +82,16 @@ keeping_sifted v u h (awaited g steps ∷ ps) = by_test (seeks_some (sought_at s
         ∙ ap (λ (b : Bool). (if b then gap g ∷ [] else []) ++ sift v ps)
         (sym (none_either (sought_at steps v) (sought_at steps u) (within_at steps v u h) e))
 
+pub kept_sifted : (step : Step) (v u : Sought) → IsWithin v u → (ps : List PlacedPlan) →
+    sift (sought_below step v) (filter (keeps (sought_below step u)) ps) ≡ sift (sought_below step v) ps
+kept_sifted step v u h ps = keeping_sifted (sought_below step v) (sought_below step u) (within_below step v u h) ps
+
 pub where_sifted : (step : Step) (v u : Sought) → IsWithin v u → (ps : List PlacedPlan) →
     sift (sought_below step v) (where_sought step u ps) ≡ sift (sought_below step v) ps
 where_sifted step v u h ps = by_test (seeks_some (sought_below step u)) refl
   where
-    within : IsWithin (sought_below step v) (sought_below step u)
-    within = within_below step v u h
-
     by_test : (b : Bool) → seeks_some (sought_below step u) ≡ b →
         sift (sought_below step v) (if b then filter (keeps (sought_below step u)) ps else []) ≡ sift (sought_below step v) ps
-    by_test true e = keeping_sifted (sought_below step v) (sought_below step u) within ps
+    by_test true e = kept_sifted step v u h ps
     by_test false e =
-        sym (nothing_sought (sought_below step v) (none_either (sought_below step v) (sought_below step u) within e) ps)
+        sym (nothing_sought (sought_below step v) (none_either (sought_below step v) (sought_below step u) (within_below step v u h) e) ps)

@@ -5,17 +5,17 @@ ghost use Rattle.spec_core.specs.Code.{synchronised_of};
 ghost use Rattle.spec_core.specs.Theories.{theory_of};
 ghost use Rattle.symbolic_plans.specs.OpenPlans.{open_plan_of};
 ghost use Rattle.symbolic_plans.specs.declared.scheme.Row.TheVariants.{Parl};
-ghost use Rattle.candidate_laws.specs.Sought.{by_itself, with_another};
+ghost use Rattle.candidate_laws.specs.Sought.{with_another};
 ghost use Rattle.node_trees.specs.Shapes as nodes;
 ghost use Rattle.node_trees.specs.Shapes.{between, shape_of, held_of};
-ghost use Rattle.candidate_composites.specs.Known.{made, found_of, placed_of, placed_partners, sought_in, plans_sought, stepped};
+ghost use Rattle.candidate_composites.specs.Known.{made, found_of, placed_of, sought_in, plans_sought, stepped};
 ghost use Rattle.candidate_composites.specs.Known.{expanded_plans, has_made, sought_plans};
 ghost use Rattle.candidate_composites.specs.Contexts as contexts;
 ghost use Rattle.candidate_composites.specs.Contexts.{all_through, alone_by, turns_of};
 ghost use Rattle.candidate_composites.specs.Joining.{free, joining_of};
 ghost use Rattle.candidate_composites.specs.Kept as kept;
-ghost use Rattle.candidate_composites.specs.Kept.{is_kept, kept_at, kept_over_two, kept_plans, listed_for, node_waits, some_waits};
-ghost use Rattle.candidate_composites.specs.Kept.{where_sought};
+ghost use Rattle.candidate_composites.specs.Kept.{is_kept, kept_at, kept_beside, kept_partners, kept_plans, listed_for, meeting};
+ghost use Rattle.candidate_composites.specs.Kept.{node_waits, some_waits, staying};
 
 use crate::context::{Context, Turn, put_all_through, put_through};
 use crate::found::{Found, Given, composites, parts};
@@ -142,7 +142,7 @@ fn some_meets(
     left: &[Found<'_>],
 ) -> Result<bool, Memory>
     ensures { IfOk result (λ some. some ≡ contexts.some_joint (synchronised_of gates.now)
-        (where_sought (with_another (synchronised_of gates.now)) (sought_in sought.now) (map found_of left.now))) }
+        (meeting (synchronised_of gates.now) (sought_in sought.now) (map found_of left.now))) }
 {
     if left.is_empty() {
         return Ok(false);
@@ -186,7 +186,7 @@ fn put_left<'a>(
 ) -> Result<(), Memory>
     ensures { IfOk result (λ _. map found_of all.new.items ≡ map found_of all.old.items ++
         all_through (alone_by (synchronised_of gates.now) Parl ∷ turns_of context.now)
-        (where_sought (by_itself (synchronised_of gates.now)) (sought_in sought.now) (map found_of left.entry.items))) }
+        (staying (synchronised_of gates.now) (sought_in sought.now) (map found_of left.entry.items))) }
 {
     if left.is_empty() {
         return Ok(());
@@ -210,12 +210,12 @@ fn kept_together<'a>(
     right: &[Found<'a>],
 ) -> Result<Vec<Found<'a>>, Memory>
     ensures { IfOk result (λ all. map found_of all.items ≡ flat_map (stepped (with_another (synchronised_of gates.now))
-        (placed_partners (theory_of algebra.now) (synchronised_of gates.now) (map found_of right.now)))
-        (where_sought (with_another (synchronised_of gates.now)) (sought_in sought.now) (map found_of left.now))) }
+        (kept_partners (theory_of algebra.now) (synchronised_of gates.now) (sought_in sought.now) (map found_of right.now)))
+        (meeting (synchronised_of gates.now) (sought_in sought.now) (map found_of left.now))) }
 {
     let below = sought_below(alloc, &Step::Together(gates), sought)?;
     if below.seeks_some() {
-        all_together(alloc, algebra, gates, &below, left, right)
+        all_together(alloc, algebra, gates, sought, &below, left, right)
     } else {
         Ok(Vec::new(alloc))
     }
@@ -235,9 +235,9 @@ fn put_beside<'a>(
     all: &mut Vec<Found<'a>>,
 ) -> Result<(), Memory>
     ensures { IfOk result (λ _. map found_of all.new.items ≡ map found_of all.old.items ++ all_through (turns_of context.now)
-        (kept_over_two (theory_of algebra.now) (nodes.beside (synchronised_of gates.now))
-        (where_sought (by_itself (synchronised_of gates.now)) (sought_in sought.now) (map found_of left.entry.items))
-        (where_sought (with_another (synchronised_of gates.now)) (sought_in sought.now) (map found_of left.entry.items))
+        (kept_beside (theory_of algebra.now) (synchronised_of gates.now) (sought_in sought.now)
+        (staying (synchronised_of gates.now) (sought_in sought.now) (map found_of left.entry.items))
+        (meeting (synchronised_of gates.now) (sought_in sought.now) (map found_of left.entry.items))
         (map found_of right.entry.items))) }
 {
     let together = kept_together(alloc, algebra, gates, sought, &left, &right)?;

@@ -6,14 +6,15 @@ ghost use Rattle.spec_core.specs.Theories.{theory_of};
 ghost use Rattle.symbolic_plans.specs.OpenPlans.{open_plan_of, plans_joint};
 ghost use Rattle.symbolic_composites.specs.Composites.{from_option};
 ghost use Rattle.node_trees.specs.Shapes.{unary_of};
-ghost use Rattle.candidate_laws.specs.Sought.{with_another, as_another};
+ghost use Rattle.candidate_laws.specs.Sought.{with_another, as_another, sought_below};
 ghost use Rattle.candidate_composites.specs.Known.{made, awaited, step_of, found_of, own_or_made, over_one, stepped, under_run};
-ghost use Rattle.candidate_composites.specs.Known.{placed_partners, sought_in};
+ghost use Rattle.candidate_composites.specs.Known.{sought_in};
 ghost use Rattle.candidate_composites.specs.Contexts as contexts;
 ghost use Rattle.candidate_composites.specs.Kept as kept;
+ghost use Rattle.candidate_composites.specs.Kept.{kept_partners};
 
 use crate::found::{Found, Given, copied_below};
-use crate::sought::{Sought, seeks_some_at};
+use crate::sought::{Sought, seeks_some_at, sought_below};
 use crate::step::Step;
 use node_trees::branch::Single;
 use node_trees::origin::Gen;
@@ -133,11 +134,13 @@ fn joint_given(
     }
 }
 
-// Appends what a composite of the left side makes together with a part of the right side.
+// Appends what a composite of the left side makes together with a part of the right side, but for a gap of which nothing comes beside it
+// that is sought.
 fn put_partner<'a>(
     alloc: Global,
     algebra: &DataSpec,
     gates: &GateSet,
+    sought: &Sought,
     left: &OpenComposite,
     part: &Found<'a>,
     all: &mut Vec<Found<'a>>,
@@ -145,13 +148,19 @@ fn put_partner<'a>(
     ensures { IfOk result (λ _.
         map found_of all.new.items ≡
         map found_of all.old.items ++
-        stepped (as_another (open_plan_of left.now).kind)
-        (λ p. map made (plans_joint (theory_of algebra.now) (synchronised_of gates.now) (open_plan_of left.now) p))
-        (found_of part.now)) }
+        flat_map (stepped (as_another (open_plan_of left.now).kind)
+        (λ p. map made (plans_joint (theory_of algebra.now) (synchronised_of gates.now) (open_plan_of left.now) p)))
+        (filter (kept.keeps (sought_below (as_another (open_plan_of left.now).kind) (sought_in sought.now))) (found_of part.now ∷ []))) }
 {
     match part {
         Found::Gap(generation, steps) => {
-            put_gap(alloc, *generation, steps, Step::Beside(left.kind), all)
+            let step = Step::Beside(left.kind);
+            let below = sought_below(alloc, &step, sought)?;
+            if seeks_some_at(alloc, steps, &below)? {
+                put_gap(alloc, *generation, steps, step, all)
+            } else {
+                Ok(())
+            }
         }
         Found::Composite(right) => {
             put_composite(joint_given(alloc, algebra, gates, left, right)?, all)
@@ -164,6 +173,7 @@ fn put_each_partner<'a>(
     alloc: Global,
     algebra: &DataSpec,
     gates: &GateSet,
+    sought: &Sought,
     left: &OpenComposite,
     right: &[Found<'a>],
     all: &mut Vec<Found<'a>>,
@@ -173,10 +183,10 @@ fn put_each_partner<'a>(
         map found_of all.old.items ++
         flat_map (stepped (as_another (open_plan_of left.now).kind)
         (λ p. map made (plans_joint (theory_of algebra.now) (synchronised_of gates.now) (open_plan_of left.now) p)))
-        (map found_of right.now)) }
+        (filter (kept.keeps (sought_below (as_another (open_plan_of left.now).kind) (sought_in sought.now))) (map found_of right.now))) }
 {
     for part in right {
-        put_partner(alloc, algebra, gates, left, part, all)?;
+        put_partner(alloc, algebra, gates, sought, left, part, all)?;
     }
     Ok(())
 }
@@ -186,6 +196,7 @@ fn put_partners<'a>(
     alloc: Global,
     algebra: &DataSpec,
     gates: &GateSet,
+    sought: &Sought,
     left: &OpenComposite,
     right: &[Found<'a>],
     all: &mut Vec<Found<'a>>,
@@ -193,10 +204,11 @@ fn put_partners<'a>(
     ensures { IfOk result (λ _.
         map found_of all.new.items ≡
         map found_of all.old.items ++
-        placed_partners (theory_of algebra.now) (synchronised_of gates.now) (map found_of right.now) (open_plan_of left.now)) }
+        kept_partners (theory_of algebra.now) (synchronised_of gates.now) (sought_in sought.now) (map found_of right.now)
+        (open_plan_of left.now)) }
 {
     if is_joint(gates, left.kind) {
-        put_each_partner(alloc, algebra, gates, left, right, all)
+        put_each_partner(alloc, algebra, gates, sought, left, right, all)
     } else {
         Ok(())
     }
@@ -207,6 +219,7 @@ fn put_partners_beneath<'a>(
     alloc: Global,
     algebra: &DataSpec,
     gates: &GateSet,
+    sought: &Sought,
     row: &Row,
     more: u32,
     left: &OpenComposite,
@@ -216,12 +229,12 @@ fn put_partners_beneath<'a>(
     ensures { IfOk result (λ _.
         map found_of all.new.items ≡
         map found_of all.old.items ++
-        placed_partners (theory_of algebra.now) (synchronised_of gates.now) (map found_of right.now)
+        kept_partners (theory_of algebra.now) (synchronised_of gates.now) (sought_in sought.now) (map found_of right.now)
         (under_run row.now more (open_plan_of left.now))) }
 {
     if is_joint(gates, left.kind) {
         let left = copied_below(alloc, row, more, left)?;
-        put_each_partner(alloc, algebra, gates, &left, right, all)
+        put_each_partner(alloc, algebra, gates, sought, &left, right, all)
     } else {
         Ok(())
     }
@@ -232,6 +245,7 @@ fn put_partners_given<'a>(
     alloc: Global,
     algebra: &DataSpec,
     gates: &GateSet,
+    sought: &Sought,
     left: &Given<'_>,
     right: &[Found<'a>],
     all: &mut Vec<Found<'a>>,
@@ -239,14 +253,15 @@ fn put_partners_given<'a>(
     ensures { IfOk result (λ _.
         map found_of all.new.items ≡
         map found_of all.old.items ++
-        placed_partners (theory_of algebra.now) (synchronised_of gates.now) (map found_of right.now) (own_or_made left.now)) }
+        kept_partners (theory_of algebra.now) (synchronised_of gates.now) (sought_in sought.now) (map found_of right.now)
+        (own_or_made left.now)) }
 {
     match left {
-        Given::Own(left) => put_partners(alloc, algebra, gates, left, right, all),
+        Given::Own(left) => put_partners(alloc, algebra, gates, sought, left, right, all),
         Given::Beneath(row, more, left) => {
-            put_partners_beneath(alloc, algebra, gates, row, *more, left, right, all)
+            put_partners_beneath(alloc, algebra, gates, sought, row, *more, left, right, all)
         }
-        Given::Made(left) => put_partners(alloc, algebra, gates, left, right, all),
+        Given::Made(left) => put_partners(alloc, algebra, gates, sought, left, right, all),
     }
 }
 
@@ -255,6 +270,7 @@ fn put_together<'a>(
     alloc: Global,
     algebra: &DataSpec,
     gates: &'a GateSet,
+    sought: &Sought,
     part: &Found<'a>,
     right: &[Found<'a>],
     all: &mut Vec<Found<'a>>,
@@ -263,13 +279,16 @@ fn put_together<'a>(
         map found_of all.new.items ≡
         map found_of all.old.items ++
         stepped (with_another (synchronised_of gates.now))
-        (placed_partners (theory_of algebra.now) (synchronised_of gates.now) (map found_of right.now)) (found_of part.now)) }
+        (kept_partners (theory_of algebra.now) (synchronised_of gates.now) (sought_in sought.now) (map found_of right.now))
+        (found_of part.now)) }
 {
     match part {
         Found::Gap(generation, steps) => {
             put_gap(alloc, *generation, steps, Step::Together(gates), all)
         }
-        Found::Composite(left) => put_partners_given(alloc, algebra, gates, left, right, all),
+        Found::Composite(left) => {
+            put_partners_given(alloc, algebra, gates, sought, left, right, all)
+        }
     }
 }
 
@@ -283,25 +302,27 @@ pub fn keeps(alloc: Global, sought: &Sought, found: &Found<'_>) -> Result<bool, 
     }
 }
 
-/// What both sides of a parallel composition do together, without the gaps of its left side of which nothing comes that is sought.
+/// What both sides of a parallel composition do together, of which this is sought, and this below the step of its left side: without the gaps
+/// of which nothing comes that is sought.
 pub fn all_together<'a>(
     alloc: Global,
     algebra: &DataSpec,
     gates: &'a GateSet,
     sought: &Sought,
+    below: &Sought,
     left: &[Found<'a>],
     right: &[Found<'a>],
 ) -> Result<Vec<Found<'a>>, Memory>
     ensures { IfOk result (λ all.
         map found_of all.items ≡
         flat_map (stepped (with_another (synchronised_of gates.now))
-        (placed_partners (theory_of algebra.now) (synchronised_of gates.now) (map found_of right.now)))
-        (filter (kept.keeps (sought_in sought.now)) (map found_of left.now))) }
+        (kept_partners (theory_of algebra.now) (synchronised_of gates.now) (sought_in sought.now) (map found_of right.now)))
+        (filter (kept.keeps (sought_in below.now)) (map found_of left.now))) }
 {
     let mut all = Vec::new(alloc);
     for part in left {
-        if keeps(alloc, sought, part)? {
-            put_together(alloc, algebra, gates, part, right, &mut all)?;
+        if keeps(alloc, below, part)? {
+            put_together(alloc, algebra, gates, sought, part, right, &mut all)?;
         }
     }
     Ok(all)

@@ -7,7 +7,7 @@ use Rattle.node_trees.specs.Shapes.{shape_of, unary_of, over, between, choosing,
 use Rattle.candidate_composites.specs.Known.{found_of, sought_in}
 use Rattle.candidate_composites.specs.Contexts.{over_by, all_through, alone_by, some_joint, turns_of}
 use Rattle.candidate_composites.specs.Joining.{joining_of, right_of, free}
-use Rattle.candidate_composites.specs.Kept.{kept_over_two, kept_plans, meeting, offering, prunes, staying}
+use Rattle.candidate_composites.specs.Kept.{kept_beside, kept_plans, meeting, offering, prunes, staying}
 use Rattle.symbolic_plans.specs.declared.scheme.Row.TheVariants.{Parl}
 use Rattle.candidate_composites.proofs.Contexts.{all_offered, rises_over, rises_whole, chosen, interrupted, sides_alone}
 use Rattle.candidate_composites.proofs.known.+put_kept.Goals as goal
@@ -96,10 +96,10 @@ put_parallel-returns-in_ok-put_kept-2 t c =
     let those = map found_of c.put_kept-then-meets.new.all.items in
     let first : map found_of c.put_kept.new.all.items ≡ ps =
     c.in_ok-put_kept.ensures ∙ ap (λ l. map found_of l ++ all_through [] ps) c.new-first.ensures.items ∙ rises_whole ps in
-    let some : some_joint gates (meeting (beside gates) v ps) ≡ true =
+    let some : some_joint gates (meeting gates v ps) ≡ true =
     sym (c.in_ok-meets.ensures
-    ∙ ap (λ l. some_joint gates (meeting (beside gates) v (map found_of l))) c.deref.ensures.value
-    ∙ ap (λ l. some_joint gates (meeting (beside gates) v l)) first)
+    ∙ ap (λ l. some_joint gates (meeting gates v (map found_of l))) c.deref.ensures.value
+    ∙ ap (λ l. some_joint gates (meeting gates v l)) first)
     ∙ c.if-meets.true in
     let joins : joining_of c.right_of-above.result ≡ above =
     c.right_of-above.ensures
@@ -112,8 +112,8 @@ put_parallel-returns-in_ok-put_kept-2 t c =
     ∙ ap (kept_plans theory c.args.listed (shape_of c.args.right.now) v) joins in
     IfOk-weaker c.put_beside.result _ _
     (λ _ e. e
-    ∙ ap (λ l. a ++ all_through ts (kept_over_two theory (beside gates) (staying (beside gates) v l) (meeting (beside gates) v l) those)) first
-    ∙ ap (λ l. a ++ all_through ts (kept_over_two theory (beside gates) (staying (beside gates) v ps) (meeting (beside gates) v ps) l)) second)
+    ∙ ap (λ l. a ++ all_through ts (kept_beside theory gates v (staying gates v l) (meeting gates v l) those)) first
+    ∙ ap (λ l. a ++ all_through ts (kept_beside theory gates v (staying gates v ps) (meeting gates v ps) l)) second)
     c.put_beside.ensures
 
 pub put_parallel-returns-in_ok-put_left : goal.put_parallel-returns-in_ok-put_left
@@ -130,15 +130,15 @@ put_parallel-returns-in_ok-put_left t c =
     let ps = kept_plans theory c.args.listed x v j in
     let first : map found_of c.put_kept.new.all.items ≡ ps =
     c.in_ok-put_kept.ensures ∙ ap (λ l. map found_of l ++ all_through [] ps) c.new-first.ensures.items ∙ rises_whole ps in
-    let none : some_joint gates (meeting (beside gates) v ps) ≡ false =
+    let none : some_joint gates (meeting gates v ps) ≡ false =
     sym (c.in_ok-meets.ensures
-    ∙ ap (λ l. some_joint gates (meeting (beside gates) v (map found_of l))) c.deref.ensures.value
-    ∙ ap (λ l. some_joint gates (meeting (beside gates) v l)) first)
+    ∙ ap (λ l. some_joint gates (meeting gates v (map found_of l))) c.deref.ensures.value
+    ∙ ap (λ l. some_joint gates (meeting gates v l)) first)
     ∙ c.if-meets.false in
     let us = alone_by gates Parl ∷ ts in
     let vs = turns_of c.under-at_right.result in
-    let left : b ≡ a ++ all_through us (staying (beside gates) v ps) =
-    c.in_ok-put_left.ensures ∙ ap (λ l. a ++ all_through us (staying (beside gates) v l)) first in
+    let left : b ≡ a ++ all_through us (staying gates v ps) =
+    c.in_ok-put_left.ensures ∙ ap (λ l. a ++ all_through us (staying gates v l)) first in
     let joins : joining_of c.right_of-above-else-meets.result ≡ right_of (prunes c.args.listed) (beside gates) [] j =
     c.right_of-above-else-meets.ensures in
     IfOk-weaker c.put_kept-else-meets.result _ _
