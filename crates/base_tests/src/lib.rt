@@ -1,4 +1,4 @@
-// Tests of the base: names and data, evaluation, windows, and what lies outside the program.
+//! Tests of the base: names and data, evaluation, windows, and what lies outside the program.
 #![tactic(auto)]
 
 #[cfg(test)]

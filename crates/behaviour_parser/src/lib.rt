@@ -1,4 +1,4 @@
-// The parser of behaviours, processes and whole specifications.
+//! The parser of behaviours, processes and whole specifications.
 #![tactic(auto, using(syntax_cursor::proofs::Steps::steps))]
 
 mod accepts;

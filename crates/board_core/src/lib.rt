@@ -1,4 +1,4 @@
-// The board of a session: what happened, what is known of the nodes of the behaviour that is reached, and which jobs are out.
+//! The board of a session: what happened, what is known of the nodes of the behaviour that is reached, and which jobs are out.
 #![tactic(auto)]
 
 mod appending;

@@ -1,4 +1,4 @@
-// What comes next in a session, by its rules; what it still needs; and why it stops.
+//! What comes next in a session, by its rules; what it still needs; and why it stops.
 #![tactic(auto)]
 
 pub mod drawing;

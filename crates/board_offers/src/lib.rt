@@ -1,4 +1,4 @@
-// The pending offers of a session, as its rules ask for them, by their numbers.
+//! The pending offers of a session, as its rules ask for them, by their numbers.
 #![tactic(auto)]
 
 pub mod laws;

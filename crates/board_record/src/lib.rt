@@ -1,4 +1,4 @@
-// The record of a session: its log, the state that the log leads to, and the tree of its behaviour, which change together.
+//! The record of a session: its log, the state that the log leads to, and the tree of its behaviour, which change together.
 #![tactic(auto)]
 
 mod answered;

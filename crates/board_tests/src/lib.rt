@@ -1,5 +1,5 @@
-// Tests of what no command shows of the board of a session: jobs that are handed out, work that comes late, refusals, two clients at once,
-// actions that are made ready, and the index of its tree. Worked out by hand from the rules of sessions.
+//! Tests of what no command shows of the board of a session: jobs that are handed out, work that comes late, refusals, two clients at once,
+//! actions that are made ready, and the index of its tree. Worked out by hand from the rules of sessions.
 #![tactic(auto)]
 
 #[cfg(test)]

@@ -1,4 +1,4 @@
-// The behaviour that a board has reached, as a tree of nodes with generations.
+//! The behaviour that a board has reached, as a tree of nodes with generations.
 #![tactic(auto)]
 
 mod advance;

@@ -1,4 +1,4 @@
-// Jobs of a board: done without it, and what comes of them handed in.
+//! Jobs of a board: done without it, and what comes of them handed in.
 #![tactic(auto)]
 
 pub mod handing_in;

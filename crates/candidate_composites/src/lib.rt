@@ -1,4 +1,4 @@
-// The composites of a tree of nodes, as far as its nodes are expanded.
+//! The composites of a tree of nodes, as far as its nodes are expanded.
 #![tactic(auto)]
 
 mod context;

@@ -1,4 +1,4 @@
-// How many possible agreements a tree of nodes has, up to a limit.
+//! How many possible agreements a tree of nodes has, up to a limit.
 #![tactic(auto)]
 
 pub mod counting;

@@ -1,4 +1,4 @@
-// The trees that a session looks for, their lists over nodes of which not all are expanded, and what is decided from what is known.
+//! The trees that a session looks for, their lists over nodes of which not all are expanded, and what is decided from what is known.
 #![tactic(auto)]
 
 pub mod list_laws;

@@ -1,4 +1,4 @@
-// The trees of a composite that a query may ask for.
+//! The trees of a composite that a query may ask for.
 #![tactic(auto)]
 
 pub mod laws;

@@ -1,4 +1,4 @@
-// Tests of searches among the trees of composites, whose finds were worked out by hand.
+//! Tests of searches among the trees of composites, whose finds were worked out by hand.
 #![tactic(auto)]
 
 #[cfg(test)]

@@ -1,4 +1,4 @@
-// What is known of trees of rules over a tree of nodes, and whether queries ask for them.
+//! What is known of trees of rules over a tree of nodes, and whether queries ask for them.
 #![tactic(auto)]
 
 pub mod asked;

@@ -1,4 +1,4 @@
-// The agreements that a session may commit, from what is known of its tree.
+//! The agreements that a session may commit, from what is known of its tree.
 #![tactic(auto)]
 
 mod composites;

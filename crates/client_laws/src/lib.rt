@@ -1,4 +1,4 @@
-// Sessions of one client, or of none: definitions, and what follows from them.
+//! Sessions of one client, or of none: definitions, and what follows from them.
 #![tactic(auto)]
 
 pub mod laws;

@@ -1,4 +1,4 @@
-// The session of one client, or of none, on a board without threads.
+//! The session of one client, or of none, on a board without threads.
 #![tactic(auto)]
 
 pub mod run;

@@ -1,4 +1,4 @@
-// Whether two texts are equal terms of a specification.
+//! Whether two texts are equal terms of a specification.
 #![tactic(auto)]
 
 mod answer;

@@ -1,4 +1,4 @@
-// The lines of an input that is read piece by piece.
+//! The lines of an input that is read piece by piece.
 #![tactic(auto)]
 
 mod ends;

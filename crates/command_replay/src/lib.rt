@@ -1,4 +1,4 @@
-// What comes of a text that is to be the trace of a derivation.
+//! What comes of a text that is to be the trace of a derivation.
 #![tactic(auto)]
 
 mod answer;

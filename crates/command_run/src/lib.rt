@@ -1,4 +1,4 @@
-// The session of a script over a specification.
+//! The session of a script over a specification.
 #![tactic(auto)]
 
 mod answer;

@@ -1,4 +1,4 @@
-// The session of a generated script over a generated specification, and the line that tells of it.
+//! The session of a generated script over a generated specification, and the line that tells of it.
 #![tactic(auto)]
 
 mod answer;

@@ -1,4 +1,4 @@
-// A simulation by hand: each line of an input is answered at once.
+//! A simulation by hand: each line of an input is answered at once.
 #![tactic(auto)]
 
 mod answering;

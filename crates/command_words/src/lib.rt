@@ -1,4 +1,4 @@
-// The words of a call: which command they name, and what they tell it.
+//! The words of a call: which command they name, and what they tell it.
 #![tactic(auto)]
 
 mod command;

@@ -1,4 +1,4 @@
-// Which operations are partial: whether each call over ground constructor terms is decided by a group of equations; and which sorts are open.
+//! Which operations are partial: whether each call over ground constructor terms is decided by a group of equations; and which sorts are open.
 #![tactic(auto)]
 
 mod cases;

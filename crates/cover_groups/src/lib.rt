@@ -1,4 +1,4 @@
-// Whether the equations of one left side decide each call that it matches.
+//! Whether the equations of one left side decide each call that it matches.
 #![tactic(auto)]
 
 mod constants;

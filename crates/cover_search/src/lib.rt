@@ -1,4 +1,4 @@
-// Which sorts have a value, and the search for a pattern that no row of patterns matches.
+//! Which sorts have a value, and the search for a pattern that no row of patterns matches.
 #![tactic(auto)]
 
 mod alternatives;

@@ -1,4 +1,4 @@
-// Whether the parts of data fit together.
+//! Whether the parts of data fit together.
 #![tactic(auto)]
 
 mod fits;

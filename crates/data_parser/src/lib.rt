@@ -1,4 +1,4 @@
-// The parser of data types and expressions.
+//! The parser of data types and expressions.
 #![tactic(auto, using(syntax_cursor::proofs::Steps::steps))]
 
 mod calls;

@@ -1,4 +1,4 @@
-// The next entry of a session by its rules, as far as what is known decides it.
+//! The next entry of a session by its rules, as far as what is known decides it.
 #![tactic(auto)]
 
 pub mod asking;

@@ -1,4 +1,4 @@
-// Whether equations are as orthogonal data have them.
+//! Whether equations are as orthogonal data have them.
 #![tactic(auto)]
 
 mod check;

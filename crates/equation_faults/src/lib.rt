@@ -1,4 +1,4 @@
-// What each equation must be by itself.
+//! What each equation must be by itself.
 #![tactic(auto)]
 
 pub mod fault;

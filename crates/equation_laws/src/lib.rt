@@ -1,4 +1,4 @@
-// Laws of what is refused of data.
+//! Laws of what is refused of data.
 #![tactic(auto)]
 
 pub mod laws;

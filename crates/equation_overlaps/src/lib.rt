@@ -1,4 +1,4 @@
-// Whether two equations of one operation are apart, and which constants their premises give to terms.
+//! Whether two equations of one operation are apart, and which constants their premises give to terms.
 #![tactic(auto)]
 
 pub mod apart;

@@ -1,4 +1,4 @@
-// Sets of small numbers, as of sorts or operations.
+//! Sets of small numbers, as of sorts or operations.
 #![tactic(auto)]
 
 pub mod numbers;

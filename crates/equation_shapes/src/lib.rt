@@ -1,4 +1,4 @@
-// What linear patterns match, and what two of them have in common.
+//! What linear patterns match, and what two of them have in common.
 #![tactic(auto)]
 
 pub mod laws;

@@ -1,4 +1,4 @@
-// What one node can take part in: its composites, down to the first actions.
+//! What one node can take part in: its composites, down to the first actions.
 #![tactic(auto, using(crate::proofs::Memory::memory))]
 
 pub mod expansion;

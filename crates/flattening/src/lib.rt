@@ -1,4 +1,4 @@
-// Types are flattened: what each of them has, and why a list of types is refused.
+//! Types are flattened: what each of them has, and why a list of types is refused.
 #![tactic(auto)]
 
 pub mod copies;

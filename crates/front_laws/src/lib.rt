@@ -1,4 +1,4 @@
-// Laws of accepted texts, and of the names in their types.
+//! Laws of accepted texts, and of the names in their types.
 #![tactic(auto)]
 
 pub mod accepted;

@@ -1,4 +1,4 @@
-// Tests of calls of the front end whose answers no command prints. What a command prints is shown by the cases of conformance/.
+//! Tests of calls of the front end whose answers no command prints. What a command prints is shown by the cases of conformance/.
 #![tactic(auto)]
 
 #[cfg(test)]

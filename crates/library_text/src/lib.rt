@@ -1,4 +1,4 @@
-// The texts of the library's types.
+//! The texts of the library's types.
 #![tactic(auto)]
 
 ghost use Rattle.std.specs.Prelude.{◌≡◌};

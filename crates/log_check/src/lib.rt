@@ -1,4 +1,4 @@
-// Whether a log is a derivation, and laws of logs that are, or end being one.
+//! Whether a log is a derivation, and laws of logs that are, or end being one.
 #![tactic(auto)]
 
 mod checking;

@@ -1,4 +1,4 @@
-// The state of a session: who is open, what is offered, and what was done; and which entries of a log are possible in it.
+//! The state of a session: who is open, what is offered, and what was done; and which entries of a log are possible in it.
 #![tactic(auto)]
 
 mod clients;

@@ -1,4 +1,4 @@
-// The program: it makes the real shelf and streams, and ends with the number of the status.
+//! The program: it makes the real shelf and streams, and ends with the number of the status.
 #![tactic(auto)]
 
 use lotos_outside::file_shelf::FileShelf;

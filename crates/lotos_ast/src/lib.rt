@@ -1,4 +1,4 @@
-// What the parts of the front end speak of: places, tokens, refusals and syntax trees of a text.
+//! What the parts of the front end speak of: places, tokens, refusals and syntax trees of a text.
 #![tactic(auto)]
 
 pub mod behaviour;

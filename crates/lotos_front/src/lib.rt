@@ -1,4 +1,4 @@
-// The front end as a whole: from a text to what can be run, or the first refusal.
+//! The front end as a whole: from a text to what can be run, or the first refusal.
 #![tactic(auto)]
 
 mod call;

@@ -1,4 +1,4 @@
-// The program's commands.
+//! The program's commands.
 #![tactic(auto)]
 
 mod answer;

@@ -1,4 +1,4 @@
-// The value of a ground term by a machine that remembers what it has evaluated.
+//! The value of a ground term by a machine that remembers what it has evaluated.
 #![tactic(auto)]
 
 mod engine;

@@ -1,4 +1,4 @@
-// The ways in which one node can act: what is done along a tree of rules with blanks, and what is left then.
+//! The ways in which one node can act: what is done along a tree of rules with blanks, and what is left then.
 #![tactic(auto, using(crate::proofs::Memory::memory))]
 
 mod choices;

@@ -1,4 +1,4 @@
-// What the tree of a board is made of: nodes with generations, operators over nodes, and trees of new nodes.
+//! What the tree of a board is made of: nodes with generations, operators over nodes, and trees of new nodes.
 #![tactic(auto)]
 
 pub mod blanks;

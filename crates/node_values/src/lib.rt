@@ -1,4 +1,4 @@
-// Values of expressions whose variables may have marks.
+//! Values of expressions whose variables may have marks.
 #![tactic(auto, using(crate::proofs::Stopping::memory))]
 
 pub mod fields;

@@ -1,4 +1,4 @@
-// What one node shows by a tree of rules, with values and marks.
+//! What one node shows by a tree of rules, with values and marks.
 #![tactic(auto, using(crate::proofs::Memory::memory))]
 
 mod choosing;

@@ -1,4 +1,4 @@
-// The composites of a tree, gate by gate, kept from look to look.
+//! The composites of a tree, gate by gate, kept from look to look.
 #![tactic(auto)]
 
 pub mod index;

@@ -1,4 +1,4 @@
-// The parser of what stands before the first behaviour inside another one.
+//! The parser of what stands before the first behaviour inside another one.
 #![tactic(auto, using(syntax_cursor::proofs::Steps::steps))]
 
 mod binding;

@@ -1,4 +1,4 @@
-// Whether each equation's sides are below its left side in the path order.
+//! Whether each equation's sides are below its left side in the path order.
 #![tactic(auto)]
 
 mod below;

@@ -1,4 +1,4 @@
-// The value of a ground term by a machine with stacks of its own, and whether two terms have one value.
+//! The value of a ground term by a machine with stacks of its own, and whether two terms have one value.
 #![tactic(auto)]
 
 pub mod call;

@@ -1,4 +1,4 @@
-// The behaviours and processes that stand at numbers of a checked specification's code.
+//! The behaviours and processes that stand at numbers of a checked specification's code.
 #![tactic(auto)]
 
 mod gates;

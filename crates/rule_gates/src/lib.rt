@@ -1,4 +1,4 @@
-// At which gates behaviours act.
+//! At which gates behaviours act.
 #![tactic(auto)]
 
 pub mod laws;

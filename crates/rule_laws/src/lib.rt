@@ -1,4 +1,4 @@
-// What follows from the inference rules, and from those of terms in the places of variables.
+//! What follows from the inference rules, and from those of terms in the places of variables.
 #![tactic(auto)]
 
 pub mod laws;

@@ -1,4 +1,4 @@
-// Behaviours, derivations, logs, and the inference rules as definitions; and what a client wishes to offer.
+//! Behaviours, derivations, logs, and the inference rules as definitions; and what a client wishes to offer.
 #![tactic(auto)]
 
 pub mod action;

@@ -1,4 +1,4 @@
-// The behaviours at the numbers of a specification's code, with values for their variables; and each kind of construct there, opened.
+//! The behaviours at the numbers of a specification's code, with values for their variables; and each kind of construct there, opened.
 #![tactic(auto)]
 
 pub mod code;

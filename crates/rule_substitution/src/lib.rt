@@ -1,4 +1,4 @@
-// Terms in the places of variables of behaviours, and gates in the places of gates.
+//! Terms in the places of variables of behaviours, and gates in the places of gates.
 #![tactic(auto)]
 
 mod behaviour;

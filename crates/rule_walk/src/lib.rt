@@ -1,4 +1,4 @@
-// The specification's behaviour, and the steps of behaviours by trees of inference rules.
+//! The specification's behaviour, and the steps of behaviours by trees of inference rules.
 #![tactic(auto, using(crate::proofs::Faults::memory))]
 
 mod fault;

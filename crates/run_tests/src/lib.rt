@@ -1,4 +1,4 @@
-// Tests of the whole call that no command can show: reads and writes that fail, and input in pieces, over objects in memory; and real files.
+//! Tests of the whole call that no command can show: reads and writes that fail, and input in pieces, over objects in memory; and real files.
 #![tactic(auto)]
 
 #[cfg(test)]

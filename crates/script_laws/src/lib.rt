@@ -1,4 +1,4 @@
-// What holds of the texts of terms.
+//! What holds of the texts of terms.
 #![tactic(auto)]
 
 pub mod laws;

@@ -1,4 +1,4 @@
-// What the clients of a script offer: what they wish, with the values of its terms.
+//! What the clients of a script offer: what they wish, with the values of its terms.
 #![tactic(auto)]
 
 mod clients;

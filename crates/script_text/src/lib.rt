@@ -1,4 +1,4 @@
-// Scripts and terms: what a text says in the names of a specification.
+//! Scripts and terms: what a text says in the names of a specification.
 #![tactic(auto)]
 
 pub mod fault;

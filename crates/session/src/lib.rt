@@ -1,4 +1,4 @@
-// The session of clients and workers in threads: one board behind a lock, round which they take turns.
+//! The session of clients and workers in threads: one board behind a lock, round which they take turns.
 #![tactic(auto)]
 
 pub mod calls;

@@ -1,4 +1,4 @@
-// The board of a session behind a lock, which clients and workers share: what each of them does in its turn.
+//! The board of a session behind a lock, which clients and workers share: what each of them does in its turn.
 #![tactic(auto)]
 
 mod answers;

@@ -1,4 +1,4 @@
-// Sessions of any number of clients: definitions, what follows from them, and what they tell their clients.
+//! Sessions of any number of clients: definitions, what follows from them, and what they tell their clients.
 #![tactic(auto)]
 
 pub mod answers;

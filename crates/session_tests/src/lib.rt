@@ -1,4 +1,4 @@
-// Tests of what no command shows of sessions in threads.
+//! Tests of what no command shows of sessions in threads.
 #![tactic(auto)]
 
 #[cfg(test)]

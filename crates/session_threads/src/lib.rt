@@ -1,4 +1,4 @@
-// Sessions whose clients and workers run in threads.
+//! Sessions whose clients and workers run in threads.
 #![tactic(auto)]
 
 mod rows;

@@ -1,4 +1,4 @@
-// Simulations by hand: whoever simulates sees which steps are possible, and chooses one, or offers something.
+//! Simulations by hand: whoever simulates sees which steps are possible, and chooses one, or offers something.
 #![tactic(auto)]
 
 pub mod answer;

@@ -1,4 +1,4 @@
-// Lines of the simulator: what an engineer asks for.
+//! Lines of the simulator: what an engineer asks for.
 #![tactic(auto)]
 
 mod digits;

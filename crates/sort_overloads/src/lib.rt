@@ -1,4 +1,4 @@
-// Overload resolution: what an expression stands for.
+//! Overload resolution: what an expression stands for.
 #![tactic(auto)]
 
 mod combine;

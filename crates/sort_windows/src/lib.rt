@@ -1,4 +1,4 @@
-// The first values of a sort, found by building terms until nothing new comes.
+//! The first values of a sort, found by building terms until nothing new comes.
 #![tactic(auto)]
 
 mod filling;

@@ -1,4 +1,4 @@
-// What every other crate speaks of: names, numbers of items, terms, values, data, settings, and want of memory.
+//! What every other crate speaks of: names, numbers of items, terms, values, data, settings, and want of memory.
 #![tactic(auto)]
 
 pub mod code;

@@ -1,4 +1,4 @@
-// Generated specifications and scripts of any size: chains of cells.
+//! Generated specifications and scripts of any size: chains of cells.
 #![tactic(auto)]
 
 pub mod laws;

@@ -1,4 +1,4 @@
-// Cycles of calls that no action guards.
+//! Cycles of calls that no action guards.
 #![tactic(auto)]
 
 pub mod call;

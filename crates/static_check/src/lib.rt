@@ -1,4 +1,4 @@
-// The static semantics of a specification: its behaviour over its data.
+//! The static semantics of a specification: its behaviour over its data.
 #![tactic(auto)]
 
 pub mod assembly;

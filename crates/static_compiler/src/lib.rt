@@ -1,4 +1,4 @@
-// The reader of behaviour.
+//! The reader of behaviour.
 #![tactic(auto)]
 
 pub mod closing;

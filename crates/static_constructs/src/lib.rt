@@ -1,4 +1,4 @@
-// Behaviours as constructs.
+//! Behaviours as constructs.
 #![tactic(auto)]
 
 pub mod construct;

@@ -1,4 +1,4 @@
-// Premises and equations: what they stand for.
+//! Premises and equations: what they stand for.
 #![tactic(auto)]
 
 pub mod body;

@@ -1,4 +1,4 @@
-// Laws of what is compiled: behaviour, whole specifications, and the data presentation of their types.
+//! Laws of what is compiled: behaviour, whole specifications, and the data presentation of their types.
 #![tactic(auto)]
 
 pub mod compiled;

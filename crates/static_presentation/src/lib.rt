@@ -1,4 +1,4 @@
-// The data presentation of a list of types, and the own equations of each.
+//! The data presentation of a list of types, and the own equations of each.
 #![tactic(auto)]
 
 mod bodies;

@@ -1,4 +1,4 @@
-// The processes of a specification.
+//! The processes of a specification.
 #![tactic(auto)]
 
 pub mod entry;

@@ -1,4 +1,4 @@
-// What constructs of behaviour are read as.
+//! What constructs of behaviour are read as.
 #![tactic(auto)]
 
 pub mod declarations;

@@ -1,4 +1,4 @@
-// Laws of types, constructs and specifications that are alike: tokens have one reading.
+//! Laws of types, constructs and specifications that are alike: tokens have one reading.
 #![tactic(auto)]
 
 pub mod constructs;

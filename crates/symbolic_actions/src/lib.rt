@@ -1,4 +1,4 @@
-// What behaviours show by trees of rules, and what rules make of it.
+//! What behaviours show by trees of rules, and what rules make of it.
 #![tactic(auto)]
 
 pub mod field;

@@ -1,4 +1,4 @@
-// Composites whose values are left open, the operators over lists of them, and the plans that a behaviour's constructs make.
+//! Composites whose values are left open, the operators over lists of them, and the plans that a behaviour's constructs make.
 #![tactic(auto)]
 
 pub mod column;

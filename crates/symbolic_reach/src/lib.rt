@@ -1,4 +1,4 @@
-// Which terms are asked of a behaviour before its first action, and how many operators and actions stand there.
+//! Which terms are asked of a behaviour before its first action, and how many operators and actions stand there.
 #![tactic(auto)]
 
 pub mod laws;

@@ -1,4 +1,4 @@
-// The trees of rules that are seen within windows, why nothing else needs to be looked at, worked examples, and tables of windows.
+//! The trees of rules that are seen within windows, why nothing else needs to be looked at, worked examples, and tables of windows.
 #![tactic(auto)]
 
 pub mod examples;

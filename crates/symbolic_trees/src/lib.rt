@@ -1,4 +1,4 @@
-// The trees of a composite by their numbers, without building those before.
+//! The trees of a composite by their numbers, without building those before.
 #![tactic(auto)]
 
 pub mod choices;

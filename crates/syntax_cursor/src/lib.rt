@@ -1,4 +1,4 @@
-// What the parsers stand on: the tokens that are left, what stands several times in a row, and refusals.
+//! What the parsers stand on: the tokens that are left, what stands several times in a row, and refusals.
 #![tactic(auto, using(crate::proofs::Steps::steps))]
 
 pub mod cursor;

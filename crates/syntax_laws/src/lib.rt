@@ -1,4 +1,4 @@
-// Laws of syntax trees, and of the names in a text.
+//! Laws of syntax trees, and of the names in a text.
 #![tactic(auto)]
 
 pub mod laws;

@@ -1,4 +1,4 @@
-// Specifications for tests, read by the front end.
+//! Specifications for tests, read by the front end.
 #![tactic(auto)]
 
 ghost use Rattle.std.specs.Prelude.{IfOk, IfSome};

@@ -1,4 +1,4 @@
-// Tests of what runs in threads: turns of a lock, and drives over a desk.
+//! Tests of what runs in threads: turns of a lock, and drives over a desk.
 #![tactic(auto)]
 
 #[cfg(test)]

@@ -1,4 +1,4 @@
-// Traces read from a text.
+//! Traces read from a text.
 #![tactic(auto)]
 
 mod action;

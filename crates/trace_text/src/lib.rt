@@ -1,4 +1,4 @@
-// Traces: the text of a log and of how it ended.
+//! Traces: the text of a log and of how it ended.
 #![tactic(auto)]
 
 mod entry;

@@ -1,4 +1,4 @@
-// A lock round one value, whose turns are served in the order of tickets.
+//! A lock round one value, whose turns are served in the order of tickets.
 #![tactic(auto)]
 
 mod plays;

@@ -1,4 +1,4 @@
-// What each of a list of types has: its sorts and operations, and their numbers.
+//! What each of a list of types has: its sorts and operations, and their numbers.
 #![tactic(auto)]
 
 pub mod brings;

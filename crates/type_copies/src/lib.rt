@@ -1,4 +1,4 @@
-// Refusals of types that their contents decide: sorts that aren't there, pairs of names that can't be, formal items that nothing replaces.
+//! Refusals of types that their contents decide: sorts that aren't there, pairs of names that can't be, formal items that nothing replaces.
 #![tactic(auto)]
 
 pub mod actuals;

@@ -1,4 +1,4 @@
-// Types that are made from themselves.
+//! Types that are made from themselves.
 #![tactic(auto)]
 
 pub mod cycle;

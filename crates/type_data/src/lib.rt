@@ -1,4 +1,4 @@
-// The data that a list of types comes to.
+//! The data that a list of types comes to.
 #![tactic(auto)]
 
 pub mod data;

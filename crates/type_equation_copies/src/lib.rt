@@ -1,4 +1,4 @@
-// What becomes of equations in copies of types, and the data that a list of types comes to.
+//! What becomes of equations in copies of types, and the data that a list of types comes to.
 #![tactic(auto)]
 
 pub mod equations;

@@ -1,4 +1,4 @@
-// Images of equations under new numbers of sorts and operations, and which equations are one.
+//! Images of equations under new numbers of sorts and operations, and which equations are one.
 #![tactic(auto)]
 
 pub mod image;

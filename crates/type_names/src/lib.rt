@@ -1,4 +1,4 @@
-// Refusals of types that names alone decide: names without a definition, types made from themselves, names declared twice.
+//! Refusals of types that names alone decide: names without a definition, types made from themselves, names declared twice.
 #![tactic(auto)]
 
 pub mod cycle_refusal;

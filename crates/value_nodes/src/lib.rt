@@ -1,4 +1,4 @@
-// Values that share their parts: a table of nodes, each made of earlier ones.
+//! Values that share their parts: a table of nodes, each made of earlier ones.
 #![tactic(auto)]
 
 pub mod copies;

@@ -1,4 +1,4 @@
-// Values read from a text.
+//! Values read from a text.
 #![tactic(auto)]
 
 mod extent;

@@ -1,4 +1,4 @@
-// Evaluation as it is defined, step by step and slowly: what faster bodies are tried against.
+//! Evaluation as it is defined, step by step and slowly: what faster bodies are tried against.
 #![tactic(auto)]
 
 mod evaluation;

@@ -1,4 +1,4 @@
-// The sorts of ground terms, and the terms that values spell.
+//! The sorts of ground terms, and the terms that values spell.
 #![tactic(auto)]
 
 mod reading;

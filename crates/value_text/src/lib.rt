@@ -1,4 +1,4 @@
-// Values as text.
+//! Values as text.
 #![tactic(auto)]
 
 pub mod value;

@@ -1,4 +1,4 @@
-// Tests of what trees show, of nodes and by trees of rules, worked out by hand.
+//! Tests of what trees show, of nodes and by trees of rules, worked out by hand.
 #![tactic(auto)]
 
 #[cfg(test)]

@@ -1,4 +1,4 @@
-// Workers that take jobs from a desk, perform them and put the results back, until the desk is over.
+//! Workers that take jobs from a desk, perform them and put the results back, until the desk is over.
 #![tactic(auto)]
 
 mod desk;
