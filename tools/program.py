@@ -24,6 +24,8 @@ PROGRAM = OUT / "lotos"
 # What the program was built from, and its own checksum. Its time is that of the moment before the sources were read.
 NOTE = OUT / "lotos.from"
 LOG = OUT / "build.log"
+# The toolchain's `rt`, which plans faster through it.
+RT = TOP / "tools/rt"
 # The parts of a crate that its proof reads, and what a program is run on when it is built.
 PROVED = ["src", "specs", "proofs"]
 RUN_ON = ["stdin", "stdout", "args", "status", "data"]
@@ -62,8 +64,9 @@ def crate_lines(top):
     return lines
 
 
-def stands_on(lines):
-    """The crates that the program stands on, itself among them, with what they use of each other; each behind those that it uses."""
+def stands_on(lines, *names):
+    """The crates that the program, or crates of these names, stand on, themselves among them, with what they use of each other; each behind
+    those that it uses."""
     found = {}
 
     def visit(name):
@@ -72,7 +75,8 @@ def stands_on(lines):
                 visit(use)
             found[name] = [use for use in lines[name][1] if use in lines]
 
-    visit("lotos")
+    for name in names or ["lotos"]:
+        visit(name)
     return found
 
 
@@ -156,6 +160,11 @@ def free_memory():
     return min(free) // 1_000_000
 
 
+def keeps():
+    """Whether this kit's `rt ci` says that it keeps what it has proved, beside the kit."""
+    return "is kept beside the kit" in " ".join(subprocess.run(["rt", "help"], capture_output=True, text=True, check=False).stderr.split())
+
+
 def store():
     """The folder in which `rt ci` keeps what it has proved, or where it makes that: beside the kit."""
     page = subprocess.run(["rt", "doc"], capture_output=True, text=True, check=False).stdout.strip()
@@ -175,7 +184,11 @@ def see_premises(memory, disk, folders):
 
 
 def see_all_premises(place):
-    """Sees that a build with its proofs has what it wants."""
+    """Sees that a build with its proofs has what it wants, and says where one that is broken off begins anew."""
+    if not keeps():
+        see_premises(MEMORY, DISK, [place])
+        say("note: this kit keeps nothing of what it proves, so a build that is broken off begins anew, and takes nothing over from another one")
+        return
     kept = store()
     see_premises(MEMORY, DISK, [place, kept])
     if not os.access(kept, os.W_OK):
@@ -246,7 +259,7 @@ def prove(folder, names, lock):
     """Proves the copied crates and builds the program, and shows how far it is."""
     with open(LOG, "w", encoding="utf-8") as log:
         # Where this process is killed, rt goes on, and holds the lock as long.
-        rt = subprocess.Popen(["rt", "ci"], cwd=folder, stdin=subprocess.DEVNULL, stdout=log, stderr=log, pass_fds=[lock.fileno()])
+        rt = subprocess.Popen([RT, "ci"], cwd=folder, stdin=subprocess.DEVNULL, stdout=log, stderr=log, pass_fds=[lock.fileno()])
     shown = progress.Progress(rt.pid, LOG, names)
     try:
         while rt.poll() is None:
@@ -256,7 +269,7 @@ def prove(folder, names, lock):
         rt.terminate()
         rt.wait()
         shown.end()
-        say(f"broken off; {shown.counts()}, and the next build goes on from there")
+        say(f"broken off; {shown.counts()}{', and the next build goes on from there' if keeps() else ''}")
         raise
     shown.end()
     if rt.returncode != 0 or not (folder / "crates/lotos/out/lotos").is_file():

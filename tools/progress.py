@@ -36,6 +36,36 @@ def minutes(seconds):
     return f"{seconds / 60:.0f} min" if seconds >= 60 else f"{seconds:.0f} s"
 
 
+class Minutes:
+    """How many proofs are at work, as a line in a file for each minute, which says why where a processor has none."""
+
+    def __init__(self, path, processors):
+        self.file, self.processors, self.looks, self.number = open(path, "w", encoding="utf-8"), processors, [], 0
+
+    def note(self, seconds, at_work, ready):
+        """Notes a look at the build: how many proofs are at work, and how many crates could be proved beside them."""
+        if seconds // 60 > self.number:
+            self.end()
+            self.number = int(seconds // 60)
+        self.looks.append((at_work, ready))
+
+    def line(self):
+        """What is said of the looks of this minute."""
+        text = f"minute {self.number}: {statistics.mean(at_work for at_work, _ in self.looks):.1f} proofs at work"
+        fewer = [(at_work, ready) for at_work, ready in self.looks if at_work < self.processors]
+        waits = sum(ready > 0 for _, ready in fewer)
+        if fewer:
+            text += f"; fewer than {self.processors} in {len(fewer)} of {len(self.looks)} looks: in {waits} `rt` had a crate ready or was planning, "
+            text += f"in {len(fewer) - waits} all other crates stood on those at work"
+        return text
+
+    def end(self):
+        """Writes the line of this minute."""
+        if self.looks:
+            print(self.line(), file=self.file, flush=True)
+            self.looks = []
+
+
 class Progress:
     """The crates of a build, in order, with what they use; which are done, and which are at work."""
 
@@ -44,9 +74,10 @@ class Progress:
         self.watch = prover_processes.Watch(process)
         self.expected = expected_seconds(crates)
         self.done, self.proved, self.at_work, self.shown, self.rest = set(), set(), {}, 0, ""
+        self.by_minute = Minutes(log.parent / "build.minutes", len(os.sched_getaffinity(0)))
         self.on_terminal = sys.stderr.isatty()
         self.write(f"lotos: the program is built first, which proves {len(crates)} crates, all but those that this machine has proved before;")
-        self.write("lotos: crates/lotos/out/build.log takes what is said of each")
+        self.write("lotos: crates/lotos/out/build.log takes what is said of each, and build.minutes how many are at work")
 
     def write(self, line):
         print(line, file=sys.stderr, flush=True)
@@ -69,6 +100,7 @@ class Progress:
             work = self.watch.works[process]
             if work and work[0] not in self.done:
                 self.at_work[work[0]] = self.watch.used[process]
+        self.by_minute.note(time.time() - self.begun, len(self.at_work), len(self.ready()))
         if self.on_terminal:
             width = shutil.get_terminal_size().columns
             print(f"\r\033[K{self.line()[:width - 1]}", end="", file=sys.stderr, flush=True)
@@ -76,9 +108,14 @@ class Progress:
             self.shown = time.time()
             self.write(self.line())
 
+    def ready(self):
+        """The crates that could be proved now, and aren't at work: all that they use is proved."""
+        return [name for name, uses in self.crates.items() if name not in self.done | self.at_work.keys() and self.done.issuperset(uses)]
+
     def end(self):
         """Reads the last of it, and takes the line off the terminal."""
         self.read()
+        self.by_minute.end()
         if self.on_terminal:
             print("\r\033[K", end="", file=sys.stderr, flush=True)
 
