@@ -41,7 +41,7 @@ impl<'a> Model for Evaluator<'a> {
     ghost invariant = { λ e. AreForms (theory_of e.algebra.now) e.forms.now };
 }
 
-// The value of a ground term, with nothing remembered.
+// The value of a ground term, with nothing remembered from before.
 fn value_of(
     alloc: Global,
     algebra: &DataSpec,

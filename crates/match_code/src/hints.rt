@@ -53,13 +53,18 @@ impl Hints {
         }
     }
 
-    /// No numbers, and none is noted. It takes no memory.
+    /// No numbers, and none is noted until they are opened. It takes no memory.
     pub fn closed(alloc: Global) -> Hints {
         Hints {
             places: Vec::new(alloc),
             filled: 0,
             closed: true,
         }
+    }
+
+    /// Notes numbers from now on. It takes no memory.
+    pub fn open(&mut self) {
+        self.closed = false;
     }
 
     /// Whether no number is noted. It takes no memory.

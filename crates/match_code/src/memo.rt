@@ -21,6 +21,9 @@ const PATIENCE: u32 = 4_096;
 /// How many more may be for each one that is found.
 const REWARD: u32 = 16;
 
+/// How many calls of an operation that was given up are looked for where it is tried again.
+const TRIAL: u32 = 64;
+
 /// A call of an operation over values, the value that it comes to, and after how many uses of equations.
 #[derive(Drop)]
 pub struct Entry {
@@ -76,7 +79,7 @@ impl Memo {
         }
     }
 
-    /// No calls, and room for none. It takes no memory.
+    /// No calls, and room for none until they are opened. It takes no memory.
     pub fn closed(alloc: Global) -> Memo
         ensures none { result.entries.items ≡ [] }
     {
@@ -125,6 +128,24 @@ impl Memo {
     fn may_pay(&self, op: Op) -> bool {
         let place = op.0 as usize;
         place >= self.patience.len() || self.patience[place] > 0
+    }
+
+    /// Has room for calls, where there was none and there are no calls. It takes no memory.
+    pub fn open(&mut self)
+        ensures same { self.new.entries ≡ self.old.entries }
+    {
+        if self.is_closed() {
+            self.room = MOST_ENTRIES;
+        }
+    }
+
+    /// Tries each operation that was given up again. It takes no memory.
+    pub fn try_again(&mut self)
+        ensures same { self.new.entries ≡ self.old.entries }
+    {
+        for left in &mut self.patience {
+            *left = (*left).max(TRIAL);
+        }
     }
 
     /// Gives each operation as much patience as at first. It takes no memory.

@@ -77,6 +77,25 @@ fn turn(
     }
 }
 
+/// After how many turns an evaluation remembers calls, where it doesn't from the first on: short ones would pay more for it than they gain.
+const LONG: u64 = 65_536;
+
+/// After how many turns the operations that were given up are tried again.
+const AGAIN: u64 = 1_048_576;
+
+// What a turn of this number begins with.
+fn begin(store: &mut Store, number: u64)
+    ensures nodes { store.new.nodes ≡ store.old.nodes }
+    ensures entries { store.new.memo.entries ≡ store.old.memo.entries }
+{
+    if number % LONG == LONG - 1 {
+        store.open();
+    }
+    if number % AGAIN == AGAIN - 1 {
+        store.memo.try_again();
+    }
+}
+
 /// Goes on to the end: the node of the term's value.
 pub fn run(
     alloc: Global,
@@ -97,7 +116,8 @@ pub fn run(
     ensures cause { IfErr result (IsCause (theory_of algebra.now) (term_of term.now) budget) }
 {
     let mut limit = FEWEST;
-    for _turn in 0..u64::MAX {
+    for number in 0..u64::MAX {
+        begin(store, number);
         match turn(alloc, algebra, forms, store, runs, bound, term, budget)? {
             Some(node) => return Ok(node),
             None => {

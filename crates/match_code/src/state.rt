@@ -43,7 +43,7 @@ impl Store {
         }
     }
 
-    /// No nodes, where none is found again and no call is remembered. It takes no memory.
+    /// No nodes, where none is found again and no call is remembered until it is opened. It takes no memory.
     pub fn closed(alloc: Global) -> Store
         ensures nodes { result.nodes ≡ [] }
         ensures entries { result.memo.entries.items ≡ [] }
@@ -53,6 +53,15 @@ impl Store {
             hints: Hints::closed(alloc),
             memo: Memo::closed(alloc),
         }
+    }
+
+    /// From now on nodes are found again and calls are remembered. It takes no memory.
+    pub fn open(&mut self)
+        ensures nodes { self.new.nodes ≡ self.old.nodes }
+        ensures entries { self.new.memo.entries ≡ self.old.memo.entries }
+    {
+        self.hints.open();
+        self.memo.open();
     }
 
     /// Whether nothing more is remembered.

@@ -133,7 +133,8 @@ fn compact(
 }
 
 /// Leaves of the table's nodes those of which the runs are made, once there are as many as the limit, and changes nothing below it; the
-/// next limit is twice as many nodes as are left, and at least 2^20. From then on nothing more is remembered.
+/// next limit is twice as many nodes as are left, and at least 2^20. What was remembered is forgotten then, and nothing more is remembered
+/// until the store is opened.
 pub fn tidy(
     alloc: Global,
     algebra: &DataSpec,
