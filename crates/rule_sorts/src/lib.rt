@@ -1,0 +1,4 @@
+//! Which sorts the terms of behaviours have.
+#![tactic(auto)]
+
+pub mod laws;
