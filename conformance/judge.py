@@ -56,6 +56,14 @@ def replayed(program, words, place, trace):
     return end.stdout.decode("latin-1")
 
 
+def replay_faults(program, words, place, trace):
+    """What `replay` says wrongly of the trace that a `run` printed: it is a derivation, unless a term is too dear or too large for `replay`."""
+    said = replayed(program, words, place, trace)
+    actions = trace.count(b"\nact ")
+    due = f"derivation {actions}\n"
+    return [] if said == due or said.startswith(("spent ", "large ")) else [f"replay says {said!r}, due {due!r}"]
+
+
 def faults(program, words, place, due, trace):
     """What is wrong with a trace, each as a sentence."""
     lines = trace.decode("latin-1").split("\n")
