@@ -73,7 +73,7 @@ runs_stop_for_reasons program settings start stop wishes log s run reason q =
     stopped program settings start reason stop wishes log s q run
 
 -- an end by the trees isn't one by a reason
-by_trees : (program : Program) (settings : Settings) (s : State) (ending : Ending) → IsEndOfTrees program settings s ending →
+pub by_trees : (program : Program) (settings : Settings) (s : State) (ending : Ending) → IsEndOfTrees program settings s ending →
     IsUnstopped ending
 by_trees program settings s exits h = absurd h
 by_trees program settings s deadlocked h = tt

@@ -69,7 +69,7 @@ module _ (program : Program) (settings : Settings) where
   each_after reason [] s t h = tt
   each_after reason (x ∷ xs) s t (next, p, c, h) = (comes_after reason s x c, each_after reason xs next t h)
 
-  driven_stops : (start : State) (reason : StopReason) (stop : Option StopReason) (log : List Event) (s : State) → stop ≡ Some reason →
+  pub driven_stops : (start : State) (reason : StopReason) (stop : Option StopReason) (log : List Event) (s : State) → stop ≡ Some reason →
       IsDrivenLog program settings start stop log s → StopsFor program settings log start reason
   driven_stops start reason None log s e h = let never : ⊥ = cc in absurd never
   driven_stops start reason (Some other) log s e h =

@@ -1,6 +1,7 @@
 mod Others
 pub mod Answered
 pub mod Awaiting
+pub mod Completing
 pub mod Driven
 pub mod Legal
 pub mod Logs

@@ -1,5 +1,6 @@
 pub mod AnswerLaws
 pub mod Answers
+pub mod Complete
 pub mod Laws
 pub mod Logs
 pub mod Sessions
