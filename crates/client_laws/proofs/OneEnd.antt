@@ -8,6 +8,7 @@ use Rattle.symbolic_rules.specs.Trees.{IsWindowed, IsBeyond}
 use Rattle.board_laws.specs.declared.stop_reason.StopReason.{StopReason}
 use Rattle.board_laws.specs.Stopping.{ending_by}
 use Rattle.client_laws.specs.Ends.{IsDeadEnd, IsWaitingEnd, IsBeyondEnd, IsEndOfTrees, IsEndingOf, ends_by_reason, ends_by_exit, ends_by_trees}
+use Rattle.client_laws.specs.Laws.{TreesHaveOneEnd}
 use Rattle.client_laws.proofs.OneWindow.{one_windows}
 
 module _ (program : Program) (settings : Settings) (s : State) where
@@ -61,3 +62,6 @@ module _ (program : Program) (settings : Settings) (s : State) where
   one_ending stop ending other (ends_by_trees e on trees) (ends_by_reason reason e2 f2) = absurd (differ stop reason e e2)
   one_ending stop ending other (ends_by_trees e on trees) (ends_by_exit e2 ended f2) = absurd (on ended)
   one_ending stop ending other (ends_by_trees e on trees) (ends_by_trees e2 on2 trees2) = one_of_trees ending other trees trees2
+
+pub trees_have_one_end : TreesHaveOneEnd
+trees_have_one_end program settings s ending other h k = one_of_trees program settings s ending other h k

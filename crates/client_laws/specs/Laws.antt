@@ -14,7 +14,7 @@ use Rattle.rule_model.specs.States.{State, start_state}
 use Rattle.log_states.specs.Clients.{numbers_from}
 use Rattle.board_laws.specs.declared.stop_reason.StopReason.{StopReason}
 use Rattle.board_laws.specs.Next.{IsNextEvent}
-use Rattle.client_laws.specs.Ends.{IsEndingOf}
+use Rattle.client_laws.specs.Ends.{IsEndOfTrees, IsEndingOf}
 use Rattle.client_laws.specs.Justified.{IsEndedReply, HoldsByRules, IsJustifiedLog, StopsFor, IsLegalSession, NeverStops}
 use Rattle.client_laws.specs.Justified.{IsUnstopped}
 use Rattle.client_laws.specs.OneRun.{IsUnstoppedButBySteps, OnlyStepsStop}
@@ -125,6 +125,14 @@ EndsSayWhatIsSo =
     IsReady program →
     IsEndingOf program settings s stop ending →
     SaysOfSteps program s.behaviour ending
+
+-- by the trees of the behaviour that is reached a session has one end: a deadlock, waiting or beyond, and never two of them
+abbrev pub TreesHaveOneEnd : Type 0
+TreesHaveOneEnd =
+    (program : Program) (settings : Settings) (s : State) (ending other : Ending) →
+    IsEndOfTrees program settings s ending →
+    IsEndOfTrees program settings s other →
+    ending ≡ other
 
 -- Two sessions of a specification that is ready, of a client with the same wishes and with the same settings, are one, where neither was
 -- stopped, or only because there were as many actions as are allowed.

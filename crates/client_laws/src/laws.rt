@@ -2,7 +2,7 @@
 
 ghost use Rattle.client_laws.specs.Laws.{RunsAreDerivations, RunsAnswerEach, ClientRunsAreDerivations, ClientRunsAnswerEach};
 ghost use Rattle.client_laws.specs.Laws.{NextEventsHold, RunsStopForReasons, RunsAreJustified, JustifiedLogsAreDerivations, ClientRunsAreLegal};
-ghost use Rattle.client_laws.specs.Laws.{ClientRunsAreComplete, EndsSayWhatIsSo, SessionsAreOne, NoOtherSession};
+ghost use Rattle.client_laws.specs.Laws.{ClientRunsAreComplete, EndsSayWhatIsSo, SessionsAreOne, NoOtherSession, TreesHaveOneEnd};
 
 /// Each run is a derivation by the inference rules.
 pub fn runs_are_derivations()
@@ -59,6 +59,12 @@ pub fn client_runs_are_complete()
 /// is waiting, some rule gives one.
 pub fn ends_say_what_is_so()
     ensures { EndsSayWhatIsSo }
+{}
+
+/// By the trees of the behaviour that is reached a session has one end. So where a tree is beyond and none is windowed, as of
+/// `choice x : S [] [x = c] -> g; stop` where the window of S doesn't show c, it is neither a deadlock nor waiting.
+pub fn trees_have_one_end()
+    ensures { TreesHaveOneEnd }
 {}
 
 /// Two sessions of a client with the same wishes are one, where neither was stopped, or only because there were as many actions as are
