@@ -1,5 +1,5 @@
 -- The terms that are asked of a behaviour that fits are ground terms of the data.
-use Rattle.std.proofs.Common.{ℕ, zero, suc, ◌≡◌, ◌==◌, ◌⊎◌, inl, inr, List, [], ◌∷◌, refl, sym, subst, Bool, true, false}
+use Rattle.std.proofs.Common.{ℕ, zero, suc, ◌≡◌, ◌==◌, ◌⊎◌, inl, inr, List, [], ◌∷◌, sym, subst, Bool, true, false}
 use Rattle.std.proofs.Common.{if◌then◌else◌, Option, Some, None}
 use Rattle.std.specs.List.{slice_get}
 use Rattle.std.proofs.lemmas.Option.{same_Some}
@@ -17,7 +17,7 @@ use Rattle.rule_model.specs.declared.rules.Slot.TheVariants.{Blank, Mark, Of}
 use Rattle.rule_model.specs.Actions.{pairs_of}
 use Rattle.rule_model.specs.Behaviours.{Behaviour, stop, exit, inner, action, choice, guarded, bound, value_choice, gate_choice, parallel}
 use Rattle.rule_model.specs.Behaviours.{hide, enable, disable, call, relabel}
-use Rattle.rule_model.specs.Derivations.{Derivation, pre, int, exiting, chl, chr, val, gate, guard, letting, parl, parr, both, hiding, pass}
+use Rattle.rule_model.specs.Derivations.{Derivation, pre, exiting, chl, chr, val, gate, guard, letting, parl, parr, both, hiding, pass}
 use Rattle.rule_model.specs.Derivations.{enstep, enend, disstep, disend, distake, calling, rel}
 use Rattle.rule_model.specs.States.{State}
 use Rattle.rule_sorts.specs.Fitting.{BehaviourFits, ExitFits, HasFewGates}

@@ -1,7 +1,7 @@
 -- The entries of a session's log fit.
-use Rattle.std.proofs.Common.{ℕ, zero, suc, ◌+◌, ◌≡◌, ◌<◌, ◌≤◌, ◌^◌, ◌⊎◌, ◌∙◌, refl, sym, ap, subst, List, [], ◌∷◌, ◌++◌, arith, length, max}
+use Rattle.std.proofs.Common.{ℕ, ◌≡◌, ◌<◌, ◌≤◌, ◌^◌, ◌⊎◌, refl, sym, ap, subst, List, [], ◌∷◌, ◌++◌, arith}
 use Rattle.std.proofs.Common.{inl, inr, Option, Some, None, Contains}
-use Rattle.std.proofs.Math.Nat.{le-max_left, le-max_right, max-le}
+use Rattle.std.proofs.Math.Nat.{max-le}
 use Rattle.std.proofs.lemmas.List.Elements.{Contains-push_cases}
 use Rattle.spec_core.specs.Code.{Program}
 use Rattle.spec_core.specs.Lists.{Each, IsOneOf}
@@ -11,7 +11,7 @@ use Rattle.spec_core.specs.Terms.{TermTree, term_of, variable}
 use Rattle.spec_core.specs.Theories.{Theory}
 use Rattle.spec_core.specs.declared.settings.Settings.{Settings}
 use Rattle.spec_core.proofs.Lists.{each_implied}
-use Rattle.spec_core.proofs.Members.{contains_first, contains_none, contains_one, each_from}
+use Rattle.spec_core.proofs.Members.{contains_none, contains_one, each_from}
 use Rattle.rule_model.specs.declared.action.Action.{Action}
 use Rattle.rule_model.specs.declared.action.Action.TheVariants.{At, Exit, Inner}
 use Rattle.rule_model.specs.declared.offer.Offer.{Offer}
@@ -21,9 +21,9 @@ use Rattle.rule_model.specs.Answers.{Answer, beyond, deadlock, ended, limit, not
 use Rattle.rule_model.specs.Behaviours.{Behaviour}
 use Rattle.rule_model.specs.Code.{IsStart}
 use Rattle.rule_model.specs.Derivations.{Derivation}
-use Rattle.rule_model.specs.Events.{Event, Ending, OfferName, acted, left, pended, replied, stalled}
-use Rattle.rule_model.specs.Legal.{IsDerivation, IsPending, IsPendingAnd, IsPossible, IsAgreed}
-use Rattle.rule_model.specs.States.{PendingOffer, State, start_state, without}
+use Rattle.rule_model.specs.Events.{Event, OfferName, acted, left, pended, replied, stalled}
+use Rattle.rule_model.specs.Legal.{IsDerivation, IsPending, IsPossible}
+use Rattle.rule_model.specs.States.{PendingOffer, State, start_state}
 use Rattle.rule_laws.specs.Spelled.{HasSpelled, SpellsSome}
 use Rattle.rule_laws.proofs.Spelling.{step_spelled}
 use Rattle.rule_gates.specs.Acting.{IsAt, IsOfHeading}
@@ -42,7 +42,7 @@ use Rattle.board_laws.specs.declared.stop_reason.StopReason.{StopReason}
 use Rattle.board_laws.specs.declared.stop_reason.StopReason.TheVariants.{Limit, Spent, TooLarge}
 use Rattle.board_laws.specs.Stopping.{answer_by}
 use Rattle.client_laws.specs.Justified.{IsJustified, IsJustifiedLog}
-use Rattle.trace_text.specs.Fits.{ActionFits, AnswerFits, ByFits, CountsActions, EventFits, NameFits, TreeFits}
+use Rattle.trace_text.specs.Fits.{ActionFits, AnswerFits, CountsActions, EventFits, NameFits, TreeFits}
 use Rattle.value_text.specs.Values.{IsGroundList}
 use Rattle.session_traces.proofs.Trees.{marked_tree_fits, some_fits, tree_fits}
 use Rattle.session_traces.proofs.Wished.{IsFit}

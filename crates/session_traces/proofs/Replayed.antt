@@ -1,8 +1,7 @@
 -- What `replay` tells of the text of a session.
-use Rattle.std.proofs.Common.{ℕ, zero, suc, ◌+◌, ◌≡◌, ◌<◌, ◌≤◌, ◌^◌, ◌⊎◌, ◌∙◌, refl, sym, ap, subst, List, [], ◌∷◌, ◌++◌, append_assoc, arith, codes, length}
-use Rattle.std.proofs.Common.{inl, inr, Option, Some, None, Contains, max, nat_eq, not, false, eqb-true}
+use Rattle.std.proofs.Common.{ℕ, zero, suc, ◌+◌, ◌≡◌, ◌<◌, ◌≤◌, ◌^◌, ◌∙◌, refl, sym, ap, subst, List, [], ◌∷◌, ◌++◌, append_assoc, arith, codes, length}
+use Rattle.std.proofs.Common.{Contains, max, nat_eq, not, eqb-true}
 use Rattle.std.proofs.Math.Nat.{le-max_left, le-max_right, max-le}
-use Rattle.std.proofs.lemmas.Bool.{ne_eqb}
 use Rattle.lotos_ast.specs.declared.text_kind.TextKind.{TextKind}
 use Rattle.spec_core.specs.Code.{Program}
 use Rattle.spec_core.specs.Lists.{Each}
@@ -25,10 +24,9 @@ use Rattle.session_laws.specs.Sessions.{IsLegal, IsWholeSession}
 use Rattle.command_run.specs.Runs.{IsSessionOf}
 use Rattle.script_text.proofs.OneScript.{script_few, script_fits}
 use Rattle.trace_text.specs.Fits.{HasTrace}
-use Rattle.trace_text.specs.Names.{names_in}
 use Rattle.trace_text.proofs.OneTrace.{one_trace}
 use Rattle.trace_reader.specs.Lines.{lines_text}
-use Rattle.trace_reader.specs.Traces.{IsBadBehind, IsFirstBad, IsLineFault, IsTrace, bad_form, bad_line, ends_early, too_long, trace_limit}
+use Rattle.trace_reader.specs.Traces.{IsBadBehind, IsLineFault, bad_form, bad_line, ends_early, too_long, trace_limit}
 use Rattle.command_replay.specs.Replays as replays
 use Rattle.command_replay.specs.declared.answer.Answer.{Answer}
 use Rattle.command_replay.specs.declared.answer.Answer.TheVariants.{Derivation, NotADerivation, Refused, Spent, TooLarge}

@@ -1,13 +1,11 @@
 -- The log of a session has a trace, and this is replayed.
-use Rattle.std.proofs.Common.{ℕ, zero, suc, ◌+◌, ◌≡◌, ◌<◌, ◌≤◌, ◌^◌, ◌⊎◌, ◌∙◌, refl, sym, ap, subst, List, [], ◌∷◌, ◌++◌, append_assoc, arith, codes, length}
-use Rattle.std.proofs.Common.{inl, inr, Option, Some, None, Contains, max}
-use Rattle.std.proofs.Math.Nat.{le-max_left, le-max_right, max-le}
+use Rattle.std.proofs.Common.{ℕ, zero, suc, ◌+◌, ◌≡◌, ◌<◌, ◌≤◌, ◌^◌, ◌⊎◌, sym, subst, List, arith, length}
+use Rattle.std.proofs.Common.{inl, inr, Option, Some, Contains}
 use Rattle.spec_core.specs.Code.{Program}
 use Rattle.spec_core.specs.Lists.{Each, IsOneOf}
 use Rattle.spec_core.specs.Ready.{IsReady}
-use Rattle.spec_core.specs.Theories.{Theory}
 use Rattle.spec_core.specs.declared.settings.Settings.{Settings}
-use Rattle.spec_core.proofs.Members.{contains_none, one_contained}
+use Rattle.spec_core.proofs.Members.{contains_none}
 use Rattle.log_check.specs.Starting.{greatest_in}
 use Rattle.log_states.specs.Clients.{numbers_from}
 use Rattle.log_states.proofs.Members.{in_cases}
@@ -18,7 +16,6 @@ use Rattle.rule_model.specs.Events.{Event, Ending, deadlocked, ends_at_limit, en
 use Rattle.rule_model.specs.Legal.{IsDerivation}
 use Rattle.rule_model.specs.States.{PendingOffer, State, start_state}
 use Rattle.rule_model.specs.Wishes.{Wish}
-use Rattle.rule_gates.specs.Laws.{ActionsAreAtGatesOfTheHeading}
 use Rattle.rule_gates.proofs.Acting.{actions_are_at_gates_of_the_heading}
 use Rattle.rule_sorts.specs.Fitting.{HasFewGates}
 use Rattle.rule_sorts.proofs.Reached.{reached_behaviours_fit}
@@ -30,9 +27,8 @@ use Rattle.client_laws.specs.Ends.{IsEndOfTrees, IsEndingOf, ends_by_exit, ends_
 use Rattle.client_laws.proofs.Justified.{justified_logs_are_derivations}
 use Rattle.session_laws.proofs.Legal.{driven_logs_are_legal}
 use Rattle.session_laws.specs.Sessions.{IsLegal, IsWholeSession}
-use Rattle.session_threads.specs.Runs.{AnswersClients}
 use Rattle.script_offers.specs.Valued.{AreValued}
-use Rattle.script_text.specs.Scripts.{SpellsScript, WishFits}
+use Rattle.script_text.specs.Scripts.{WishFits}
 use Rattle.script_text.specs.Wishes.{Wished}
 use Rattle.script_text.proofs.OneScript.{script_few, script_fits}
 use Rattle.trace_text.specs.Fits.{EndingFits, HasTrace}

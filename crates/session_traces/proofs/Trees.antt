@@ -1,9 +1,9 @@
 -- What stands in trees of rules fits.
-use Rattle.std.proofs.Common.{ℕ, suc, ◌≡◌, ◌<◌, ◌^◌, List, [], ◌∷◌, Some, arith, length}
+use Rattle.std.proofs.Common.{ℕ, suc, ◌≡◌, ◌<◌, ◌^◌, List, [], ◌∷◌, Some, arith}
 use Rattle.std.specs.List.{slice_get}
 use Rattle.std.proofs.lemmas.Option.{slice_get_within}
 use Rattle.spec_core.specs.Code.{ActionField, ExitValue, Program, accept, exit_any, exit_given, give}
-use Rattle.spec_core.specs.Functionality.{accepted, bound_variables, with_variable, with_variables}
+use Rattle.spec_core.specs.Functionality.{bound_variables, with_variable, with_variables}
 use Rattle.spec_core.specs.Lists.{Each}
 use Rattle.spec_core.specs.Ready.{IsReady}
 use Rattle.spec_core.specs.Sorts.{no_variables}

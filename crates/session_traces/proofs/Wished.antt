@@ -1,6 +1,6 @@
 -- What clients of a session offer fits.
-use Rattle.std.proofs.Common.{ℕ, suc, ◌+◌, ◌≡◌, ◌<◌, ◌≤◌, ◌^◌, ◌∙◌, refl, sym, ap, subst, List, [], ◌∷◌, arith, length, map, nat_eq, true, false}
-use Rattle.std.proofs.Common.{inl, inr, eqb-true, cond}
+use Rattle.std.proofs.Common.{ℕ, suc, ◌+◌, ◌≡◌, ◌<◌, ◌≤◌, ◌^◌, refl, sym, ap, subst, List, [], ◌∷◌, arith, length, nat_eq}
+use Rattle.std.proofs.Common.{inl, inr, eqb-true}
 use Rattle.std.proofs.Math.Arith.{lt_of_le-ne}
 use Rattle.std.proofs.lemmas.Bool.{eq-eqb}
 use Rattle.spec_core.specs.Code.{Program}
@@ -14,14 +14,13 @@ use Rattle.rule_model.specs.Answering.{offers_in}
 use Rattle.rule_model.specs.Events.{Event}
 use Rattle.rule_model.specs.States.{PendingOffer}
 use Rattle.rule_model.specs.Wishes.{Wish}
-use Rattle.script_offers.specs.Valued.{AreScriptValued, AreValued, AreValuedFields, IsValuedField, IsValuedWish, OneByOne}
+use Rattle.script_offers.specs.Valued.{AreScriptValued, AreValued, IsValuedField, IsValuedWish, OneByOne}
 use Rattle.script_text.specs.Scripts as scripts
 use Rattle.script_text.specs.Scripts.{WishFits}
 use Rattle.script_text.specs.Wishes.{Wished, WishedField, gives, takes}
 use Rattle.session_laws.specs.Answers.{numbered_for, offers_by}
 use Rattle.session_threads.specs.Runs.{AnswersClients}
 use Rattle.trace_text.specs.Fits.{FieldFits, OfferFits}
-use Rattle.value_text.specs.Values.{IsGroundList}
 
 -- as many on either side
 pub same_length : {A B : Type 0} (R : A → B → Type 0) (xs : List A) (ys : List B) → OneByOne R xs ys → length xs ≡ length ys

@@ -5,8 +5,6 @@ use Rattle.spec_core.specs.Code.{Program}
 use Rattle.spec_core.specs.Terms.{term_of}
 use Rattle.rewriter.specs.Answers.{MeetsTooLarge}
 use Rattle.rule_model.specs.Events.{Event, Ending}
-use Rattle.rule_model.specs.Logs.{events_of}
-use Rattle.rule_model.specs.Events.{ending_of}
 use Rattle.trace_text.specs.Names.{names_in}
 use Rattle.trace_text.specs.Trace.{trace_bytes}
 use Rattle.log_check.specs.Checked.{IsDerivationOf, LogAsks}
