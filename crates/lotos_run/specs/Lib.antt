@@ -1,5 +1,6 @@
 pub mod CheckTexts
 pub mod Checks
+pub mod Derivations
 pub mod Due
 pub mod EqualTexts
 pub mod Equals
