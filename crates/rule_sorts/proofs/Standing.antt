@@ -3,10 +3,12 @@ use Rattle.std.proofs.Common.{ℕ, ◌≡◌, List, [], ◌∷◌, subst, Option
 use Rattle.std.specs.List.{slice_get}
 use Rattle.spec_core.specs.Code as code
 use Rattle.spec_core.specs.Code.{ActionField, Binding, ExitValue, Node, Program, Relabelling, Synchronised, Variable, exit_any, exit_given}
-use Rattle.spec_core.specs.Functionality.{BindingFits, ExitsWith, FieldFits, Functionality, GuardFits, HasFunctionality, NodeFits, ValuesFit}
+use Rattle.spec_core.specs.Functionality.{BindingFits, ExitsWith, FieldFits, Functionality, GuardFits, HasFunctionality, NodeFits}
+use Rattle.spec_core.specs.Functionality.{ValuesFit}
 use Rattle.spec_core.specs.Functionality.{accepted, bound_variables, with_variable, with_variables}
 use Rattle.spec_core.specs.Functionality.{action_fits, at_node, bound_fits, call_fits, choice_fits, disable_fits, enable_fits, exit_fits}
-use Rattle.spec_core.specs.Functionality.{gate_choice_fits, guarded_fits, hide_fits, inner_fits, parallel_fits, relabel_fits, value_choice_fits}
+use Rattle.spec_core.specs.Functionality.{gate_choice_fits, guarded_fits, hide_fits, inner_fits, parallel_fits, relabel_fits}
+use Rattle.spec_core.specs.Functionality.{value_choice_fits}
 use Rattle.spec_core.specs.Lists.{Each}
 use Rattle.spec_core.specs.Sorts.{PremiseFits}
 use Rattle.spec_core.specs.Terms.{TermTree}
@@ -47,7 +49,8 @@ module _ (program : Program) (fs : ℕ → Functionality) (few : HasFewGates pro
   each_exit vars (exit_given t ∷ fields) [] h = absurd h
   each_exit vars (exit_any any ∷ fields) [] h = absurd h
 
-  of_exit : (gates : List ℕ) (vars : Sorts) (f : Functionality) (fields : List ExitValue) → NodeFits program fs gates vars (code.exit fields) f →
+  of_exit : (gates : List ℕ) (vars : Sorts) (f : Functionality) (fields : List ExitValue) →
+      NodeFits program fs gates vars (code.exit fields) f →
       Each (ExitFits program vars) fields
   of_exit gates vars f fields (exit_fits h) = each_exit vars fields _ h
 

@@ -5,7 +5,8 @@ use Rattle.std.specs.List.{slice_get}
 use Rattle.std.proofs.lemmas.Bool.{eqb-true}
 use Rattle.std.proofs.lemmas.Option.{same_Some}
 use Rattle.spec_core.specs.Code.{ActionField, Binding, ExitValue, Program, Variable, accept, exit_any, exit_given, give}
-use Rattle.spec_core.specs.Functionality.{BindingFits, FieldFits, GuardFits, ValuesFit, accepted, bound_variables, with_variable, with_variables}
+use Rattle.spec_core.specs.Functionality.{BindingFits, FieldFits, GuardFits, ValuesFit, accepted, bound_variables, with_variable}
+use Rattle.spec_core.specs.Functionality.{with_variables}
 use Rattle.spec_core.specs.Lists.{Each}
 use Rattle.spec_core.specs.Sorts.{FitsData, HasSort, HaveSorts, PremiseFits, no_variables}
 use Rattle.spec_core.specs.Terms.{TermTree, TermTrees, and_term, apply, instance, instances, no_terms, variable}
@@ -45,7 +46,8 @@ module _ (theory : Theory) where
     in_scope vars (variable x) a h = let n : ⊥ = cc in absurd n
     in_scope vars (apply f ts) a h = on_map (slice_get theory.operations f) h (λ d p. (p.0, all_in_scope vars ts d.args p.1))
 
-    all_in_scope : (vars : Sorts) (ts : TermTrees) (sorts : List ℕ) → HaveSorts theory no_variables ts sorts → HaveSorts theory vars ts sorts
+    all_in_scope : (vars : Sorts) (ts : TermTrees) (sorts : List ℕ) → HaveSorts theory no_variables ts sorts →
+        HaveSorts theory vars ts sorts
     all_in_scope vars no_terms [] h = tt
     all_in_scope vars no_terms (c ∷ sorts) h = absurd h
     all_in_scope vars (and_term t ts) [] h = absurd h
@@ -146,7 +148,8 @@ module _ (theory : Theory) where
     valued t n a h k = value_sort fits (instance s t) n a (instance_sort vars s no_variables suits t a h) k
 
     pub bindings_suit : (wars : Sorts) (t u : Assignment) (bindings : List Binding) → Each (BindingFits theory vars) bindings →
-        Suits wars t no_variables → BindingsHave theory s t bindings u → Suits (with_variables (bound_variables bindings) wars) u no_variables
+        Suits wars t no_variables → BindingsHave theory s t bindings u →
+        Suits (with_variables (bound_variables bindings) wars) u no_variables
     bindings_suit wars t u [] i k h = subst (λ (z : Assignment). Suits wars z no_variables) (sym h) k
     bindings_suit wars t u (b ∷ bindings) i k h =
         bindings_suit (with_variable b.variable wars) (with_term b.variable h.0 t) u bindings i.1
@@ -193,7 +196,8 @@ module _ (program : Program) where
         subst (λ (xs : List Variable). GuardFits program.theory (with_variables xs wars) (put_in_guard (without own s) guard))
             (sym (same_accepted s fields))
             (guard_fits program.theory (with_variables own vars) (without own s) (with_variables own wars) below guard h.1),
-        subst (λ (xs : List Variable). BehaviourFits program (with_variables xs wars) (put (without own s) b)) (sym (same_accepted s fields))
+        subst (λ (xs : List Variable). BehaviourFits program (with_variables xs wars) (put (without own s) b))
+            (sym (same_accepted s fields))
             (with_terms (with_variables own vars) (without own s) (with_variables own wars) below b h.2),
       )
   with_terms vars s wars k (choice b c) h = (with_terms vars s wars k b h.0, with_terms vars s wars k c h.1)

@@ -3,7 +3,8 @@ use Rattle.std.specs.Prelude.{ℕ, ◌≡◌, ◌<◌, ◌^◌, List, Option, So
 use Rattle.std.specs.List.{slice_get}
 use Rattle.spec_core.specs.Code as code
 use Rattle.spec_core.specs.Code.{ExitValue, Program, Variable, exit_any, exit_given}
-use Rattle.spec_core.specs.Functionality.{BindingFits, FieldFits, Fits, GuardFits, ValuesFit, accepted, bound_variables, with_variable, with_variables}
+use Rattle.spec_core.specs.Functionality.{BindingFits, FieldFits, Fits, GuardFits, ValuesFit, accepted, bound_variables, with_variable}
+use Rattle.spec_core.specs.Functionality.{with_variables}
 use Rattle.spec_core.specs.Lists.{Each}
 use Rattle.spec_core.specs.Sorts.{PremiseFits}
 use Rattle.spec_core.specs.Terms.{TermTree}

@@ -1,8 +1,5 @@
 -- A whole session isn't stopped, unless a reason to stop is so on its way.
-use Rattle.std.proofs.Common.{ℕ, ◌≡◌, ◌⊎◌, List, inl, inr, subst, sym}
-use Rattle.spec_core.specs.declared.settings.Settings.{Settings}
-use Rattle.spec_core.specs.Code.{Program}
-use Rattle.rule_model.specs.Events.{Event, Ending}
+use Rattle.std.proofs.Common.{◌⊎◌, inl, inr, subst, sym}
 use Rattle.rule_model.specs.States.{start_state}
 use Rattle.log_states.specs.Clients.{numbers_from}
 use Rattle.client_laws.specs.Ends.{IsEndingOf, ends_by_exit, ends_by_reason, ends_by_trees}
@@ -14,7 +11,8 @@ use Rattle.session_laws.proofs.Legal.{driven_stops}
 pub whole_sessions_are_complete : WholeSessionsAreComplete
 whole_sessions_are_complete program settings clients log ending whole = by_end whole.ends
   where
-    by_end : IsEndingOf program settings whole.last whole.stop ending → IsUnstopped ending ⊎ EndsByReason program settings clients log ending
+    by_end : IsEndingOf program settings whole.last whole.stop ending →
+        IsUnstopped ending ⊎ EndsByReason program settings clients log ending
     by_end (ends_by_reason reason e f) =
         inr (record {
           behaviour = whole.driven.behaviour;

@@ -12,8 +12,8 @@ use Rattle.log_states.specs.Clients.{numbers_from}
 use Rattle.client_laws.specs.Justified.{IsUnstopped, StopsFor}
 use Rattle.session_laws.specs.Sessions.{IsWholeSession}
 
--- On the way of the log, from the specification's behaviour on with all clients open, a reason to stop is so: a term that is asked is over the
--- budget, or its evaluation meets a value that is too large, or a limit is passed; and the session ends by this reason.
+-- On the way of the log, from the specification's behaviour on with all clients open, a reason to stop is so: a term that is asked is
+-- over the budget, or its evaluation meets a value that is too large, or a limit is passed; and the session ends by this reason.
 pub record EndsByReason (program : Program) (settings : Settings) (clients : ℕ) (log : List Event) (ending : Ending) : Type 0 where
   pub behaviour : Behaviour
   pub start : IsStart program behaviour
