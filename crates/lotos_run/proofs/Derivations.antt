@@ -1,5 +1,6 @@
 -- The trace that `run` writes is that of a derivation.
-use Rattle.std.proofs.Common.{ℕ, ◌+◌, ◌≡◌, ◌∙◌, List, [], ◌∷◌, ◌++◌, Option, Some, None, ap, append-nil, arith, codes, drop, length, refl, subst, sym, take}
+use Rattle.std.proofs.Common.{ℕ, ◌+◌, ◌≡◌, ◌∙◌, List, [], ◌∷◌, ◌++◌, Option, Some, None, ap, append-nil, arith, codes, drop}
+use Rattle.std.proofs.Common.{sym, take}
 use Rattle.std.specs.Prelude.{IsSomeAnd}
 use Rattle.std.proofs.lemmas.List.{take-append-drop}
 use Rattle.std.proofs.lemmas.Option.{same_Some}
@@ -18,16 +19,16 @@ use Rattle.session_laws.proofs.Legal.{driven_logs_are_derivations}
 use Rattle.lotos_run.specs.declared.run_text.SessionText.TheVariants.{Trace}
 use Rattle.lotos_run.specs.declared.second_file.Second.TheVariants.{Script}
 use Rattle.lotos_run.specs.declared.status.Status.{Status}
-use Rattle.lotos_run.specs.declared.status.Status.TheVariants.{Done, Limit, Memory, NotADerivation, ReadFault, Refused, ScriptRefused, Spent}
+use Rattle.lotos_run.specs.declared.status.Status.TheVariants.{Done, Limit, Memory, NotADerivation, ReadFault, Refused, ScriptRefused}
+use Rattle.lotos_run.specs.declared.status.Status.TheVariants.{Spent}
 use Rattle.lotos_run.specs.declared.status.Status.TheVariants.{Usage, WriteFault}
-use Rattle.lotos_run.specs.Checks.{IsReported, OnAccepted}
-use Rattle.lotos_run.specs.CheckTexts.{refusal_text}
+use Rattle.lotos_run.specs.Checks.{IsReported}
 use Rattle.lotos_run.specs.Derivations.{BeginsTrace, IsOfDerivation, WritesDerivation}
 use Rattle.lotos_run.specs.Due.{IsDueUnread, IsToSimulate}
 use Rattle.lotos_run.specs.Outside.{Shelved}
 use Rattle.lotos_run.specs.Runs.{IsScripted}
 use Rattle.lotos_run.specs.RunTexts.{text_of}
-use Rattle.lotos_run.specs.SecondFiles.{IsSecondDue, OnSecond, most}
+use Rattle.lotos_run.specs.SecondFiles.{IsSecondDue}
 use Rattle.lotos_run.specs.Statuses.{IsFinal}
 use Rattle.lotos_run.proofs.Fetched.{fetched_implied}
 
@@ -150,7 +151,8 @@ module _ (shelf : Shelved) (before after : Option (List ℕ)) (status : Status) 
   written_derives s answer (Some (selfrun seed size workers)) due part all = tt
 
   -- of a simulation nothing is said
-  pub simulated_derives : (program : Program) (settings : Settings) (command : Option Command) → IsToSimulate shelf command program settings →
+  pub simulated_derives : (program : Program) (settings : Settings) (command : Option Command) →
+      IsToSimulate shelf command program settings →
       WritesDerivation shelf.files before after status command
   simulated_derives program settings None h = tt
   simulated_derives program settings (Some (run specification script chosen workers)) h = absurd h

@@ -1,4 +1,5 @@
--- That a trace which `run` writes is that of a derivation, over the inference rules alone. (ISO 8807, dynamic semantics; and this profile's logs.)
+-- That a trace which `run` writes is that of a derivation, over the inference rules alone. (ISO 8807, dynamic semantics; and this
+-- profile's logs.)
 use Rattle.std.specs.Prelude.{ℕ, ◌≡◌, ◌++◌, List, [], Option, Some, codes, take}
 use Rattle.spec_core.specs.Code.{Program}
 use Rattle.rule_model.specs.Behaviours.{Behaviour}
@@ -15,8 +16,8 @@ use Rattle.lotos_outside.specs.Shelf.{OnFetched}
 use Rattle.lotos_run.specs.declared.status.Status.{Status}
 use Rattle.lotos_run.specs.Statuses.{IsFinal}
 
--- From the specification's behaviour on, with so many clients, whose numbers begin with 1, each entry of the log is possible by the inference
--- rules; and the text is the trace of the log, up to its end where the status says that all was written.
+-- From the specification's behaviour on, with so many clients, whose numbers begin with 1, each entry of the log is possible by the
+-- inference rules; and the text is the trace of the log, up to its end where the status says that all was written.
 pub record IsOfDerivation (program : Program) (status : Status) (text : List ℕ) : Type 0 where
   pub log : List Event
   pub ending : Ending
@@ -33,8 +34,8 @@ pub record IsOfDerivation (program : Program) (status : Status) (text : List ℕ
 abbrev pub BeginsTrace : List ℕ → Type 0
 BeginsTrace text = (rest : List ℕ) × (text ≡ codes "lotos-trace " ++ rest)
 
--- Where `run` wrote a text that begins as traces do, it is that of a derivation of the specification, which is what the text in the file is
--- accepted as. Said where the shelf and the sink tell what they have.
+-- Where `run` wrote a text that begins as traces do, it is that of a derivation of the specification, which is what the text in the file
+-- is accepted as. Said where the shelf and the sink tell what they have.
 abbrev pub WritesDerivation : Option (List ℕ → Option (List ℕ)) → Option (List ℕ) → Option (List ℕ) → Status → Option Command → Type 0
 WritesDerivation files before after status (Some (run specification script settings workers)) =
     (held text : List ℕ) → before ≡ Some held → after ≡ Some (held ++ text) → BeginsTrace text →
