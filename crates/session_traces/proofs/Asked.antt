@@ -4,7 +4,8 @@ use Rattle.std.proofs.Common.{if◌then◌else◌, Option, Some, None}
 use Rattle.std.specs.List.{slice_get}
 use Rattle.std.proofs.lemmas.Option.{same_Some}
 use Rattle.spec_core.specs.Code.{ActionField, Binding, ExitValue, Program, Variable, accept, exit_any, exit_given, give}
-use Rattle.spec_core.specs.Functionality.{BindingFits, FieldFits, GuardFits, ValuesFit, accepted, bound_variables, with_variable, with_variables}
+use Rattle.spec_core.specs.Functionality.{BindingFits, FieldFits, GuardFits, ValuesFit, accepted, bound_variables, with_variable}
+use Rattle.spec_core.specs.Functionality.{with_variables}
 use Rattle.spec_core.specs.Lists.{Each, OneOf}
 use Rattle.spec_core.specs.Ready.{IsReady}
 use Rattle.spec_core.specs.Sorts.{FitsData, FitsGround, HasSort, HaveSorts, OnSome, PremiseFits, no_variables}
@@ -24,14 +25,17 @@ use Rattle.rule_sorts.specs.Fitting.{BehaviourFits, ExitFits, HasFewGates}
 use Rattle.rule_sorts.proofs.Reached.{body_fits}
 use Rattle.rule_sorts.proofs.Suiting.{Sorts, value_sort}
 use Rattle.symbolic_rules.specs.MarkedFields.{ArgumentsMayHave, BindingsMayHave, Chooses, FieldsMayHave, MarkedField}
-use Rattle.symbolic_rules.specs.MarkedTerms.{MarkedAssignment, MarkedTerm, MayHaveValue, applied, joined, mark, marked_instance, marked_instances}
+use Rattle.symbolic_rules.specs.MarkedTerms.{MarkedAssignment, MarkedTerm, MayHaveValue, applied, joined, mark, marked_instance}
+use Rattle.symbolic_rules.specs.MarkedTerms.{marked_instances}
 use Rattle.symbolic_rules.specs.MarkedTerms.{plain, unmarked, with_marked}
 use Rattle.symbolic_rules.specs.Windows.{Windows}
-use Rattle.symbolic_reach.specs.Reached.{AcceptsMayHave, ArgumentAsks, Asks, BindingAsks, ExitAsks, FieldAsks, GuardAsks, PremiseAsks, Reaches}
+use Rattle.symbolic_reach.specs.Reached.{AcceptsMayHave, ArgumentAsks, Asks, BindingAsks, ExitAsks, FieldAsks, GuardAsks, PremiseAsks}
+use Rattle.symbolic_reach.specs.Reached.{Reaches}
 use Rattle.symbolic_reach.specs.Reached.{ReachesBelow, ReachesIn}
 use Rattle.node_verdict.specs.Asking.{TreeAsks}
 use Rattle.board_laws.specs.Participants.{ActsIn, at_end, before_end, disabling, first_alone, first_chosen, first_of_both, hidden_action}
-use Rattle.board_laws.specs.Participants.{itself, renamed, second_alone, second_chosen, second_of_both, seen_action, undisabled, undisabled_end}
+use Rattle.board_laws.specs.Participants.{itself, renamed, second_alone, second_chosen, second_of_both, seen_action, undisabled}
+use Rattle.board_laws.specs.Participants.{undisabled_end}
 use Rattle.board_laws.specs.Reasons.{IsAskedAlong, IsAskedNext}
 
 -- what holds of each, and of some one
@@ -95,7 +99,8 @@ module _ (theory : Theory) where
       instances_fit no_terms (c ∷ sorts) h = absurd h
       instances_fit (and_term t ts) [] h = absurd h
       instances_fit (and_term t ts) (c ∷ sorts) h =
-          joined_fit (marked_instance theory m t) (marked_instances theory m ts) c sorts (instance_fits t c h.0) (instances_fit ts sorts h.1)
+          joined_fit (marked_instance theory m t) (marked_instances theory m ts) c sorts (instance_fits t c h.0)
+          (instances_fit ts sorts h.1)
 
     -- what is asked is a ground term
     asked : (u t : TermTree) (a : ℕ) → HasSort theory vars u a → Asks theory m u t → FitsGround theory t
@@ -315,7 +320,8 @@ module _ (program : Program) where
       BehaviourFits program no_variables s.behaviour → IsAskedNext program settings s t → FitsGround program.theory t
   asked_next ready few settings s t i h = by_place h.asked
     where
-      by_place : Reaches program h.windows [] unmarked s.behaviour t ⊎ IsAskedAlong program settings s h.windows t → FitsGround program.theory t
+      by_place : Reaches program h.windows [] unmarked s.behaviour t ⊎ IsAskedAlong program settings s h.windows t →
+          FitsGround program.theory t
       by_place (inl r) = reached ready few h.windows [] no_variables unmarked s.behaviour t (none_suit program.theory unmarked) i r
       by_place (inr r) =
           along ready few h.windows r.rules no_variables unmarked r.part t (none_suit program.theory unmarked)

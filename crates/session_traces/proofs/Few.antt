@@ -45,7 +45,8 @@ own_short : (k : ℕ) (said : List ClientWish) → length (wishes_of k said) ≤
 own_short k [] = omega arith
 own_short k (x ∷ xs) = by_test (x.client == k) (own_short k xs)
   where
-    by_test : (b : Bool) → length (wishes_of k xs) ≤ length xs → length (if b then x.wish ∷ wishes_of k xs else wishes_of k xs) ≤ suc (length xs)
+    by_test : (b : Bool) → length (wishes_of k xs) ≤ length xs →
+        length (if b then x.wish ∷ wishes_of k xs else wishes_of k xs) ≤ suc (length xs)
     by_test true h = omega (arith, h)
     by_test false h = omega (arith, h)
 

@@ -102,7 +102,8 @@ module _ (program : Program) (n : ℕ) (few_clients : n ≤ 64) where
             let fit = fits (record { client = client; number = number; offer = offer; ask = ask }) (inl refl) among in
             subst (λ (q : PendingOffer). NameIs n (name_of q)) f (among, fit.from_one, fit.small));
       })
-  after_entry s (acted action d None) t (rest, derives, agreed, e) fits k = subst (Keeps n) (sym e) (record { opened = k.opened; pending = k.pending })
+  after_entry s (acted action d None) t (rest, derives, agreed, e) fits k =
+      subst (Keeps n) (sym e) (record { opened = k.opened; pending = k.pending })
   after_entry s (acted action d (Some name)) t (rest, derives, agreed, e) fits k =
       subst (Keeps n) (sym e) (record { opened = k.opened; pending = λ p m. k.pending p (in_filtered _ s.pending p m) })
   after_entry s (replied client number answer) t (waits, at, e) fits k =
@@ -137,7 +138,8 @@ module _ (program : Program) (n : ℕ) (few_clients : n ≤ 64) where
       spent_fits at m t (TooLarge u) e h = let never : ⊥ = cc in absurd never
       spent_fits at m t (Limit kind) e h = let never : ⊥ = cc in absurd never
 
-      large_fits : (at m : ℕ) (t : TermTree) (reason : StopReason) → too_large at t ≡ answer_by m reason → ReasonFits program.theory reason →
+      large_fits : (at m : ℕ) (t : TermTree) (reason : StopReason) → too_large at t ≡ answer_by m reason →
+          ReasonFits program.theory reason →
           FitsGround program.theory t
       large_fits at m t (Spent u) e h = let never : ⊥ = cc in absurd never
       large_fits at m t (TooLarge u) e h = let same : term_of u ≡ t = cc in subst (FitsGround program.theory) same h
@@ -152,7 +154,8 @@ module _ (program : Program) (n : ℕ) (few_clients : n ≤ 64) where
       answer_fits s t client number (beyond at d) i p h = by_tree h.holds.tree
         where
           by_tree : ((k : Kind) × IsBeyond program h.windows s.behaviour (Some h.waits.offer) d k) ⊎
-              (((waiting_in s).asks ≡ []) × ((k : Kind) × IsBeyond program h.windows s.behaviour None d k × IsUnseenKind k)) → TreeFits program d
+              (((waiting_in s).asks ≡ []) × ((k : Kind) × IsBeyond program h.windows s.behaviour None d k × IsUnseenKind k)) →
+              TreeFits program d
           by_tree (inl k) = beyond_fits h.windows s.behaviour (Some h.waits.offer) d k.0 i k.1
           by_tree (inr k) = beyond_fits h.windows s.behaviour None d k.1.0 i k.1.1
       answer_fits s t client number (not_now at) i p h = tt
@@ -180,7 +183,9 @@ module _ (program : Program) (n : ℕ) (few_clients : n ≤ 64) where
         among = omega arith;
       }
       event_told before s (acted action d (Some name)) t leads (rest, derives, agreed, e) j fits k =
-          let named = pending_name s k name (record { waits = agreed.waits; among = agreed.among; client = agreed.client; number = agreed.number; holds = tt }) in
+          let named =
+          pending_name s k name
+          (record { waits = agreed.waits; among = agreed.among; client = agreed.client; number = agreed.number; holds = tt }) in
           record {
             fits = (
               action_fits action (gates program ready start is_start clients before s leads d action rest derives)
@@ -230,7 +235,8 @@ module _ (program : Program) (n : ℕ) (few_clients : n ≤ 64) where
       later_offers (stalled names) log h p i = h p i
       later_offers (left client) log h p i = h p i
 
-      log_told : (log before : List Event) (s t : State) → LeadsTo before s → IsJustifiedLog program settings stop log s t → OffersFitIn log →
+      log_told : (log before : List Event) (s t : State) → LeadsTo before s → IsJustifiedLog program settings stop log s t →
+          OffersFitIn log →
           Keeps n s → Each (IsTold program n) log
       log_told [] before s t leads h fits k = tt
       log_told (event ∷ log) before s t leads (next, possible, justified, h) fits k = (
@@ -242,7 +248,8 @@ module _ (program : Program) (n : ℕ) (few_clients : n ≤ 64) where
       pub log_fits : (log : List Event) (t : State) → IsJustifiedLog program settings stop log (start_state start clients) t →
           OffersFitIn log → Keeps n (start_state start clients) → Each (EventFits program) log
       log_fits log t h fits k =
-          each_implied (IsTold program n) (EventFits program) log (λ e r. r.fits) (log_told log [] (start_state start clients) t refl h fits k)
+          each_implied (IsTold program n) (EventFits program) log (λ e r. r.fits)
+          (log_told log [] (start_state start clients) t refl h fits k)
 
       pub log_among : (log : List Event) (t : State) → IsJustifiedLog program settings stop log (start_state start clients) t →
           OffersFitIn log → Keeps n (start_state start clients) → Each (λ (e : Event). greatest_in e ≤ n) log

@@ -1,5 +1,6 @@
 -- What `replay` tells of the text of a session.
-use Rattle.std.proofs.Common.{ℕ, zero, suc, ◌+◌, ◌≡◌, ◌<◌, ◌≤◌, ◌^◌, ◌∙◌, refl, sym, ap, subst, List, [], ◌∷◌, ◌++◌, append_assoc, arith, codes, length}
+use Rattle.std.proofs.Common.{ℕ, zero, suc, ◌+◌, ◌≡◌, ◌<◌, ◌≤◌, ◌^◌, ◌∙◌, refl, sym, ap, subst, List, [], ◌∷◌, ◌++◌, append_assoc, arith}
+use Rattle.std.proofs.Common.{codes, length}
 use Rattle.std.proofs.Common.{Contains, max, nat_eq, not, eqb-true}
 use Rattle.std.proofs.Math.Nat.{le-max_left, le-max_right, max-le}
 use Rattle.lotos_ast.specs.declared.text_kind.TextKind.{TextKind}
@@ -45,7 +46,8 @@ module _ (program : Program) where
   -- a client that is open first, and none is last, leaves
   named : (log : List Event) (s t : State) → IsDerivation program log s t → t.open_clients ≡ [] → (c : ℕ) → Contains s.open_clients c →
       c ≤ greatest_client log
-  named [] s t d closed c m = absurd (contains_none c (subst (λ (cs : List ℕ). Contains cs c) (ap (λ (z : State). z.open_clients) (sym d) ∙ closed) m))
+  named [] s t d closed c m =
+      absurd (contains_none c (subst (λ (cs : List ℕ). Contains cs c) (ap (λ (z : State). z.open_clients) (sym d) ∙ closed) m))
   named (event ∷ log) s t (next, possible, d) closed c m = by_event event possible (named log next t d closed c)
     where
       later : (e : Event) → c ≤ greatest_client log → c ≤ max (greatest_in e) (greatest_client log)
@@ -147,7 +149,8 @@ module _ (program : Program) (settings : Settings) (ready : IsReady program) (fe
             behind = rest;
             has = has;
             begins =
-                sym spelled ∙ e ∙ ap (λ (z : List ℕ). before ++ z) f ∙ ap (λ (z : List ℕ). before ++ z) (sym (append_assoc line (codes "\n") rest))
+                sym spelled ∙ e ∙ ap (λ (z : List ℕ). before ++ z) f ∙ ap (λ (z : List ℕ). before ++ z)
+                (sym (append_assoc line (codes "\n") rest))
                 ∙ sym (append_assoc before (line ++ codes "\n") rest);
           })
       never_bad before after e (ends_early single never) = never log ending (record { has = has; spelled = spelled; short = fits })

@@ -129,7 +129,8 @@ module _ (program : Program) (settings : Settings) (ready : IsReady program) (fe
     offers_fit : (p : PendingOffer) → IsOneOf p (offers_in log) → IsAmong count p.client → IsFit program p
     offers_fit p i among =
         let high = among.1 in
-        of_clients program 1 offers log session.session.answered (valued_clients program clients offers session.valued short fit) p i among.0
+        of_clients program 1 offers log session.session.answered
+        (valued_clients program clients offers session.valued short fit) p i among.0
         (omega (arith, high))
 
     pub derivation : IsDerivation program log begins whole.last

@@ -62,7 +62,8 @@ module _ (program : Program) where
     other_side (IsValuedWish program.theory) (WishFits program) (λ (o : Wish). OfferFits program o.offer) valued_wish ws os h k.1,
   )
 
-  both_hold : (clients : List (List Wished)) → Each (λ (ws : List Wished). length ws < 2 ^ 64) clients → Each (Each (WishFits program)) clients →
+  both_hold : (clients : List (List Wished)) → Each (λ (ws : List Wished). length ws < 2 ^ 64) clients →
+      Each (Each (WishFits program)) clients →
       Each (λ (ws : List Wished). (length ws < 2 ^ 64) × Each (WishFits program) ws) clients
   both_hold [] h k = tt
   both_hold (ws ∷ clients) h k = ((h.0, k.0), both_hold clients h.1 k.1)
