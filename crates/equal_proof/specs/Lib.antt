@@ -1,0 +1,4 @@
+pub mod Certificates
+pub mod Laws
+pub mod Outcomes
+pub mod Pairs
