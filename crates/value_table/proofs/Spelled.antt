@@ -1,15 +1,15 @@
 -- Ground terms as lists of operations: each list spells one list of ground terms at most.
-use Rattle.std.proofs.Common.{ℕ, zero, suc, ◌≡◌, ◌<◌, ◌≤◌, ◌+◌, ◌-◌, List, [], ◌∷◌, ◌++◌, length, map, reverse, take, drop, get_or, refl, sym, ap}
-use Rattle.std.proofs.Common.{subst, ◌∙◌, ◌↔◌, IsTrue, nat_eq, arith, Option, Some, None, append_assoc}
+use Rattle.std.proofs.Common.{ℕ, suc, ◌≡◌, ◌<◌, ◌≤◌, ◌+◌, ◌-◌, List, [], ◌∷◌, ◌++◌, length, map, reverse, take, drop, get_or, refl, sym}
+use Rattle.std.proofs.Common.{ap, subst, ◌∙◌, ◌↔◌, IsTrue, nat_eq, arith, Option, Some, None, append_assoc}
 use Rattle.std.proofs.lemmas.Bool.{eq-eqb, eqb-true}
-use Rattle.std.proofs.lemmas.List.{append-nil, length-append, map-append, length-map, length-reverse, reverse-append, reverse-reverse, take-append-drop, take-map, drop-map}
+use Rattle.std.proofs.lemmas.List.{append-nil, length-append, map-append, length-map, length-reverse, reverse-append, reverse-reverse}
+use Rattle.std.proofs.lemmas.List.{take-append-drop, take-map, drop-map}
 use Rattle.std.proofs.lemmas.Option.{same_Some, get_or_from_slice_get}
 use Rattle.std.specs.List.{slice_get}
 use Rattle.spec_core.specs.Lists.{Each}
 use Rattle.spec_core.specs.Sorts.{OnSome, HasSort, HaveSorts, FitsGround, no_variables}
 use Rattle.spec_core.specs.Terms.{TermTree, TermTrees, variable, apply, no_terms, and_term, preorder, preorders, terms}
 use Rattle.spec_core.specs.Theories.{Operation, Theory}
-use Rattle.spec_core.proofs.Instances.{on_both, on_map}
 use Rattle.spec_core.proofs.Lists.{each_append, each_right, map_drop}
 use Rattle.spec_core.specs.declared.items.Op.{Op}
 use Rattle.spec_core.specs.Numbers.{op_number}
@@ -120,7 +120,8 @@ module _ (theory : Theory) where
       one_spelling fs (list_of x.args ++ x.rest) (list_of y.args ++ y.rest) x.fit y.fit x.spelled y.spelled in
       let d : x.declared ≡ y.declared = same_Some _ _ (sym x.found ∙ y.found) in
       let l : length (list_of x.args) ≡ length (list_of y.args) =
-      list_length x.args x.declared.args x.sorts ∙ ap (λ (o : Operation). length o.args) d ∙ sym (list_length y.args y.declared.args y.sorts) in
+      list_length x.args x.declared.args x.sorts ∙ ap (λ (o : Operation). length o.args) d
+      ∙ sym (list_length y.args y.declared.args y.sorts) in
       let r = halves (list_of x.args) x.rest (list_of y.args) y.rest l all in
       x.whole ∙ ap (λ args. apply f args ∷ x.rest) (one_terms x.args y.args r.0) ∙ ap (λ rest. apply f y.args ∷ rest) r.1 ∙ sym y.whole
 

@@ -1,6 +1,6 @@
 -- Tables of terms.
-use Rattle.std.proofs.Common.{ℕ, zero, suc, ◌≡◌, ◌<◌, ◌≤◌, ◌+◌, ◌⊎◌, ◌↔◌, List, [], ◌∷◌, ◌++◌, length, map, get_or, refl, sym, ap, subst, ◌∙◌}
-use Rattle.std.proofs.Common.{arith, inl, inr, Bool, true, false, ◌&&◌, nat_eq, Option, Some, None, if◌then◌else◌, IsTrue}
+use Rattle.std.proofs.Common.{ℕ, zero, suc, ◌≡◌, ◌<◌, ◌≤◌, ◌+◌, ◌⊎◌, ◌↔◌, List, [], ◌∷◌, ◌++◌, length, map, get_or, refl, sym, ap, subst}
+use Rattle.std.proofs.Common.{◌∙◌, arith, inl, inr, Bool, true, false, ◌&&◌, nat_eq, Some, if◌then◌else◌, IsTrue}
 use Rattle.std.proofs.lemmas.Bool.{cases_lt, and_parts, eq-eqb, eqb-true}
 use Rattle.std.proofs.lemmas.List.{length-append, length-map, map-append}
 use Rattle.std.proofs.lemmas.Option.{same_Some, slice_get_within, slice_get-map}
@@ -9,13 +9,13 @@ use Rattle.std.specs.List.{slice_get, list_any, AllByRecursion, IsDistinct}
 use Rattle.std.specs.Prelude.{option_map}
 use Rattle.spec_core.specs.Lists.{Each}
 use Rattle.spec_core.specs.Sorts.{FitsGround}
-use Rattle.spec_core.specs.Terms.{TermTree, TermTrees, variable, apply, terms}
+use Rattle.spec_core.specs.Terms.{TermTree, TermTrees, apply, terms}
 use Rattle.spec_core.specs.Theories.{Theory}
 use Rattle.spec_core.proofs.Lists.{each_implied}
 use Rattle.spec_core.proofs.Same.{terms_one}
 use Rattle.value_table.specs.declared.table.Row.{Row}
-use Rattle.value_table.specs.Tables.{Application, application_of, is_same, tree_in, row_tree, trees_after, tree_at, IsRow, AreMade, IsTable}
-use Rattle.value_table.specs.Tables.{HasRow, IsLonger, AreFit}
+use Rattle.value_table.specs.Tables.{Application, application_of, is_same, tree_in, row_tree, trees_after, tree_at, IsRow, AreMade}
+use Rattle.value_table.specs.Tables.{IsTable, HasRow, IsLonger, AreFit}
 
 -- the same rows are equal
 rows_equal : (a b : Application) → a.op ≡ b.op → a.args ≡ b.args → a ≡ b

@@ -1,6 +1,7 @@
 // Lists of operations read into a table.
 
-ghost use Rattle.std.specs.Prelude.{◌≡◌, ◌<◌, ◌≤◌, ◌-◌, ◌∷◌, IfNone, IfOk, IfSome, IsFalse, IsTrue, OnOk, Some, drop, length, reverse, take};
+ghost use Rattle.std.specs.Prelude.{◌≡◌, ◌<◌, ◌≤◌, ◌-◌, ◌∷◌, IfNone, IfOk, IfSome, IsFalse, IsTrue, OnOk, Some};
+ghost use Rattle.std.specs.Prelude.{drop, length, reverse, take};
 ghost use Rattle.std.specs.List.{slice_get};
 ghost use Rattle.spec_core.specs.Lists.{Each};
 ghost use Rattle.spec_core.specs.Terms.{preorder};

@@ -1,4 +1,4 @@
-use Rattle.std.proofs.Common.{rules, ℕ, ◌≡◌, ◌-◌, ◌+◌, ◌∷◌, ◌∙◌, arith, ap, sym, subst, length}
+use Rattle.std.proofs.Common.{rules, ◌≡◌, ◌-◌, ◌+◌, ◌∷◌, ◌∙◌, arith, ap, sym, subst, length}
 use Rattle.spec_core.specs.Theories.{theory_of}
 use Rattle.value_table.specs.Spelled.{SpellsSome}
 use Rattle.value_table.proofs.Spelled.{left_spelled, one_row_read, rest_at}

@@ -1,6 +1,5 @@
-use Rattle.std.proofs.Common.{rules, ℕ, ◌≡◌, ◌≤◌, ◌∷◌, ◌∙◌, arith, ap, sym, subst, true, false, Some, None, length, map, reverse, take, drop, IsTrue}
+use Rattle.std.proofs.Common.{rules, ◌≡◌, ◌∙◌, arith, sym, subst, true, false, Some, None, length, map, reverse, take, IsTrue}
 use Rattle.std.proofs.lemmas.List.{length-map, length-reverse}
-use Rattle.std.specs.List.{slice_get}
 use Rattle.spec_core.specs.Lists.{Each}
 use Rattle.spec_core.specs.Numbers.{sort_number}
 use Rattle.spec_core.specs.Sorts.{HaveSorts, no_variables}
@@ -9,7 +8,7 @@ use Rattle.spec_core.specs.Theories.{operation_of, theory_of}
 use Rattle.spec_core.proofs.Lists.{each_push, each_take}
 use Rattle.value_table.specs.Tables.{tree_at, IsRow}
 use Rattle.value_table.proofs.Spelled.{call_fits, each_drop, each_in_reverse, each_reverse, enough_taken, first_sorts, op_spelled}
-use Rattle.value_table.proofs.Spelled.{takes_first, trees_fit, TakesFirst}
+use Rattle.value_table.proofs.Spelled.{takes_first, trees_fit}
 use Rattle.value_table.proofs.Tables.{still_rows}
 use Rattle.value_table.proofs.reading.read_op.Goals as goal
 
@@ -17,7 +16,8 @@ pub returns-in-None-clause-none : goal.returns-in-None-clause-none
 returns-in-None-clause-none c = λ f h.
     let all = reverse c.args.rows.now.items in
     let x = takes_first (theory_of c.args.algebra.now) c.args.op.0 (map (tree_at c.args.table.now) all)
-    (trees_fit (theory_of c.args.algebra.now) c.args.table.now c.requires.fit all (each_reverse (IsRow c.args.table.now) _ c.requires.there))
+    (trees_fit (theory_of c.args.algebra.now) c.args.table.now c.requires.fit all (each_reverse
+    (IsRow c.args.table.now) _ c.requires.there))
     h in
     let n : Some x.declared ≡ None = sym x.found ∙ c.in-None.ensures.none in
     let z : ⊥ = cc in z
@@ -26,7 +26,8 @@ pub returns-then-len-count-clause-none : goal.returns-then-len-count-clause-none
 returns-then-len-count-clause-none c = λ f h.
     let all = reverse c.args.rows.now.items in
     let x = takes_first (theory_of c.args.algebra.now) c.args.op.0 (map (tree_at c.args.table.now) all)
-    (trees_fit (theory_of c.args.algebra.now) c.args.table.now c.requires.fit all (each_reverse (IsRow c.args.table.now) _ c.requires.there))
+    (trees_fit (theory_of c.args.algebra.now) c.args.table.now c.requires.fit all (each_reverse
+    (IsRow c.args.table.now) _ c.requires.there))
     h in
     let n = enough_taken (theory_of c.args.algebra.now) c.args.table.now c.args.op.0 all (operation_of c.in-Some.declared.now)
     c.in-Some.ensures.some x in
@@ -53,7 +54,8 @@ pub returns-then-not-have_sorts-clause-none : goal.returns-then-not-have_sorts-c
 returns-then-not-have_sorts-clause-none c = λ f h.
     let all = reverse c.args.rows.now.items in
     let x = takes_first (theory_of c.args.algebra.now) c.args.op.0 (map (tree_at c.args.table.now) all)
-    (trees_fit (theory_of c.args.algebra.now) c.args.table.now c.requires.fit all (each_reverse (IsRow c.args.table.now) _ c.requires.there))
+    (trees_fit (theory_of c.args.algebra.now) c.args.table.now c.requires.fit all (each_reverse
+    (IsRow c.args.table.now) _ c.requires.there))
     h in
     let e : c.deref.result.now ≡ take c.len-count.result (reverse c.args.rows.now.items) = search rules in
     let d : c.deref-in-Some.result.now ≡ c.in-Some.declared.now.args.items = search rules in

@@ -1,6 +1,6 @@
 use Rattle.std.proofs.Common.{sym, subst, map}
 use Rattle.spec_core.specs.Lists.{Each}
-use Rattle.value_table.specs.Tables.{application_of, IsRow, IsTable, HasRow}
+use Rattle.value_table.specs.Tables.{application_of, IsRow, HasRow}
 use Rattle.value_table.proofs.Tables.{distinct_rows, grown_rows, made_grown, stored_row}
 use Rattle.value_table.proofs.table.TermTable.insert.Goals as goal
 
@@ -16,7 +16,8 @@ invariant_of-self-2 c = record {
 
 pub returns : goal.returns
 returns c =
-    subst (λ old. HasRow old (application_of c.args.row) (map application_of c.insert_full.new.self.keys) c.in_ok-place.place) c.self.view_is
+    subst (λ old. HasRow old (application_of c.args.row)
+    (map application_of c.insert_full.new.self.keys) c.in_ok-place.place) c.self.view_is
     (record {
       here = stored_row c.insert_full.new.self.keys c.in_ok-place.place c.in_ok-place.ensures.stored.0 c.args.row
           c.in_ok-place.ensures.stored.1 c.in_ok-place.ensures.stored.2;

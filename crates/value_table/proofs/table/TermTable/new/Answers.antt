@@ -1,4 +1,4 @@
-use Rattle.std.proofs.Common.{rules, map, ◌≡◌, [], sym, ap, subst}
+use Rattle.std.proofs.Common.{rules, map, ◌≡◌, [], sym, subst}
 use Rattle.value_table.specs.Tables.{application_of, AreMade}
 use Rattle.value_table.proofs.Tables.{distinct_rows}
 use Rattle.value_table.proofs.table.TermTable.new.Goals as goal
