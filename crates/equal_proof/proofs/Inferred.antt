@@ -480,3 +480,17 @@ side_fits theory e old new xs is t same g rows h =
 pub one_left : (rows : List Application) (stack : List Pair) (p : Pair) (left right : List ℕ) → stack ≡ p ∷ [] →
     left ≡ preorder (tree_at rows p.left) → right ≡ preorder (tree_at rows p.right) → IsOneLeft (stack_of rows stack) left right
 one_left rows stack p left right e a b = (tree_at rows p.left, tree_at rows p.right, ap (stack_of rows) e, a, b)
+
+-- what is known of lists is known of those that they are equal to
+pub sorts_moved : (theory : Theory) (rows : List Application) (found given : List ℕ) (has sorts : List Sort) → found ≡ given → has ≡ sorts →
+    HaveSorts theory no_variables (terms (map (tree_at rows) found)) (map sort_number has) →
+    HaveSorts theory no_variables (terms (map (tree_at rows) given)) (map sort_number sorts)
+sorts_moved theory rows found given has sorts a b h =
+    subst (λ is. HaveSorts theory no_variables (terms (map (tree_at rows) is)) (map sort_number sorts)) a
+    (subst (λ ss. HaveSorts theory no_variables (terms (map (tree_at rows) found)) (map sort_number ss)) b h)
+
+pub variables_moved : (theory : Theory) (has sorts : List Sort) (found xs : List ℕ) (ts : List TermTree) → has ≡ sorts → found ≡ xs →
+    FitVariables theory (map sort_number has) found ts → FitVariables theory (map sort_number sorts) xs ts
+variables_moved theory has sorts found xs ts a b h =
+    subst (λ ys. FitVariables theory (map sort_number sorts) ys ts) b
+    (subst (λ ss. FitVariables theory (map sort_number ss) found ts) a h)

@@ -9,7 +9,7 @@ use Rattle.value_table.proofs.Spelled.{call_fits}
 use Rattle.value_table.proofs.Tables.{longer_on, same_trees, still_rows}
 use Rattle.equal_proof.specs.Certificates.{left_of, right_of}
 use Rattle.equal_proof.specs.Pairs.{stack_of}
-use Rattle.equal_proof.proofs.Inferred.{inside_inferred, inside_sorts}
+use Rattle.equal_proof.proofs.Inferred.{inside_inferred, inside_sorts, sorts_moved}
 use Rattle.equal_proof.proofs.steps.put_inside.Goals as goal
 
 pub returns-then-not-have_sorts-clause-grown : goal.returns-then-not-have_sorts-clause-grown
@@ -59,20 +59,12 @@ make-requires-2 c =
 
 pub returns-clause-grown : goal.returns-clause-grown
 returns-clause-grown c =
-    let x : HaveSorts (theory_of c.args.algebra.now) no_variables (terms (map (tree_at c.args.table.now) c.in_ok-left.left.items))
-    (map sort_number c.args.declared.now.args.items) =
-    subst (λ is. HaveSorts (theory_of c.args.algebra.now) no_variables (terms (map (tree_at c.args.table.now) is))
-    (map sort_number c.args.declared.now.args.items)) c.deref.ensures.value
-    (subst (λ ss. HaveSorts (theory_of c.args.algebra.now) no_variables (terms (map (tree_at c.args.table.now) c.deref.result.now))
-    (map sort_number ss)) c.deref-2.ensures.value
-    (c.have_sorts.ensures.decides.0 c.if-not-have_sorts.false)) in
-    let y : HaveSorts (theory_of c.args.algebra.now) no_variables (terms (map (tree_at c.args.table.now) c.in_ok-right.right.items))
-    (map sort_number c.args.declared.now.args.items) =
-    subst (λ is. HaveSorts (theory_of c.args.algebra.now) no_variables (terms (map (tree_at c.args.table.now) is))
-    (map sort_number c.args.declared.now.args.items)) c.deref-3.ensures.value
-    (subst (λ ss. HaveSorts (theory_of c.args.algebra.now) no_variables (terms (map (tree_at c.args.table.now) c.deref-3.result.now))
-    (map sort_number ss)) c.deref-4.ensures.value
-    (c.have_sorts-2.ensures.decides.0 c.if-not-have_sorts-2.false)) in
+    let x = sorts_moved (theory_of c.args.algebra.now) c.args.table.now c.deref.result.now c.in_ok-left.left.items c.deref-2.result.now
+    c.args.declared.now.args.items c.deref.ensures.value c.deref-2.ensures.value
+    (c.have_sorts.ensures.decides.0 c.if-not-have_sorts.false) in
+    let y = sorts_moved (theory_of c.args.algebra.now) c.args.table.now c.deref-3.result.now c.in_ok-right.right.items c.deref-4.result.now
+    c.args.declared.now.args.items c.deref-3.ensures.value c.deref-4.ensures.value
+    (c.have_sorts-2.ensures.decides.0 c.if-not-have_sorts-2.false) in
     record {
       longer = longer_on c.args.table.now c.make.new.self c.make-2.new.self c.in_ok-left-2.ensures.longer c.in_ok-right-2.ensures.longer;
       fit = c.in_ok-right-2.ensures.fit (theory_of c.args.algebra.now)
@@ -94,20 +86,12 @@ returns-clause-there c =
 
 pub returns-clause-some : goal.returns-clause-some
 returns-clause-some c =
-    let x : HaveSorts (theory_of c.args.algebra.now) no_variables (terms (map (tree_at c.args.table.now) c.in_ok-left.left.items))
-    (map sort_number c.args.declared.now.args.items) =
-    subst (λ is. HaveSorts (theory_of c.args.algebra.now) no_variables (terms (map (tree_at c.args.table.now) is))
-    (map sort_number c.args.declared.now.args.items)) c.deref.ensures.value
-    (subst (λ ss. HaveSorts (theory_of c.args.algebra.now) no_variables (terms (map (tree_at c.args.table.now) c.deref.result.now))
-    (map sort_number ss)) c.deref-2.ensures.value
-    (c.have_sorts.ensures.decides.0 c.if-not-have_sorts.false)) in
-    let y : HaveSorts (theory_of c.args.algebra.now) no_variables (terms (map (tree_at c.args.table.now) c.in_ok-right.right.items))
-    (map sort_number c.args.declared.now.args.items) =
-    subst (λ is. HaveSorts (theory_of c.args.algebra.now) no_variables (terms (map (tree_at c.args.table.now) is))
-    (map sort_number c.args.declared.now.args.items)) c.deref-3.ensures.value
-    (subst (λ ss. HaveSorts (theory_of c.args.algebra.now) no_variables (terms (map (tree_at c.args.table.now) c.deref-3.result.now))
-    (map sort_number ss)) c.deref-4.ensures.value
-    (c.have_sorts-2.ensures.decides.0 c.if-not-have_sorts-2.false)) in
+    let x = sorts_moved (theory_of c.args.algebra.now) c.args.table.now c.deref.result.now c.in_ok-left.left.items c.deref-2.result.now
+    c.args.declared.now.args.items c.deref.ensures.value c.deref-2.ensures.value
+    (c.have_sorts.ensures.decides.0 c.if-not-have_sorts.false) in
+    let y = sorts_moved (theory_of c.args.algebra.now) c.args.table.now c.deref-3.result.now c.in_ok-right.right.items c.deref-4.result.now
+    c.args.declared.now.args.items c.deref-3.ensures.value c.deref-4.ensures.value
+    (c.have_sorts-2.ensures.decides.0 c.if-not-have_sorts-2.false) in
     inside_inferred (theory_of c.args.algebra.now) c.args.table.now c.make.new.self c.make-2.new.self c.args.op
     (operation_of c.args.declared.now) c.in_ok-left.left.items c.in_ok-right.right.items
     c.in_ok-left-2.left c.in_ok-right-2.right c.args.taken.now c.requires.declared c.in_ok-left-2.ensures.longer

@@ -9,7 +9,7 @@ use Rattle.spec_core.specs.Terms.{TermTree, preorder}
 use Rattle.value_table.specs.Tables.{tree_at, IsRow}
 use Rattle.equal_proof.specs.Certificates.{Sides, variables_of, with_variables, FitVariables, IsInstanceBy}
 use Rattle.equal_proof.specs.Pairs.{sides_at, stack_of}
-use Rattle.equal_proof.proofs.Inferred.{instance_read, none_then}
+use Rattle.equal_proof.proofs.Inferred.{instance_read, none_then, variables_moved}
 use Rattle.equal_proof.proofs.steps.use_equation.Goals as goal
 
 pub returns-in-None-clause-grown : goal.returns-in-None-clause-grown
@@ -69,12 +69,9 @@ returns-clause-some c =
     let xs : c.add_variables.new.found.items ≡ variables_of (equation_of c.args.equation.now).left =
     c.in_ok-add_variables.ensures ∙ ap (λ found. with_variables found
     (equation_of c.args.equation.now).left) c.new-variables.ensures.items in
-    let fit : FitVariables (theory_of c.args.algebra.now) (equation_of c.args.equation.now).sorts (variables_of
-    (equation_of c.args.equation.now).left) (map (tree_at c.read_all.new.table) c.in-Some.rows.items) =
-    subst (λ ys. FitVariables (theory_of c.args.algebra.now) (equation_of c.args.equation.now).sorts ys (map
-    (tree_at c.read_all.new.table) c.in-Some.rows.items)) (c.deref-2.ensures.value ∙ xs)
-    (subst (λ ss. FitVariables (theory_of c.args.algebra.now) (map sort_number ss) c.deref-2.result.now (map
-    (tree_at c.read_all.new.table) c.in-Some.rows.items)) c.deref.ensures.value sorted) in
+    let fit = variables_moved (theory_of c.args.algebra.now) c.deref.result.now c.args.equation.now.vars.items c.deref-2.result.now
+    (variables_of (equation_of c.args.equation.now).left) (map (tree_at c.read_all.new.table) c.in-Some.rows.items)
+    c.deref.ensures.value (c.deref-2.ensures.value ∙ xs) sorted in
     let same = stack_stays c.args.table.now c.read_all.new.table c.in_ok-read_all.ensures.grown.longer c.args.taken.now c.requires.there in
     IfOk-weaker c.instance_by.result _ _
     (λ found h. IfSome_then found h (λ pair k. (
@@ -97,12 +94,9 @@ returns-clause-none c =
     let xs : c.add_variables.new.found.items ≡ variables_of (equation_of c.args.equation.now).left =
     c.in_ok-add_variables.ensures ∙ ap (λ found. with_variables found
     (equation_of c.args.equation.now).left) c.new-variables.ensures.items in
-    let fit : FitVariables (theory_of c.args.algebra.now) (equation_of c.args.equation.now).sorts (variables_of
-    (equation_of c.args.equation.now).left) (map (tree_at c.read_all.new.table) c.in-Some.rows.items) =
-    subst (λ ys. FitVariables (theory_of c.args.algebra.now) (equation_of c.args.equation.now).sorts ys (map
-    (tree_at c.read_all.new.table) c.in-Some.rows.items)) (c.deref-2.ensures.value ∙ xs)
-    (subst (λ ss. FitVariables (theory_of c.args.algebra.now) (map sort_number ss) c.deref-2.result.now (map
-    (tree_at c.read_all.new.table) c.in-Some.rows.items)) c.deref.ensures.value sorted) in
+    let fit = variables_moved (theory_of c.args.algebra.now) c.deref.result.now c.args.equation.now.vars.items c.deref-2.result.now
+    (variables_of (equation_of c.args.equation.now).left) (map (tree_at c.read_all.new.table) c.in-Some.rows.items)
+    c.deref.ensures.value (c.deref-2.ensures.value ∙ xs) sorted in
     let same = stack_stays c.args.table.now c.read_all.new.table c.in_ok-read_all.ensures.grown.longer c.args.taken.now c.requires.there in
     IfOk-weaker c.instance_by.result _ _
     (λ found h. none_then found h (λ k put o. k put
