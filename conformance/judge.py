@@ -47,11 +47,26 @@ def told(lines):
     return own, answers, actions
 
 
+def budget_and_names(words):
+    """The budget of a call as words of another one, none where it isn't given, and the names of its files."""
+    budget, names, rest = [], [], iter(words[1:])
+    for word in rest:
+        option, is_joined, value = word.partition(b"=")
+        if word == b"--":
+            names += rest
+        elif option.startswith(b"--"):
+            value = value if is_joined else next(rest, b"")
+            budget = [option, value] if option == b"--budget" else budget
+        else:
+            names.append(word)
+    return budget, names
+
+
 def replayed(program, words, place, trace):
     """What the program's `replay` prints of a trace."""
     (place / "judged.trace").write_bytes(trace)
-    budget = words[words.index(b"--budget"):][:2] if b"--budget" in words else []
-    call = [program, "replay", words[1], "judged.trace", *budget]
+    budget, names = budget_and_names(words)
+    call = [program, "replay", *budget, "--", names[0], "judged.trace"]
     end = subprocess.run(call, cwd=place, stdin=subprocess.DEVNULL, capture_output=True, timeout=SECONDS)
     return end.stdout.decode("latin-1")
 
