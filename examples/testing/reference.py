@@ -13,9 +13,9 @@ class Stopped(Exception):
 class Reference:
     """A session of `lotos sim`: each line is answered before the next one is sent."""
 
-    def __init__(self, spec, *options):
+    def __init__(self, spec, *options, program=LOTOS):
         pipes = {"stdin": subprocess.PIPE, "stdout": subprocess.PIPE, "text": True, "bufsize": 1}
-        self.run = subprocess.Popen([LOTOS, "sim", spec, *options], **pipes)
+        self.run = subprocess.Popen([program, "sim", spec, *options], **pipes)
 
     def ask(self, line):
         """Sends a line, and reads the first line of its answer."""
