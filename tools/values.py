@@ -7,8 +7,8 @@ import data
 from data import Reading
 from specification import Unreadable
 
-# The most uses of equations for an expression, and the most symbols of a value.
-USES, SYMBOLS = 20_000, 2_000
+# The most steps for an expression, the most symbols of a value, and the longest text of one.
+STEPS, SYMBOLS, LONGEST = 50_000, 2_000, 20_000
 
 
 class Unknown(Exception):
@@ -20,7 +20,7 @@ class Values:
 
     def __init__(self, text):
         self.text, self.content = text, data.Data(text).whole
-        self.equations, self.read, self.uses = {}, {}, 0
+        self.equations, self.read, self.steps = {}, {}, 0
         self.inhabited = data.inhabited(self.content.operations)
         for equation in self.content.equations.values():
             if not isinstance(equation.left.head, str):
@@ -38,7 +38,7 @@ class Values:
         if key not in self.read:
             variables = {name: declared.sort.lower() for name, declared in seen.items()}
             try:
-                found = self.content.readings(data.expression_of(self.text[begin:end]), variables, sort)
+                found = self.content.readings(data.expression_of(self.text[begin:end]), variables, sort) if end - begin < LONGEST else []
             except Unreadable:
                 found = []
             self.read[key] = found[0] if len(found) == 1 else None
@@ -57,7 +57,7 @@ class Values:
 
     def evaluated(self, reading, known):
         """The value of a reading, or None."""
-        self.uses = 0
+        self.steps = 0
         try:
             return self.worked_out(reading, known) if reading else None
         except Unknown:
@@ -97,6 +97,8 @@ class Values:
 
     def of_text(self, text, sort=None):
         """The value of a text, as a trace has it, or None."""
+        if len(text) > LONGEST:
+            return None
         try:
             found = self.content.readings(data.expression_of(text), {}, sort and sort.lower())
         except (Unreadable, RecursionError):
@@ -107,6 +109,9 @@ class Values:
 
     def worked_out(self, reading, known):
         """The value of a reading: its arguments first, and then the first equation that applies."""
+        self.steps += 1
+        if self.steps > STEPS:
+            raise Unknown
         if isinstance(reading.head, str):
             if known.get(reading.head) is None:
                 raise Unknown
@@ -116,12 +121,9 @@ class Values:
             bound = {}
             if all(matched(pattern, value, bound) for pattern, value in zip(equation.left.arguments, arguments)) \
                     and all(self.worked_out(one, bound) == self.worked_out(other, bound) for one, other in equation.premises):
-                self.uses += 1
-                if self.uses > USES:
-                    raise Unknown
                 return self.worked_out(equation.right, bound)
         made = Reading(reading.head, arguments, reading.sort)
-        if arguments and self.uses % 64 == 0 and size(made) > SYMBOLS:
+        if arguments and self.steps % 16 == 0 and size(made) > SYMBOLS:
             raise Unknown
         return made
 
