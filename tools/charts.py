@@ -88,10 +88,15 @@ def lifted(part, depth):
 
 def label_of(entry, done):
     """What is written at an action: its gate and values, and what is hidden."""
+    return labelled(entry.text, done)
+
+
+def labelled(text, done):
+    """An action with what is hidden of it."""
     if done.hidden is None:
-        return entry.text
+        return text
     values = "".join(f" !{'..' if value is None else value}" for value in done.hidden.values)
-    return f"{entry.text} ({done.hidden.gate}{values})"
+    return f"{text} ({done.hidden.gate}{values})"
 
 
 def acted(way, entry):

@@ -115,6 +115,15 @@ def standing(node, part):
     return [below for side, sided in zip(node.parts, node.sides) for below in standing(side, sided)]
 
 
+def waiting(node):
+    """The constructs that stand in a settled behaviour, from the left, one for each part."""
+    while node.kind in STATIC or node.kind == "call":
+        node = node.parts[0]
+    if node.kind != "parallel":
+        return [node]
+    return [below for side in node.parts for below in waiting(side)]
+
+
 def filled(node, chosen, values):
     """The values of an action as texts: those that are chosen, and those of expressions where they are known, else None."""
     rest = iter(chosen)
