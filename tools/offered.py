@@ -16,6 +16,17 @@ Lack = namedtuple("Lack", "could operator side others gate")
 MOST = 400
 
 
+def acting(rules):
+    """Where what acts by rules stands in the text, as ranges."""
+    return sorted({(rule.node.begin, max(rule.node.end, rule.node.begin + 1)) for rule in rules if rule.tree.rule in steps.LEAVES})
+
+
+def waits(state, offered):
+    """Where parts of a behaviour wait in the text, as ranges: what stands in each, and what could be done."""
+    found = {(node.begin, max(node.end, node.begin + 1)) for node in steps.waiting(state) if node.kind != "choice"}
+    return sorted(found | {(node.begin, node.end) for one in offered.could for node in one.leaves})
+
+
 class Offered:
     """What a behaviour could do, and what lacks a partner; `closed` are guards that don't hold, with what stands behind each."""
 

@@ -12,7 +12,7 @@ import steps
 import traces
 import values
 import why
-from offered import Offered
+from offered import Offered, acting, waits
 
 TEMPLATE = pathlib.Path(__file__).resolve().parent / "page.html"
 # How many lines of what could be done are shown.
@@ -50,12 +50,9 @@ class Page:
     def step(self, followed, offers, label, row, done):
         """What is shown at a step."""
         offered = Offered(followed.state, self.values)
-        waits = [(node.begin, max(node.end, node.begin + 1)) for node in steps.waiting(followed.state) if node.kind != "choice"]
-        waits += [(node.begin, node.end) for one in offered.could for node in one.leaves]
-        acts = [(rule.node.begin, max(rule.node.end, rule.node.begin + 1)) for rule in done.rules if rule.tree.rule in steps.LEAVES] if done else []
         could = ["  ".join(row).rstrip() for row in self.told.could(offered)[:SHOWN]]
         pending = [f"{client}.{number} {text}" for (client, number), text in sorted(offers.items())]
-        return {"label": label, "row": row, "acts": sorted(set(acts)), "waits": sorted(set(waits)), "pending": pending, "could": could,
+        return {"label": label, "row": row, "acts": acting(done.rules) if done else [], "waits": waits(followed.state, offered), "pending": pending, "could": could,
                 "rules": self.rules(done) if done else []}
 
     def rules(self, done):
