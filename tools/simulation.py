@@ -173,9 +173,9 @@ class Simulation:
         end = {"ended": "exit", "deadlock": "deadlock"}.get(self.none, "waiting")
         entries = [*self.entries, traces.Entry("end", 0, (), end, None)]
         chart = charts.chart_of(entries, self.text)
-        if end == "waiting":
-            chart.rows.pop()
-        head, *lines = charts.as_text(chart._replace(rows=chart.rows)).rstrip("\n").split("\n") if chart.rows else [""]
+        rows = [row._replace(label=self.label(at)) if row.number else row for at, row in enumerate(chart.rows)]
+        rows = rows[:-1] if end == "waiting" else rows
+        head, *lines = charts.as_text(chart._replace(rows=rows)).rstrip("\n").split("\n") if rows else [""]
         return head, [line for line in lines if line not in ("", head)]
 
     def marked(self, length):
@@ -190,7 +190,7 @@ class Simulation:
             yield from (f"  {rule}" for rule in seen.rules)
         yield "waits:"
         for node in [] if self.unfit else steps.waiting(self.followed.state):
-            yield f"  {self.told.where([node])}  {self.told.source(node.begin, max(node.end, node.begin + 1))}"
+            yield f"  {self.told.where([node])}  {self.told.source(node.begin, node.end) or node.name}"
             yield from (f"    {name} is {self.values.spelled(value) if value else 'not known here'}" for name, value in (node.known or {}).items())
 
     def why(self):

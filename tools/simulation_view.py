@@ -4,6 +4,7 @@
 On a wide screen the text stands on the left, and the menu over the chart on the right; else they stand one over another.
 """
 import re
+import textwrap
 
 import charts
 import specification
@@ -132,11 +133,13 @@ class View:
         chosen = [line for line, found in spans.items() if any(style == "chosen" for *_, style in found)]
         wanted = min(chosen or spans, default=1) - 1
         top = windowed(len(self.text), rows, self.moved.get("text", wanted - rows // 3))
-        left, found = self.left.get("text", 0), []
+        # Where what acts first stands far to the right, the lines are moved.
+        far = min((begin for begin, _, style in spans.get(wanted + 1, []) if style == ("chosen" if chosen else "waits")), default=0)
+        left, found = self.left.get("text", far - width // 2 if far > width - 16 else 0), []
         for number, line in list(enumerate(self.text, 1))[top:top + rows]:
             sign = ">" if number in chosen else "*" if number in spans else " "
             found.append([(f"{number:>4}{sign} ", ""), *styled(line, spans.get(number, []), left, width - 6)])
-        self.begun["text"] = top
+        self.begun["text"], self.begun["left of text"] = top, left
         return f"text, lines {top + 1} to {top + len(found)} of {len(self.text)}", found
 
     def choice(self):
@@ -258,7 +261,7 @@ class View:
 
     def changed(self):
         """Shows what there is behind a step, from the beginning of the menu."""
-        self.selected, self.top, self.moved = 0, 0, {}
+        self.selected, self.top, self.moved, self.left = 0, 0, {}, {"chart": self.left.get("chart", 0)}
 
     def number(self, digits):
         """Chooses a step by its number."""
@@ -274,7 +277,7 @@ class View:
         """Moves in the pane."""
         by = {"up": -1, "down": 1, "page up": -self.height // 3, "page down": self.height // 3, "home": -10 ** 6}.get(name)
         if by is None:
-            self.left[self.focus] = max(0, self.left.get(self.focus, 0) + (8 if name == "right" else -8))
+            self.left[self.focus] = max(0, self.left.get(self.focus, self.begun.get("left of " + self.focus, 0)) + (8 if name == "right" else -8))
         elif self.focus == "menu" and self.simulation.choices:
             self.selected = max(0, min(self.selected + by, len(self.simulation.choices) - 1))
             self.moved.pop("text", None)
@@ -339,8 +342,9 @@ def closer(line):
 
 
 def pieces(line, width):
-    """A line in pieces that are no wider, one at least."""
-    return [line[begin:begin + width] for begin in range(0, max(len(line), 1), width)]
+    """A line in pieces that are no wider, one at least; those behind the first stand further in."""
+    inside = " " * (len(line) - len(line.lstrip(" ")) + 2)
+    return textwrap.wrap(line, width, subsequent_indent=inside, break_on_hyphens=False, tabsize=1) or [""]
 
 
 def side_by_side(one, other, left):
