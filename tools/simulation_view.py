@@ -13,26 +13,27 @@ WIDE, LEAST = 120, (40, 12)
 KEYS = "Enter do  o offer  u undo  m mark  ' back  b break  g go  v all  ? keys  q quit"
 MORE_KEYS = "r redo  w write  Tab pane  z zoom"
 HELP = """\
-up, down     choose a step of the menu; so does its number
-Enter        do the step that is chosen
-o            make an offer: GATE, and for each value !expression or ?Sort. A number n stands
-             for Succ(..Succ(0)..), unless it is a name of the specification
-u, r         take the last step back; do it again
-m, '         mark what is done so far, with a letter; go back to a mark
-b            set a break at a gate, also a hidden one, or take it away
-g            go on, by steps chosen at random, until one is at a gate of a break, or none is
-             left, or a key is pressed; '. goes back to where this began
-v            all of the step that is chosen: its whole values, its rules with their places,
-             and what waits, with the values of its variables
-w            write the trace so far into a file, for replay, tools/draw and tools/page
-Tab, z       go to the next pane: text, menu, chart; give it the whole screen
+up, down   choose a step of the menu; so does its number
+Enter      do the step that is chosen
+o          make an offer: GATE, and for each value !expression or ?Sort; a number
+           stands for a natural, unless it is a name of the specification
+u, r       take the last step back; do it again
+m, '       mark what is done so far, with a letter; go back to a mark
+b          set a break at a gate, also a hidden one, or take it away
+g          go on, by steps chosen at random, until one is at a gate of a break,
+           or none is left, or a key is pressed; '. goes back to the beginning
+v          all of the chosen step: whole values, rules with their places, and what
+           waits, with the values of its variables
+w          write the trace so far into a file, for replay, tools/draw, tools/page
+Tab, z     go to the next pane: text, menu, chart; give it the whole screen
 arrows, Page up, Page down, Home     move in the pane
-q            quit
+q          quit
 
-In the text `*` stands at lines where parts wait, and `>` where the chosen step acts. In the
-menu i (middle !1) is an internal step that hides the action at middle with the value 1.
-..  stands where a place isn't worked out yet. Nothing of the screen is proved but what `sim`
-answers, and that only by a program that is proved.""".split("\n")
+In the text `*` stands at lines where parts wait, and `>` where the chosen step
+acts. In the menu i (middle !1) is an internal step that hides an action at
+middle, with the value 1; .. stands where a place isn't known yet. Only what
+`sim` answers is proved, and that where the program is.""".split("\n")
+OVER = "up, down and Page show more, any other key goes on"
 PANES = ("text", "menu", "chart")
 # What is asked for a line of text, or for one letter.
 ASKED = {"o": "offer: ", "b": "break at the gate: ", "w": "write the trace to: ", "m": "mark: ", "'": "back to the mark: "}
@@ -108,6 +109,8 @@ class View:
 
     def foot(self, width):
         """What is asked for, or what was told last."""
+        if self.overlay is not None:
+            return [(OVER[:width], "told")]
         asked = self.asked and f"{ASKED[self.asked]}{self.typed}_"
         return [(asked[-width:] if asked else shown(self.message)[:width], "told")]
 
@@ -248,7 +251,7 @@ class View:
         """Tells lines: one at the foot, more in the place of the panes."""
         self.message = lines[0]
         if len(lines) > 1 or len(lines[0]) > 78:
-            self.overlay, self.at = [*map(charts.digits, lines), "", "any key goes on"], 0
+            self.overlay, self.at = list(map(charts.digits, lines)), 0
 
     def write(self, name):
         """Writes the trace into a file."""
