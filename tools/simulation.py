@@ -39,8 +39,9 @@ class Simulation:
         self.values, self.draw = values.Values(self.text), random.Random(seed)
         self.told, self.sim = why.Told(self.text, self.values), None
         self.undone, self.marks, self.breaks, self.known = [], {}, set(), {}
-        self.gates = {gate.lower() for process in self.told.whole.all() for gate in process.gates} | {"i", "exit"}
-        self.gates |= {gate.lower() for process in self.told.whole.all() for node in specification.nodes(process.body) if node.kind == "hide" for gate in node.gates}
+        processes = list(self.told.whole.all())
+        hides = [node for process in processes for node in specification.nodes(process.body) if node.kind == "hide"]
+        self.gates = {gate.lower() for one in [*processes, *hides] for gate in one.gates} | {"i", "exit"}
         self.restart([])
 
     # -------------------------------------------------------------- the session
@@ -50,8 +51,11 @@ class Simulation:
         import reference
         self.close()
         self.sim = running.session(self.program, self.spec, *self.options)
-        self.followed = steps.Followed(specification.read(self.text), self.values)
         self.lines, self.entries, self.acts, self.stopped, self.unfit, self.refused = [], [], [], "", "", False
+        try:
+            self.followed = steps.Followed(specification.read(self.text), self.values)
+        except RecursionError:
+            self.unfit = "the text can't be followed: it spreads too far"
         try:
             for line in lines:
                 self.sim.lines("menu", NOTHING)
@@ -155,7 +159,18 @@ class Simulation:
 
     def waiting(self):
         """Where parts wait in the text, as ranges."""
-        return self.once("waiting", lambda: [] if self.unfit else waits(self.followed.state, Offered(self.followed.state, self.values)))
+        return self.once("waiting", lambda: waits(self.followed.state, self.offered()) if self.offered() else [])
+
+    def offered(self):
+        """What could be done, or None where the text can't be followed."""
+        return self.once("offered", self.could)
+
+    def could(self):
+        """Works out what could be done."""
+        try:
+            return None if self.unfit else Offered(self.followed.state, self.values)
+        except RecursionError:
+            return None
 
     def last(self):
         """What the last step was by its tree, or None."""
@@ -167,12 +182,16 @@ class Simulation:
         return self.once("chart", self.charted)
 
     def charted(self):
-        """Makes the chart so far."""
-        if self.unfit:
-            return "", [f"{number:>4}  {entry.text}" for number, (entry, _) in enumerate(self.acts, 1)]
+        """Makes the chart so far; where the text can't be followed it is a list of what was done."""
+        try:
+            return self.drawn()
+        except (steps.Unfit, RecursionError):
+            return "", [f"{number:>4}  {charts.short(entry.text)}" for number, (entry, _) in enumerate(self.acts, 1)]
+
+    def drawn(self):
+        """Draws the chart so far, with the values that are known here."""
         end = {"ended": "exit", "deadlock": "deadlock"}.get(self.none, "waiting")
-        entries = [*self.entries, traces.Entry("end", 0, (), end, None)]
-        chart = charts.chart_of(entries, self.text)
+        chart = charts.chart_of([*self.entries, traces.Entry("end", 0, (), end, None)], self.text)
         rows = [row._replace(label=self.label(at)) if row.number else row for at, row in enumerate(chart.rows)]
         rows = rows[:-1] if end == "waiting" else rows
         head, *lines = charts.as_text(chart._replace(rows=rows)).rstrip("\n").split("\n") if rows else [""]
@@ -202,7 +221,7 @@ class Simulation:
         if self.stopped:
             return [f"the session has stopped: {self.stopped}", "u begins it anew, without its last step"]
         lines = [f"{self.none}: {why.MEANINGS[self.none]}"]
-        return lines + ([] if self.unfit or self.none == "ended" else list(self.told.state(Offered(self.followed.state, self.values))))
+        return lines + (list(self.told.state(self.offered())) if self.offered() and self.none != "ended" else [])
 
     def trace(self):
         """The trace so far, with an end, as `replay` takes it."""
@@ -226,10 +245,10 @@ class Simulation:
         if answer == "bad line":
             return ["bad line: " + self.fault(self.spelled(text))]
         self.undone = []
-        if answer not in why.MEANINGS or self.unfit:
+        if answer not in why.MEANINGS or not self.offered():
             return [self.worded(answer)]
         offer = next(entry.text for entry in reversed(self.entries) if entry.kind == "ask")
-        said = list(dict.fromkeys(self.told.near(Offered(self.followed.state, self.values), offer))) if answer != "ended" else []
+        said = list(dict.fromkeys(self.told.near(self.offered(), offer))) if answer != "ended" else []
         return [f"{charts.short(offer)}: {answer}, {why.MEANINGS[answer]}", *said]
 
     def spelled(self, text):
@@ -294,7 +313,8 @@ class Simulation:
         return bool(self.breaks & {entry.text.split(" ")[0].lower(), done.hidden.gate.lower() if done and done.hidden else ""})
 
     def go_on(self, interrupted=lambda: False):
-        """Does steps, each chosen evenly among those of the menu, until one is at a gate of a break, or there is none; gives a sentence. The mark `.` is where it began."""
+        """Does steps, each chosen evenly among those of the menu, until one is at a gate of a break, or there is none; gives a sentence. The mark `.` is
+        where it began."""
         begun = len(self.lines)
         if self.choices:
             self.undone, self.marks["."] = [], list(self.lines)
