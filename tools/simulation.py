@@ -62,7 +62,7 @@ class Simulation:
                 self.sim.ask(line)
                 self.lines.append(line)
         except (reference.Stopped, OSError) as reason:
-            self.stopped = str(reason)
+            self.stopped = stop_of(reason)
         self.look()
 
     def close(self):
@@ -79,7 +79,7 @@ class Simulation:
         try:
             answer = self.sim.ask(line)
         except (reference.Stopped, OSError) as reason:
-            self.stopped, self.choices, self.refused = str(reason), [], True
+            self.stopped, self.choices, self.refused = stop_of(reason), [], True
             return self.stopped
         if answer not in ("bad line", "no step"):
             self.lines.append(line)
@@ -96,7 +96,7 @@ class Simulation:
             self.follow(self.sim.trace())
             menu = [line.split(" ", 1) for line in self.sim.lines("menu", NOTHING)]
         except (reference.Stopped, OSError) as reason:
-            self.stopped = str(reason)
+            self.stopped = stop_of(reason)
             return
         self.choices = [Choice(int(line[0]), line[1]) for line in menu if line[0].isdigit()]
         self.none, self.more = "" if self.choices else menu[0][0], ["more"] in menu
@@ -219,7 +219,7 @@ class Simulation:
     def reasons(self):
         """Works out why there is no step."""
         if self.stopped:
-            return [f"the session has stopped: {self.stopped}", "u begins it anew, without its last step"]
+            return [f"the session has stopped: {self.stopped}", "u goes back to what was before"]
         lines = [f"{self.none}: {why.MEANINGS[self.none]}"]
         return lines + (list(self.told.state(self.offered())) if self.offered() and self.none != "ended" else [])
 
@@ -328,6 +328,11 @@ class Simulation:
         """The label of a step that was done."""
         entry, done = self.acts[at]
         return charts.short(charts.labelled(entry.text, done) if done else entry.text)
+
+
+def stop_of(reason):
+    """Why a session has stopped, as `sim` says it."""
+    return "it has ended" if isinstance(reason, OSError) else str(reason)
 
 
 def count(number):
