@@ -18,11 +18,11 @@ import traces
 import values
 import why
 from offered import Offered, acting, waits
+# It is found where `running` says.
+import reference
 
 # The most steps that are gone on at once.
 MOST = 500
-# A line of `sim` that changes nothing, and its answer: with it the end of a menu is known.
-NOTHING = ("do 0", "no step")
 
 # A step that is possible: its number, and its action.
 Choice = namedtuple("Choice", "number action")
@@ -48,7 +48,6 @@ class Simulation:
 
     def restart(self, lines):
         """Begins a new session, and does these steps in it again."""
-        import reference
         self.close()
         self.sim = running.session(self.program, self.spec, *self.options)
         self.lines, self.entries, self.acts, self.stopped, self.unfit, self.refused = [], [], [], "", "", False
@@ -58,7 +57,7 @@ class Simulation:
             self.unfit = "the text can't be followed: it spreads too far"
         try:
             for line in lines:
-                self.sim.lines("menu", NOTHING)
+                self.sim.lines("menu", reference.NOTHING)
                 self.sim.ask(line)
                 self.lines.append(line)
         except (reference.Stopped, OSError) as reason:
@@ -75,7 +74,8 @@ class Simulation:
 
     def send(self, line):
         """Does a step; gives the answer. What changes nothing is no step."""
-        import reference
+        if self.stopped:
+            return self.stopped
         try:
             answer = self.sim.ask(line)
         except (reference.Stopped, OSError) as reason:
@@ -88,13 +88,12 @@ class Simulation:
 
     def look(self):
         """Reads what was done, and which steps are possible; `none` is the word where there is none."""
-        import reference
         self.choices, self.none, self.more, self.worked = [], "", False, {}
         if self.stopped:
             return
         try:
             self.follow(self.sim.trace())
-            menu = [line.split(" ", 1) for line in self.sim.lines("menu", NOTHING)]
+            menu = [line.split(" ", 1) for line in self.sim.lines("menu", reference.NOTHING)]
         except (reference.Stopped, OSError) as reason:
             self.stopped = stop_of(reason)
             return
@@ -190,7 +189,7 @@ class Simulation:
 
     def drawn(self):
         """Draws the chart so far, with the values that are known here."""
-        end = {"ended": "exit", "deadlock": "deadlock"}.get(self.none, "waiting")
+        end = reference.ENDS.get(self.none, "waiting")
         chart = charts.chart_of([*self.entries, traces.Entry("end", 0, (), end, None)], self.text)
         rows = [row._replace(label=self.label(at)) if row.number else row for at, row in enumerate(chart.rows)]
         rows = rows[:-1] if end == "waiting" else rows
@@ -226,7 +225,7 @@ class Simulation:
     def trace(self):
         """The trace so far, with an end, as `replay` takes it."""
         lines = self.sim.trace()
-        return "".join(line + "\n" for line in [*lines, f"end { {'ended': 'exit', 'deadlock': 'deadlock', 'beyond': 'beyond'}.get(self.none, 'waiting')}"])
+        return "".join(line + "\n" for line in [*lines, f"end {reference.ENDS.get(self.none, 'waiting')}"])
 
     # -------------------------------------------------------------- what is done
 

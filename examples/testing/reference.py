@@ -6,6 +6,12 @@ import subprocess
 LOTOS = os.environ.get("LOTOS") or ("./lotos" if os.path.exists("./lotos") else "lotos")
 
 
+# A line that changes nothing, with its answer: behind another line it shows where the answer to that ends.
+NOTHING = ("do 0", "no step")
+# The end of the trace where there is no step, by the word of the menu.
+ENDS = {"ended": "exit", "deadlock": "deadlock", "beyond": "beyond"}
+
+
 class Stopped(Exception):
     """The reference has stopped, for the reason that it told."""
 
@@ -39,12 +45,12 @@ class Reference:
 
     def menu(self):
         """The actions of the steps that are possible, each without its number; `more` is left out."""
-        lines = self.lines("menu", ("do 0", "no step"))
+        lines = self.lines("menu", NOTHING)
         return [line.split(" ", 1)[1] for line in lines if line[0].isdigit()]
 
     def trace(self):
         """The lines of the trace so far."""
-        return self.lines("trace", ("do 0", "no step"))
+        return self.lines("trace", NOTHING)
 
     def settle(self):
         """Does unseen steps until there are none."""
