@@ -192,7 +192,7 @@ class Simulation:
         end = reference.ENDS.get(self.none, "waiting")
         chart = charts.chart_of([*self.entries, traces.Entry("end", 0, (), end, None)], self.text)
         rows = [row._replace(label=self.label(at)) if row.number else row for at, row in enumerate(chart.rows)]
-        rows = rows[:-1] if end == "waiting" else rows
+        rows = rows if end in ("exit", "deadlock") else rows[:-1]
         head, *lines = charts.as_text(chart._replace(rows=rows)).rstrip("\n").split("\n") if rows else [""]
         return head, [line for line in lines if line not in ("", head)]
 
@@ -219,7 +219,7 @@ class Simulation:
         """Works out why there is no step."""
         if self.stopped:
             return [f"the session has stopped: {self.stopped}", "u goes back to what was before"]
-        lines = [f"{self.none}: {why.MEANINGS[self.none]}"]
+        lines = [f"{self.none}: {why.MEANINGS[self.none]}"] + ["an offer that is typed may name one, and more --values look at more"] * (self.none == "beyond")
         return lines + (list(self.told.state(self.offered())) if self.offered() and self.none != "ended" else [])
 
     def trace(self):
