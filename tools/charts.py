@@ -40,7 +40,9 @@ def digits(text):
 def short(text):
     """An action or an offer as a label: naturals as digits, and each value cut."""
     gate, *rest = re.split(r" (?=[!?(])", digits(text)) if "(" not in text.split(" ")[0] else [text]
-    return " ".join([gate, *(cut(one, VALUE) for one in rest)])
+    hidden = any(one.startswith("(") for one in rest)
+    rest[-1:] = [one.removesuffix(")") if hidden else one for one in rest[-1:]]
+    return " ".join([gate, *(cut(one, VALUE) for one in rest)]) + ")" * hidden
 
 
 def called(node):

@@ -208,7 +208,7 @@ class Simulation:
             yield from (f"  {rule}" for rule in seen.rules)
         yield "waits:"
         for node in [] if self.unfit else steps.waiting(self.followed.state):
-            yield f"  {self.told.where([node])}  {self.told.source(node.begin, node.end) or node.name}"
+            yield f"  {self.told.where([node])}  {why.joined(self.text[node.begin:node.end]) or node.name}"
             yield from (f"    {name} is {self.values.spelled(value) if value else 'not known here'}" for name, value in (node.known or {}).items())
 
     def why(self):
