@@ -1,5 +1,6 @@
 """The commands of the program: one table of their words, options, statuses and files, and what is made of it, the page of the manual and
 the completions of bash."""
+import textwrap
 from collections import namedtuple
 
 Command = namedtuple("Command", "name words options does")
@@ -126,6 +127,39 @@ def page():
     lines += [".SH SEE ALSO",
               plain("Beside the program, in `share/doc/habuxelo`: docs/TUTORIAL.md, docs/LANGUAGE.md, docs/SEMANTICS.md, docs/FORMATS.md, docs/PROMISES.md.")]
     return "\n".join(lines) + "\n"
+
+
+# The same as plain text.
+
+HEAD = """\
+Habuxelo checks and runs specifications in LOTOS (ISO 8807:1989).
+
+"""
+FOOT = """
+./lotos help COMMAND tells more of a command, man -l docs/lotos.1 has all of it, and docs/TUTORIAL.md is where to begin.
+tools/quick WORD.. runs an unproved build, which takes some minutes; ./lotos WORD.. proves the program first, which takes an hour or so.
+"""
+
+
+def wrapped(text, margin):
+    """A text in lines that begin with a margin."""
+    return textwrap.fill(text.replace("`", ""), 110, initial_indent=margin, subsequent_indent=margin) + "\n"
+
+
+def overview():
+    """All commands in short, as plain text."""
+    return HEAD + "".join(f"  ./lotos {synopsis(command)}\n{wrapped(command.does, '      ')}" for command in COMMANDS) + FOOT
+
+
+def help_of(name):
+    """What there is to say of a command, as plain text; None where there is none of the name."""
+    command = next((one for one in COMMANDS if one.name == name), None)
+    if command is None:
+        return None
+    files = [wrapped(f"{word}: {says} It has at most {most:,} bytes.", "  ") for word, most, says in FILES if word in command.words]
+    options = [wrapped(f"--{one.name} N: {one.says} From {one.least:,} to {one.greatest:,}; {one.usual:,} where it isn't given.", "  ")
+               for one in OPTIONS if one.name in command.options]
+    return f"./lotos {synopsis(command)}\n\n{wrapped(command.does, '')}" + "".join(["\n", *files] if files else []) + "".join(["\n", *options] if options else [])
 
 
 # The completions of bash.

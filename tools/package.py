@@ -5,8 +5,8 @@ import program
 
 DOCUMENTS = ["README.md"] + [f"docs/{name}.md" for name in ("TUTORIAL", "LANGUAGE", "SEMANTICS", "FORMATS", "TESTING", "COMPARISON", "PROMISES", "TRUST", "GLOSSARY")]
 # The tools that are called, and what they are made of.
-TOOLS = ["draw", "explain"]
-MODULES = ["boxes", "charts", "commands", "specification", "steps", "traces"]
+TOOLS = ["check_offers", "convert", "draw", "explain", "page", "simulate", "walks"]
+MODULES = ["boxes", "charts", "commands", "data", "diagrams", "meetings", "offered", "pages", "reach", "refusals", "running", "scripts", "simulation", "simulation_view", "specification", "steps", "traces", "values", "why"]
 SHARE = "share/doc/habuxelo"
 
 
@@ -18,6 +18,8 @@ def beside():
         yield f"tools/{name}", program.TOP / "tools" / name, True
     for name in MODULES:
         yield f"tools/{name}.py", program.TOP / f"tools/{name}.py", False
+    for name in ("tools/page.html", "docs/pictures/page.png"):
+        yield name, program.TOP / name, False
     for folder in ("examples", "editors"):
         for path in program.files_below(program.TOP / folder):
             if path.suffix != ".pyc":

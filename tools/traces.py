@@ -30,6 +30,18 @@ def words(text):
     return found + [text[begin:]]
 
 
+def fields_of(text):
+    """The gate and the fields of an offer or an action: each with its `!` or `?`, and with ` of` and a sort where it has these."""
+    gate, *rest = words(text)
+    fields = []
+    for word in rest:
+        if word.startswith(("!", "?")):
+            fields.append(word)
+        else:
+            fields[-1] += " " + word
+    return gate, fields
+
+
 def values_of(text, at):
     """The values behind a `[` at this place, and the place behind their `]`."""
     found, depth, begin = [], 0, at + 1
@@ -84,6 +96,11 @@ def offer_of(word):
     if not found:
         raise Unreadable(f"{word!r} names no offer")
     return int(found[1]), int(found[2])
+
+
+def is_trace(text):
+    """Whether a text begins as a trace does."""
+    return text.startswith(HEAD + "\n")
 
 
 def action_of(line, parts):

@@ -6,6 +6,12 @@ import subprocess
 LOTOS = os.environ.get("LOTOS") or ("./lotos" if os.path.exists("./lotos") else "lotos")
 
 
+# A line that changes nothing, with its answer: behind another line it shows where the answer to that ends.
+NOTHING = ("do 0", "no step")
+# The end of the trace where there is no step, by the word of the menu.
+ENDS = {"ended": "exit", "deadlock": "deadlock", "beyond": "beyond"}
+
+
 class Stopped(Exception):
     """The reference has stopped, for the reason that it told."""
 
@@ -13,9 +19,9 @@ class Stopped(Exception):
 class Reference:
     """A session of `lotos sim`: each line is answered before the next one is sent."""
 
-    def __init__(self, spec, *options):
+    def __init__(self, spec, *options, program=LOTOS):
         pipes = {"stdin": subprocess.PIPE, "stdout": subprocess.PIPE, "text": True, "bufsize": 1}
-        self.run = subprocess.Popen([LOTOS, "sim", spec, *options], **pipes)
+        self.run = subprocess.Popen([program, "sim", spec, *options], **pipes)
 
     def ask(self, line):
         """Sends a line, and reads the first line of its answer."""
@@ -39,12 +45,12 @@ class Reference:
 
     def menu(self):
         """The actions of the steps that are possible, each without its number; `more` is left out."""
-        lines = self.lines("menu", ("do 0", "no step"))
+        lines = self.lines("menu", NOTHING)
         return [line.split(" ", 1)[1] for line in lines if line[0].isdigit()]
 
     def trace(self):
         """The lines of the trace so far."""
-        return self.lines("trace", ("do 0", "no step"))
+        return self.lines("trace", NOTHING)
 
     def settle(self):
         """Does unseen steps until there are none."""
