@@ -3,6 +3,7 @@
 A column is a client or a part of the behaviour, a row an action, an answer, a leaving or the end. A client's column is thick while it has an
 offer pending. Actions have no direction in LOTOS: all that take part in one are joined by a bar.
 """
+import re
 from collections import namedtuple
 from xml.sax.saxutils import escape
 
@@ -11,8 +12,8 @@ import steps
 
 # The most columns of parts: beyond, parts that stand deep in one another share the column of a part round them.
 MOST_PARTS = 48
-# After how many rows the names are repeated, and how long a name and a label may be, in characters.
-REPEATED, NAME, LABEL = 40, 18, 56
+# After how many rows the names are repeated, and how long a name, a label and each value in it may be, in characters.
+REPEATED, NAME, LABEL, VALUE = 40, 18, 56, 24
 MARKS = {"action": "o", "internal": "i", "exit": "x", "answer": "!", "leave": "="}
 
 Column = namedtuple("Column", "name title")
@@ -26,6 +27,20 @@ Chart = namedtuple("Chart", "title columns clients rows")
 def cut(text, most):
     """A text of at most so many characters."""
     return text if len(text) <= most else text[:most - 3] + "..."
+
+
+def digits(text):
+    """A text with numbers in the place of naturals as the library writes them: 2 for Succ(Succ(0))."""
+    def one(found):
+        opened, closed = found[1].lower().count("succ("), len(found[2])
+        return f"{'Succ(' * (opened - closed)}{closed}" if closed <= opened else f"{opened}{')' * (closed - opened)}"
+    return re.sub(r"\b((?:succ\()+)0(\)+)", one, text, flags=re.I)
+
+
+def short(text):
+    """An action or an offer as a label: naturals as digits, and each value cut."""
+    gate, *rest = re.split(r" (?=[!?(])", digits(text)) if "(" not in text.split(" ")[0] else [text]
+    return " ".join([gate, *(cut(one, VALUE) for one in rest)])
 
 
 def called(node):
@@ -151,8 +166,8 @@ def rows_of(entries, found, clients, places, width):
             joined = sorted(set(mine) | {places[part] for part in done.parts})
             gate = entry.text.split(" ")[0]
             kind = {"i": "internal", "exit": "exit"}.get(gate, "action")
-            title = f"{entry.text} by the rules {spelled(done.rules)}"
-            rows.append(Row(kind, number, label_of(entry, done), title, joined, "".join(looks)))
+            whole = label_of(entry, done)
+            rows.append(Row(kind, number, short(whole), f"{whole} by the rules {spelled(done.rules)}", joined, "".join(looks)))
         else:
             rows.append(Row(*answer_of(entry, offers), mine, "".join(looks)))
         for place in mine:
@@ -168,10 +183,11 @@ def spelled(rules):
 def answer_of(entry, offers):
     """The kind, the number, the label and the title of the row of an entry that is no action; with the offers that were made."""
     answered = ", ".join(offers.get(offer, "an offer") for offer in entry.offers)
+    told = ", ".join(short(offers.get(offer, "an offer")) for offer in entry.offers)
     if entry.kind == "reply":
-        return "answer", None, f"{answered}: {entry.text}", f"the offer {answered} is answered {entry.text}"
+        return "answer", None, f"{told}: {digits(entry.text)}", f"the offer {answered} is answered {entry.text}"
     if entry.kind == "stall":
-        return "answer", None, f"{answered}: stalled", "no pending offer can be taken: all are withdrawn"
+        return "answer", None, f"{told}: stalled", f"no pending offer can be taken: all are withdrawn, {answered}"
     if entry.kind == "leave":
         return "leave", None, f"client {entry.offers[0][0]} leaves", "this client makes no more offers"
     return "end", None, f"end: {entry.text}", f"the session has ended: {entry.text}"
@@ -212,7 +228,7 @@ def as_text(chart):
 # ------------------------------------------------------------------ SVG
 
 # In pixels: the height of a row, the width of a character, and the margins.
-HIGH, CHARACTER, LEFT, TOP, BOX = 34, 7.0, 56, 62, 26
+HIGH, CHARACTER, LEFT, TOP, BOX = 30, 7.0, 56, 62, 26
 STYLE = """\
 text { font-family: "DejaVu Sans", Verdana, Helvetica, sans-serif; font-size: 12px; fill: #1c2733; }
 .title { font-size: 15px; font-weight: bold; } .number, .again { fill: #8592a0; font-size: 11px; } .name { text-anchor: middle; }
@@ -220,26 +236,21 @@ text { font-family: "DejaVu Sans", Verdana, Helvetica, sans-serif; font-size: 12
 .life { stroke: #b5bec8; } .pending { fill: #bcd6f2; stroke: #4a7db5; stroke-width: 0.6; }
 .action { stroke: #1c2733; fill: #1c2733; } .internal { stroke: #6d7a88; fill: #fff; stroke-dasharray: 4 3; } .exit { stroke: #2f7d4f; fill: #2f7d4f; }
 .dot { stroke-dasharray: none; } .answer { stroke: #c0392b; fill: none; stroke-width: 2; } .leave { stroke: #4a7db5; stroke-width: 4; }
-.label { paint-order: stroke; stroke: #fff; stroke-width: 4px; stroke-linejoin: round; } .grey { fill: #5a6673; } .red { fill: #c0392b; }
+.grey { fill: #5a6673; } .red { fill: #c0392b; }
 """
 
 
 class Places:
-    """Where the columns and rows of a chart stand, in pixels."""
+    """Where the columns and rows of a chart stand, in pixels. Labels stand to the left of all columns, so that no line crosses them."""
 
     def __init__(self, chart):
-        self.chart, self.across, at = chart, [], LEFT
+        self.chart, self.across, at = chart, [], LEFT + CHARACTER * max([len(cut(row.label, LABEL)) for row in chart.rows] + [10])
         for column in chart.columns:
             half = max(len(column.name) * CHARACTER + 30, 92) / 2
             self.across.append(at + half)
             at += 2 * half
-        ends = [self.begin(row) + len(cut(row.label, LABEL)) * CHARACTER for row in chart.rows]
-        self.width = max([at, 200] + ends) + 24
-        self.height = TOP + BOX + HIGH * (len(chart.rows) + 1) + 10
-
-    def begin(self, row):
-        """Where the label of a row begins."""
-        return self.across[row.joined[0]] + 10 if row.joined else LEFT
+        self.width = max(at, 820) + 24
+        self.height = TOP + BOX + HIGH * (len(chart.rows) + 2) + 10
 
     def down(self, at):
         """The height of the row of this number."""
@@ -310,10 +321,26 @@ def drawn_row(row, places, at):
     yield from marks(row, places, down)
     if row.number is not None:
         yield element("text", str(row.number), of="number", x=16, y=down + 4)
-    colour = {"internal": " grey", "leave": " grey", "answer": " red", "end": " red" if row.label != "end: exit" else ""}.get(row.kind, "")
-    level = down - 6 if row.kind in ("action", "internal", "exit") else down + 4
-    shift = 4 if row.kind in ("answer", "leave") else 0
-    yield element("text", cut(row.label, LABEL), row.title, of="label" + colour, x=places.begin(row) + shift, y=level)
+    is_fault = row.kind == "end" and row.label not in ("end: exit", "end: waiting")
+    colour = {"internal": " grey", "leave": " grey", "answer": " red", "end": " red" if is_fault else " grey"}.get(row.kind, "")
+    yield element("text", cut(row.label, LABEL), row.title, of="label" + colour, x=44, y=down + 4)
+
+
+# What the legend shows: a mark of this kind, and what it means.
+LEGEND = [("action", "an action"), ("internal", "an internal action"), ("exit", "termination"), ("answer", "an answer without an action"),
+          ("leave", "a client leaves"), ("pending", "an offer is pending")]
+
+
+def legend(down):
+    """The marks of a chart with what they mean, in one row."""
+    across = 24
+    for kind, means in LEGEND:
+        if kind == "pending":
+            yield element("rect", of="pending", x=across - 3.5, y=down - 8, width=7, height=16)
+        else:
+            yield from marks(Row(kind, None, "", "", [0], ""), namedtuple("At", "across")([across]), down)
+        yield element("text", means, of="number", x=across + 16, y=down + 4)
+        across += 40 + len(means) * 6
 
 
 def as_svg(chart):
@@ -330,4 +357,5 @@ def as_svg(chart):
             lines += [element("text", column.name, of="again", x=places.across[place], y=places.down(at) - HIGH + 12)
                       for place, column in enumerate(chart.columns) if row.open[place] != " "]
         lines += drawn_row(row, places, at)
+    lines += legend(places.down(len(chart.rows)) + HIGH / 2)
     return "\n".join(lines + ["</svg>"]) + "\n"

@@ -6,7 +6,7 @@ import program
 DOCUMENTS = ["README.md"] + [f"docs/{name}.md" for name in ("TUTORIAL", "LANGUAGE", "SEMANTICS", "FORMATS", "TESTING", "COMPARISON", "PROMISES", "TRUST", "GLOSSARY")]
 # The tools that are called, and what they are made of.
 TOOLS = ["check_offers", "convert", "draw", "explain", "page", "walks"]
-MODULES = ["boxes", "charts", "commands", "data", "offered", "pages", "reach", "refusals", "running", "scripts", "specification", "steps", "traces", "values", "why"]
+MODULES = ["boxes", "charts", "commands", "data", "diagrams", "meetings", "offered", "pages", "reach", "refusals", "running", "scripts", "specification", "steps", "traces", "values", "why"]
 SHARE = "share/doc/habuxelo"
 
 

@@ -15,8 +15,8 @@ import why
 from offered import Offered
 
 TEMPLATE = pathlib.Path(__file__).resolve().parent / "page.html"
-# How many lines of what could be done are shown.
-SHOWN = 20
+# How many lines of what could be done are shown, and the most lines of a trace on a page.
+SHOWN, MOST = 20, 5000
 
 
 class Page:
@@ -24,6 +24,8 @@ class Page:
 
     def __init__(self, text, trace):
         self.text, self.entries, self.values = text, traces.read(trace), values.Values(text)
+        if len(self.entries) > MOST:
+            raise traces.Unreadable(f"a page has room for {MOST:,} lines of a trace, and this one has {len(self.entries):,}")
         self.told, self.chart = why.Told(text, self.values), charts.chart_of(self.entries, text)
         self.steps = list(self.made())
 

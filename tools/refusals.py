@@ -291,15 +291,28 @@ def mended_behaviours(text, offset):
 
 
 def mended_equations(text, offset):
-    """Takes out the equation that holds a place."""
+    """Takes out the equation that holds a place, with the `;` behind it: what stands between two `;`, where the equations can't be read."""
     try:
-        equations = [equation for one in data.Data(text).own for equation in one.equations]
+        found = [(begin, end) for one in data.Data(text).own for begin, end, *_ in one.equations]
     except (Unreadable, RecursionError):
-        return
-    for begin, end, *_ in equations:
-        if begin <= offset < end:
+        found = between_marks(text, offset)
+    for begin, end in found:
+        if begin <= offset <= end:
             behind = text.find(";", end)
             yield blank(text, begin, behind + 1 if behind >= 0 and not text[end:behind].strip() else end)
+
+
+def between_marks(text, offset):
+    """What stands between two `;` round a place, if it is behind an `eqns`: from the token behind the first one, or behind an `ofsort` and its sort."""
+    found = specification.tokens(text)
+    before = [at for at, one in enumerate(found) if one.begin < offset]
+    part = next((found[at].key for at in reversed(before) if found[at].key in ("eqns", "formaleqns", "endtype", "opns", "behaviour")), None)
+    mark = next((at for at in reversed(before) if found[at].key in (";", "ofsort")), None)
+    end = next((one for one in found if one.begin >= offset and one.key in (";", "endtype", "ofsort")), None)
+    if part in ("eqns", "formaleqns") and mark is not None and end is not None:
+        first = mark + (2 if found[mark].key == "ofsort" else 1)
+        if found[first].begin < end.begin:
+            yield found[first].begin, end.begin
 
 
 def mended_bodies(text, offset):

@@ -98,6 +98,11 @@ def offer_of(word):
     return int(found[1]), int(found[2])
 
 
+def is_trace(text):
+    """Whether a text begins as a trace does."""
+    return text.startswith(HEAD + "\n")
+
+
 def action_of(line, parts):
     """The entry of an `act` line, of its words behind `act`."""
     at = 1

@@ -7,8 +7,8 @@ import steps
 import traces
 from offered import Offered
 
-# How many lines of a list are shown.
-SHOWN = 12
+# How many lines of a list are shown, and how many answers of a session beside its end.
+SHOWN, ANSWERS = 12, 20
 SIDES = ("left", "right")
 
 
@@ -176,14 +176,18 @@ def is_told(entry):
 
 def answers(entries, text, values):
     """The lines that explain the answers of a trace, and its end."""
-    told, followed, offers = Told(text, values), steps.Followed(specification.read(text), values), {}
+    told, followed, offers, number = Told(text, values), steps.Followed(specification.read(text), values), {}, 0
     for entry in entries:
         if entry.kind in ("pend", "ask"):
             offers[entry.offers[0]] = entry.text
         elif entry.kind == "act":
             charts.acted(followed, entry)
         elif is_told(entry):
-            yield from answer(told, followed, entry, offers)
+            number += 1
+            if entry.kind == "end" and number > ANSWERS + 1:
+                yield f".. and {number - ANSWERS - 1} more answers, which aren't shown"
+            if number <= ANSWERS or entry.kind == "end":
+                yield from answer(told, followed, entry, offers)
 
 
 def answer(told, followed, entry, offers):
