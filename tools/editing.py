@@ -192,7 +192,7 @@ local function at(method, line, column)
   return one and one.result
 end
 vim.cmd('edit ' .. {spec!r})
-wait(function() return vim.g.lotos_client and next(vim.lsp.buf_get_clients(0)) ~= nil end)
+wait(function() return vim.g.lotos_client and vim.lsp.buf_is_attached(0, vim.g.lotos_client) end)
 vim.api.nvim_buf_set_lines(0, 5, 6, false, {{ '  hide middle in (Place [put, middle] |[middle]| Place [middle, got])' }})
 wait(function() return #vim.diagnostic.get(0) > 0 end)
 for _, one in ipairs(vim.diagnostic.get(0)) do

@@ -19,10 +19,15 @@ local function keys(_, buffer)
   end
 end
 
--- One server for all specifications of a session.
-if not vim.g.lotos_client or not vim.lsp.get_client_by_id(vim.g.lotos_client) then
-  vim.g.lotos_client = vim.lsp.start_client({ name = 'lotos', cmd = command, root_dir = vim.fn.getcwd(), on_attach = keys })
-end
-if vim.g.lotos_client then
-  vim.lsp.buf_attach_client(0, vim.g.lotos_client)
+-- One server for all specifications of a session. Older than 0.8, Neovim has no `vim.lsp.start`.
+local settings = { name = 'lotos', cmd = command, root_dir = vim.fn.getcwd(), on_attach = keys }
+if vim.lsp.start then
+  vim.g.lotos_client = vim.lsp.start(settings)
+else
+  if not vim.g.lotos_client or not vim.lsp.get_client_by_id(vim.g.lotos_client) then
+    vim.g.lotos_client = vim.lsp.start_client(settings)
+  end
+  if vim.g.lotos_client then
+    vim.lsp.buf_attach_client(0, vim.g.lotos_client)
+  end
 end
