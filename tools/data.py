@@ -138,6 +138,8 @@ class Type:
         self.imports, self.base, self.actuals = [], None, []
         self.sort_pairs, self.operation_pairs = {}, {}
         self.sorts, self.operations, self.formals, self.equations, self.end = {}, {}, set(), [], token.end
+        # The variables that a `forall` declares, as tokens.
+        self.variables = []
 
     def declares_formals(self):
         """Whether the type itself leaves something open."""
@@ -287,6 +289,7 @@ class Types(Expressions):
             self.take(":")
             sort = self.take().key
             found.update({token.key: sort for token in group})
+            self.types[-1].variables += group
             if self.key() != ",":
                 return found
             self.take()

@@ -23,7 +23,7 @@ def beside():
     for folder in ("examples", "editors"):
         for path in program.files_below(program.TOP / folder):
             if path.suffix != ".pyc":
-                yield str(path.relative_to(program.TOP)), path, False
+                yield str(path.relative_to(program.TOP)), path, path == program.TOP / "editors/server"
 
 
 def parts():
