@@ -31,13 +31,15 @@ fn only_equation(
     ensures one { IfOk result (λ sides. IsOneLeft (stack_of table.now stack.now) sides.0 sides.1) }
     ensures none { IfErr result (λ fault. NamesStep fault (λ step. (step ≡ steps) × IsNoneLeft (stack_of table.now stack.now))) }
 {
+    if stack.len() > 1 {
+        return Err(CheckFault::NotAProof { step: steps as u64 });
+    }
     match stack {
-        [pair] => Ok((
+        [] => Err(CheckFault::NotAProof { step: steps as u64 }),
+        [pair, ..] => Ok((
             spell(alloc, table, pair.left)?,
             spell(alloc, table, pair.right)?,
         )),
-        [] => Err(CheckFault::NotAProof { step: steps as u64 }),
-        [_, _, ..] => Err(CheckFault::NotAProof { step: steps as u64 }),
     }
 }
 
