@@ -20,6 +20,9 @@ use std::alloc::Global;
 use value_table::spelling::spell;
 use value_table::table::TermTable;
 
+// How many equations a certificate that proves one leaves.
+const LEFT: usize = 1;
+
 // The two sides of the only equation of a stack, after so many steps.
 fn only_equation(
     alloc: Global,
@@ -31,7 +34,7 @@ fn only_equation(
     ensures one { IfOk result (λ sides. IsOneLeft (stack_of table.now stack.now) sides.0 sides.1) }
     ensures none { IfErr result (λ fault. NamesStep fault (λ step. (step ≡ steps) × IsNoneLeft (stack_of table.now stack.now))) }
 {
-    if stack.len() > 1 {
+    if stack.len() > LEFT {
         return Err(CheckFault::NotAProof { step: steps as u64 });
     }
     match stack {

@@ -13,13 +13,13 @@ spell-requires-in-len1-up c =
 pub returns-in_ok-spell-in-len1-up-2-clause-one : goal.returns-in_ok-spell-in-len1-up-2-clause-one
 returns-in_ok-spell-in-len1-up-2-clause-one c =
     one_left c.args.table.now c.args.stack.now _ c.in_ok-spell-in-len1-up.field-0 c.in_ok-spell-in-len1-up-2.field-0
-    (one_pair c.args.stack.now c.in-len1-up.len_at_least (omega (arith, c.if-stack-gt1.false))) c.in_ok-spell-in-len1-up.ensures.spelled
+    (one_pair c.args.stack.now c.in-len1-up.len_at_least (omega (arith, c.if-stack-gt-LEFT.false))) c.in_ok-spell-in-len1-up.ensures.spelled
     c.in_ok-spell-in-len1-up-2.ensures.spelled
 
 pub returns-in-empty-clause-none : goal.returns-in-empty-clause-none
 returns-in-empty-clause-none c =
     (refl, λ p e. let l = stack_length c.args.table.now c.args.stack.now (p ∷ []) e in omega (arith, l, c.in-empty.len_below))
 
-pub returns-then-stack-gt1-clause-none : goal.returns-then-stack-gt1-clause-none
-returns-then-stack-gt1-clause-none c =
-    (refl, λ p e. let l = stack_length c.args.table.now c.args.stack.now (p ∷ []) e in omega (arith, l, c.if-stack-gt1.true))
+pub returns-then-stack-gt-LEFT-clause-none : goal.returns-then-stack-gt-LEFT-clause-none
+returns-then-stack-gt-LEFT-clause-none c =
+    (refl, λ p e. let l = stack_length c.args.table.now c.args.stack.now (p ∷ []) e in omega (arith, l, c.if-stack-gt-LEFT.true))
