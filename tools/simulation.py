@@ -321,7 +321,8 @@ class Simulation:
             self.send(f"do {self.draw.choice(self.choices).number}")
             if not self.refused and self.is_break():
                 return f"{count(len(self.lines) - begun)}, to a break: {self.label(-1)}"
-        return f"{count(len(self.lines) - begun)}, and no break" + ("" if self.choices else f": {self.none or self.stopped}")
+        made = len(self.lines) - begun
+        return f"{count(made)}, and no break" + ("" if self.choices and made == MOST else f": {self.none or self.stopped or 'interrupted'}")
 
     def label(self, at):
         """The label of a step that was done."""
