@@ -1,5 +1,4 @@
 mod Calls
-mod Derivations
 mod Equals
 mod Fetched
 mod Fetches

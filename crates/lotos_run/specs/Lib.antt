@@ -1,6 +1,5 @@
 pub mod CheckTexts
 pub mod Checks
-pub mod Derivations
 pub mod Due
 pub mod EqualTexts
 pub mod Equals
