@@ -1,4 +1,4 @@
-//! What every other crate speaks of: names, numbers of items, terms, values, data, settings, and want of memory.
+//! What every other crate speaks of: names, numbers of items, terms, values, data, and want of memory.
 #![tactic(auto)]
 
 pub mod code;
@@ -9,7 +9,6 @@ pub mod laws;
 pub mod memory;
 pub mod name;
 pub mod names;
-pub mod settings;
 pub mod signature;
 pub mod term;
 pub mod term_text;

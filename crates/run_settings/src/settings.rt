@@ -1,4 +1,13 @@
-// The numbers that a run is given.
+// What a run is given: numbers, and how it draws.
+
+/// How a seed and a count of actions are mixed to the number that chooses among internal steps.
+#[derive(Clone, Copy, Debug, PartialEq, Eq)]
+pub enum Draw {
+    /// By a multiplication: one rotation, in which seeds begin at different places.
+    Rotation,
+    /// By four rounds of squaring.
+    Squares,
+}
 
 /// What bounds and steers a run.
 #[derive(Clone, Copy, Debug, PartialEq, Eq)]
@@ -11,4 +20,6 @@ pub struct Settings {
     pub steps: u32,
     /// What chooses among internal steps, from 0 to 2^32 - 1.
     pub seed: u32,
+    /// How it chooses.
+    pub draw: Draw,
 }

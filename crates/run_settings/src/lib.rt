@@ -1,0 +1,4 @@
+//! What bounds and steers a run: its settings.
+#![tactic(auto)]
+
+pub mod settings;
