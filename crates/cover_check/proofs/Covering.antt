@@ -1,5 +1,5 @@
--- A search that finds nothing shows that an operation is covered, and a pattern that it isn't.
-use Rattle.std.proofs.Common.{ℕ, ◌≡◌, Bool, true, false, if◌then◌else◌, List, [], ◌∷◌, ◌++◌, Option, Some, None, Result, Ok, Err, IfOk, MatchOption, option_map, refl, sym, ap, subst, ◌∙◌, inl, inr}
+-- An operation is covered where its rows cover different variables, and partial where they leave some pattern uncovered.
+use Rattle.std.proofs.Common.{ℕ, ◌≡◌, Bool, true, false, if◌then◌else◌, List, [], ◌∷◌, ◌++◌, Option, Some, None, Result, Ok, Err, IfOk, MatchOption, refl, sym, ap, subst, ◌∙◌, inl, inr}
 use Rattle.std.specs.List.{slice_get}
 use Rattle.std.proofs.lemmas.Option.{same_Some}
 use Rattle.spec_core.specs.Lists.{Each, OneOf, IsOneOf}
@@ -8,20 +8,21 @@ use Rattle.spec_core.specs.Theories.{Operation, ConditionalEquation, Theory}
 use Rattle.spec_core.specs.Sorts.{OnSome, HasSort, HaveSorts, EquationFits, FitsData, no_variables}
 use Rattle.spec_core.specs.Constructors.{IsConstructor, AreConstructed}
 use Rattle.spec_core.specs.Orthogonality.{IsLinear, HasPatterns, IsOrthogonal}
-use Rattle.spec_core.specs.Cover.{IsGroup, IsCoveredCall}
+use Rattle.spec_core.specs.Cover.{IsGroup, IsCoveredCall, IsPartial}
 use Rattle.spec_core.proofs.Instances.{bound_sort}
 use Rattle.equation_shapes.specs.Shapes.{AreOfShape}
 use Rattle.equation_shapes.proofs.Linear.{Tells, occurs, filled, are_of_shape}
 use Rattle.cover_search.proofs.Options.{on_some}
 use Rattle.cover_search.specs.Heads.{headed, is_headed}
+use Rattle.cover_search.specs.Makers.{AreMade}
 use Rattle.cover_search.specs.Sorts.{IsInhabited}
-use Rattle.cover_search.specs.Search.{variables, Finds, arguments_of}
+use Rattle.cover_search.specs.Search.{variables, IsCovered, IsUncovered, arguments_of}
 use Rattle.cover_search.specs.declared.arguments.Arguments.{Arguments}
 use Rattle.cover_search.proofs.Heading.{not_headed}
-use Rattle.cover_search.proofs.Searching.{variables_sorts, variables_made, variables_shape, all_covered, some_uncovered}
+use Rattle.cover_search.proofs.Searching.{variables_sorts, variables_made, variables_shape, some_uncovered}
 use Rattle.cover_groups.specs.Groups.{HasFullGroup}
 use Rattle.cover_groups.proofs.Fullness.{full_over, one_sort}
-use Rattle.cover_check.specs.Cases.{IsCoveredOperation, AreRows, IsUncoveredBy}
+use Rattle.cover_check.specs.Cases.{IsCoveredOperation, AreRows}
 use Rattle.cover_check.specs.Rows.{IsRowAdded}
 use Rattle.cover_check.proofs.Occurring.{group_occurs}
 
@@ -153,11 +154,11 @@ module _ (theory : Theory) where
     facts : Each (λ e. EquationFits theory e × IsLinear e.left × HasPatterns theory e) theory.equations
     facts = zipped theory.equations fits.equations orthogonal.linear orthogonal.patterns
 
-    -- where the search finds nothing, each call is covered
-    pub covers : Finds theory rows (variables d.args) None → (vs : TermTrees) → HaveSorts theory no_variables vs d.args →
+    -- where different variables are covered, each call is
+    pub covers : IsCovered theory rows d.args (variables d.args) → (vs : TermTrees) → HaveSorts theory no_variables vs d.args →
         AreConstructed theory vs → IsCoveredCall theory (apply f vs)
     covers found vs hv c =
-        let o = all_covered theory rows found refl d.args vs (variables_sorts theory d.args) hv c (variables_shape theory vs d.args hv) in
+        let o = found vs hv c (variables_shape theory vs d.args hv) in
         let r = each_one (λ r. (e : ConditionalEquation) × IsOneOf e theory.equations × (e.left ≡ apply f r) × HasFullGroup theory e) (λ r. AreOfShape r vs) rows (rows_from theory f theory.equations theory.equations rows (λ e o. o) are_rows) o in
         let e = r.1.0 in
         let k = at_one theory.equations facts r.1.1 in
@@ -197,21 +198,30 @@ module _ (theory : Theory) where
         } in
         row_of p.1 vs rows (subst (AreOfShape p.1) args (are_of_shape c.bound p.1)) (among theory f p.1 e.0 theory.equations rows are_rows e.3 l full)
 
-    -- where it finds a pattern, some call isn't covered
-    pub uncovers : (q : TermTrees) → Finds theory rows (variables d.args) (Some q) → Each (IsInhabited theory) d.args →
-        (vs : TermTrees) × HaveSorts theory no_variables vs d.args × AreConstructed theory vs × (IsCoveredCall theory (apply f vs) → ⊥)
-    uncovers q found inhabited =
-        let r = some_uncovered theory rows found q refl d.args (variables_sorts theory d.args) (variables_made theory d.args inhabited) in
-        (r.0, r.1, r.2, λ c. r.4 (covered_row r.0 r.1 c))
+    -- where some pattern isn't, the operation is partial
+    pub uncovers : (q : TermTrees) → IsUncovered theory rows d.args q → (IsConstructor theory f → ⊥) → IsPartial theory f
+    uncovers q u defined =
+        let r = some_uncovered theory rows q d.args u in
+        record {
+          defined = defined;
+          arguments = r.0;
+          sorts = subst (λ o. OnSome o (λ d. HaveSorts theory no_variables r.0 d.args)) (sym declared) r.1;
+          constructed = r.2;
+          uncovered = λ c. r.3 (covered_row r.0 r.1 c);
+        }
 
 -- what an answer of the search says
 pub answers : (theory : Theory) (f : ℕ) (d : Operation) → slice_get theory.operations f ≡ Some d → FitsData theory → IsOrthogonal theory →
     (rows : List TermTrees) → AreRows theory f theory.equations rows → (IsConstructor theory f → ⊥) → Each (IsInhabited theory) d.args →
     (start : TermTrees) → start ≡ variables d.args → {E : Type 0} (r : Result (Option Arguments) E) →
-    IfOk r (λ found. Finds theory rows start (option_map arguments_of found)) →
-    IfOk r (λ found. MatchOption found (IsCoveredOperation theory f d) (λ _. Unit {0})) × IfOk r (λ found. MatchOption found (Unit {0}) (λ case. IsUncoveredBy theory f d (arguments_of case)))
-answers theory f d declared fits o rows ar n i start e (Ok None) h =
-    ((λ vs k hv c. covers theory f d declared fits o rows ar (subst (λ s. Finds theory rows s None) e h) vs hv c), tt)
-answers theory f d declared fits o rows ar n i start e (Ok (Some q)) h =
-    (tt, record { defined = n; inhabited = i; rows = rows; are_rows = ar; found = subst (λ s. Finds theory rows s (Some (arguments_of q))) e h })
-answers theory f d declared fits o rows ar n i start e (Err m) h = (tt, tt)
+    IfOk r (λ found. MatchOption found ((sorts : List ℕ) → HaveSorts theory Some start sorts → IsCovered theory rows sorts start) (λ _. Unit {0})) →
+    IfOk r (λ found. MatchOption found (Unit {0}) (λ q. (sorts : List ℕ) → HaveSorts theory Some start sorts → AreMade theory start →
+    IsUncovered theory rows sorts (arguments_of q))) →
+    IfOk r (λ found. MatchOption found (IsCoveredOperation theory f d) (λ _. Unit {0})) × IfOk r (λ found. MatchOption found (Unit {0}) (λ _. IsPartial theory f))
+answers theory f d declared fits o rows ar n i start e (Ok None) h k =
+    let all : IsCovered theory rows d.args (variables d.args) = subst (IsCovered theory rows d.args) e (h d.args (subst (λ s. HaveSorts theory Some s d.args) (sym e) (variables_sorts theory d.args))) in
+    ((λ vs no hv c. covers theory f d declared fits o rows ar all vs hv c), tt)
+answers theory f d declared fits o rows ar n i start e (Ok (Some q)) h k =
+    let u = k d.args (subst (λ s. HaveSorts theory Some s d.args) (sym e) (variables_sorts theory d.args)) (subst (AreMade theory) (sym e) (variables_made theory d.args i)) in
+    (tt, uncovers theory f d declared fits o rows ar (arguments_of q) u n)
+answers theory f d declared fits o rows ar n i start e (Err m) h k = (tt, tt)

@@ -1,5 +1,5 @@
 -- One more operation looked at.
-use Rattle.std.specs.Prelude.{ℕ, ◌≡◌, ◌⊎◌, ◌<◌, List, [], ◌∷◌, ◌++◌, length, Bool}
+use Rattle.std.specs.Prelude.{ℕ, ◌≡◌, ◌⊎◌, ◌<◌, List, length, Bool}
 use Rattle.equation_sets.specs.Members.{IsIn}
 use Rattle.spec_core.specs.Cover.{IsPartial}
 use Rattle.spec_core.specs.Theories.{Theory}
@@ -10,7 +10,3 @@ pub record IsMarked (theory : Theory) (f : ℕ) (old new : List Bool) : Type 0 w
   pub only : (n : ℕ) → IsIn n new → IsIn n old ⊎ ((n ≡ f) × IsPartial theory f)
   pub marked : f < length old → IsPartial theory f → IsIn f new
   pub sized : length new ≡ length old
-
--- the number was put behind these, if it is in the set
-abbrev pub IsMemberAdded : List Bool → ℕ → List ℕ → List ℕ → Type 0
-IsMemberAdded set n old new = IsIn n set × (new ≡ old ++ n ∷ []) ⊎ (IsIn n set → ⊥) × (new ≡ old)

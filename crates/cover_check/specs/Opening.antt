@@ -1,5 +1,5 @@
 -- Partial operations and open sorts, as they are found. (This profile.)
-use Rattle.std.specs.Prelude.{ℕ, zero, suc, ◌≡◌, ◌⊎◌, ◌↔◌, List, [], ◌∷◌, ◌++◌, length, Bool, Option, Some}
+use Rattle.std.specs.Prelude.{ℕ, ◌≡◌, ◌⊎◌, ◌↔◌, List, Bool, Option, Some}
 use Rattle.std.specs.List.{slice_get}
 use Rattle.equation_sets.specs.Members.{IsIn}
 use Rattle.spec_core.specs.Cover.{IsPartial}
@@ -10,17 +10,6 @@ use Rattle.spec_core.specs.Theories.{Operation, Premise, ConditionalEquation, Th
 -- the set has just the partial operations
 abbrev pub ArePartial : Theory → List Bool → Type 0
 ArePartial theory set = (f : ℕ) → IsIn f set ↔ IsPartial theory f
-
--- these are the partial operations with numbers below n, by ascending number
-abbrev pub ArePartialBelow : Theory → ℕ → List ℕ → Type 0
-ArePartialBelow theory zero fs = fs ≡ []
-ArePartialBelow theory (suc n) fs =
-    IsPartial theory n × ((rest : List ℕ) × (fs ≡ rest ++ n ∷ []) × ArePartialBelow theory n rest) ⊎
-    (IsPartial theory n → ⊥) × ArePartialBelow theory n fs
-
--- these are all of them
-abbrev pub AreUncovered : Theory → List ℕ → Type 0
-AreUncovered theory fs = ArePartialBelow theory (length theory.operations) fs
 
 -- the set has just the open sorts
 abbrev pub AreOpen : Theory → List Bool → Type 0

@@ -1,10 +1,11 @@
-// The uncovered pattern of an operation.
+// An uncovered pattern of an operation.
 
 ghost use Rattle.std.specs.Prelude.{◌≡◌, IfOk, MatchOption, Some, map};
 ghost use Rattle.std.specs.List.{slice_get};
-ghost use Rattle.cover_check.specs.Cases.{IsCoveredOperation, IsUncoveredBy};
+ghost use Rattle.cover_check.specs.Cases.{IsCoveredOperation};
 ghost use Rattle.cover_search.specs.Indexes.{IsIndexOf};
 ghost use Rattle.cover_search.specs.Search.{variables, arguments_of};
+ghost use Rattle.spec_core.specs.Cover.{IsPartial};
 ghost use Rattle.spec_core.specs.Numbers.{sort_number};
 ghost use Rattle.spec_core.specs.Orthogonality.{IsOrthogonal};
 ghost use Rattle.spec_core.specs.Sorts.{FitsData};
@@ -30,8 +31,8 @@ fn variables_of(alloc: Global, sorts: &[Sort]) -> Result<Arguments, Memory>
     Ok(Arguments { items })
 }
 
-/// The uncovered pattern of an operation: nothing exactly where the operation is covered. Each variable of the pattern is one of its
-/// own, and its number is its sort.
+/// A pattern that the operation's rows leave uncovered: nothing where the operation is covered, and one where it is partial. Each variable
+/// of the pattern is one of its own, and its number is its sort.
 pub fn uncovered_case(
     alloc: Global,
     algebra: &DataSpec,
@@ -46,7 +47,7 @@ pub fn uncovered_case(
     ensures covered { IfOk result (λ found. MatchOption found
         (IsCoveredOperation (theory_of algebra.now) op.0 (operation_of declaration.now)) (λ _. Unit {0})) }
     ensures uncovered { IfOk result (λ found. MatchOption found (Unit {0})
-        (λ pattern. IsUncoveredBy (theory_of algebra.now) op.0 (operation_of declaration.now) (arguments_of pattern))) }
+        (λ _. IsPartial (theory_of algebra.now) op.0)) }
 {
     if index.heads.is_constructor(algebra, op) {
         return Ok(None);

@@ -6,5 +6,5 @@ mod partial;
 mod rows;
 mod sorts;
 
-pub use partial::uncovered;
+pub use partial::partial_operations;
 pub use sorts::open_sorts;

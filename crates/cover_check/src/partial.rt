@@ -1,12 +1,11 @@
 // Partial operations.
 
-ghost use Rattle.std.specs.Prelude.{◌≡◌, ◌↔◌, IfOk, OnOk, IsTrue, Some, map};
+ghost use Rattle.std.specs.Prelude.{◌≡◌, ◌↔◌, IfOk, OnOk, IsTrue, Some};
 ghost use Rattle.std.specs.List.{slice_get};
-ghost use Rattle.cover_check.specs.Opening.{ArePartial, AreUncovered};
-ghost use Rattle.cover_check.specs.Marks.{IsMarked, IsMemberAdded};
+ghost use Rattle.cover_check.specs.Opening.{ArePartial};
+ghost use Rattle.cover_check.specs.Marks.{IsMarked};
 ghost use Rattle.cover_search.specs.Indexes.{IsIndexOf};
 ghost use Rattle.spec_core.specs.Cover.{IsPartial};
-ghost use Rattle.spec_core.specs.Numbers.{op_number};
 ghost use Rattle.spec_core.specs.Orthogonality.{IsOrthogonal};
 ghost use Rattle.spec_core.specs.Sorts.{FitsData};
 ghost use Rattle.spec_core.specs.Theories.{operation_of, theory_of};
@@ -79,31 +78,4 @@ pub fn partial_operations(
         mark(alloc, algebra, index, op, declaration, &mut set)?;
     }
     Ok(set)
-}
-
-// Adds a number to a list, if it is in the set.
-fn add_member(set: &NumberSet, op: Op, all: &mut Vec<Op>) -> Result<(), Memory>
-    ensures { OnOk result (IsMemberAdded set.now op.0 (map op_number all.old.items) (map op_number all.new.items)) }
-{
-    if !set.has(op.0) {
-        return Ok(());
-    }
-    all.push(op)?;
-    Ok(())
-}
-
-/// The partial operations, by ascending number: of each of them some call over ground constructor terms isn't decided by a full group of
-/// equations.
-pub fn uncovered(alloc: Global, algebra: &DataSpec) -> Result<Vec<Op>, Memory>
-    requires fits { FitsData (theory_of algebra.now) }
-    requires orthogonal { IsOrthogonal (theory_of algebra.now) }
-    ensures uncovered { IfOk result (λ ops. AreUncovered (theory_of algebra.now) (map op_number ops.items)) }
-{
-    let index = DataIndex::of(alloc, algebra)?;
-    let set = partial_operations(alloc, algebra, &index)?;
-    let mut all = Vec::new(alloc);
-    for (i, _) in algebra.signature.ops.iter().enumerate() {
-        add_member(&set, Op(i as u32), &mut all)?;
-    }
-    Ok(all)
 }

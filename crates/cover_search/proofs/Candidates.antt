@@ -17,7 +17,7 @@ use Rattle.cover_search.specs.Candidates.{MeetsAt, CoversAt, AreCandidates, AreM
 use Rattle.cover_search.specs.Search.{opened_any, operation_there_in, IsFirstMeeting, arguments_of, rows_of}
 use Rattle.cover_search.specs.Splits.{number_if, numbers_at, operation_at, IsSplitOf}
 use Rattle.cover_search.proofs.Options.{on_some}
-use Rattle.cover_search.proofs.There.{shapes_meet, meet_before, is_there_in}
+use Rattle.cover_search.proofs.There.{meet_before, is_there_in}
 
 -- rows by their numbers
 
@@ -47,23 +47,12 @@ at_some P [] n h = absurd h
 at_some P (x ∷ xs) zero h = inl h
 at_some P (x ∷ xs) (suc n) h = inr (at_some P xs n h)
 
-some_one : (P : ℕ → Type 0) (n : ℕ) (numbers : List ℕ) → IsOneOf n numbers → P n → OneOf P numbers
-some_one P n [] i h = absurd i
-some_one P n (k ∷ numbers) (inl e) h = inl (subst P e h)
-some_one P n (k ∷ numbers) (inr i) h = inr (some_one P n numbers i h)
-
 -- rows that cover a pattern
 
 pub covered_by : (rows : List TermTrees) (ps : TermTrees) (numbers : List ℕ) → OneOf (CoversAt rows ps) numbers → OneOf (λ r. AreOfShape r ps) rows
 covered_by rows ps [] o = absurd o
 covered_by rows ps (n ∷ numbers) (inl h) = at_some (λ r. AreOfShape r ps) rows n h
 covered_by rows ps (n ∷ numbers) (inr o) = covered_by rows ps numbers o
-
-pub covering : (rows : List TermTrees) (ps : TermTrees) (numbers : List ℕ) → AreMeeting rows ps numbers → OneOf (λ r. AreOfShape r ps) rows → OneOf (CoversAt rows ps) numbers
-covering rows ps numbers h o =
-    let k = some_at (λ r. AreOfShape r ps) rows o in
-    let r = on_some (slice_get rows k.0) (λ r. AreOfShape r ps) k.1 in
-    some_one (CoversAt rows ps) k.0 numbers (h.whole k.0 (subst (λ o. OnSome o (λ r. MeetAll r ps)) (sym r.1) (shapes_meet r.0 ps r.2))) k.1
 
 -- rows that meet a pattern
 

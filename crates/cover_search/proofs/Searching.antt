@@ -1,4 +1,4 @@
--- What the search answers: nothing only where each tuple is covered, and a pattern only with a tuple that isn't.
+-- A pattern is covered where all are to which it is opened, and one that no row meets has a value that none covers.
 use Rattle.std.proofs.Common.{ℕ, zero, suc, ◌≡◌, ◌+◌, List, [], ◌∷◌, Option, Some, None, refl, sym, ap, subst, ◌∙◌, arith, inl, inr, ◌⊎◌}
 use Rattle.std.specs.List.{slice_get}
 use Rattle.std.proofs.lemmas.Option.{same_Some}
@@ -11,8 +11,8 @@ use Rattle.equation_shapes.specs.Shapes.{IsOfShape, AreOfShape, MeetAll}
 use Rattle.equation_shapes.proofs.Linear.{all_shapes}
 use Rattle.cover_search.specs.Sorts.{IsInhabited}
 use Rattle.cover_search.proofs.Options.{both_on, on_some}
-use Rattle.cover_search.specs.Makers.{IsMaker}
-use Rattle.cover_search.specs.Search.{variables, or_else, faced, faced_any, first_faced, opened, opened_any, OpenBy, Finds, FindsFirst, covered, uncovered, split, in_none, later, here}
+use Rattle.cover_search.specs.Makers.{IsMaker, IsMade, AreMade}
+use Rattle.cover_search.specs.Search.{variables, or_else, faced, faced_any, first_faced, opened, opened_any, OpenBy, IsCovered, IsUncovered}
 
 mutual
   pub shape_chain : (r p v : TermTree) → IsOfShape r p → IsOfShape p v → IsOfShape r v
@@ -93,27 +93,17 @@ module _ (theory : Theory) where
           | inr e ↦ subst (λ o. HaveSorts theory Some (first_faced o (and_term (opened u r p) ps) (and_term p (opened_any u rs ps))) (sort ∷ sorts)) (sym e.0) (hp.0, opened_sorts u rs ps s sorts e.1 hp.1 hu)
         ]
 
-  -- a pattern of constructors, over variables of inhabited sorts
-  abbrev mutual
-    pub IsMade : TermTree → Type 0
-    IsMade (variable s) = IsInhabited theory s
-    IsMade (apply c ts) = IsConstructor theory c × AreMade ts
-
-    pub AreMade : TermTrees → Type 0
-    AreMade no_terms = Unit {0}
-    AreMade (and_term t ts) = IsMade t × AreMade ts
-
-  first_made : (o : Option ℕ) (one other : TermTrees) → AreMade one → AreMade other → AreMade (first_faced o one other)
+  first_made : (o : Option ℕ) (one other : TermTrees) → AreMade theory one → AreMade theory other → AreMade theory (first_faced o one other)
   first_made (Some s) one other h k = h
   first_made None one other h k = k
 
   mutual
-    opened_made : (u r p : TermTree) → IsMade p → IsMade u → IsMade (opened u r p)
+    opened_made : (u r p : TermTree) → IsMade theory p → IsMade theory u → IsMade theory (opened u r p)
     opened_made u (variable x) p hp hu = hp
     opened_made u (apply g rs) (variable t) hp hu = hu
     opened_made u (apply g rs) (apply f ps) hp hu = (hp.0, all_opened_made u rs ps hp.1 hu)
 
-    all_opened_made : (u : TermTree) (rs ps : TermTrees) → AreMade ps → IsMade u → AreMade (opened_any u rs ps)
+    all_opened_made : (u : TermTree) (rs ps : TermTrees) → AreMade theory ps → IsMade theory u → AreMade theory (opened_any u rs ps)
     all_opened_made u no_terms ps hp hu = hp
     all_opened_made u (and_term r rs) no_terms hp hu = tt
     all_opened_made u (and_term r rs) (and_term p ps) hp hu =
@@ -121,7 +111,7 @@ module _ (theory : Theory) where
 
   -- such a pattern has an instance of ground constructor terms
   mutual
-    pub fill : (t : TermTree) (sort : ℕ) → IsMade t → HasSort theory Some t sort →
+    pub fill : (t : TermTree) (sort : ℕ) → IsMade theory t → HasSort theory Some t sort →
         (v : TermTree) × HasSort theory no_variables v sort × IsConstructed theory v × IsOfShape t v
     fill (variable s) sort m h = (m.0, subst (HasSort theory no_variables m.0) (same_Some _ _ h) m.1, m.2, tt)
     fill (apply c ts) sort m h =
@@ -129,7 +119,7 @@ module _ (theory : Theory) where
         let r = fill_all ts k.0.args m.1 k.2.1 in
         (apply c r.0, subst (λ o. OnSome o (λ d. (d.result ≡ sort) × HaveSorts theory no_variables r.0 d.args)) (sym k.1) (k.2.0, r.1), (m.0, r.2), (refl, r.3))
 
-    pub fill_all : (ts : TermTrees) (sorts : List ℕ) → AreMade ts → HaveSorts theory Some ts sorts →
+    pub fill_all : (ts : TermTrees) (sorts : List ℕ) → AreMade theory ts → HaveSorts theory Some ts sorts →
         (vs : TermTrees) × HaveSorts theory no_variables vs sorts × AreConstructed theory vs × AreOfShape ts vs
     fill_all no_terms [] m h = (no_terms, tt, tt, tt)
     fill_all no_terms (s ∷ sorts) m h = absurd h
@@ -143,7 +133,7 @@ module _ (theory : Theory) where
   variables_sorts [] = tt
   variables_sorts (s ∷ sorts) = (refl, variables_sorts sorts)
 
-  pub variables_made : (sorts : List ℕ) → Each (IsInhabited theory) sorts → AreMade (variables sorts)
+  pub variables_made : (sorts : List ℕ) → Each (IsInhabited theory) sorts → AreMade theory (variables sorts)
   variables_made [] h = tt
   variables_made (s ∷ sorts) h = (h.0, variables_made sorts h.1)
 
@@ -177,76 +167,58 @@ module _ (theory : Theory) where
       subst (OneOf (λ q. opened_any (apply c (variables d.args)) row ps ≡ q)) (sym o.1.1) (inr (opened_by s row ps (suc n) ds o.1.0 o.1.2 i c d (omega (arith, e)) at m))
   opened_by s row ps n (x ∷ ds) qs (inr o) (suc i) c d e at m = opened_by s row ps (suc n) ds qs o.1 i c d (omega (arith, e)) at m
 
+  chosen : (P : TermTrees → Type 0) (q : TermTrees) (qs : List TermTrees) → Each P qs → OneOf (λ p. q ≡ p) qs → P q
+  chosen P q [] h o = absurd o
+  chosen P q (p ∷ qs) h (inl o) = subst P (sym o) h.0
+  chosen P q (p ∷ qs) h (inr o) = chosen P q qs h.1 o
+
+  -- what the opened patterns are
+
+  pub all_sorted : (s : ℕ) (row ps : TermTrees) (n : ℕ) (ds : List Operation) (qs : List TermTrees) (sorts : List ℕ) →
+      ((i : ℕ) → slice_get ds i ≡ slice_get theory.operations (n + i)) → faced_any row ps ≡ Some s → OpenBy theory s row ps n ds qs →
+      HaveSorts theory Some ps sorts → Each (λ q. HaveSorts theory Some q sorts) qs
+  all_sorted s row ps n [] qs sorts at e o hs = subst (Each (λ q. HaveSorts theory Some q sorts)) (sym o) tt
+  all_sorted s row ps n (d ∷ ds) qs sorts at e (inr o) hs =
+      all_sorted s row ps (suc n) ds qs sorts (λ i. at (suc i) ∙ ap (slice_get theory.operations) (let k : n + suc i ≡ suc n + i = omega arith in k)) e o.1 hs
+  all_sorted s row ps n (d ∷ ds) qs sorts at e (inl o) hs =
+      let u = apply n (variables d.args) in
+      let here : slice_get theory.operations n ≡ Some d = ap (slice_get theory.operations) (let k : n ≡ n + 0 = omega arith in k) ∙ sym (at 0) in
+      let sorted : HasSort theory Some u s = subst (λ o. OnSome o (λ x. (x.result ≡ s) × HaveSorts theory Some (variables d.args) x.args)) (sym here) (o.0.1, variables_sorts d.args) in
+      subst (Each (λ q. HaveSorts theory Some q sorts)) (sym o.1.1) (
+        opened_sorts u row ps s sorts e hs sorted,
+        all_sorted s row ps (suc n) ds o.1.0 sorts (λ i. at (suc i) ∙ ap (slice_get theory.operations) (let k : n + suc i ≡ suc n + i = omega arith in k)) e o.1.2 hs,
+      )
+
+  pub all_made : (s : ℕ) (row ps : TermTrees) (n : ℕ) (ds : List Operation) (qs : List TermTrees) → OpenBy theory s row ps n ds qs →
+      AreMade theory ps → Each (AreMade theory) qs
+  all_made s row ps n [] qs o m = subst (Each (AreMade theory)) (sym o) tt
+  all_made s row ps n (d ∷ ds) qs (inr o) m = all_made s row ps (suc n) ds qs o.1 m
+  all_made s row ps n (d ∷ ds) qs (inl o) m = subst (Each (AreMade theory)) (sym o.1.1)
+      (all_opened_made (apply n (variables d.args)) row ps m (o.0.0, variables_made d.args o.0.2), all_made s row ps (suc n) ds o.1.0 o.1.2 m)
+
   module _ (rows : List TermTrees) where
-    covers_through : (ps vs : TermTrees) (rs : List TermTrees) → AreOfShape ps vs → OneOf (λ r. AreOfShape r ps) rs →
+    pub covers_through : (ps vs : TermTrees) (rs : List TermTrees) → AreOfShape ps vs → OneOf (λ r. AreOfShape r ps) rs →
         OneOf (λ r. AreOfShape r vs) rs
     covers_through ps vs [] h o = absurd o
     covers_through ps vs (r ∷ rs) h (inl o) = inl (shapes_chain r ps vs o h)
     covers_through ps vs (r ∷ rs) h (inr o) = inr (covers_through ps vs rs h o)
 
-    -- where the search finds nothing, each tuple of the pattern is covered
-    mutual
-      pub all_covered : {ps : TermTrees} {answer : Option TermTrees} → Finds theory rows ps answer → answer ≡ None →
-          (sorts : List ℕ) (vs : TermTrees) → HaveSorts theory Some ps sorts → HaveSorts theory no_variables vs sorts →
-          AreConstructed theory vs → AreOfShape ps vs → OneOf (λ r. AreOfShape r vs) rows
-      all_covered (covered {ps} o) e sorts vs hp hv c h = covers_through ps vs rows h o
-      all_covered (uncovered k) e sorts vs hp hv c h = absurd (cc)
-      all_covered (split {ps} row s qs free first at opens found) e sorts vs hp hv c h =
-          let x = at_faced_any row ps vs s sorts at hp hv c h in
-          by_part x.part x.sorted x.constructed x.lifts (λ q o hq k. all_of found e q o sorts vs hq hv c k)
-        where
-          by_part : (v : TermTree) → HasSort theory no_variables v s → IsConstructed theory v → ((u : TermTree) → IsOfShape u v → AreOfShape (opened_any u row ps) vs) → ((q : TermTrees) → OneOf (λ p. q ≡ p) qs → HaveSorts theory Some q sorts → AreOfShape q vs → OneOf (λ r. AreOfShape r vs) rows) → OneOf (λ r. AreOfShape r vs) rows
-          by_part (variable y) hs hc lift go = absurd hc
-          by_part (apply k ws) hs hc lift go =
-              let d = on_some (slice_get theory.operations k) (λ d. (d.result ≡ s) × HaveSorts theory no_variables ws d.args) hs in
-              let u = apply k (variables d.0.args) in
-              let sorted : HasSort theory Some u s = subst (λ o. OnSome o (λ x. (x.result ≡ s) × HaveSorts theory Some (variables d.0.args) x.args)) (sym d.1) (d.2.0, variables_sorts d.0.args) in
-              let maker : IsMaker theory s k d.0 = (hc.0, d.2.0, inhabited_by ws d.0.args d.2.1 hc.1) in
-              go (opened_any u row ps)
-              (opened_by s row ps 0 theory.operations qs opens k k d.0 (omega arith) d.1 maker)
-              (opened_sorts u row ps s sorts at hp sorted)
-              (lift u (refl, variables_shape ws d.0.args d.2.1))
-
-      all_of : {qs : List TermTrees} {answer : Option TermTrees} → FindsFirst theory rows qs answer → answer ≡ None → (q : TermTrees) →
-          OneOf (λ p. q ≡ p) qs → (sorts : List ℕ) (vs : TermTrees) → HaveSorts theory Some q sorts →
-          HaveSorts theory no_variables vs sorts → AreConstructed theory vs → AreOfShape q vs → OneOf (λ r. AreOfShape r vs) rows
-      all_of in_none e q o sorts vs hq hv c h = absurd o
-      all_of (later f g) e q (inl o) sorts vs hq hv c h =
-          all_covered f refl sorts vs (subst (λ p. HaveSorts theory Some p sorts) o hq) hv c (subst (λ p. AreOfShape p vs) o h)
-      all_of (later f g) e q (inr o) sorts vs hq hv c h = all_of g e q o sorts vs hq hv c h
-      all_of (here f) e q o sorts vs hq hv c h = absurd (cc)
-
-    -- what each of the opened patterns is
-    opens_made : (s : ℕ) (row ps : TermTrees) (n : ℕ) (ds : List Operation) (qs : List TermTrees) (sorts : List ℕ) →
-        ((i : ℕ) → slice_get ds i ≡ slice_get theory.operations (n + i)) → faced_any row ps ≡ Some s → OpenBy theory s row ps n ds qs →
-        HaveSorts theory Some ps sorts → AreMade ps → Each (λ q. HaveSorts theory Some q sorts × AreMade q) qs
-    opens_made s row ps n [] qs sorts at e o hs m = subst (Each (λ q. HaveSorts theory Some q sorts × AreMade q)) (sym o) tt
-    opens_made s row ps n (d ∷ ds) qs sorts at e (inr o) hs m = opens_made s row ps (suc n) ds qs sorts (λ i. at (suc i) ∙ ap (slice_get theory.operations) (let k : n + suc i ≡ suc n + i = omega arith in k)) e o.1 hs m
-    opens_made s row ps n (d ∷ ds) qs sorts at e (inl o) hs m =
-        let u = apply n (variables d.args) in
-        let here : slice_get theory.operations n ≡ Some d = ap (slice_get theory.operations) (let k : n ≡ n + 0 = omega arith in k) ∙ sym (at 0) in
-        let sorted : HasSort theory Some u s = subst (λ o. OnSome o (λ x. (x.result ≡ s) × HaveSorts theory Some (variables d.args) x.args)) (sym here) (o.0.1, variables_sorts d.args) in
-        subst (Each (λ q. HaveSorts theory Some q sorts × AreMade q)) (sym o.1.1) (
-          (opened_sorts u row ps s sorts e hs sorted, all_opened_made u row ps m (o.0.0, variables_made d.args o.0.2)),
-          opens_made s row ps (suc n) ds o.1.0 sorts (λ i. at (suc i) ∙ ap (slice_get theory.operations) (let k : n + suc i ≡ suc n + i = omega arith in k)) e o.1.2 hs m,
-        )
-
-    -- what it finds is a pattern of constructors of those sorts, which no row meets
-    mutual
-      pub none_meets : {ps : TermTrees} {answer : Option TermTrees} → Finds theory rows ps answer → (q : TermTrees) → answer ≡ Some q →
-          (sorts : List ℕ) → HaveSorts theory Some ps sorts → AreMade ps →
-          HaveSorts theory Some q sorts × AreMade q × Each (λ r. MeetAll r q → ⊥) rows
-      none_meets (covered o) q e sorts hs m = absurd (cc)
-      none_meets (uncovered {ps} k) q e sorts hs m =
-          subst (λ p. HaveSorts theory Some p sorts × AreMade p × Each (λ r. MeetAll r p → ⊥) rows) (same_Some _ _ e) (hs, m, k)
-      none_meets (split {ps} row s qs free first at opens found) q e sorts hs m = first_meets found q e sorts (opens_made s row ps 0 theory.operations qs sorts (λ i. ap (slice_get theory.operations) (let k : i ≡ 0 + i = omega arith in k)) at opens hs m)
-
-      first_meets : {qs : List TermTrees} {answer : Option TermTrees} → FindsFirst theory rows qs answer → (q : TermTrees) →
-          answer ≡ Some q → (sorts : List ℕ) → Each (λ p. HaveSorts theory Some p sorts × AreMade p) qs →
-          HaveSorts theory Some q sorts × AreMade q × Each (λ r. MeetAll r q → ⊥) rows
-      first_meets in_none q e sorts h = absurd (cc)
-      first_meets (later f g) q e sorts h = first_meets g q e sorts h.1
-      first_meets (here f) q e sorts h = none_meets f q e sorts h.0.0 h.0.1
+    -- where all opened patterns are covered, the pattern is
+    pub covered_by_all : (ps row : TermTrees) (s : ℕ) (qs : List TermTrees) (sorts : List ℕ) (vs : TermTrees) → faced_any row ps ≡ Some s →
+        OpenBy theory s row ps 0 theory.operations qs → HaveSorts theory Some ps sorts → Each (IsCovered theory rows sorts) qs →
+        HaveSorts theory no_variables vs sorts → AreConstructed theory vs → AreOfShape ps vs → OneOf (λ r. AreOfShape r vs) rows
+    covered_by_all ps row s qs sorts vs at opens hp all hv c h =
+        let x = at_faced_any row ps vs s sorts at hp hv c h in
+        by_part x.part x.sorted x.constructed x.lifts
+      where
+        by_part : (v : TermTree) → HasSort theory no_variables v s → IsConstructed theory v → ((u : TermTree) → IsOfShape u v → AreOfShape (opened_any u row ps) vs) → OneOf (λ r. AreOfShape r vs) rows
+        by_part (variable y) hs hc lift = absurd hc
+        by_part (apply k ws) hs hc lift =
+            let d = on_some (slice_get theory.operations k) (λ d. (d.result ≡ s) × HaveSorts theory no_variables ws d.args) hs in
+            let maker : IsMaker theory s k d.0 = (hc.0, d.2.0, inhabited_by ws d.0.args d.2.1 hc.1) in
+            let one : IsCovered theory rows sorts (opened_any (apply k (variables d.0.args)) row ps) = chosen (IsCovered theory rows sorts) (opened_any (apply k (variables d.0.args)) row ps) qs all
+            (opened_by s row ps 0 theory.operations qs opens k k d.0 (omega arith) d.1 maker) in
+            one vs hv c (lift (apply k (variables d.0.args)) (refl, variables_shape ws d.0.args d.2.1))
 
     none_covers : (q vs : TermTrees) (rs : List TermTrees) → AreOfShape q vs → Each (λ r. MeetAll r q → ⊥) rs →
         OneOf (λ r. AreOfShape r vs) rs → ⊥
@@ -254,9 +226,9 @@ module _ (theory : Theory) where
     none_covers q vs (r ∷ rs) h k (inl o) = k.0 (all_shapes r q vs o h)
     none_covers q vs (r ∷ rs) h k (inr o) = none_covers q vs rs h k.1 o
 
-    -- so some tuple of it is covered by no row
-    pub some_uncovered : {ps : TermTrees} {answer : Option TermTrees} → Finds theory rows ps answer → (q : TermTrees) → answer ≡ Some q → (sorts : List ℕ) → HaveSorts theory Some ps sorts → AreMade ps → (vs : TermTrees) × HaveSorts theory no_variables vs sorts × AreConstructed theory vs × AreOfShape q vs × (OneOf (λ r. AreOfShape r vs) rows → ⊥)
-    some_uncovered f q e sorts hs m =
-        let k = none_meets f q e sorts hs m in
-        let v = fill_all q sorts k.1 k.0 in
-        (v.0, v.1, v.2, v.3, none_covers q v.0 rows v.3 k.2)
+    -- some value of a pattern that no row meets is covered by none
+    pub some_uncovered : (q : TermTrees) (sorts : List ℕ) → IsUncovered theory rows sorts q →
+        (vs : TermTrees) × HaveSorts theory no_variables vs sorts × AreConstructed theory vs × (OneOf (λ r. AreOfShape r vs) rows → ⊥)
+    some_uncovered q sorts u =
+        let v = fill_all q sorts u.made u.sorted in
+        (v.0, v.1, v.2, none_covers q v.0 rows v.3 u.unmet)

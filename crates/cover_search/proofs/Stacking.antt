@@ -1,15 +1,20 @@
 -- The stack of the search.
-use Rattle.std.proofs.Common.{ℕ, suc, ◌≡◌, ◌≤◌, ◌↔◌, List, [], ◌∷◌, ◌++◌, Option, Some, None, Bool, length, refl, ap, sym, subst, ◌∙◌, inl, inr, ◌⊎◌}
+use Rattle.std.proofs.Common.{ℕ, suc, ◌≡◌, ◌+◌, ◌≤◌, ◌↔◌, List, [], ◌∷◌, ◌++◌, Some, None, Bool, length, refl, ap, sym, subst, ◌∙◌, arith, inl, inr}
+use Rattle.std.specs.List.{slice_get}
 use Rattle.std.proofs.lemmas.List.{drop_all}
+use Rattle.spec_core.proofs.Lists.{each_append, each_left, each_right}
 use Rattle.spec_core.specs.Lists.{Each, OneOf}
+use Rattle.spec_core.specs.Sorts.{HaveSorts}
 use Rattle.spec_core.specs.Terms.{TermTrees, apply}
 use Rattle.spec_core.specs.Theories.{Operation, Theory}
 use Rattle.equation_sets.specs.Members.{IsIn}
 use Rattle.equation_shapes.specs.Shapes.{AreOfShape, MeetAll}
 use Rattle.cover_search.proofs.Facing.{all_cover_if}
+use Rattle.cover_search.proofs.Searching.{all_sorted, all_made, covers_through, covered_by_all}
 use Rattle.cover_search.specs.declared.pending.Pending.{Pending}
+use Rattle.cover_search.specs.Makers.{AreMade}
 use Rattle.cover_search.specs.Sorts.{IsInhabited, AreIn}
-use Rattle.cover_search.specs.Search.{variables, faced_any, opened_any, OpenBy, IsFirstMeeting, Finds, FindsFirst, covered, uncovered, split, in_none, later, here, arguments_of, stack_onto, stack_of, IsAlternative, AreAlternatives, LeadsBack}
+use Rattle.cover_search.specs.Search.{variables, faced_any, opened_any, OpenBy, IsFirstMeeting, arguments_of, stack_onto, stack_of, IsAlternative, AreAlternatives, IsCovered, LeadsBack}
 
 pub pushed_onto : (todo : List Pending) (a : Pending) (done : List TermTrees) →
     stack_onto (todo ++ a ∷ []) done ≡ arguments_of a.pattern ∷ stack_onto todo done
@@ -34,54 +39,43 @@ no_alternatives theory s row ps c old h =
     ([], subst (λ xs. OpenBy theory s row ps c xs []) (sym (drop_all c theory.operations h)) refl, refl)
 
 module _ (theory : Theory) (rows : List TermTrees) where
-  first_of : {ls : List TermTrees} {a : Option TermTrees} → FindsFirst theory rows ls a → (p : TermTrees) (rest : List TermTrees) →
-      ls ≡ p ∷ rest →
-      (Finds theory rows p None × FindsFirst theory rows rest a) ⊎ ((q : TermTrees) × (a ≡ Some q) × Finds theory rows p (Some q))
-  first_of in_none p rest e = absurd (cc)
-  first_of {a = a} (later {ps = x} {qs = xs} f g) p rest e =
-      let h : x ≡ p = cc in
-      let t : xs ≡ rest = cc in
-      inl (subst (λ y. Finds theory rows y None) h f, subst (λ ys. FindsFirst theory rows ys a) t g)
-  first_of (here {ps = x} {q = q} f) p rest e =
-      let h : x ≡ p = cc in
-      inr (q, refl, subst (λ y. Finds theory rows y (Some q)) h f)
+  -- a stack leads back to itself, and through another one
+  pub back_to : (old new : List TermTrees) → old ≡ new → LeadsBack theory rows old new
+  back_to old new e = record {
+    sorted = λ sorts h. subst (Each (λ p. HaveSorts theory Some p sorts)) e h;
+    made = λ h. subst (Each (AreMade theory)) e h;
+    covered = λ sorts hs h. subst (Each (IsCovered theory rows sorts)) (sym e) h;
+  }
 
-  parted : (qs rest : List TermTrees) (a : Option TermTrees) → FindsFirst theory rows (qs ++ rest) a → (FindsFirst theory rows qs None × FindsFirst theory rows rest a) ⊎ ((q : TermTrees) × (a ≡ Some q) × FindsFirst theory rows qs (Some q))
-  parted [] rest a f = inl (in_none, f)
-  parted (p ∷ qs) rest a f = elim (first_of f p (qs ++ rest) refl) [
-    | inl r ↦ elim (parted qs rest a r.1) [ inl k ↦ inl (later r.0 k.0, k.1) | inr k ↦ inr (k.0, k.1, later r.0 k.2) ]
-    | inr r ↦ inr (r.0, r.1, here r.2)
-  ]
+  pub back_through : (old mid new : List TermTrees) → LeadsBack theory rows old mid → LeadsBack theory rows mid new → LeadsBack theory rows old new
+  back_through old mid new a b = record {
+    sorted = λ sorts h. b.sorted sorts (a.sorted sorts h);
+    made = λ h. b.made (a.made h);
+    covered = λ sorts hs h. a.covered sorts hs (b.covered sorts (a.sorted sorts hs) h);
+  }
 
   pub after_covered : (ps : TermTrees) (old : List TermTrees) → OneOf (λ r. AreOfShape r ps) rows → LeadsBack theory rows (ps ∷ old) old
-  after_covered ps old o = λ a f. later (covered o) f
+  after_covered ps old o = record {
+    sorted = λ sorts h. h.1;
+    made = λ h. h.1;
+    covered = λ sorts hs h. ((λ vs hv c k. covers_through theory rows ps vs rows k o), h);
+  }
 
-  pub after_split : (ps row : TermTrees) (s : ℕ) (old new : List TermTrees) → (OneOf (λ r. AreOfShape r ps) rows → ⊥) →
-      IsFirstMeeting rows ps row → faced_any row ps ≡ Some s → AreAlternatives theory s row ps 0 old new →
-      LeadsBack theory rows (ps ∷ old) new
-  after_split ps row s old new free first at alts = λ a f.
-      elim (parted alts.0 old a (subst (λ xs. FindsFirst theory rows xs a) alts.2 f)) [
-        | inl r ↦ later (split row s alts.0 free first at alts.1 r.0) r.1
-        | inr r ↦ subst (λ b. FindsFirst theory rows (ps ∷ old) b) (sym r.1) (here (split row s alts.0 free first at alts.1 r.2))
-      ]
-
-  pub at_end : (start : TermTrees) → LeadsBack theory rows (start ∷ []) [] → Finds theory rows start None
-  at_end start back = elim (first_of (back None in_none) start [] refl) [ inl r ↦ r.0 | inr r ↦ absurd (cc) ]
-
-  pub at_found : (start ps : TermTrees) (rest : List TermTrees) → LeadsBack theory rows (start ∷ []) (ps ∷ rest) →
-      Each (λ r. MeetAll r ps → ⊥) rows → Finds theory rows start (Some ps)
-  at_found start ps rest back none = elim (first_of (back (Some ps) (here (uncovered none))) start [] refl) [
-    | inl r ↦ absurd (nothing r.1)
-    | inr r ↦ subst (λ a. Finds theory rows start a) (sym r.1) r.2
-  ]
-    where
-      nothing : FindsFirst theory rows [] (Some ps) → ⊥
-      nothing f = empty f refl refl
-        where
-          empty : {ls : List TermTrees} {a : Option TermTrees} → FindsFirst theory rows ls a → ls ≡ [] → a ≡ Some ps → ⊥
-          empty in_none e k = cc
-          empty (later f g) e k = cc
-          empty (here f) e k = cc
+  pub after_split : (ps row : TermTrees) (s : ℕ) (old new : List TermTrees) → faced_any row ps ≡ Some s →
+      AreAlternatives theory s row ps 0 old new → LeadsBack theory rows (ps ∷ old) new
+  after_split ps row s old new at alts =
+      let qs = alts.0 in record {
+        sorted = λ sorts h. subst (Each (λ p. HaveSorts theory Some p sorts)) (sym alts.2)
+            (each_append (λ p. HaveSorts theory Some p sorts) qs old
+            (all_sorted theory s row ps 0 theory.operations qs sorts (λ i. ap (slice_get theory.operations) (let k : i ≡ 0 + i = omega arith in k)) at alts.1 h.0) h.1);
+        made = λ h. subst (Each (AreMade theory)) (sym alts.2)
+            (each_append (AreMade theory) qs old (all_made theory s row ps 0 theory.operations qs alts.1 h.0) h.1);
+        covered = λ sorts hs h.
+            let all : Each (IsCovered theory rows sorts) (qs ++ old) = subst (Each (IsCovered theory rows sorts)) alts.2 h in (
+              (λ vs hv c k. covered_by_all theory rows ps row s qs sorts vs at alts.1 hs.0 (each_left (IsCovered theory rows sorts) qs old all) hv c k),
+              each_right (IsCovered theory rows sorts) qs old all,
+            );
+      }
 
   pub not_facing : (rs : List TermTrees) (ps row : TermTrees) → IsFirstMeeting rs ps row → faced_any row ps ≡ None →
       OneOf (λ r. AreOfShape r ps) rs

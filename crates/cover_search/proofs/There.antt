@@ -2,7 +2,7 @@
 use Rattle.std.proofs.Common.{ℕ, suc, ◌≡◌, ◌+◌, Option, Some, None, sym, ◌∙◌}
 use Rattle.std.proofs.lemmas.Option.{same_Some}
 use Rattle.spec_core.specs.Terms.{TermTree, TermTrees, variable, apply, no_terms, and_term}
-use Rattle.equation_shapes.specs.Shapes.{IsOfShape, AreOfShape, Meets, MeetAll}
+use Rattle.equation_shapes.specs.Shapes.{Meets, MeetAll}
 use Rattle.cover_search.specs.Search.{faced, first_faced, opened, opened_any, there_first, operation_there, operation_there_in}
 
 -- weights of terms, by which the recursion over them ends
@@ -14,19 +14,6 @@ abbrev mutual
   pub weights : TermTrees → ℕ
   weights no_terms = 0
   weights (and_term t ts) = suc (weight t + weights ts)
-
--- a row that covers a pattern meets it
-mutual
-  shape_meets : (r p : TermTree) → IsOfShape r p → Meets r p
-  shape_meets (variable x) p h = tt
-  shape_meets (apply g rs) (variable s) h = tt
-  shape_meets (apply g rs) (apply f ps) h = (h.0, shapes_meet rs ps h.1)
-
-  pub shapes_meet : (rs ps : TermTrees) → AreOfShape rs ps → MeetAll rs ps
-  shapes_meet no_terms no_terms h = tt
-  shapes_meet no_terms (and_term p ps) h = absurd h
-  shapes_meet (and_term r rs) no_terms h = absurd h
-  shapes_meet (and_term r rs) (and_term p ps) h = (shape_meets r p h.0, shapes_meet rs ps h.1)
 
 -- what meets a pattern after it is opened met it before
 

@@ -1,12 +1,14 @@
 -- The search for a case that no left side covers. In a pattern here each variable is one of its own, and its number is its sort.
 use Rattle.std.specs.Prelude.{ℕ, suc, ◌≡◌, ◌⊎◌, Bool, List, [], ◌∷◌, ◌++◌, drop, map, Option, Some, None}
+use Rattle.spec_core.specs.Constructors.{AreConstructed}
 use Rattle.spec_core.specs.Lists.{Each, OneOf}
+use Rattle.spec_core.specs.Sorts.{HaveSorts, no_variables}
 use Rattle.cover_search.specs.declared.arguments.Arguments.{Arguments}
 use Rattle.cover_search.specs.declared.pending.Pending.{Pending}
 use Rattle.spec_core.specs.Terms.{TermTree, TermTrees, variable, apply, no_terms, and_term, terms, term_of}
 use Rattle.spec_core.specs.Theories.{Operation, Theory}
 use Rattle.equation_shapes.specs.Shapes.{AreOfShape, MeetAll}
-use Rattle.cover_search.specs.Makers.{IsMaker}
+use Rattle.cover_search.specs.Makers.{IsMaker, AreMade}
 use Rattle.cover_search.specs.Sorts.{AreIn}
 
 -- a variable of each sort
@@ -85,21 +87,6 @@ abbrev pub IsFirstMeeting : List TermTrees → TermTrees → TermTrees → Type 
 IsFirstMeeting [] ps row = ⊥
 IsFirstMeeting (r ∷ rows) ps row = MeetAll r ps × (row ≡ r) ⊎ (MeetAll r ps → ⊥) × IsFirstMeeting rows ps row
 
--- what the search for an uncovered pattern answers, in a pattern and in the first of several patterns in which there is one
-mutual
-  pub data Finds (theory : Theory) (rows : List TermTrees) : TermTrees → Option TermTrees → Type 0 where
-    covered : {ps : TermTrees} → OneOf (λ r. AreOfShape r ps) rows → Finds theory rows ps None
-    uncovered : {ps : TermTrees} → Each (λ r. MeetAll r ps → ⊥) rows → Finds theory rows ps (Some ps)
-    split : {ps : TermTrees} {answer : Option TermTrees} (row : TermTrees) (s : ℕ) (qs : List TermTrees) →
-        (OneOf (λ r. AreOfShape r ps) rows → ⊥) → IsFirstMeeting rows ps row → faced_any row ps ≡ Some s →
-        OpenBy theory s row ps 0 theory.operations qs → FindsFirst theory rows qs answer → Finds theory rows ps answer
-
-  pub data FindsFirst (theory : Theory) (rows : List TermTrees) : List TermTrees → Option TermTrees → Type 0 where
-    in_none : FindsFirst theory rows [] None
-    later : {ps : TermTrees} {qs : List TermTrees} {answer : Option TermTrees} →
-        Finds theory rows ps None → FindsFirst theory rows qs answer → FindsFirst theory rows (ps ∷ qs) answer
-    here : {ps q : TermTrees} {qs : List TermTrees} → Finds theory rows ps (Some q) → FindsFirst theory rows (ps ∷ qs) (Some q)
-
 -- what the program's rows and patterns stand for
 abbrev pub arguments_of : Arguments → TermTrees
 arguments_of a = terms (map term_of a.items.items)
@@ -130,6 +117,20 @@ abbrev pub AreAlternatives : Theory → ℕ → TermTrees → TermTrees → ℕ 
 AreAlternatives theory s row ps c old new =
     (qs : List TermTrees) × OpenBy theory s row ps c (drop c theory.operations) qs × (new ≡ qs ++ old)
 
--- what the search finds in the new stack it finds in the old one
-abbrev pub LeadsBack : Theory → List TermTrees → List TermTrees → List TermTrees → Type 0
-LeadsBack theory rows old new = (answer : Option TermTrees) → FindsFirst theory rows new answer → FindsFirst theory rows old answer
+-- each list of ground constructor terms of these sorts that is of the pattern's shape is of the shape of a row
+abbrev pub IsCovered : Theory → List TermTrees → List ℕ → TermTrees → Type 0
+IsCovered theory rows sorts ps =
+    (vs : TermTrees) → HaveSorts theory no_variables vs sorts → AreConstructed theory vs → AreOfShape ps vs → OneOf (λ r. AreOfShape r vs) rows
+
+-- a pattern for terms of these sorts, of constructors over variables whose sorts have values, that no row meets
+pub record IsUncovered (theory : Theory) (rows : List TermTrees) (sorts : List ℕ) (ps : TermTrees) : Type 0 where
+  pub sorted : HaveSorts theory Some ps sorts
+  pub made : AreMade theory ps
+  pub unmet : Each (λ r. MeetAll r ps → ⊥) rows
+
+-- the patterns are covered where those of the new stack are, and the new stack's are of the same sorts, and made as they are
+pub record LeadsBack (theory : Theory) (rows old new : List TermTrees) : Type 0 where
+  pub sorted : (sorts : List ℕ) → Each (λ p. HaveSorts theory Some p sorts) old → Each (λ p. HaveSorts theory Some p sorts) new
+  pub made : Each (AreMade theory) old → Each (AreMade theory) new
+  pub covered : (sorts : List ℕ) → Each (λ p. HaveSorts theory Some p sorts) old → Each (IsCovered theory rows sorts) new →
+      Each (IsCovered theory rows sorts) old

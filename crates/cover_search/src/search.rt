@@ -1,12 +1,13 @@
 // The search for an uncovered pattern.
 
-ghost use Rattle.std.specs.Prelude.{◌≡◌, ◌<◌, ◌∷◌, Ok, IfOk, true, false, map, option_map};
+ghost use Rattle.std.specs.Prelude.{ℕ, ◌≡◌, ◌<◌, ◌∷◌, List, Ok, Some, IfOk, MatchOption, true, false, map};
 ghost use Rattle.cover_search.specs.Candidates.{AreCandidates, HasCandidates};
 ghost use Rattle.cover_search.specs.Indexes.{IsIndexOf};
-ghost use Rattle.cover_search.specs.Search.{arguments_of, rows_of, stack_of, LeadsBack, Finds};
+ghost use Rattle.cover_search.specs.Makers.{AreMade};
+ghost use Rattle.cover_search.specs.Search.{arguments_of, rows_of, stack_of, IsCovered, IsUncovered, LeadsBack};
 ghost use Rattle.cover_search.specs.Turns.{turns_left};
 ghost use Rattle.spec_core.specs.Lists.{Each};
-ghost use Rattle.spec_core.specs.Sorts.{FitsData};
+ghost use Rattle.spec_core.specs.Sorts.{FitsData, HaveSorts};
 ghost use Rattle.spec_core.specs.Terms.{term_of, terms};
 ghost use Rattle.spec_core.specs.Theories.{theory_of};
 ghost use Rattle.equation_shapes.specs.Shapes.{MeetAll};
@@ -65,8 +66,8 @@ fn step(
     }
 }
 
-/// What the search for an uncovered pattern answers from this one on: nothing where the rows cover it, else the first pattern that no row
-/// covers in any part. Each variable of a pattern is one of its own, and its number is its sort.
+/// Nothing where the rows cover the pattern, else a part of it that no row meets. Each variable of a pattern is one of its own, and its
+/// number is its sort.
 ///
 /// It ends: where a variable of a pattern is replaced, the row that was looked at has fewer operations that stand in the place of a
 /// variable or below one, and no row has more of them (`turns_left`).
@@ -79,8 +80,11 @@ pub fn uncovered_pattern(
 ) -> Result<Option<Arguments>, Memory>
     requires fits { FitsData (theory_of algebra.now) }
     requires index { IsIndexOf index.now (theory_of algebra.now) }
-    ensures finds { IfOk result (λ found.
-        Finds (theory_of algebra.now) (rows_of rows.now) (arguments_of start) (option_map arguments_of found)) }
+    ensures covered { IfOk result (λ found. MatchOption found ((sorts : List ℕ) → HaveSorts (theory_of algebra.now) Some (arguments_of start) sorts →
+        IsCovered (theory_of algebra.now) (rows_of rows.now) sorts (arguments_of start)) (λ _. Unit {0})) }
+    ensures uncovered { IfOk result (λ found. MatchOption found (Unit {0}) (λ pattern. (sorts : List ℕ) →
+        HaveSorts (theory_of algebra.now) Some (arguments_of start) sorts → AreMade (theory_of algebra.now) (arguments_of start) →
+        IsUncovered (theory_of algebra.now) (rows_of rows.now) sorts (arguments_of pattern))) }
 {
     let mut todo = Vec::new(alloc);
     let candidates = all_numbers(alloc, rows)?;

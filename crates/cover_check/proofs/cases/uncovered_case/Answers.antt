@@ -29,5 +29,5 @@ returns c =
     (λ k. untrue (c.if-is_constructor.ensures.decides.1 k)) ((makers_in theory c.args.index.now.inhabited sorts c.requires.index.inhabited).0 all)
     (arguments_of c.in_ok-start.start)
     (c.in_ok-start.ensures ∙ ap (λ (xs : List Sort). variables (map sort_number xs)) c.deref-2.ensures.value)
-    c.uncovered_pattern.result c.uncovered_pattern.ensures.finds in
+    c.uncovered_pattern.result c.uncovered_pattern.ensures.covered c.uncovered_pattern.ensures.uncovered in
     record { covered = r.0; uncovered = r.1 }

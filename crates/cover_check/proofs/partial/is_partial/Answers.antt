@@ -2,10 +2,9 @@ use Rattle.std.proofs.Common.{◌↔◌, IfOk, IsTrue, MatchOption, Option, refl
 use Rattle.spec_core.specs.Cover.{IsPartial}
 use Rattle.spec_core.specs.Theories.{theory_of, operation_of}
 use Rattle.spec_core.proofs.Lists.{untrue}
-use Rattle.cover_search.specs.Search.{arguments_of}
 use Rattle.cover_search.specs.declared.arguments.Arguments.{Arguments}
-use Rattle.cover_check.specs.Cases.{IsCoveredOperation, IsUncoveredBy}
-use Rattle.cover_check.proofs.Marking.{covered_total, uncovered_partial}
+use Rattle.cover_check.specs.Cases.{IsCoveredOperation}
+use Rattle.cover_check.proofs.Marking.{covered_total}
 use Rattle.cover_check.proofs.partial.is_partial.Goals as goal
 use Rattle.cover_check.proofs.partial.is_partial.Goals.{in-None, in-Some}
 
@@ -22,8 +21,7 @@ returns c =
           )
       | in-Some w ↦
           subst (λ r. IfOk r (λ yes. IsTrue yes ↔ IsPartial theory c.args.op.0)) (sym w.result-is) (
-            λ h. uncovered_partial theory c.args.op.0 d c.requires.declared c.requires.fits c.requires.orthogonal (arguments_of w.in-Some.field-0)
-                (subst (λ (o : Option Arguments). MatchOption o (Unit {0}) (λ q. IsUncoveredBy theory c.args.op.0 d (arguments_of q))) w.in-Some.is c.in_ok-uncovered_case.ensures.uncovered),
+            λ h. subst (λ (o : Option Arguments). MatchOption o (Unit {0}) (λ _. IsPartial theory c.args.op.0)) w.in-Some.is c.in_ok-uncovered_case.ensures.uncovered,
             λ p. refl,
           )
     ]

@@ -1,11 +1,9 @@
 use Rattle.std.proofs.Common.{◌≡◌, ◌∙◌, Some, None, map, ap, sym, subst}
 use Rattle.spec_core.specs.Terms.{term_of, terms}
 use Rattle.spec_core.specs.Theories.{theory_of}
-use Rattle.spec_core.proofs.Lists.{untrue}
 use Rattle.cover_search.specs.Search.{faced_any, arguments_of, rows_of, stack_of, AreAlternatives}
-use Rattle.spec_core.specs.Lists.{OneOf}
-use Rattle.cover_search.specs.Candidates.{AreMeeting, CoversAt}
-use Rattle.cover_search.proofs.Candidates.{covered_by, covering}
+use Rattle.cover_search.specs.Candidates.{AreMeeting}
+use Rattle.cover_search.proofs.Candidates.{covered_by}
 use Rattle.cover_search.proofs.Ending.{fewer_after, fewer_split}
 use Rattle.cover_search.proofs.Stacking.{after_covered, after_split, not_facing}
 use Rattle.cover_search.proofs.search.step.Goals as goal
@@ -28,7 +26,7 @@ returns-clause-left c = λ e.
     let ps = terms (map term_of c.args.pattern.now) in
     let sort = c.in-Some-facing.sort in
     let at : faced_any (arguments_of c.in-Some.row.now) ps ≡ Some sort = ap (λ xs. faced_any (terms (map term_of xs)) ps) (sym c.deref-cells.ensures.value) ∙ sym c.faced_any-facing.ensures ∙ c.in-Some-facing.is in
-    after_split theory (rows_of c.args.rows.now) ps (arguments_of c.in-Some.row.now) sort (stack_of c.args.todo.now.items) (stack_of c.push_alternatives.new.todo.items) (λ o. untrue (c.if-some_covers.ensures.1 (subst (OneOf (CoversAt (rows_of c.args.rows.now) (terms (map term_of c.args.pattern.now)))) (sym c.deref.ensures.value) (covering (rows_of c.args.rows.now) (terms (map term_of c.args.pattern.now)) c.in_ok-numbers.numbers.items c.in_ok-numbers.ensures o)))) (c.in-Some.ensures.some (terms (map term_of c.args.pattern.now)) (subst (AreMeeting (rows_of c.args.rows.now) (terms (map term_of c.args.pattern.now))) (sym c.deref-2.ensures.value) c.in_ok-numbers.ensures)) at
+    after_split theory (rows_of c.args.rows.now) ps (arguments_of c.in-Some.row.now) sort (stack_of c.args.todo.now.items) (stack_of c.push_alternatives.new.todo.items) at
     (subst (λ xs. AreAlternatives theory sort (terms (map term_of xs)) ps 0 (stack_of c.args.todo.now.items) (stack_of c.push_alternatives.new.todo.items)) c.deref-cells.ensures.value c.in_ok-push_alternatives-in-Some-facing.ensures.alternatives)
 
 pub returns-then-some_covers-clause-fewer : goal.returns-then-some_covers-clause-fewer

@@ -4,12 +4,12 @@ use Rattle.spec_core.specs.Lists.{Each}
 use Rattle.spec_core.specs.Terms.{term_of, terms}
 use Rattle.spec_core.specs.Theories.{theory_of}
 use Rattle.equation_shapes.specs.Shapes.{MeetAll}
-use Rattle.cover_search.specs.Search.{arguments_of, rows_of, stack_of, LeadsBack, FindsFirst}
+use Rattle.cover_search.specs.Search.{arguments_of, rows_of, stack_of, LeadsBack}
 use Rattle.cover_search.specs.Turns.{turns_left}
 use Rattle.spec_core.proofs.Lists.{each_left, each_middle, each_push}
 use Rattle.cover_search.specs.Candidates.{AreCandidates, HasCandidates}
 use Rattle.cover_search.specs.declared.pending.Pending.{Pending}
-use Rattle.cover_search.proofs.Stacking.{at_end, at_found, popped}
+use Rattle.cover_search.proofs.Stacking.{back_to, back_through, popped}
 use Rattle.cover_search.proofs.search.uncovered_pattern.Goals as goal
 
 pub loop-pending-init : goal.loop-pending-init
@@ -19,7 +19,7 @@ loop-pending-init c =
     let same = popped c.push.new.self.items c.new-todo.result.items pending c.in_ok-push.ensures.items
     ∙ ap (λ xs. arguments_of c.args.start ∷ stack_of xs) c.new-todo.ensures.items in
     record {
-      back = λ a f. subst (λ xs. FindsFirst (theory_of c.args.algebra.now) rows xs a) same f;
+      back = back_to (theory_of c.args.algebra.now) rows (arguments_of c.args.start ∷ []) (stack_of c.push.new.self.items) (sym same);
       candidates = subst (Each (HasCandidates rows)) (sym c.in_ok-push.ensures.items)
           (each_push (HasCandidates rows) c.new-todo.result.items pending
           (subst (Each (HasCandidates rows)) (sym c.new-todo.ensures.items) tt) (c.in_ok-candidates.ensures (arguments_of c.args.start)));
@@ -38,17 +38,22 @@ returns c =
     let theory = theory_of c.args.algebra.now in
     let rows = rows_of c.args.rows.now in
     let n : length c.loop-pending.todo.items ≡ 0 = search rules in
-    record { finds = at_end theory rows (arguments_of c.args.start) (subst (λ xs. LeadsBack theory rows (arguments_of c.args.start ∷ []) (stack_of xs)) (nil_from_length c.loop-pending.todo.items n) c.loop-pending.invariant.back) }
+    let back = subst (λ xs. LeadsBack theory rows (arguments_of c.args.start ∷ []) (stack_of xs)) (nil_from_length c.loop-pending.todo.items n) c.loop-pending.invariant.back in
+    record { covered = λ sorts h. (back.covered sorts (h, tt) tt).0; uncovered = tt }
 
 pub returns-then-uncovered : goal.returns-then-uncovered
 returns-then-uncovered c =
     let theory = theory_of c.args.algebra.now in
     let rows = rows_of c.args.rows.now in
     let e = popped c.loop-pending.todo.items c.pop.new.self.items c.in-Some.pending c.in-Some.ensures.items in
+    let back = subst (LeadsBack theory rows (arguments_of c.args.start ∷ [])) e c.loop-pending.invariant.back in
     record {
-      finds = at_found theory rows (arguments_of c.args.start) (arguments_of c.in-Some.pending.pattern) (stack_of c.pop.new.self.items)
-          (subst (LeadsBack theory rows (arguments_of c.args.start ∷ [])) e c.loop-pending.invariant.back)
-          (subst (λ xs. Each (λ r. MeetAll r (terms (map term_of xs)) → ⊥) rows) c.deref-pattern.ensures.value (c.in_ok-uncovered.ensures.found (ap Ok c.if-uncovered.true)));
+      covered = tt;
+      uncovered = λ sorts h m. record {
+        sorted = (back.sorted sorts (h, tt)).0;
+        made = (back.made (m, tt)).0;
+        unmet = subst (λ xs. Each (λ r. MeetAll r (terms (map term_of xs)) → ⊥) rows) c.deref-pattern.ensures.value (c.in_ok-uncovered.ensures.found (ap Ok c.if-uncovered.true));
+      };
     }
 
 pub loop-pending-preserved : goal.loop-pending-preserved
@@ -57,9 +62,9 @@ loop-pending-preserved c =
     let rows = rows_of c.args.rows.now in
     let e = popped c.loop-pending.todo.items c.pop.new.self.items c.in-Some.pending c.in-Some.ensures.items in
     record {
-      back = λ a f.
-          c.loop-pending.invariant.back a (subst (λ xs. FindsFirst theory rows xs a) (sym e)
-          (subst (λ xs. FindsFirst theory rows (terms (map term_of xs) ∷ stack_of c.pop.new.self.items) a) c.deref-pattern.ensures.value (c.in_ok-uncovered.ensures.left (ap Ok c.if-uncovered.false) a f)));
+      back = back_through theory rows (arguments_of c.args.start ∷ []) (arguments_of c.in-Some.pending.pattern ∷ stack_of c.pop.new.self.items) (stack_of c.step.new.todo.items)
+          (subst (LeadsBack theory rows (arguments_of c.args.start ∷ [])) e c.loop-pending.invariant.back)
+          (subst (λ xs. LeadsBack theory rows (terms (map term_of xs) ∷ stack_of c.pop.new.self.items) (stack_of c.step.new.todo.items)) c.deref-pattern.ensures.value (c.in_ok-uncovered.ensures.left (ap Ok c.if-uncovered.false)));
       candidates = c.in_ok-uncovered.ensures.candidates (ap Ok c.if-uncovered.false)
           (each_left (HasCandidates rows) c.pop.new.self.items (c.in-Some.pending ∷ [])
           (subst (Each (HasCandidates rows)) c.in-Some.ensures.items c.loop-pending.invariant.candidates));
