@@ -1,9 +1,10 @@
 // The call.
 
-ghost use Rattle.std.specs.Prelude.{◌≡◌, ◌+◌, IfOk};
+ghost use Rattle.std.specs.Prelude.{◌≡◌, ◌≤◌, IfOk, length};
 ghost use Rattle.spec_core.specs.Code.{program_of};
 ghost use Rattle.spec_core.specs.Ready.{IsReady};
 ghost use Rattle.rule_model.specs.Logs.{events_of};
+ghost use Rattle.trace_text.specs.Formats.{entry_line};
 ghost use Rattle.command_replay.specs.Replays.{Comes, LogComes};
 ghost use Rattle.command_replay.specs.declared.answer.Answer.TheVariants.{NotADerivation};
 
@@ -15,21 +16,27 @@ use spec_core::code::Checked;
 use spec_core::memory::Memory;
 use std::alloc::Global;
 use trace_reader::{Trace, TraceFault, read_trace};
+use trace_text::Format;
 
-// The answer for a log whose entry of this number, from 0, isn't possible.
-fn not_a_derivation(entry: u64) -> Result<Answer, Memory>
-    ensures { IfOk result (λ a. a ≡ NotADerivation (entry + 2)) }
+// The answer for a log, in a format, whose entry of this number, from 0, isn't possible.
+fn not_a_derivation(format: Format, log: &Log, entry: u64) -> Answer
+    requires { entry ≤ length (events_of log.now) }
+    ensures { result ≡ NotADerivation (entry_line format (events_of log.now) entry) }
 {
-    match entry.checked_add(2) {
-        None => Err(Memory),
-        Some(line) => Ok(Answer::NotADerivation(line)),
-    }
+    Answer::NotADerivation(trace_text::entry_line(format, log.as_slice(), entry as usize))
 }
 
-// What comes of a log.
-fn judged(alloc: Global, checked: &Checked, log: &Log, budget: u64) -> Result<Answer, Memory>
+// What comes of a log whose trace is in a format.
+#[tactic(auto, using(crate::proofs::Entries::within_log))]
+fn judged(
+    alloc: Global,
+    checked: &Checked,
+    format: Format,
+    log: &Log,
+    budget: u64,
+) -> Result<Answer, Memory>
     requires ready { IsReady (program_of checked.now) }
-    ensures { IfOk result (LogComes (program_of checked.now) (events_of log.now) budget) }
+    ensures { IfOk result (LogComes (program_of checked.now) format (events_of log.now) budget) }
 {
     let forms = Forms::new(alloc, &checked.algebra)?;
     let prepared = Prepared {
@@ -38,7 +45,7 @@ fn judged(alloc: Global, checked: &Checked, log: &Log, budget: u64) -> Result<An
     };
     match check(alloc, &prepared, log, budget) {
         Ok(actions) => Ok(Answer::Derivation(actions)),
-        Err(CheckFault::NotPossible { entry }) => not_a_derivation(entry),
+        Err(CheckFault::NotPossible { entry }) => Ok(not_a_derivation(format, log, entry)),
         Err(CheckFault::Spent { term }) => Ok(Answer::Spent(term)),
         Err(CheckFault::TooLarge { term }) => Ok(Answer::TooLarge(term)),
         Err(CheckFault::Memory) => Err(Memory),
@@ -60,7 +67,13 @@ pub fn replay_text(
     ensures comes { IfOk result (Comes (program_of checked.now) text.now budget) }
 {
     match read_trace(alloc, text, checked) {
-        Ok(Trace { log, end: _ }) => judged(alloc, checked, &log, budget),
+        Ok(
+            Trace {
+                log,
+                end: _,
+                format,
+            },
+        ) => judged(alloc, checked, format, &log, budget),
         Err(TraceFault::Line { line, kind }) => Ok(Answer::Refused { line, kind }),
         Err(TraceFault::Memory) => Err(Memory),
     }

@@ -1,5 +1,6 @@
 mod Choices
 mod Given
+mod Named
 mod Rows
 mod Usage
 mod Values

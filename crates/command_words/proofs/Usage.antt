@@ -5,12 +5,12 @@ use Rattle.clap.specs.Walk.{Row, Text, first_of}
 use Rattle.spec_core.specs.Lists.{OneOf}
 use Rattle.command_words.specs.declared.option.Choices.{Choices}
 use Rattle.command_words.specs.declared.option.OptionName.{OptionName}
-use Rattle.command_words.specs.declared.option.OptionName.TheVariants.{Budget, Values, Steps, Seed, Workers}
-use Rattle.command_words.specs.Commands.{Command, check, run_by, check_by, equal_by, replay_by, sim_by, selfrun_by}
+use Rattle.command_words.specs.declared.option.OptionName.TheVariants.{Budget, Values, Steps, Seed, Draw, Workers, Format}
+use Rattle.command_words.specs.Commands.{Command, check, migrate, run_by, check_by, equal_by, replay_by, migrate_by, sim_by, selfrun_by}
 use Rattle.command_words.specs.Laws.{Number, number_for, seed, size, IsAmiss, IsUsageExactly, UsageIsExact}
 use Rattle.command_words.specs.Numbers.{number_at, number_within}
 use Rattle.command_words.specs.Options.{chosen_by, choices_of, choosing, name_of, number_of}
-use Rattle.command_words.specs.Readers.{run_reader, check_reader, equal_reader, replay_reader, sim_reader, selfrun_reader, found_in}
+use Rattle.command_words.specs.Readers.{run_reader, check_reader, equal_reader, replay_reader, migrate_reader, sim_reader, selfrun_reader, found_in}
 use Rattle.command_words.proofs.Wanted.{wanted_words_are_found}
 
 unmapped : {A B : Type 0} (f : A → B) (x : Option A) → option_map f x ≡ None → x ≡ None
@@ -113,12 +113,12 @@ pub usage_is_exact : UsageIsExact
 usage_is_exact =
     let wanted = wanted_words_are_found in
     record {
-      run = exact run_by run_reader (map number_for (Workers ∷ Budget ∷ Values ∷ Steps ∷ Seed ∷ [])) (λ words rows e.
+      run = exact run_by run_reader (map number_for (Workers ∷ Budget ∷ Values ∷ Steps ∷ Seed ∷ Draw ∷ Format ∷ [])) (λ words rows e.
           let found = wanted.run words rows e in
-          let Q = OneOf (IsAmiss rows) (map number_for (Workers ∷ Budget ∷ Values ∷ Steps ∷ Seed ∷ [])) in
+          let Q = OneOf (IsAmiss rows) (map number_for (Workers ∷ Budget ∷ Values ∷ Steps ∷ Seed ∷ Draw ∷ Format ∷ [])) in
           through (first_of (codes "SPEC") rows) _ Q found.0 (λ specification. through (first_of (codes "SCRIPT") rows) _ Q found.1.0 (λ script.
-          mapped _ (choices_of (Workers ∷ Budget ∷ Values ∷ Steps ∷ Seed ∷ []) rows) Q
-          (by_choices (Workers ∷ Budget ∷ Values ∷ Steps ∷ Seed ∷ []) rows))));
+          mapped _ (choices_of (Workers ∷ Budget ∷ Values ∷ Steps ∷ Seed ∷ Draw ∷ Format ∷ []) rows) Q
+          (by_choices (Workers ∷ Budget ∷ Values ∷ Steps ∷ Seed ∷ Draw ∷ Format ∷ []) rows))));
       check = exact check_by check_reader [] (λ words rows e.
           let found = wanted.check words rows e in (
             λ none. absurd (not_both (first_of (codes "SPEC") rows) found.0 (unmapped check (first_of (codes "SPEC") rows) none)),
@@ -135,6 +135,12 @@ usage_is_exact =
           let Q = OneOf (IsAmiss rows) (map number_for (Budget ∷ [])) in
           through (first_of (codes "SPEC") rows) _ Q found.0 (λ specification. through (first_of (codes "TRACE") rows) _ Q found.1.0 (λ trace.
           mapped _ (choices_of (Budget ∷ []) rows) Q (by_choices (Budget ∷ []) rows))));
+      migrate = exact migrate_by migrate_reader [] (λ words rows e.
+          let found = wanted.migrate words rows e in
+          through (first_of (codes "SPEC") rows) _ ⊥ found.0 (λ specification. (
+            λ none. absurd (not_both (first_of (codes "TRACE") rows) found.1.0 (unmapped (migrate specification) (first_of (codes "TRACE") rows) none)),
+            λ o. absurd o,
+          )));
       sim = exact sim_by sim_reader (map number_for (Budget ∷ Values ∷ Steps ∷ [])) (λ words rows e.
           let found = wanted.sim words rows e in
           let Q = OneOf (IsAmiss rows) (map number_for (Budget ∷ Values ∷ Steps ∷ [])) in

@@ -16,7 +16,7 @@ use Rattle.clap.specs.declared.builder.action.ArgAction.{ArgAction}
 use Rattle.clap.specs.declared.builder.action.ArgAction.TheVariants.{Set}
 use Rattle.spec_core.specs.Lists.{Each}
 use Rattle.command_words.specs.Laws.{WantedWordsAreFound}
-use Rattle.command_words.specs.Readers.{run_reader, check_reader, equal_reader, replay_reader, sim_reader, selfrun_reader, found_in}
+use Rattle.command_words.specs.Readers.{run_reader, check_reader, equal_reader, replay_reader, migrate_reader, sim_reader, selfrun_reader, found_in}
 use Rattle.command_words.proofs.Given.{found, rows_filled, IsFilled, IsSet}
 
 -- tests of arguments
@@ -164,6 +164,10 @@ wanted_words_are_found = record {
   replay = λ words rows e. (
     finds_word replay_reader (codes "SPEC") refl refl words rows e,
     (finds_word replay_reader (codes "TRACE") refl refl words rows e, tt),
+  );
+  migrate = λ words rows e. (
+    finds_word migrate_reader (codes "SPEC") refl refl words rows e,
+    (finds_word migrate_reader (codes "TRACE") refl refl words rows e, tt),
   );
   sim = λ words rows e. (finds_word sim_reader (codes "SPEC") refl refl words rows e, tt);
   selfrun = λ words rows e. (

@@ -4,11 +4,11 @@ use Rattle.clap.specs.Simple.{App}
 use Rattle.clap.specs.Walk.{Row, Text, first_of}
 use Rattle.spec_core.specs.Lists.{Each, OneOf}
 use Rattle.command_words.specs.declared.option.OptionName.{OptionName}
-use Rattle.command_words.specs.declared.option.OptionName.TheVariants.{Budget, Values, Steps, Seed, Workers}
-use Rattle.command_words.specs.Commands.{Command, run_of, check_of, equal_of, replay_of, sim_of, selfrun_of}
+use Rattle.command_words.specs.declared.option.OptionName.TheVariants.{Budget, Values, Steps, Seed, Draw, Workers, Format}
+use Rattle.command_words.specs.Commands.{Command, run_of, check_of, equal_of, replay_of, migrate_of, sim_of, selfrun_of}
 use Rattle.command_words.specs.Numbers.{number_within}
 use Rattle.command_words.specs.Options.{name_of, least, greatest}
-use Rattle.command_words.specs.Readers.{run_reader, check_reader, equal_reader, replay_reader, sim_reader, selfrun_reader, found_in}
+use Rattle.command_words.specs.Readers.{run_reader, check_reader, equal_reader, replay_reader, migrate_reader, sim_reader, selfrun_reader, found_in}
 
 -- wherever `clap` has matches of words, it finds a word under each of these names
 abbrev pub Finds : App → List Text → Type 0
@@ -21,6 +21,7 @@ pub record WantedWordsAreFound : Type 0 where
   pub check : Finds check_reader (codes "SPEC" ∷ [])
   pub equal : Finds equal_reader (codes "SPEC" ∷ codes "FIRST" ∷ codes "SECOND" ∷ [])
   pub replay : Finds replay_reader (codes "SPEC" ∷ codes "TRACE" ∷ [])
+  pub migrate : Finds migrate_reader (codes "SPEC" ∷ codes "TRACE" ∷ [])
   pub sim : Finds sim_reader (codes "SPEC" ∷ [])
   pub selfrun : Finds selfrun_reader (codes "SEED" ∷ codes "SIZE" ∷ [])
 
@@ -54,9 +55,10 @@ IsUsageExactly told reader numbers =
 
 -- each command
 pub record UsageIsExact : Type 0 where
-  pub run : IsUsageExactly run_of run_reader (map number_for (Workers ∷ Budget ∷ Values ∷ Steps ∷ Seed ∷ []))
+  pub run : IsUsageExactly run_of run_reader (map number_for (Workers ∷ Budget ∷ Values ∷ Steps ∷ Seed ∷ Draw ∷ Format ∷ []))
   pub check : IsUsageExactly check_of check_reader []
   pub equal : IsUsageExactly equal_of equal_reader (map number_for (Budget ∷ []))
   pub replay : IsUsageExactly replay_of replay_reader (map number_for (Budget ∷ []))
+  pub migrate : IsUsageExactly migrate_of migrate_reader []
   pub sim : IsUsageExactly sim_of sim_reader (map number_for (Budget ∷ Values ∷ Steps ∷ []))
   pub selfrun : IsUsageExactly selfrun_of selfrun_reader (seed ∷ size ∷ map number_for (Workers ∷ []))

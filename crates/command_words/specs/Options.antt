@@ -1,10 +1,14 @@
 -- Options of a command and their numbers (this profile).
-use Rattle.std.specs.Prelude.{ℕ, ◌≤◌, List, [], ◌∷◌, Option, Some, None, option_map, option_and_then, codes}
+use Rattle.std.specs.Prelude.{ℕ, ◌≤◌, nat_eq, if◌then◌else◌, List, [], ◌∷◌, Option, Some, None, option_map, option_and_then, codes}
 use Rattle.clap.specs.Walk.{Row, first_of}
+use Rattle.run_settings.specs.declared.settings.Draw as draws
+use Rattle.run_settings.specs.declared.settings.Draw.TheVariants.{Rotation, Squares}
+use Rattle.trace_text.specs.declared.format.Format as formats
+use Rattle.trace_text.specs.declared.format.Format.TheVariants.{One, Two}
 use Rattle.command_words.specs.Numbers.{number_within}
 use Rattle.command_words.specs.declared.option.Choices.{Choices}
 use Rattle.command_words.specs.declared.option.OptionName.{OptionName}
-use Rattle.command_words.specs.declared.option.OptionName.TheVariants.{Budget, Values, Steps, Seed, Workers}
+use Rattle.command_words.specs.declared.option.OptionName.TheVariants.{Budget, Values, Steps, Seed, Draw, Workers, Format}
 
 -- what stands behind the two hyphens of an option
 abbrev pub name_of : OptionName → List ℕ
@@ -12,7 +16,9 @@ name_of Budget = codes "budget"
 name_of Values = codes "values"
 name_of Steps = codes "steps"
 name_of Seed = codes "seed"
+name_of Draw = codes "draw"
 name_of Workers = codes "workers"
+name_of Format = codes "format"
 
 -- the least and the greatest number that it may be given
 abbrev pub least : OptionName → ℕ
@@ -20,18 +26,30 @@ least Budget = 1
 least Values = 1
 least Steps = 1
 least Seed = 0
+least Draw = 1
 least Workers = 0
+least Format = 1
 
 abbrev pub greatest : OptionName → ℕ
 greatest Budget = 4294967296
 greatest Values = 256
 greatest Steps = 1000000
 greatest Seed = 4294967295
+greatest Draw = 2
 greatest Workers = 64
+greatest Format = 2
 
 -- what holds where no option is given
 abbrev pub usual : Choices
-usual = record { settings = record { budget = 1000000; values = 16; steps = 10000; seed = 0 }; workers = 0 }
+usual = record { settings = record { budget = 1000000; values = 16; steps = 10000; seed = 0; draw = Rotation }; workers = 0; format = One }
+
+-- the draw with a number, 1 or 2
+abbrev pub draw_numbered : ℕ → draws.Draw
+draw_numbered number = if nat_eq number 1 then Rotation else Squares
+
+-- the format with a number, 1 or 2
+abbrev pub format_numbered : ℕ → formats.Format
+format_numbered number = if nat_eq number 1 then One else Two
 
 -- the choices with another number for the option
 abbrev pub choosing : OptionName → Choices → ℕ → Choices
@@ -39,7 +57,9 @@ choosing Budget c number = record c { settings = record c.settings { budget = nu
 choosing Values c number = record c { settings = record c.settings { values = number } }
 choosing Steps c number = record c { settings = record c.settings { steps = number } }
 choosing Seed c number = record c { settings = record c.settings { seed = number } }
+choosing Draw c number = record c { settings = record c.settings { draw = draw_numbered number } }
 choosing Workers c number = record c { workers = number }
+choosing Format c number = record c { format = format_numbered number }
 
 -- the number that a word gives an option: one in the option's range
 abbrev pub number_of : OptionName → List ℕ → Option ℕ

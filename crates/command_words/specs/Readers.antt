@@ -6,7 +6,7 @@ use Rattle.clap.specs.Faults.{fault_of}
 use Rattle.clap.specs.Simple.{App, matches_of, new_rule, new_shape, with_rule}
 use Rattle.clap.specs.Walk.{Row, Rule, Text, is_empty}
 use Rattle.command_words.specs.Options.{name_of}
-use Rattle.command_words.specs.declared.option.OptionName.TheVariants.{Budget, Values, Steps, Seed, Workers}
+use Rattle.command_words.specs.declared.option.OptionName.TheVariants.{Budget, Values, Steps, Seed, Draw, Workers, Format}
 
 -- a word that the command names
 abbrev pub named : Text → Rule
@@ -24,9 +24,10 @@ bare name = record {
 }
 
 abbrev pub run_reader : App
-run_reader = with_rule (with_rule (with_rule (with_rule (with_rule (with_rule (with_rule (bare (codes "run"))
+run_reader = with_rule (with_rule (with_rule (with_rule (with_rule (with_rule (with_rule (with_rule (with_rule (bare (codes "run"))
     (named (codes "SPEC"))) (named (codes "SCRIPT")))
-    (numbered (name_of Workers))) (numbered (name_of Budget))) (numbered (name_of Values))) (numbered (name_of Steps))) (numbered (name_of Seed))
+    (numbered (name_of Workers))) (numbered (name_of Budget))) (numbered (name_of Values))) (numbered (name_of Steps))) (numbered (name_of Seed)))
+    (numbered (name_of Draw))) (numbered (name_of Format))
 
 abbrev pub check_reader : App
 check_reader = with_rule (bare (codes "check")) (named (codes "SPEC"))
@@ -38,6 +39,9 @@ equal_reader = with_rule (with_rule (with_rule (with_rule (bare (codes "equal"))
 abbrev pub replay_reader : App
 replay_reader = with_rule (with_rule (with_rule (bare (codes "replay"))
     (named (codes "SPEC"))) (named (codes "TRACE"))) (numbered (name_of Budget))
+
+abbrev pub migrate_reader : App
+migrate_reader = with_rule (with_rule (bare (codes "migrate")) (named (codes "SPEC"))) (named (codes "TRACE"))
 
 abbrev pub sim_reader : App
 sim_reader = with_rule (with_rule (with_rule (with_rule (bare (codes "sim"))

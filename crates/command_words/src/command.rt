@@ -3,19 +3,20 @@
 ghost use Rattle.std.specs.Prelude.{◌≡◌, IfOk, IfSome, map, option_map, string_bytes};
 ghost use Rattle.clap.specs.Words.{found_of, rows_of};
 ghost use Rattle.command_words.specs.Commands as commands;
-ghost use Rattle.command_words.specs.Commands.{check_of, command_named, command_of, equal_of, replay_of, run_of, selfrun_of, sim_of};
+ghost use Rattle.command_words.specs.Commands.{check_of, command_named, command_of, equal_of, migrate_of, replay_of, run_of, selfrun_of, sim_of};
 ghost use Rattle.command_words.specs.Commands.{IsWithinRanges};
 
 use crate::number::number_at;
 use crate::option::{Choices, OptionName, choices_of};
 use crate::reader::{
-    check_reader, equal_reader, find, replay_reader, run_reader, selfrun_reader, sim_reader,
-    text_at,
+    check_reader, equal_reader, find, migrate_reader, replay_reader, run_reader, selfrun_reader,
+    sim_reader, text_at,
 };
 use clap::ArgMatches;
+use run_settings::settings::Settings;
 use spec_core::memory::Memory;
-use spec_core::settings::Settings;
 use std::alloc::Global;
+use trace_text::Format;
 
 /// A command with the names of its files, its terms and its numbers.
 #[derive(Drop)]
@@ -28,6 +29,8 @@ pub enum Command<'w> {
         settings: Settings,
         /// How many workers do its jobs, from 0 to 64.
         workers: u32,
+        /// In which format its trace is printed.
+        format: Format,
     },
     /// Whether a specification is accepted.
     Check {
@@ -47,6 +50,11 @@ pub enum Command<'w> {
         trace: &'w str,
         /// The greatest number of uses of equations in the evaluation of each term, from 1 to 2^32.
         budget: u64,
+    },
+    /// A trace in format 2.
+    Migrate {
+        specification: &'w str,
+        trace: &'w str,
     },
     /// A simulation of a specification by hand.
     Sim {
@@ -78,13 +86,20 @@ fn run_by<'w>(matches: &ArgMatches<'w>) -> Option<Command<'w>>
         OptionName::Values,
         OptionName::Steps,
         OptionName::Seed,
+        OptionName::Draw,
+        OptionName::Format,
     ];
-    let Choices { settings, workers } = choices_of(&known, matches)?;
+    let Choices {
+        settings,
+        workers,
+        format,
+    } = choices_of(&known, matches)?;
     Some(Command::Run {
         specification,
         script,
         settings,
         workers,
+        format,
     })
 }
 
@@ -173,6 +188,30 @@ fn replay(alloc: Global, words: &[String]) -> Result<Option<Command<'_>>, Memory
     }
 }
 
+// What `migrate` is told by what `clap` finds.
+fn migrate_by<'w>(matches: &ArgMatches<'w>) -> Option<Command<'w>>
+    ensures command { option_map command_named result ≡ commands.migrate_by (rows_of (found_of matches.now)) }
+    ensures ranges { IfSome result IsWithinRanges }
+{
+    let specification = text_at(matches, "SPEC")?;
+    let trace = text_at(matches, "TRACE")?;
+    Some(Command::Migrate {
+        specification,
+        trace,
+    })
+}
+
+// What `migrate` is told by the words behind it.
+fn migrate(alloc: Global, words: &[String]) -> Result<Option<Command<'_>>, Memory>
+    ensures command { IfOk result (λ r. option_map command_named r ≡ migrate_of (map string_bytes words.now)) }
+    ensures ranges { IfOk result (λ r. IfSome r IsWithinRanges) }
+{
+    match find(migrate_reader(alloc)?, words)? {
+        Some(matches) => Ok(migrate_by(&matches)),
+        None => Ok(None),
+    }
+}
+
 // What `sim` is told by what `clap` finds.
 fn sim_by<'w>(matches: &ArgMatches<'w>) -> Option<Command<'w>>
     ensures command { option_map command_named result ≡ commands.sim_by (rows_of (found_of matches.now)) }
@@ -235,6 +274,7 @@ pub fn read_command(alloc: Global, words: &[String]) -> Result<Option<Command<'_
             "check" => check(alloc, words),
             "equal" => equal(alloc, words),
             "replay" => replay(alloc, words),
+            "migrate" => migrate(alloc, words),
             "sim" => sim(alloc, words),
             "selfrun" => selfrun(alloc, words),
             _ => Ok(None),

@@ -8,7 +8,8 @@ ghost use Rattle.command_words.specs.Options.{HasFewWorkers};
 use crate::number::number_within;
 use crate::reader::text_at;
 use clap::ArgMatches;
-use spec_core::settings::Settings;
+use run_settings::settings::{Draw, Settings};
+use trace_text::Format;
 
 /// An option that a command may have.
 #[derive(Clone, Copy, Debug, PartialEq, Eq)]
@@ -21,8 +22,12 @@ pub enum OptionName {
     Steps,
     /// What chooses among internal steps, from 0 to 2^32 - 1.
     Seed,
+    /// How the seed chooses, 1 or 2.
+    Draw,
     /// How many workers do the jobs of a session, from 0 to 64.
     Workers,
+    /// In which format a trace is printed, 1 or 2.
+    Format,
 }
 
 /// What options choose.
@@ -32,6 +37,30 @@ pub struct Choices {
     pub settings: Settings,
     /// How many workers do its jobs, from 0 to 64.
     pub workers: u32,
+    /// In which format a trace is printed.
+    pub format: Format,
+}
+
+// The draw with a number, 1 or 2.
+fn draw_numbered(number: u64) -> Draw
+    ensures { result ≡ options.draw_numbered number }
+{
+    if number == 1 {
+        Draw::Rotation
+    } else {
+        Draw::Squares
+    }
+}
+
+// The format with a number, 1 or 2.
+fn format_numbered(number: u64) -> Format
+    ensures { result ≡ options.format_numbered number }
+{
+    if number == 1 {
+        Format::One
+    } else {
+        Format::Two
+    }
 }
 
 impl OptionName {
@@ -44,7 +73,9 @@ impl OptionName {
             OptionName::Values => "values",
             OptionName::Steps => "steps",
             OptionName::Seed => "seed",
+            OptionName::Draw => "draw",
             OptionName::Workers => "workers",
+            OptionName::Format => "format",
         }
     }
 
@@ -57,7 +88,9 @@ impl OptionName {
             OptionName::Values => 1,
             OptionName::Steps => 1,
             OptionName::Seed => 0,
+            OptionName::Draw => 1,
             OptionName::Workers => 0,
+            OptionName::Format => 1,
         }
     }
 
@@ -71,7 +104,9 @@ impl OptionName {
             OptionName::Values => 256,
             OptionName::Steps => 1_000_000,
             OptionName::Seed => 4_294_967_295,
+            OptionName::Draw => 2,
             OptionName::Workers => 64,
+            OptionName::Format => 2,
         }
     }
 
@@ -81,7 +116,11 @@ impl OptionName {
         ensures choices { result ≡ options.choosing self choices number }
         ensures workers { HasFewWorkers choices → HasFewWorkers result }
     {
-        let Choices { settings, workers } = choices;
+        let Choices {
+            settings,
+            workers,
+            format,
+        } = choices;
         match self {
             OptionName::Budget => Choices {
                 settings: Settings {
@@ -89,6 +128,7 @@ impl OptionName {
                     ..settings
                 },
                 workers,
+                format,
             },
             OptionName::Values => Choices {
                 settings: Settings {
@@ -96,6 +136,7 @@ impl OptionName {
                     ..settings
                 },
                 workers,
+                format,
             },
             OptionName::Steps => Choices {
                 settings: Settings {
@@ -103,6 +144,7 @@ impl OptionName {
                     ..settings
                 },
                 workers,
+                format,
             },
             OptionName::Seed => Choices {
                 settings: Settings {
@@ -110,10 +152,25 @@ impl OptionName {
                     ..settings
                 },
                 workers,
+                format,
+            },
+            OptionName::Draw => Choices {
+                settings: Settings {
+                    draw: draw_numbered(number),
+                    ..settings
+                },
+                workers,
+                format,
             },
             OptionName::Workers => Choices {
                 settings,
                 workers: number as u32,
+                format,
+            },
+            OptionName::Format => Choices {
+                settings,
+                workers,
+                format: format_numbered(number),
             },
         }
     }
@@ -126,8 +183,10 @@ pub const USUAL: Choices = Choices {
         values: 16,
         steps: 10_000,
         seed: 0,
+        draw: Draw::Rotation,
     },
     workers: 0,
+    format: Format::One,
 };
 
 // The number that a word gives an option.

@@ -46,7 +46,9 @@ pub fn run_reader<'a>(alloc: Global) -> Result<Command<'a>, AllocError>
         .arg(numbered(alloc, "budget"))?
         .arg(numbered(alloc, "values"))?
         .arg(numbered(alloc, "steps"))?
-        .arg(numbered(alloc, "seed"))
+        .arg(numbered(alloc, "seed"))?
+        .arg(numbered(alloc, "draw"))?
+        .arg(numbered(alloc, "format"))
 }
 
 /// Reads the words of `check`.
@@ -75,6 +77,15 @@ pub fn replay_reader<'a>(alloc: Global) -> Result<Command<'a>, AllocError>
         .arg(named(alloc, "SPEC"))?
         .arg(named(alloc, "TRACE"))?
         .arg(numbered(alloc, "budget"))
+}
+
+/// Reads the words of `migrate`.
+pub fn migrate_reader<'a>(alloc: Global) -> Result<Command<'a>, AllocError>
+    ensures { IfOk result (λ c. app_of c ≡ readers.migrate_reader) }
+{
+    bare(alloc, "migrate")
+        .arg(named(alloc, "SPEC"))?
+        .arg(named(alloc, "TRACE"))
 }
 
 /// Reads the words of `sim`.

@@ -13,6 +13,8 @@ use Rattle.rule_model.specs.Answers.{Answer, taken, deadlock, stalls, beyond, no
 use Rattle.rule_model.specs.Derivations.{Derivation}
 use Rattle.rule_model.specs.Events.{OfferName, Event, pended, acted, replied, stalled, left, event_of, Ending, exits, deadlocked, waiting}
 use Rattle.rule_model.specs.Events.{ends_beyond, ends_spent, ends_too_large, ends_at_limit}
+use Rattle.trace_text.specs.declared.format.Format.{Format}
+use Rattle.trace_text.specs.Formats.{format_line, rules_text}
 use Rattle.trace_text.specs.Fits.{ActionFits, AnswerFits, ByFits, EndingFits, EventFits, IsClient, NameFits, OfferFits, TreeFits}
 use Rattle.trace_text.specs.Names.{names_in}
 use Rattle.trace_text.specs.Trace.{Names, action_text, answer_word, by_text, end_word, event_line, limit_word, name_text, offer_text, tree_text}
@@ -104,27 +106,6 @@ module _ (program : Program) where
   end_is (ends_spent t) rest = refl
   end_is (ends_too_large t) rest = refl
   end_is (ends_at_limit kind) rest = refl
-
-  abbrev behind_entry : Event → List ℕ
-  behind_entry (pended client number offer ask) = name_text (client, number) ++ (codes " " ++ offer_text names offer)
-  behind_entry (acted action d by) = action_text names action ++ (by_text by ++ (codes " rules " ++ tree_text names d))
-  behind_entry (replied client number answer) = name_text (client, number) ++ (codes " " ++ answer_word names answer)
-  behind_entry (stalled all) = flat_map (λ name. codes " " ++ name_text name) all
-  behind_entry (left client) = decimal client
-
-  three_parts : (w m b o : List ℕ) → w ++ m ++ b ++ o ≡ w ++ (m ++ (b ++ o))
-  three_parts w m b o = simp append_assoc
-
-  four_parts : (w a b u t : List ℕ) → w ++ a ++ b ++ u ++ t ≡ w ++ (a ++ (b ++ (u ++ t)))
-  four_parts w a b u t = simp append_assoc
-
-  entry_so : (x : Event) → event_line names x ≡ entry_word (entry_top x) ++ behind_entry x
-  entry_so (pended client number offer true) = three_parts (codes "ask ") (name_text (client, number)) (codes " ") (offer_text names offer)
-  entry_so (pended client number offer false) = three_parts (codes "pend ") (name_text (client, number)) (codes " ") (offer_text names offer)
-  entry_so (acted action d by) = four_parts (codes "act ") (action_text names action) (by_text by) (codes " rules ") (tree_text names d)
-  entry_so (replied client number answer) = three_parts (codes "reply ") (name_text (client, number)) (codes " ") (answer_word names answer)
-  entry_so (stalled all) = refl
-  entry_so (left client) = refl
 
   -- a reply with the word that is written
   abbrev FindsReply : Option (List ℕ) → Option (List ℕ) → List ℕ → Type 0
@@ -279,97 +260,120 @@ module _ (program : Program) where
   any_fits last (Ok entry) h = h program
   any_fits last (Err e) h = tt
 
-  -- an entry with the line that is written
-  abbrev FindsEntry : Option (List ℕ) → Option (List ℕ) → Event → Type 0
-  FindsEntry old last x = (event : Event) → EventFits program event → old ≡ Some (event_line names event) →
-      (event_line names x ≡ event_line names event) × IsSome last
+  -- lines in a format, where the tree before has the given text
+  module _ (format : Format) (tree : List ℕ) where
+    abbrev behind_entry : Event → List ℕ
+    behind_entry (pended client number offer ask) = name_text (client, number) ++ (codes " " ++ offer_text names offer)
+    behind_entry (acted action d by) = action_text names action ++ (by_text by ++ (codes " rules " ++ rules_text format tree (tree_text names d)))
+    behind_entry (replied client number answer) = name_text (client, number) ++ (codes " " ++ answer_word names answer)
+    behind_entry (stalled all) = flat_map (λ name. codes " " ++ name_text name) all
+    behind_entry (left client) = decimal client
 
-  module _ (old new : Option (List ℕ)) (o : Option EntryWord)
-      (finds : Finds entry_word (λ word. Unit {0}) (λ rest. Unit {0}) old new (λ word. o ≡ Some word)) where
-    abbrev IsEntry : Event → Type 0
-    IsEntry x = (o ≡ Some (entry_top x)) × (new ≡ Some (behind_entry x))
+    three_parts : (w m b o : List ℕ) → w ++ m ++ b ++ o ≡ w ++ (m ++ (b ++ o))
+    three_parts w m b o = simp append_assoc
 
-    at_entry : (x : Event) → old ≡ Some (event_line names x) → IsEntry x
-    at_entry x e = finds (entry_top x) (behind_entry x) tt tt (e ∙ ap Some (entry_so x))
+    four_parts : (w a b u t : List ℕ) → w ++ a ++ b ++ u ++ t ≡ w ++ (a ++ (b ++ (u ++ t)))
+    four_parts w a b u t = simp append_assoc
 
-    pub no_entry : o ≡ None → (x : Event) → old ≡ Some (event_line names x) → ⊥
-    no_entry k x e = let wrong : None ≡ Some (entry_top x) = sym k ∙ (at_entry x e).0 in cc
+    entry_so : (x : Event) → format_line names format tree x ≡ entry_word (entry_top x) ++ behind_entry x
+    entry_so (pended client number offer true) = three_parts (codes "ask ") (name_text (client, number)) (codes " ") (offer_text names offer)
+    entry_so (pended client number offer false) = three_parts (codes "pend ") (name_text (client, number)) (codes " ") (offer_text names offer)
+    entry_so (acted action d by) = four_parts (codes "act ") (action_text names action) (by_text by) (codes " rules ") (rules_text format tree (tree_text names d))
+    entry_so (replied client number answer) = three_parts (codes "reply ") (name_text (client, number)) (codes " ") (answer_word names answer)
+    entry_so (stalled all) = refl
+    entry_so (left client) = refl
 
-    pub leave_read : o ≡ Some entries.Leave → (client : ℕ) (last : Option (List ℕ)) →
-        ((n : ℕ) → IsClient n → new ≡ Some (decimal n) → (client ≡ n) × IsSome last) → FindsEntry old last (left client)
-    leave_read k client last f x fits e = go x (at_entry x e) fits
-      where
-        go : (x : Event) → IsEntry x → EventFits program x → (event_line names (left client) ≡ event_line names x) × IsSome last
-        go (left n) h fit = let q = f n fit h.1 in (ap (λ z. event_line names (left z)) q.0, q.1)
-        go (pended client number offer true) h fit = absurd (let wrong = sym h.0 ∙ k in cc)
-        go (pended client number offer false) h fit = absurd (let wrong = sym h.0 ∙ k in cc)
-        go _ h fit = absurd (let wrong = sym h.0 ∙ k in cc)
+    -- an entry with the line that is written
+    abbrev FindsEntry : Option (List ℕ) → Option (List ℕ) → Event → Type 0
+    FindsEntry old last x = (event : Event) → EventFits program event → old ≡ Some (format_line names format tree event) →
+        (event_line names x ≡ event_line names event) × IsSome last
 
-  module _ {E : Type 0} (old new last : Option (List ℕ)) (o : Option EntryWord)
-      (finds : Finds entry_word (λ word. Unit {0}) (λ rest. Unit {0}) old new (λ word. o ≡ Some word)) where
-    pub ask_read : o ≡ Some entries.Ask → (r : Result Entry E) → IfOk r (λ entry. (name : OfferName) (offer : Offer) → NameFits name → OfferFits program offer →
-        new ≡ Some (name_text name ++ (codes " " ++ offer_text names offer)) → (event_of entry ≡ pended name.0 name.1 offer true) × IsSome last) →
-        IfOk r (λ entry. FindsEntry old last (event_of entry))
-    ask_read k (Err e) f = tt
-    ask_read k (Ok entry) f = λ x fits e. go x (at_entry old new o finds x e) fits
-      where
-        go : (x : Event) → IsEntry old new o finds x → EventFits program x → (event_line names (event_of entry) ≡ event_line names x) × IsSome last
-        go (pended client number offer true) h fit = let q = f (client, number) offer fit.0 fit.1 h.1 in (ap (event_line names) q.0, q.1)
-        go (pended client number offer false) h fit = absurd (let wrong = sym h.0 ∙ k in cc)
-        go _ h fit = absurd (let wrong = sym h.0 ∙ k in cc)
+    module _ (old new : Option (List ℕ)) (o : Option EntryWord)
+        (finds : Finds entry_word (λ word. Unit {0}) (λ rest. Unit {0}) old new (λ word. o ≡ Some word)) where
+      abbrev IsEntry : Event → Type 0
+      IsEntry x = (o ≡ Some (entry_top x)) × (new ≡ Some (behind_entry x))
 
-  module _ {E : Type 0} (old new last : Option (List ℕ)) (o : Option EntryWord)
-      (finds : Finds entry_word (λ word. Unit {0}) (λ rest. Unit {0}) old new (λ word. o ≡ Some word)) where
-    pub pend_read : o ≡ Some entries.Pend → (r : Result Entry E) → IfOk r (λ entry. (name : OfferName) (offer : Offer) → NameFits name → OfferFits program offer →
-        new ≡ Some (name_text name ++ (codes " " ++ offer_text names offer)) → (event_of entry ≡ pended name.0 name.1 offer false) × IsSome last) →
-        IfOk r (λ entry. FindsEntry old last (event_of entry))
-    pend_read k (Err e) f = tt
-    pend_read k (Ok entry) f = λ x fits e. go x (at_entry old new o finds x e) fits
-      where
-        go : (x : Event) → IsEntry old new o finds x → EventFits program x → (event_line names (event_of entry) ≡ event_line names x) × IsSome last
-        go (pended client number offer false) h fit = let q = f (client, number) offer fit.0 fit.1 h.1 in (ap (event_line names) q.0, q.1)
-        go (pended client number offer true) h fit = absurd (let wrong = sym h.0 ∙ k in cc)
-        go _ h fit = absurd (let wrong = sym h.0 ∙ k in cc)
+      at_entry : (x : Event) → old ≡ Some (format_line names format tree x) → IsEntry x
+      at_entry x e = finds (entry_top x) (behind_entry x) tt tt (e ∙ ap Some (entry_so x))
 
-  module _ {E : Type 0} (old new last : Option (List ℕ)) (o : Option EntryWord)
-      (finds : Finds entry_word (λ word. Unit {0}) (λ rest. Unit {0}) old new (λ word. o ≡ Some word)) where
-    pub act_read : o ≡ Some entries.Act → (r : Result Entry E) → IfOk r (λ entry. (action : Action) (d : Derivation) (by : Option OfferName) → ActionFits program action → TreeFits program d → ByFits by →
-        new ≡ Some (action_text names action ++ (by_text by ++ (codes " rules " ++ tree_text names d))) → (event_of entry ≡ acted action d by) × IsSome last) →
-        IfOk r (λ entry. FindsEntry old last (event_of entry))
-    act_read k (Err e) f = tt
-    act_read k (Ok entry) f = λ x fits e. go x (at_entry old new o finds x e) fits
-      where
-        go : (x : Event) → IsEntry old new o finds x → EventFits program x → (event_line names (event_of entry) ≡ event_line names x) × IsSome last
-        go (acted action d by) h fit = let q = f action d by fit.0 fit.1 fit.2 h.1 in (ap (event_line names) q.0, q.1)
-        go (pended client number offer true) h fit = absurd (let wrong = sym h.0 ∙ k in cc)
-        go (pended client number offer false) h fit = absurd (let wrong = sym h.0 ∙ k in cc)
-        go _ h fit = absurd (let wrong = sym h.0 ∙ k in cc)
+      pub no_entry : o ≡ None → (x : Event) → old ≡ Some (format_line names format tree x) → ⊥
+      no_entry k x e = let wrong : None ≡ Some (entry_top x) = sym k ∙ (at_entry x e).0 in cc
 
-  module _ {E : Type 0} (old new last : Option (List ℕ)) (o : Option EntryWord)
-      (finds : Finds entry_word (λ word. Unit {0}) (λ rest. Unit {0}) old new (λ word. o ≡ Some word)) where
-    pub reply_read : o ≡ Some entries.Reply → (r : Result Entry E) → IfOk r (λ entry. (name : OfferName) (answer : Answer) → NameFits name → AnswerFits program answer →
-        new ≡ Some (name_text name ++ (codes " " ++ answer_word names answer)) →
-        (event_line names (event_of entry) ≡ event_line names (replied name.0 name.1 answer)) × IsSome last) →
-        IfOk r (λ entry. FindsEntry old last (event_of entry))
-    reply_read k (Err e) f = tt
-    reply_read k (Ok entry) f = λ x fits e. go x (at_entry old new o finds x e) fits
-      where
-        go : (x : Event) → IsEntry old new o finds x → EventFits program x → (event_line names (event_of entry) ≡ event_line names x) × IsSome last
-        go (replied client number answer) h fit = f (client, number) answer fit.0 fit.1 h.1
-        go (pended client number offer true) h fit = absurd (let wrong = sym h.0 ∙ k in cc)
-        go (pended client number offer false) h fit = absurd (let wrong = sym h.0 ∙ k in cc)
-        go _ h fit = absurd (let wrong = sym h.0 ∙ k in cc)
+      pub leave_read : o ≡ Some entries.Leave → (client : ℕ) (last : Option (List ℕ)) →
+          ((n : ℕ) → IsClient n → new ≡ Some (decimal n) → (client ≡ n) × IsSome last) → FindsEntry old last (left client)
+      leave_read k client last f x fits e = go x (at_entry x e) fits
+        where
+          go : (x : Event) → IsEntry x → EventFits program x → (event_line names (left client) ≡ event_line names x) × IsSome last
+          go (left n) h fit = let q = f n fit h.1 in (ap (λ z. event_line names (left z)) q.0, q.1)
+          go (pended client number offer true) h fit = absurd (let wrong = sym h.0 ∙ k in cc)
+          go (pended client number offer false) h fit = absurd (let wrong = sym h.0 ∙ k in cc)
+          go _ h fit = absurd (let wrong = sym h.0 ∙ k in cc)
 
-  module _ {E : Type 0} (old new last : Option (List ℕ)) (o : Option EntryWord)
-      (finds : Finds entry_word (λ word. Unit {0}) (λ rest. Unit {0}) old new (λ word. o ≡ Some word)) where
-    pub stall_read : o ≡ Some entries.Stall → (r : Result Entry E) → IfOk r (λ entry. (all : List OfferName) → (all ≡ [] → ⊥) → Each NameFits all →
-        new ≡ Some (flat_map (λ name. codes " " ++ name_text name) all) → (event_of entry ≡ stalled all) × IsSome last) →
-        IfOk r (λ entry. FindsEntry old last (event_of entry))
-    stall_read k (Err e) f = tt
-    stall_read k (Ok entry) f = λ x fits e. go x (at_entry old new o finds x e) fits
-      where
-        go : (x : Event) → IsEntry old new o finds x → EventFits program x → (event_line names (event_of entry) ≡ event_line names x) × IsSome last
-        go (stalled all) h fit = let q = f all fit.0 fit.1 h.1 in (ap (event_line names) q.0, q.1)
-        go (pended client number offer true) h fit = absurd (let wrong = sym h.0 ∙ k in cc)
-        go (pended client number offer false) h fit = absurd (let wrong = sym h.0 ∙ k in cc)
-        go _ h fit = absurd (let wrong = sym h.0 ∙ k in cc)
+    module _ {E : Type 0} (old new last : Option (List ℕ)) (o : Option EntryWord)
+        (finds : Finds entry_word (λ word. Unit {0}) (λ rest. Unit {0}) old new (λ word. o ≡ Some word)) where
+      pub ask_read : o ≡ Some entries.Ask → (r : Result Entry E) → IfOk r (λ entry. (name : OfferName) (offer : Offer) → NameFits name → OfferFits program offer →
+          new ≡ Some (name_text name ++ (codes " " ++ offer_text names offer)) → (event_of entry ≡ pended name.0 name.1 offer true) × IsSome last) →
+          IfOk r (λ entry. FindsEntry old last (event_of entry))
+      ask_read k (Err e) f = tt
+      ask_read k (Ok entry) f = λ x fits e. go x (at_entry old new o finds x e) fits
+        where
+          go : (x : Event) → IsEntry old new o finds x → EventFits program x → (event_line names (event_of entry) ≡ event_line names x) × IsSome last
+          go (pended client number offer true) h fit = let q = f (client, number) offer fit.0 fit.1 h.1 in (ap (event_line names) q.0, q.1)
+          go (pended client number offer false) h fit = absurd (let wrong = sym h.0 ∙ k in cc)
+          go _ h fit = absurd (let wrong = sym h.0 ∙ k in cc)
+
+    module _ {E : Type 0} (old new last : Option (List ℕ)) (o : Option EntryWord)
+        (finds : Finds entry_word (λ word. Unit {0}) (λ rest. Unit {0}) old new (λ word. o ≡ Some word)) where
+      pub pend_read : o ≡ Some entries.Pend → (r : Result Entry E) → IfOk r (λ entry. (name : OfferName) (offer : Offer) → NameFits name → OfferFits program offer →
+          new ≡ Some (name_text name ++ (codes " " ++ offer_text names offer)) → (event_of entry ≡ pended name.0 name.1 offer false) × IsSome last) →
+          IfOk r (λ entry. FindsEntry old last (event_of entry))
+      pend_read k (Err e) f = tt
+      pend_read k (Ok entry) f = λ x fits e. go x (at_entry old new o finds x e) fits
+        where
+          go : (x : Event) → IsEntry old new o finds x → EventFits program x → (event_line names (event_of entry) ≡ event_line names x) × IsSome last
+          go (pended client number offer false) h fit = let q = f (client, number) offer fit.0 fit.1 h.1 in (ap (event_line names) q.0, q.1)
+          go (pended client number offer true) h fit = absurd (let wrong = sym h.0 ∙ k in cc)
+          go _ h fit = absurd (let wrong = sym h.0 ∙ k in cc)
+
+    module _ {E : Type 0} (old new last : Option (List ℕ)) (o : Option EntryWord)
+        (finds : Finds entry_word (λ word. Unit {0}) (λ rest. Unit {0}) old new (λ word. o ≡ Some word)) where
+      pub act_read : o ≡ Some entries.Act → (r : Result Entry E) → IfOk r (λ entry. (action : Action) (d : Derivation) (by : Option OfferName) → ActionFits program action → TreeFits program d → ByFits by →
+          new ≡ Some (action_text names action ++ (by_text by ++ (codes " rules " ++ rules_text format tree (tree_text names d)))) → (event_of entry ≡ acted action d by) × IsSome last) →
+          IfOk r (λ entry. FindsEntry old last (event_of entry))
+      act_read k (Err e) f = tt
+      act_read k (Ok entry) f = λ x fits e. go x (at_entry old new o finds x e) fits
+        where
+          go : (x : Event) → IsEntry old new o finds x → EventFits program x → (event_line names (event_of entry) ≡ event_line names x) × IsSome last
+          go (acted action d by) h fit = let q = f action d by fit.0 fit.1 fit.2 h.1 in (ap (event_line names) q.0, q.1)
+          go (pended client number offer true) h fit = absurd (let wrong = sym h.0 ∙ k in cc)
+          go (pended client number offer false) h fit = absurd (let wrong = sym h.0 ∙ k in cc)
+          go _ h fit = absurd (let wrong = sym h.0 ∙ k in cc)
+
+    module _ {E : Type 0} (old new last : Option (List ℕ)) (o : Option EntryWord)
+        (finds : Finds entry_word (λ word. Unit {0}) (λ rest. Unit {0}) old new (λ word. o ≡ Some word)) where
+      pub reply_read : o ≡ Some entries.Reply → (r : Result Entry E) → IfOk r (λ entry. (name : OfferName) (answer : Answer) → NameFits name → AnswerFits program answer →
+          new ≡ Some (name_text name ++ (codes " " ++ answer_word names answer)) →
+          (event_line names (event_of entry) ≡ event_line names (replied name.0 name.1 answer)) × IsSome last) →
+          IfOk r (λ entry. FindsEntry old last (event_of entry))
+      reply_read k (Err e) f = tt
+      reply_read k (Ok entry) f = λ x fits e. go x (at_entry old new o finds x e) fits
+        where
+          go : (x : Event) → IsEntry old new o finds x → EventFits program x → (event_line names (event_of entry) ≡ event_line names x) × IsSome last
+          go (replied client number answer) h fit = f (client, number) answer fit.0 fit.1 h.1
+          go (pended client number offer true) h fit = absurd (let wrong = sym h.0 ∙ k in cc)
+          go (pended client number offer false) h fit = absurd (let wrong = sym h.0 ∙ k in cc)
+          go _ h fit = absurd (let wrong = sym h.0 ∙ k in cc)
+
+    module _ {E : Type 0} (old new last : Option (List ℕ)) (o : Option EntryWord)
+        (finds : Finds entry_word (λ word. Unit {0}) (λ rest. Unit {0}) old new (λ word. o ≡ Some word)) where
+      pub stall_read : o ≡ Some entries.Stall → (r : Result Entry E) → IfOk r (λ entry. (all : List OfferName) → (all ≡ [] → ⊥) → Each NameFits all →
+          new ≡ Some (flat_map (λ name. codes " " ++ name_text name) all) → (event_of entry ≡ stalled all) × IsSome last) →
+          IfOk r (λ entry. FindsEntry old last (event_of entry))
+      stall_read k (Err e) f = tt
+      stall_read k (Ok entry) f = λ x fits e. go x (at_entry old new o finds x e) fits
+        where
+          go : (x : Event) → IsEntry old new o finds x → EventFits program x → (event_line names (event_of entry) ≡ event_line names x) × IsSome last
+          go (stalled all) h fit = let q = f all fit.0 fit.1 h.1 in (ap (event_line names) q.0, q.1)
+          go (pended client number offer true) h fit = absurd (let wrong = sym h.0 ∙ k in cc)
+          go (pended client number offer false) h fit = absurd (let wrong = sym h.0 ∙ k in cc)
+          go _ h fit = absurd (let wrong = sym h.0 ∙ k in cc)

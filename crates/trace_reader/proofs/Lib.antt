@@ -3,10 +3,13 @@ pub mod Collecting
 pub mod Endings
 pub mod Ends
 pub mod Entries
+pub mod Lines
 pub mod Naming
 pub mod Numbers
 pub mod OneLine
 pub mod Parts
+pub mod Shares
+pub mod Steps
 pub mod Traces
 pub mod Trees
 pub mod Valued

@@ -45,7 +45,7 @@ pub joined : (x y : List ℕ) → IsOneLine x → IsOneLine y → IsOneLine (x +
 joined [] y h k = k
 joined (b ∷ x) y h k = (h.0, joined x y h.1 k)
 
-all_so : (bs : List ℕ) → list_all is_no_line_feed bs ≡ true → IsOneLine bs
+pub all_so : (bs : List ℕ) → list_all is_no_line_feed bs ≡ true → IsOneLine bs
 all_so [] h = tt
 all_so (b ∷ bs) h = go (is_no_line_feed b) refl h (all_so bs)
   where
@@ -71,7 +71,7 @@ run_so : (p : ℕ → Bool) → p 10 ≡ false → (bs : List ℕ) → IsRun p b
 run_so p none [] h = tt
 run_so p none (b ∷ bs) h = (other_byte p none b h.0, run_so p none bs h.1)
 
-number_so : (n : ℕ) → n < 2 ^ 64 → IsOneLine (decimal n)
+pub number_so : (n : ℕ) → n < 2 ^ 64 → IsOneLine (decimal n)
 number_so n h = run_so is_ascii_digit refl (decimal n) (decimal_run n h)
 
 client_so : (n : ℕ) → IsClient n → IsOneLine (decimal n)
@@ -82,7 +82,7 @@ name_so name h =
     joined (decimal name.0 ++ codes ".") (decimal name.1) (joined (decimal name.0) (codes ".") (client_so name.0 h.0) (all_so (codes ".") refl))
     (number_so name.1 h.2)
 
-by_so : (by : Option OfferName) → ByFits by → IsOneLine (by_text by)
+pub by_so : (by : Option OfferName) → ByFits by → IsOneLine (by_text by)
 by_so None h = tt
 by_so (Some name) h = joined (codes " by ") (name_text name) (all_so (codes " by ") refl) (name_so name h)
 
@@ -196,7 +196,7 @@ module _ (program : Program) (fits : FitsData program.theory) (named : AreNamed 
       all_joined (λ value. codes " !" ++ names.value value) (IsGroundList theory)
       (λ v k. joined (codes " !") (names.value v) (all_so (codes " !") refl) (value_so v k)) values h
 
-  action_so : (action : Action) → ActionFits program action → IsOneLine (action_text names action)
+  pub action_so : (action : Action) → ActionFits program action → IsOneLine (action_text names action)
   action_so Inner h = all_so (codes "i") refl
   action_so (Exit values) h = joined (codes "exit") (values_text names values) (all_so (codes "exit") refl) (values_so values h)
   action_so (At g values) h =
@@ -221,7 +221,7 @@ module _ (program : Program) (fits : FitsData program.theory) (named : AreNamed 
   part_so : (w t : List ℕ) → list_all is_no_line_feed w ≡ true → IsOneLine t → IsOneLine (w ++ t ++ codes ")")
   part_so w t e h = joined (w ++ t) (codes ")") (joined w t (all_so w e) h) (all_so (codes ")") refl)
 
-  tree_so : (d : Derivation) → TreeFits program d → IsOneLine (tree_text names d)
+  pub tree_so : (d : Derivation) → TreeFits program d → IsOneLine (tree_text names d)
   tree_so (pre slots) h = joined (codes "pre") (slots_text names slots) (all_so (codes "pre") refl) (slots_so slots h)
   tree_so int h = all_so (codes "int") refl
   tree_so (exiting slots) h = joined (codes "exit") (slots_text names slots) (all_so (codes "exit") refl) (slots_so slots h)

@@ -1,9 +1,11 @@
 pub mod Cursors
 pub mod Digits
 pub mod Entries
+pub mod Fronts
 pub mod LineSays
 pub mod LineWords
 pub mod Lines
+pub mod Reaching
 pub mod Reading
 pub mod RuleWords
 pub mod Traces

@@ -1,20 +1,22 @@
 -- What is known of a text of which some lines were read.
-use Rattle.std.specs.Prelude.{ℕ, ◌+◌, ◌≤◌, ◌≡◌, List, ◌++◌, codes, flat_map, length}
+use Rattle.std.specs.Prelude.{ℕ, ◌≡◌, List, ◌++◌}
 use Rattle.spec_core.specs.Code.{Program}
 use Rattle.spec_core.specs.Lists.{Each}
 use Rattle.rule_model.specs.Events.{Event}
+use Rattle.trace_text.specs.declared.format.Format.{Format}
+use Rattle.trace_text.specs.declared.lines.LinesBefore.{LinesBefore}
 use Rattle.trace_text.specs.Fits.{EventFits, CountsActions}
+use Rattle.trace_text.specs.Formats.{behind_log, first_line, log_text, nothing_before}
 use Rattle.trace_text.specs.Names.{names_in}
-use Rattle.trace_text.specs.Trace.{line}
+use Rattle.trace_text.specs.Standing.{StandsBehind}
 
--- the first line of a trace
-abbrev pub heading : List ℕ
-heading = codes "lotos-trace 1\n"
-
--- the first line and those of a log were read, with so many actions in it; the next line has this number
-pub record HasRead (program : Program) (text : List ℕ) (log : List Event) (actions number : ℕ) (rest : List ℕ) : Type 0 where
+-- the first line and those of a log were read
+pub record HasRead (program : Program) (format : Format) (text : List ℕ) (log : List Event) (rest : List ℕ) : Type 0 where
   pub fits : Each (EventFits program) log
-  pub counts : (later : List Event) → CountsActions actions later → CountsActions 0 (log ++ later)
-  pub whole : text ≡ heading ++ (flat_map (line (names_in program)) log ++ rest)
-  pub counted : number ≡ length log + 2
-  pub few : actions ≤ length log
+  pub counts : (later : List Event) → CountsActions (behind_log (names_in program) nothing_before log).actions later → CountsActions 0 (log ++ later)
+  pub whole : text ≡ first_line format ++ (log_text (names_in program) format nothing_before log ++ rest)
+
+-- the writer of a format stands behind the lines of a log
+pub record Follows (program : Program) (format : Format) (log : List Event) (lines : LinesBefore) : Type 0 where
+  pub format_is : lines.format ≡ format
+  pub stands : StandsBehind lines (behind_log (names_in program) nothing_before log)

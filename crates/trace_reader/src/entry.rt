@@ -9,6 +9,7 @@ ghost use Rattle.rule_model.specs.declared.offer.Offer.{Offer};
 ghost use Rattle.spec_core.specs.Code.{Program, program_of};
 ghost use Rattle.spec_core.specs.Lists.{Each};
 ghost use Rattle.trace_text.specs.Fits.{ActionFits, AnswerFits, ByFits, EventFits, NameFits, OfferFits, TreeFits};
+ghost use Rattle.trace_text.specs.Formats.{format_line, rules_text};
 ghost use Rattle.trace_text.specs.Names.{names_with};
 ghost use Rattle.trace_text.specs.Trace.{action_text, answer_word, by_text, event_line, name_text, offer_text, tree_text};
 ghost use Rattle.trace_reader.specs.Cursors.{IsReadable};
@@ -20,11 +21,11 @@ use crate::line_word::{EntryWord, take_entry};
 use crate::number::{read_client, read_name, read_names};
 use crate::offer::read_offer;
 use crate::reply::read_reply;
-use crate::tree::read_tree;
-use crate::value::DEEPEST;
+use crate::rules::read_rules;
 use rule_model::log::Entry;
 use spec_core::memory::Memory;
 use std::alloc::Global;
+use trace_text::Format;
 use value_text::vocabulary::Vocabulary;
 
 // An offer of a client, behind its word.
@@ -54,12 +55,14 @@ fn read_act_entry(
     alloc: Global,
     vocabulary: &Vocabulary,
     cursor: &mut Cursor,
+    format: Format,
+    tree: &[u8],
 ) -> Result<Entry, Memory>
     requires readable { IsReadable vocabulary.now }
     ensures finds { IfOk result (λ entry. (action : Action) (d : Derivation) (by : Option OfferName) →
         ActionFits (program_of vocabulary.now.checked.now) action → TreeFits (program_of vocabulary.now.checked.now) d → ByFits by →
         cursor.old ≡ Some (action_text (names_with vocabulary.now) action ++
-        (by_text by ++ (codes " rules " ++ tree_text (names_with vocabulary.now) d))) →
+        (by_text by ++ (codes " rules " ++ rules_text format tree.now (tree_text (names_with vocabulary.now) d)))) →
         (event_of entry ≡ acted action d by) × IsSome cursor.new) }
     ensures fits { IfOk result (λ entry. IsSome cursor.new → EventFits (program_of vocabulary.now.checked.now) (event_of entry)) }
     ensures numbered { IfOk result (λ entry. (n : ℕ) → IsNumbered n (event_of entry)) }
@@ -68,7 +71,7 @@ fn read_act_entry(
     let action = read_action(alloc, vocabulary, cursor)?;
     let by = read_by(cursor);
     cursor.skip(b" rules ");
-    let rules = read_tree(alloc, vocabulary, cursor, DEEPEST)?;
+    let rules = read_rules(alloc, vocabulary, cursor, format, tree)?;
     Ok(Entry::Act(action, rules, by))
 }
 
@@ -111,16 +114,18 @@ fn read_stall_entry(alloc: Global, cursor: &mut Cursor) -> Result<Entry, Memory>
     Ok(Entry::Stall(names))
 }
 
-/// An entry; with so many actions before it, where it is a reply.
+/// An entry; where it is a reply, with the number of actions before it.
 pub fn read_entry(
     alloc: Global,
     vocabulary: &Vocabulary,
     cursor: &mut Cursor,
+    format: Format,
+    tree: &[u8],
     actions: u64,
 ) -> Result<Entry, Memory>
     requires readable { IsReadable vocabulary.now }
     ensures finds { IfOk result (λ entry. (event : Event) →
-        EventFits (program_of vocabulary.now.checked.now) event → cursor.old ≡ Some (event_line (names_with vocabulary.now) event) →
+        EventFits (program_of vocabulary.now.checked.now) event → cursor.old ≡ Some (format_line (names_with vocabulary.now) format tree.now event) →
         (event_line (names_with vocabulary.now) (event_of entry) ≡ event_line (names_with vocabulary.now) event) × IsSome cursor.new) }
     ensures fits { IfOk result (λ entry. IsSome cursor.new → EventFits (program_of vocabulary.now.checked.now) (event_of entry)) }
     ensures numbered { IfOk result (λ entry. IsNumbered actions (event_of entry)) }
@@ -132,7 +137,7 @@ pub fn read_entry(
         }
         Some(EntryWord::Pend) => read_offer_entry(alloc, vocabulary, cursor, false),
         Some(EntryWord::Ask) => read_offer_entry(alloc, vocabulary, cursor, true),
-        Some(EntryWord::Act) => read_act_entry(alloc, vocabulary, cursor),
+        Some(EntryWord::Act) => { read_act_entry(alloc, vocabulary, cursor, format, tree) }
         Some(EntryWord::Reply) => read_reply_entry(alloc, vocabulary, cursor, actions),
         Some(EntryWord::Stall) => read_stall_entry(alloc, cursor),
         Some(EntryWord::Leave) => Ok(Entry::Leave(read_client(cursor))),

@@ -12,6 +12,7 @@ mod number;
 mod offer;
 mod reply;
 mod rule_word;
+mod rules;
 mod slots;
 mod trace;
 mod tree;

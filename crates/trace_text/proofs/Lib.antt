@@ -1,3 +1,9 @@
+pub mod Answered
+pub mod Counting
+pub mod Fronts
+pub mod Logs
+pub mod OfferSets
+pub mod OneEvent
+pub mod OneFormat
 pub mod OneLine
-pub mod OneTrace
 pub mod OneTree

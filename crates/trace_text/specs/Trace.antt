@@ -126,7 +126,3 @@ module _ (names : Names) where
   -- a trace that may go on: its first line, and a line for each event
   abbrev pub begun_bytes : List Event → List ℕ
   begun_bytes log = codes "lotos-trace 1\n" ++ flat_map line log
-
-  -- the whole trace: its first line, a line for each event, and the end
-  abbrev pub trace_bytes : List Event → Ending → List ℕ
-  trace_bytes log ending = codes "lotos-trace 1\n" ++ flat_map line log ++ codes "end " ++ end_word ending ++ codes "\n"

@@ -11,4 +11,6 @@ returns c =
     let budget = c.in_ok-arg-4.ensures.shape c.numbered-2.ensures.local ∙ ap₂ with_rule workers c.numbered-2.ensures.rule in
     let values = c.in_ok-arg-5.ensures.shape c.numbered-3.ensures.local ∙ ap₂ with_rule budget c.numbered-3.ensures.rule in
     let steps = c.in_ok-arg-6.ensures.shape c.numbered-4.ensures.local ∙ ap₂ with_rule values c.numbered-4.ensures.rule in
-    IfOk-weaker c.arg-7.result _ _ (λ r h. h.shape c.numbered-5.ensures.local ∙ ap₂ with_rule steps c.numbered-5.ensures.rule) c.arg-7.ensures
+    let seed = c.in_ok-arg-7.ensures.shape c.numbered-5.ensures.local ∙ ap₂ with_rule steps c.numbered-5.ensures.rule in
+    let draw = c.in_ok-arg-8.ensures.shape c.numbered-6.ensures.local ∙ ap₂ with_rule seed c.numbered-6.ensures.rule in
+    IfOk-weaker c.arg-9.result _ _ (λ r h. h.shape c.numbered-7.ensures.local ∙ ap₂ with_rule draw c.numbered-7.ensures.rule) c.arg-9.ensures

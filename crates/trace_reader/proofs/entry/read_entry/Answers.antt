@@ -7,12 +7,12 @@ use Rattle.trace_reader.proofs.entry.read_entry.Goals as goal
 
 pub returns-in-None-clause-finds : goal.returns-in-None-clause-finds
 returns-in-None-clause-finds c x fits e =
-    absurd (no_entry (program_of c.args.vocabulary.now.checked.now) c.args.cursor.now c.take_entry.new.cursor c.take_entry.result c.take_entry.ensures.finds c.in-None.is x e)
+    absurd (no_entry (program_of c.args.vocabulary.now.checked.now) c.args.format c.args.tree.now c.args.cursor.now c.take_entry.new.cursor c.take_entry.result c.take_entry.ensures.finds c.in-None.is x e)
 
 pub returns-in-Some-Pend-clause-finds : goal.returns-in-Some-Pend-clause-finds
 returns-in-Some-Pend-clause-finds c =
     let k : c.take_entry.result ≡ Some word.Pend = search rules in
-    pend_read (program_of c.args.vocabulary.now.checked.now) c.args.cursor.now c.take_entry.new.cursor c.read_offer_entry.new.cursor
+    pend_read (program_of c.args.vocabulary.now.checked.now) c.args.format c.args.tree.now c.args.cursor.now c.take_entry.new.cursor c.read_offer_entry.new.cursor
     c.take_entry.result c.take_entry.ensures.finds k c.read_offer_entry.result c.read_offer_entry.ensures.finds
 
 pub returns-in-Some-Pend-clause-numbered : goal.returns-in-Some-Pend-clause-numbered
@@ -22,7 +22,7 @@ returns-in-Some-Pend-clause-numbered c =
 pub returns-in-Some-Ask-clause-finds : goal.returns-in-Some-Ask-clause-finds
 returns-in-Some-Ask-clause-finds c =
     let k : c.take_entry.result ≡ Some word.Ask = search rules in
-    ask_read (program_of c.args.vocabulary.now.checked.now) c.args.cursor.now c.take_entry.new.cursor c.read_offer_entry-in-Some-Ask.new.cursor
+    ask_read (program_of c.args.vocabulary.now.checked.now) c.args.format c.args.tree.now c.args.cursor.now c.take_entry.new.cursor c.read_offer_entry-in-Some-Ask.new.cursor
     c.take_entry.result c.take_entry.ensures.finds k c.read_offer_entry-in-Some-Ask.result c.read_offer_entry-in-Some-Ask.ensures.finds
 
 pub returns-in-Some-Ask-clause-numbered : goal.returns-in-Some-Ask-clause-numbered
@@ -32,7 +32,7 @@ returns-in-Some-Ask-clause-numbered c =
 pub returns-in-Some-Act-clause-finds : goal.returns-in-Some-Act-clause-finds
 returns-in-Some-Act-clause-finds c =
     let k : c.take_entry.result ≡ Some word.Act = search rules in
-    act_read (program_of c.args.vocabulary.now.checked.now) c.args.cursor.now c.take_entry.new.cursor c.read_act_entry.new.cursor
+    act_read (program_of c.args.vocabulary.now.checked.now) c.args.format c.args.tree.now c.args.cursor.now c.take_entry.new.cursor c.read_act_entry.new.cursor
     c.take_entry.result c.take_entry.ensures.finds k c.read_act_entry.result c.read_act_entry.ensures.finds
 
 pub returns-in-Some-Act-clause-numbered : goal.returns-in-Some-Act-clause-numbered
@@ -42,13 +42,13 @@ returns-in-Some-Act-clause-numbered c =
 pub returns-in-Some-Reply-clause-finds : goal.returns-in-Some-Reply-clause-finds
 returns-in-Some-Reply-clause-finds c =
     let k : c.take_entry.result ≡ Some word.Reply = search rules in
-    reply_read (program_of c.args.vocabulary.now.checked.now) c.args.cursor.now c.take_entry.new.cursor c.read_reply_entry.new.cursor
+    reply_read (program_of c.args.vocabulary.now.checked.now) c.args.format c.args.tree.now c.args.cursor.now c.take_entry.new.cursor c.read_reply_entry.new.cursor
     c.take_entry.result c.take_entry.ensures.finds k c.read_reply_entry.result c.read_reply_entry.ensures.finds
 
 pub returns-in-Some-Stall-clause-finds : goal.returns-in-Some-Stall-clause-finds
 returns-in-Some-Stall-clause-finds c =
     let k : c.take_entry.result ≡ Some word.Stall = search rules in
-    stall_read (program_of c.args.vocabulary.now.checked.now) c.args.cursor.now c.take_entry.new.cursor c.read_stall_entry.new.cursor
+    stall_read (program_of c.args.vocabulary.now.checked.now) c.args.format c.args.tree.now c.args.cursor.now c.take_entry.new.cursor c.read_stall_entry.new.cursor
     c.take_entry.result c.take_entry.ensures.finds k c.read_stall_entry.result c.read_stall_entry.ensures.finds
 
 pub returns-in-Some-Stall-clause-numbered : goal.returns-in-Some-Stall-clause-numbered
@@ -62,6 +62,6 @@ returns-in-Some-Stall-clause-fits c =
 pub returns-in-Some-Leave-clause-finds : goal.returns-in-Some-Leave-clause-finds
 returns-in-Some-Leave-clause-finds c =
     let k : c.take_entry.result ≡ Some word.Leave = search rules in
-    leave_read (program_of c.args.vocabulary.now.checked.now) c.args.cursor.now c.take_entry.new.cursor c.take_entry.result c.take_entry.ensures.finds k
+    leave_read (program_of c.args.vocabulary.now.checked.now) c.args.format c.args.tree.now c.args.cursor.now c.take_entry.new.cursor c.take_entry.result c.take_entry.ensures.finds k
     c.read_client.result c.read_client.new.cursor (λ n fits e.
     let q = c.read_client.ensures.finds n [] fits refl (e ∙ ap Some (sym (append-nil (decimal n)))) in (q.0, subst IsSome (sym q.1) refl))

@@ -1,4 +1,4 @@
--- A text is the trace of one log and one end at most.
+-- The line of an event is that of this event alone, and so is the word of an end.
 use Rattle.std.proofs.Common.{ℕ, ◌≡◌, inl, inr, ◌<◌, ◌+◌, ◌*◌, Bool, true, false, List, [], ◌∷◌, ◌++◌, codes, refl, ap, sym, ◌∙◌, subst, arith}
 use Rattle.std.proofs.Common.{append_assoc, drop, flat_map, decimal, Option, Some, None}
 use Rattle.std.proofs.lemmas.List.{append_cancel_left}
@@ -6,24 +6,24 @@ use Rattle.spec_core.specs.Code.{Program}
 use Rattle.spec_core.specs.Lists.{Each}
 use Rattle.spec_core.specs.Ready.{AreNamed}
 use Rattle.spec_core.specs.Sorts.{FitsData}
+use Rattle.rule_model.specs.declared.action.Action.{Action}
 use Rattle.rule_model.specs.declared.offer.Offer.{Offer}
 use Rattle.rule_model.specs.declared.reply.LimitKind.{LimitKind}
 use Rattle.rule_model.specs.declared.reply.LimitKind.TheVariants.{Steps, Spread, Offers}
+use Rattle.rule_model.specs.Derivations.{Derivation}
 use Rattle.rule_model.specs.Answers.{Answer, taken, deadlock, stalls, beyond, not_now, ended, spent, too_large, limit}
 use Rattle.rule_model.specs.Events.{OfferName, Event, pended, acted, replied, stalled, left, Ending, exits, deadlocked, waiting}
 use Rattle.rule_model.specs.Events.{ends_beyond, ends_spent, ends_too_large, ends_at_limit}
 use Rattle.rule_model.specs.Legal.{IsReplyAt}
-use Rattle.trace_text.specs.Fits.{AnswerFits, EventFits, EndingFits, CountsActions}
-use Rattle.trace_text.specs.Laws.{OneTrace}
-use Rattle.trace_text.specs.Trace.{Names, name_text, by_text, offer_text, action_text, tree_text, limit_word, answer_word, event_line}
-use Rattle.trace_text.specs.Trace.{end_word, line, trace_bytes}
+use Rattle.trace_text.specs.Fits.{ActionFits, AnswerFits, ByFits, EventFits, EndingFits, TreeFits}
+use Rattle.trace_text.specs.Trace.{Names, name_text, by_text, offer_text, action_text, tree_text, limit_word, answer_word, event_line, end_word}
 use Rattle.trace_text.specs.Names.{names_in}
 use Rattle.value_text.proofs.Names.{EndsTerm}
 use Rattle.trace_text.proofs.OneLine.{first, second, one_action, one_by, one_client, one_ground, one_limit, one_name, one_names, one_offer, names_text}
 use Rattle.trace_text.proofs.OneTree.{one_tree, three}
 
 -- the same answer with this number of actions before it
-abbrev numbered : ℕ → Answer → Answer
+abbrev pub numbered : ℕ → Answer → Answer
 numbered n (taken at values) = taken n values
 numbered n (deadlock at) = deadlock n
 numbered n (stalls at) = stalls n
@@ -34,7 +34,7 @@ numbered n (spent at term) = spent n term
 numbered n (too_large at term) = too_large n term
 numbered n (limit at kind) = limit n kind
 
-is_numbered : (n : ℕ) (a : Answer) → IsReplyAt a n → a ≡ numbered n a
+pub is_numbered : (n : ℕ) (a : Answer) → IsReplyAt a n → a ≡ numbered n a
 is_numbered n (taken at values) h = absurd h
 is_numbered n (deadlock at) h = ap deadlock h
 is_numbered n (stalls at) h = absurd h
@@ -44,6 +44,14 @@ is_numbered n (ended at) h = ap ended h
 is_numbered n (spent at term) h = ap (λ k. spent k term) h
 is_numbered n (too_large at term) h = ap (λ k. too_large k term) h
 is_numbered n (limit at kind) h = ap (λ k. limit k kind) h
+
+-- the same event, but for the number in a reply
+abbrev pub renumbered : ℕ → Event → Event
+renumbered n (replied client number answer) = replied client number (numbered n answer)
+renumbered n (pended client number offer ask) = pended client number offer ask
+renumbered n (acted action d by) = acted action d by
+renumbered n (stalled all) = stalled all
+renumbered n (left client) = left client
 
 abbrev limit_parts : LimitKind → ℕ → Type 0
 limit_parts kind n = (r : List ℕ) → three (limit_word kind ++ r) ≡ n
@@ -114,18 +122,10 @@ module _ (program : Program) (fits : FitsData program.theory) (named : AreNamed 
       let l = answer_begins_so y (10 ∷ s) b in
       absurd (omega (arith, ap three h, k, l))
 
-  -- the same event, but for the number in a reply
-  abbrev renumbered : ℕ → Event → Event
-  renumbered n (replied client number answer) = replied client number (numbered n answer)
-  renumbered n (pended client number offer ask) = pended client number offer ask
-  renumbered n (acted action d by) = acted action d by
-  renumbered n (stalled all) = stalled all
-  renumbered n (left client) = left client
-
   pend_parts : (w m o r : List ℕ) → (w ++ m ++ codes " " ++ o) ++ r ≡ w ++ (m ++ (32 ∷ (o ++ r)))
   pend_parts w m o r = simp append_assoc
 
-  act_parts : (w a b u t r : List ℕ) → (w ++ a ++ b ++ u ++ t) ++ r ≡ w ++ (a ++ (b ++ (u ++ (t ++ r))))
+  pub act_parts : (w a b u t r : List ℕ) → (w ++ a ++ b ++ u ++ t) ++ r ≡ w ++ (a ++ (b ++ (u ++ (t ++ r))))
   act_parts w a b u t r = simp append_assoc
 
   -- behind an action stands the offer that it takes, or the word `rules`
@@ -153,6 +153,30 @@ module _ (program : Program) (fits : FitsData program.theory) (named : AreNamed 
   pended_alike k m p q x y ask h =
       ap (λ z. pended z p x ask) h.0 ∙ ap (λ z. pended m z x ask) h.1 ∙ ap (λ z. pended m q z ask) h.2
 
+  -- behind an action, which offer it takes, and the word `rules` stands one and the same text
+  pub one_act : (x y : Action) (by bz : Option OfferName) (t u : List ℕ) → ActionFits program x → ActionFits program y → ByFits by → ByFits bz →
+      codes "act " ++ (action_text names x ++ (by_text by ++ (codes " rules " ++ t))) ≡
+      codes "act " ++ (action_text names y ++ (by_text bz ++ (codes " rules " ++ u))) → (x ≡ y) × (by ≡ bz) × (t ≡ u)
+  one_act x y by bz t u a b c d h =
+      let action =
+      one_action program fits named x y (by_text by ++ (codes " rules " ++ t)) (by_text bz ++ (codes " rules " ++ u)) a b (
+        by_ends by t,
+        λ p q. by_second by t 33 (omega arith) q,
+        λ p q. by_second by t 63 (omega arith) q,
+      ) (
+        by_ends bz u,
+        λ p q. by_second bz u 33 (omega arith) q,
+        λ p q. by_second bz u 63 (omega arith) q,
+      ) (ap (drop 4) h) in
+      let taker = one_by by bz t u c d action.1 in
+      (action.0, taker.0, taker.1)
+
+  pub one_acted : (x y : Action) (by bz : Option OfferName) (d e : Derivation) (r s : List ℕ) → TreeFits program d → TreeFits program e →
+      (x ≡ y) × (by ≡ bz) × (tree_text names d ++ (10 ∷ r) ≡ tree_text names e ++ (10 ∷ s)) → (acted x d by ≡ acted y e bz) × (r ≡ s)
+  one_acted x y by bz d e r s a b h =
+      let tree = one_tree program fits named d e (10 ∷ r) (10 ∷ s) a b (inl refl) (inl refl) h.2 in
+      (ap (λ z. acted z d by) h.0 ∙ ap (λ z. acted y z by) tree.0 ∙ ap (λ z. acted y e z) h.1, ap (drop 1) tree.1)
+
   pub one_event : (x y : Event) (n : ℕ) (r s : List ℕ) → EventFits program x → EventFits program y →
       event_line names x ++ (10 ∷ r) ≡ event_line names y ++ (10 ∷ s) → (renumbered n x ≡ renumbered n y) × (r ≡ s)
   one_event (pended k p x true) (pended m q y true) n r s a b h =
@@ -168,25 +192,11 @@ module _ (program : Program) (fits : FitsData program.theory) (named : AreNamed 
       ∙ pend_parts (codes "pend ") (name_text (m, q)) (offer_text names y) (10 ∷ s))) in
       (pended_alike k m p q x y false one.0, one.1)
   one_event (acted x d by) (acted y e bz) n r s a b h =
-      let behind : List ℕ = by_text by ++ (codes " rules " ++ (tree_text names d ++ (10 ∷ r))) in
-      let beyond : List ℕ = by_text bz ++ (codes " rules " ++ (tree_text names e ++ (10 ∷ s))) in
-      let action =
-      one_action program fits named x y behind beyond a.0 b.0 (
-        by_ends by (tree_text names d ++ (10 ∷ r)),
-        λ u v. by_second by (tree_text names d ++ (10 ∷ r)) 33 (omega arith) v,
-        λ u v. by_second by (tree_text names d ++ (10 ∷ r)) 63 (omega arith) v,
-      ) (
-        by_ends bz (tree_text names e ++ (10 ∷ s)),
-        λ u v. by_second bz (tree_text names e ++ (10 ∷ s)) 33 (omega arith) v,
-        λ u v. by_second bz (tree_text names e ++ (10 ∷ s)) 63 (omega arith) v,
-      )
-      (ap (drop 4) (sym (act_parts (codes "act ") (action_text names x) (by_text by) (codes " rules ") (tree_text names d) (10 ∷ r)) ∙ h
-      ∙ act_parts (codes "act ") (action_text names y) (by_text bz) (codes " rules ") (tree_text names e) (10 ∷ s))) in
-      let taker = one_by by bz (tree_text names d ++ (10 ∷ r)) (tree_text names e ++ (10 ∷ s)) a.2 b.2 action.1 in
-      let tree = one_tree program fits named d e (10 ∷ r) (10 ∷ s) a.1 b.1 (inl refl) (inl refl) taker.1 in (
-        ap (λ z. acted z d by) action.0 ∙ ap (λ z. acted y z by) tree.0 ∙ ap (λ z. acted y e z) taker.0,
-        ap (drop 1) tree.1,
-      )
+      let one =
+      one_act x y by bz (tree_text names d ++ (10 ∷ r)) (tree_text names e ++ (10 ∷ s)) a.0 b.0 a.2 b.2
+      (sym (act_parts (codes "act ") (action_text names x) (by_text by) (codes " rules ") (tree_text names d) (10 ∷ r)) ∙ h
+      ∙ act_parts (codes "act ") (action_text names y) (by_text bz) (codes " rules ") (tree_text names e) (10 ∷ s)) in
+      one_acted x y by bz d e r s a.1 b.1 one
   one_event (replied k p x) (replied m q y) n r s a b h =
       let one =
       one_name (k, p) (m, q) (32 ∷ (answer_word names x ++ (10 ∷ r))) (32 ∷ (answer_word names y ++ (10 ∷ s))) a.0 b.0 refl refl
@@ -257,73 +267,3 @@ module _ (program : Program) (fits : FitsData program.theory) (named : AreNamed 
       let k = end_begins_so x (10 ∷ r) in
       let l = end_begins_so y (10 ∷ s) in
       absurd (omega (arith, ap three h, k, l))
-
-  -- the lines of a log, and the last line
-  abbrev rest_lines : List Event → Ending → List ℕ
-  rest_lines log ending = flat_map (line names) log ++ (codes "end " ++ (end_word names ending ++ (10 ∷ [])))
-
-  line_parts : (x l r : List ℕ) → ((x ++ codes "\n") ++ l) ++ r ≡ x ++ (10 ∷ (l ++ r))
-  line_parts x l r = append_assoc (x ++ codes "\n") l r ∙ append_assoc x (codes "\n") (l ++ r)
-
-  no_end : (x : Event) (r s : List ℕ) → event_line names x ++ r ≡ codes "end " ++ s → ⊥
-  no_end (pended k p offer true) r s h = omega (arith, ap three h)
-  no_end (pended k p offer false) r s h = omega (arith, ap three h)
-  no_end (acted action d by) r s h = omega (arith, ap three h)
-  no_end (replied k p answer) r s h = omega (arith, ap three h)
-  no_end (stalled all) r s h = omega (arith, ap three h)
-  no_end (left k) r s h = omega (arith, ap three h)
-
-  -- how many actions there are behind an event
-  abbrev counted_behind : ℕ → Event → ℕ
-  counted_behind n (acted action d by) = n + 1
-  counted_behind n (pended client number offer ask) = n
-  counted_behind n (replied client number answer) = n
-  counted_behind n (stalled all) = n
-  counted_behind n (left client) = n
-
-  renumbered_so : (n : ℕ) (x : Event) (log : List Event) → CountsActions n (x ∷ log) → x ≡ renumbered n x
-  renumbered_so n (replied client number answer) log h = ap (replied client number) (is_numbered n answer h.0)
-  renumbered_so n (pended client number offer ask) log h = refl
-  renumbered_so n (acted action d by) log h = refl
-  renumbered_so n (stalled all) log h = refl
-  renumbered_so n (left client) log h = refl
-
-  counts_behind : (n : ℕ) (x : Event) (log : List Event) → CountsActions n (x ∷ log) → CountsActions (counted_behind n x) log
-  counts_behind n (replied client number answer) log h = h.1
-  counts_behind n (pended client number offer ask) log h = h
-  counts_behind n (acted action d by) log h = h
-  counts_behind n (stalled all) log h = h
-  counts_behind n (left client) log h = h
-
-  pub one_rest : (log other : List Event) (ending another : Ending) (n : ℕ) → Each (EventFits program) log → Each (EventFits program) other →
-      EndingFits program ending → EndingFits program another → CountsActions n log → CountsActions n other →
-      rest_lines log ending ≡ rest_lines other another → (log ≡ other) × (ending ≡ another)
-  one_rest [] [] e f n a b c d k l h = let one = one_end e f [] [] c d (ap (drop 4) h) in (refl, one.0)
-  one_rest [] (y ∷ other) e f n a b c d k l h =
-      absurd (no_end y (10 ∷ rest_lines other f) (end_word names e ++ (10 ∷ []))
-      (sym (h ∙ line_parts (event_line names y) (flat_map (line names) other) (codes "end " ++ (end_word names f ++ (10 ∷ []))))))
-  one_rest (x ∷ log) [] e f n a b c d k l h =
-      absurd (no_end x (10 ∷ rest_lines log e) (end_word names f ++ (10 ∷ []))
-      (sym (line_parts (event_line names x) (flat_map (line names) log) (codes "end " ++ (end_word names e ++ (10 ∷ [])))) ∙ h))
-  one_rest (x ∷ log) (y ∷ other) e f n a b c d k l h =
-      let one =
-      one_event x y n (rest_lines log e) (rest_lines other f) a.0 b.0
-      (sym (line_parts (event_line names x) (flat_map (line names) log) (codes "end " ++ (end_word names e ++ (10 ∷ [])))) ∙ h
-      ∙ line_parts (event_line names y) (flat_map (line names) other) (codes "end " ++ (end_word names f ++ (10 ∷ [])))) in
-      let same : x ≡ y = renumbered_so n x log k ∙ one.0 ∙ sym (renumbered_so n y other l) in
-      let rest =
-      one_rest log other e f (counted_behind n x) a.1 b.1 c d (counts_behind n x log k)
-      (subst (λ z. CountsActions (counted_behind n z) other) (sym same) (counts_behind n y other l)) one.1 in
-      (ap (λ z. z ∷ log) same ∙ ap (λ z. y ∷ z) rest.0, rest.1)
-
-  trace_parts : (h l w e n : List ℕ) → h ++ l ++ w ++ e ++ n ≡ h ++ (l ++ (w ++ (e ++ n)))
-  trace_parts h l w e n = simp append_assoc
-
-  pub whole : (log : List Event) (ending : Ending) → trace_bytes names log ending ≡ codes "lotos-trace 1\n" ++ rest_lines log ending
-  whole log ending = trace_parts (codes "lotos-trace 1\n") (flat_map (line names) log) (codes "end ") (end_word names ending) (codes "\n")
-
-pub one_trace : OneTrace
-one_trace program fits named log other ending another a b h =
-    one_rest program fits named log other ending another 0 a.events b.events a.last b.last a.counted b.counted
-    (append_cancel_left (codes "lotos-trace 1\n") (rest_lines program fits named log ending) (rest_lines program fits named other another)
-    (sym (whole program fits named log ending) ∙ h ∙ whole program fits named other another))
