@@ -13,15 +13,15 @@ use Rattle.rule_model.specs.Events.{OfferName}
 use Rattle.rule_model.specs.Legal.{IsAgreed}
 use Rattle.rule_model.specs.States.{PendingOffer, start_state}
 use Rattle.offer_index.proofs.Answers.{exact_answers_exist}
-use Rattle.offer_index.specs.MarkedTerms.{unmarked}
-use Rattle.offer_index.specs.Evaluations.{Evaluation, IsExact}
-use Rattle.board_laws.specs.Laws.{composites_of}
+use Rattle.symbolic_rules.specs.MarkedTerms.{unmarked}
+use Rattle.symbolic_composites.specs.Evaluations.{Evaluation, IsExact}
+use Rattle.symbolic_plans.specs.Laws.{composites_of}
 use Rattle.board_laws.proofs.Own.{own_plans_are_those}
-use Rattle.board_laws.specs.Rules.{Next, takes, deadlocks, is_beyond, is_not_now, goes_on, stalls, nothing, meeting, unseen, next_of}
-use Rattle.board_laws.specs.Asked.{TestsAsked, TreeQuery, offer_in}
-use Rattle.board_laws.specs.Choosing.{ChoosesValues}
-use Rattle.board_laws.specs.Gaps.{element}
-use Rattle.board_laws.specs.TreeLaws.{EntryHolds, lists_of}
+use Rattle.decision_trees.specs.Rules.{Next, takes, deadlocks, is_beyond, is_not_now, goes_on, stalls, nothing, meeting, unseen, next_of}
+use Rattle.candidate_laws.specs.Asked.{TestsAsked, TreeQuery, offer_in}
+use Rattle.node_verdict.specs.Choosing.{ChoosesValues}
+use Rattle.decision_trees.specs.Gaps.{element}
+use Rattle.candidate_laws.specs.TreeLaws.{EntryHolds, lists_of}
 use Rattle.node_trees.specs.Generations.{AreApart}
 use Rattle.node_trees.specs.Origins.{meaning}
 use Rattle.node_trees.specs.Shapes.{stands_for}

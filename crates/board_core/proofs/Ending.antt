@@ -1,8 +1,8 @@
 -- What is found first among the parts of a known tree is what is found in the tree.
 use Rattle.std.proofs.Common.{◌≡◌, ap}
 use Rattle.spec_core.specs.Theories.{theory_of}
-use Rattle.offer_index.specs.Tables.{windows_in}
-use Rattle.board_laws.specs.Rules.{any, any_beyond}
+use Rattle.symbolic_rules.specs.Tables.{windows_in}
+use Rattle.decision_trees.specs.Rules.{any, any_beyond}
 use Rattle.candidates.specs.KnownTrees.{HasItsParts, first_in, first_of_those, trees_for}
 use Rattle.candidates.specs.Listed.{trees_sought}
 use Rattle.candidates.specs.declared.known_tree.KnownTree.{KnownTree}

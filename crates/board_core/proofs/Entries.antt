@@ -13,14 +13,15 @@ use Rattle.rule_model.specs.Derivations.{Derivation, derivation_of}
 use Rattle.rule_model.specs.Events.{Event, OfferName, acted, replied}
 use Rattle.rule_model.specs.Legal.{IsPending, IsPossible}
 use Rattle.rule_model.specs.States.{PendingOffer, State, start_state}
-use Rattle.board_laws.specs.Lazy.{first}
-use Rattle.board_laws.specs.Rules.{Next, takes, goes_on, deadlocks}
+use Rattle.decision_trees.specs.Lazy.{first}
+use Rattle.decision_trees.specs.Rules.{Next, takes, goes_on, deadlocks}
 use Rattle.decision_order.specs.declared.settle.Settled.{Settled}
 use Rattle.decision_order.specs.declared.settle.Settled.TheVariants.{Takes, GoesOn, Unknown, Deadlocks, IsBeyond, IsNotNow, Stalls, Nothing}
 use Rattle.board_record.specs.Records.{IsSession}
 use Rattle.board_record.specs.Views.{HasActed}
 use Rattle.board_laws.specs.declared.stop_reason.StopReason.{StopReason}
 use Rattle.board_laws.specs.Next.{GoesByRules, HasEnded, IsAct, IsEventOf, IsLeast, next_by_rules, next_ended}
+use Rattle.run_settings.specs.declared.settings.Draw.{Draw}
 use Rattle.board_laws.specs.Drawing.{drawn}
 use Rattle.board_laws.specs.Stopping.{answer_by}
 use Rattle.log_states.specs.Clients.{numbers_from}
@@ -155,9 +156,10 @@ module _ (old new : BoardView) where
       (h.0, h.1, ap (λ (n : ℕ). replied h.0.client h.0.number (deadlock n)) is) h.2 h.3 h.4.0 (h.4.1, h.4.2)
 
 -- the same number is drawn
-pub same_draw : (n s t a b k l : ℕ) → n ≡ drawn s a k → s ≡ t → a ≡ b → k ≡ l → n ≡ drawn t b l
-same_draw n s t a b k l is same_seed same_actions same_count =
-    is ∙ ap (λ z. drawn z a k) same_seed ∙ ap (λ z. drawn t z k) same_actions ∙ ap (drawn t b) same_count
+pub same_draw : (n : ℕ) (d e : Draw) (s t a b k l : ℕ) → n ≡ drawn d s a k → d ≡ e → s ≡ t → a ≡ b → k ≡ l → n ≡ drawn e t b l
+same_draw n d e s t a b k l is same_way same_seed same_actions same_count =
+    is ∙ ap (λ z. drawn z s a k) same_way ∙ ap (λ z. drawn e z a k) same_seed ∙ ap (λ z. drawn e t z k) same_actions
+    ∙ ap (drawn e t b) same_count
 
 -- an action that the rules decide, where there were as many as are allowed, is at the limit
 module _ (v : BoardView) (due : (entry : Next PendingOffer Derivation) → decided_at v ≡ Some entry → IsDue v entry)

@@ -1,8 +1,8 @@
 -- The trees of entries that the rules decide are found by searches.
 use Rattle.std.proofs.Common.{◌≡◌, List, [], ◌∷◌, refl, subst, Option, Some, None, Bool, true, false}
-use Rattle.board_laws.specs.Known.{where_known}
-use Rattle.board_laws.specs.Rules.{Query, meeting, any, unseen, beyond, any_beyond, beyond_or_unseen, Waiting, Next, takes, deadlocks, is_beyond}
-use Rattle.board_laws.specs.Rules.{is_not_now, goes_on, stalls, nothing, if_there, if_some, when}
+use Rattle.decision_trees.specs.Known.{where_known}
+use Rattle.decision_trees.specs.Rules.{Query, meeting, any, unseen, beyond, any_beyond, beyond_or_unseen, Waiting, Next, takes, deadlocks, is_beyond}
+use Rattle.decision_trees.specs.Rules.{is_not_now, goes_on, stalls, nothing, if_there, if_some, when}
 use Rattle.decision_order.specs.Rules.{first_decided, stalled_decided, unseen_decided, waiting_decided, asked_decided, dead_decided}
 use Rattle.decision_order.specs.Rules.{marked_decided, unmet_decided, next_decided}
 

@@ -18,14 +18,14 @@ use Rattle.rule_model.specs.Legal.{IsDerivation, IsPossible}
 use Rattle.rule_model.specs.States.{PendingOffer, State, without_taken}
 use Rattle.node_trees.specs.Shapes.{Shape}
 use Rattle.offer_index.specs.Index.{IndexView}
-use Rattle.offer_index.specs.Tables.{values_of, windows_in}
+use Rattle.symbolic_rules.specs.Tables.{values_of, windows_in}
 use Rattle.sort_windows.specs.Found.{AreBySorts}
-use Rattle.board_laws.specs.Choosing.{ChoosesValue}
+use Rattle.node_verdict.specs.Choosing.{ChoosesValue}
 use Rattle.board_laws.specs.JobValues.{GivesValues, HoldValues}
 use Rattle.board_laws.proofs.Sorts.{member_is_spelled}
 use Rattle.board_record.specs.Views as records
 use Rattle.board_record.specs.Views.{RecordView}
-use Rattle.candidate_verdicts.specs.Views.{shape}
+use Rattle.board_tree.specs.Views.{shape}
 use Rattle.candidates.specs.Models.{job_of}
 use Rattle.board_core.specs.Boards.{AllOfferValues, AreOfLiving, IsIndexed, IsIndexedBoard, IsKnown, OffersValues}
 use Rattle.board_core.specs.Views.{BoardView, pieces}

@@ -6,8 +6,8 @@ use Rattle.rule_model.specs.Derivations.{Derivation}
 use Rattle.node_trees.specs.declared.origin.Gen.{Gen}
 use Rattle.node_trees.specs.Rests.{Work}
 use Rattle.node_trees.specs.Shapes.{Held, Shape, IsNodeOf, IsRight, IsWorkFor, posted}
-use Rattle.candidate_verdicts.specs.Views.{IsStep}
-use Rattle.offer_index.specs.Tables.{windows_in}
+use Rattle.board_tree.specs.Views.{IsStep}
+use Rattle.symbolic_rules.specs.Tables.{windows_in}
 use Rattle.candidate_verdicts.specs.declared.pieces.Piece.{Piece}
 use Rattle.candidate_verdicts.specs.Known.{Pieces}
 use Rattle.candidate_verdicts.specs.Laws.{IsPieceOf}

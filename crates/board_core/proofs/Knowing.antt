@@ -10,9 +10,9 @@ use Rattle.spec_core.proofs.Members.{each_from, one_parts}
 use Rattle.rule_model.specs.declared.rules.Rules.{Rules}
 use Rattle.rule_model.specs.Derivations.{Derivation, derivation_of}
 use Rattle.rule_model.specs.States.{PendingOffer}
-use Rattle.board_laws.specs.Asked.{TreeQuery}
-use Rattle.board_laws.specs.Lazy.{first}
-use Rattle.board_laws.specs.Rules.{Waiting}
+use Rattle.candidate_laws.specs.Asked.{TreeQuery}
+use Rattle.decision_trees.specs.Lazy.{first}
+use Rattle.decision_trees.specs.Rules.{Waiting}
 use Rattle.decision_order.specs.declared.listing.OffersByNumber.{OffersByNumber}
 use Rattle.decision_order.specs.declared.settle.Settled.{Settled}
 use Rattle.decision_order.specs.Jobs.{first_not_out, not_out, taken_on}
@@ -23,7 +23,7 @@ use Rattle.decision_order.specs.Searches.{settled_of, waiting_of}
 use Rattle.log_states.specs.Views.{pending_of}
 use Rattle.node_trees.specs.Origins.{source_of}
 use Rattle.node_trees.specs.Shapes.{Held, IsNodeOf, Lives, Shape, shape_of}
-use Rattle.offer_index.specs.Tables.{windows_in}
+use Rattle.symbolic_rules.specs.Tables.{windows_in}
 use Rattle.candidate_verdicts.specs.declared.pieces.Pieces.{Pieces}
 use Rattle.candidate_verdicts.specs.Same.{same_rules}
 use Rattle.candidate_verdicts.specs.Stored.{stored}

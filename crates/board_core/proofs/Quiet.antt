@@ -1,16 +1,16 @@
 -- Where nothing comes next, whatever the behaviour may do.
 use Rattle.std.proofs.Common.{◌≡◌, ◌↔◌, List, [], refl, sym, ap, ◌∙◌, inl, Option, Some, None, is_some, Bool, true, false, not, IsTrue}
 use Rattle.std.proofs.lemmas.Bool.{false_from_ne_true}
-use Rattle.spec_core.specs.declared.settings.Settings.{Settings}
+use Rattle.run_settings.specs.declared.settings.Settings.{Settings}
 use Rattle.spec_core.specs.Code.{Program}
 use Rattle.rule_model.specs.Derivations.{Derivation}
 use Rattle.rule_model.specs.Legal.{AllWait}
 use Rattle.rule_model.specs.States.{PendingOffer, State}
-use Rattle.offer_index.specs.Windows.{Windows}
-use Rattle.board_laws.specs.Lazy.{first}
-use Rattle.board_laws.specs.Rules.{Next, any, any_beyond, nothing, if_there, next_of}
-use Rattle.board_laws.specs.Asked.{TreeQuery}
-use Rattle.board_laws.specs.TreeLaws.{lists_of}
+use Rattle.symbolic_rules.specs.Windows.{Windows}
+use Rattle.decision_trees.specs.Lazy.{first}
+use Rattle.decision_trees.specs.Rules.{Next, any, any_beyond, nothing, if_there, next_of}
+use Rattle.candidate_laws.specs.Asked.{TreeQuery}
+use Rattle.candidate_laws.specs.TreeLaws.{lists_of}
 use Rattle.board_laws.specs.declared.stop_reason.StopReason.{StopReason}
 use Rattle.board_laws.specs.Next.{AreSessionWindows, GoesByRules, IsNextOf}
 use Rattle.board_laws.specs.Reasons.{LooksForTrees}

@@ -1,11 +1,11 @@
 -- The table of a board has the windows of its session.
 use Rattle.std.proofs.Common.{ℕ, ◌≡◌, ◌<◌, ◌≤◌, List, length, ap, arith}
 use Rattle.std.proofs.lemmas.Option.{slice_get_past}
-use Rattle.spec_core.specs.declared.settings.Settings.{Settings}
+use Rattle.run_settings.specs.declared.settings.Settings.{Settings}
 use Rattle.spec_core.specs.declared.window.Window.{Window}
 use Rattle.spec_core.specs.Code.{Program}
 use Rattle.sort_windows.specs.Found.{AreBySorts}
-use Rattle.offer_index.specs.Tables.{windows_in, values_of, complete_of}
+use Rattle.symbolic_rules.specs.Tables.{windows_in, values_of, complete_of}
 use Rattle.board_laws.proofs.Top.{table_windows}
 use Rattle.board_laws.specs.Next.{AreSessionWindows}
 

@@ -4,13 +4,13 @@ use Rattle.spec_core.specs.declared.window.Window.{Window}
 use Rattle.spec_core.specs.Code.{Program}
 use Rattle.spec_core.specs.Lists.{Each}
 use Rattle.spec_core.specs.Theories.{Theory}
-use Rattle.offer_index.specs.Windows.{Windows}
+use Rattle.symbolic_rules.specs.Windows.{Windows}
 use Rattle.rule_model.specs.Derivations.{Derivation}
 use Rattle.rule_model.specs.Events.{Event, pended}
 use Rattle.candidates.specs.Jobs.{NodeJob}
 use Rattle.candidates.specs.Models.{job_of}
 use Rattle.board_laws.specs.Needed.{generation_of}
-use Rattle.board_laws.specs.Expansions.{IsExpansion}
+use Rattle.expand.specs.Expansions.{IsExpansion}
 use Rattle.board_laws.specs.JobValues.{GivesValues}
 use Rattle.board_record.specs.Views as records
 use Rattle.board_record.specs.Views.{RecordView}
@@ -19,8 +19,8 @@ use Rattle.node_trees.specs.Origins.{Source, meaning}
 use Rattle.node_trees.specs.Rests.{Work, IsWayOf}
 use Rattle.node_trees.specs.Shapes.{Shape, IsRight, Lives}
 use Rattle.offer_index.specs.Index.{IndexView, IsIndexOf}
-use Rattle.offer_index.specs.Kept.{some_waits}
-use Rattle.offer_index.specs.Tables.{windows_in}
+use Rattle.candidate_composites.specs.Kept.{some_waits}
+use Rattle.symbolic_rules.specs.Tables.{windows_in}
 use Rattle.candidate_verdicts.specs.Known.{Pieces}
 use Rattle.candidate_verdicts.specs.Laws.{ArePiecesOf, NoneFrom}
 use Rattle.board_laws.specs.Complete.{AreComplete, AreExpansions, IsComplete}

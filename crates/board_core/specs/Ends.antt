@@ -4,7 +4,7 @@ use Rattle.rule_model.specs.declared.action.Action.{Action}
 use Rattle.rule_model.specs.declared.action.Action.TheVariants.{Inner, Exit, At}
 use Rattle.rule_model.specs.Derivations.{Derivation}
 use Rattle.rule_model.specs.Events.{Ending, exits, deadlocked, waiting, ends_beyond}
-use Rattle.board_laws.specs.Rules.{any, any_beyond}
+use Rattle.decision_trees.specs.Rules.{any, any_beyond}
 use Rattle.board_laws.specs.declared.stop_reason.StopReason.{StopReason}
 use Rattle.board_laws.specs.Stopping.{ending_by}
 use Rattle.board_core.specs.Views.{BoardView, first_at, state}

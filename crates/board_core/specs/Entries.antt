@@ -3,7 +3,7 @@ use Rattle.std.specs.Prelude.{Option, option_map}
 use Rattle.rule_model.specs.declared.rules.Rules.{Rules}
 use Rattle.rule_model.specs.Derivations.{Derivation, derivation_of}
 use Rattle.rule_model.specs.States.{PendingOffer}
-use Rattle.board_laws.specs.Rules.{Next}
+use Rattle.decision_trees.specs.Rules.{Next}
 use Rattle.decision_order.specs.declared.settle.Settled.{Settled}
 use Rattle.decision_order.specs.declared.settle.Settled.TheVariants.{Takes, GoesOn}
 use Rattle.decision_order.specs.Numbered.{entry_with}

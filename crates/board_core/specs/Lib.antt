@@ -6,8 +6,8 @@ pub mod Settled
 pub mod Views
 pub mod Working
 pub use Rattle.board_laws.specs.JobValues
-pub use Rattle.board_laws.specs.Prepared
-pub use Rattle.board_laws.specs.Rights
+pub use Rattle.match_code.specs.Prepared
+pub use Rattle.match_code.specs.Rights
 pub use Rattle.board_offers.specs.Offers
 pub use Rattle.board_offers.specs.Waiting
 pub use Rattle.candidate_verdicts.specs.Stored

@@ -9,11 +9,11 @@ use Rattle.rule_model.specs.Derivations.{Derivation}
 use Rattle.rule_model.specs.Events.{Event, OfferName, acted, replied}
 use Rattle.rule_model.specs.Legal.{IsPossible}
 use Rattle.rule_model.specs.States.{PendingOffer, State}
-use Rattle.candidate_verdicts.specs.Steps.{Follows}
-use Rattle.candidate_verdicts.specs.Views.{IsStep}
+use Rattle.board_tree.specs.Steps.{Follows}
+use Rattle.board_tree.specs.Views.{IsStep}
 use Rattle.candidates.specs.Models.{job_of}
-use Rattle.board_laws.specs.Rules.{Next, takes, deadlocks, goes_on, nothing}
-use Rattle.board_laws.specs.TreeLaws.{EntryHolds}
+use Rattle.decision_trees.specs.Rules.{Next, takes, deadlocks, goes_on, nothing}
+use Rattle.candidate_laws.specs.TreeLaws.{EntryHolds}
 use Rattle.board_record.specs.Records.{MayAct}
 use Rattle.candidate_verdicts.specs.Stored.{without}
 use Rattle.board_laws.specs.Next.{GoesByRules, HasEnded, IsAtLimit, IsEventOf, IsLeast, IsNextEvent, IsNextOf, IsStopReply}

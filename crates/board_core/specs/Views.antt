@@ -1,16 +1,16 @@
 -- What contracts see of a board.
 use Rattle.std.specs.Prelude.{◌≡◌, List, Option}
-use Rattle.spec_core.specs.declared.settings.Settings.{Settings}
+use Rattle.run_settings.specs.declared.settings.Settings.{Settings}
 use Rattle.spec_core.specs.declared.window.Window.{Window}
 use Rattle.spec_core.specs.Code.{Program}
-use Rattle.candidate_verdicts.specs.Views as trees
+use Rattle.board_tree.specs.Views as trees
 use Rattle.rule_model.specs.Derivations.{Derivation}
 use Rattle.rule_model.specs.Events.{Event}
 use Rattle.rule_model.specs.States.{PendingOffer, State}
-use Rattle.offer_index.specs.Windows.{Windows}
-use Rattle.offer_index.specs.Tables.{windows_in}
-use Rattle.board_laws.specs.Rules.{Next}
-use Rattle.board_laws.specs.Asked.{TreeQuery}
+use Rattle.symbolic_rules.specs.Windows.{Windows}
+use Rattle.symbolic_rules.specs.Tables.{windows_in}
+use Rattle.decision_trees.specs.Rules.{Next}
+use Rattle.candidate_laws.specs.Asked.{TreeQuery}
 use Rattle.node_trees.specs.Shapes.{Shape}
 use Rattle.candidate_verdicts.specs.declared.pieces.Pieces.{Pieces}
 use Rattle.candidate_verdicts.specs.Known as known

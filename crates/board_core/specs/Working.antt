@@ -14,7 +14,7 @@ use Rattle.node_trees.specs.Origins.{Source, source_of}
 use Rattle.node_trees.specs.Shapes.{Held, Shape, IsNodeOf, Lives}
 use Rattle.board_core.specs.declared.job.Job.{Job}
 use Rattle.rule_model.specs.declared.reply.LimitKind.TheVariants.{Offers}
-use Rattle.board_laws.specs.Counts.{offers_limit, offers_of_tree}
+use Rattle.candidate_count.specs.Counts.{offers_limit, offers_of_tree}
 use Rattle.board_laws.specs.declared.stop_reason.StopReason.{StopReason}
 use Rattle.board_laws.specs.declared.stop_reason.StopReason.TheVariants.{Limit}
 use Rattle.board_laws.specs.Reasons.{LooksForTrees}

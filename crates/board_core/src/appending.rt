@@ -365,7 +365,12 @@ impl Board {
         if those.is_empty() {
             unreachable!();
         }
-        let number = drawn(self.settings.seed, self.actions(), those.len() as u32);
+        let number = drawn(
+            self.settings.draw,
+            self.settings.seed,
+            self.actions(),
+            those.len() as u32,
+        );
         match tree_at(those, number) {
             None => unreachable!(),
             Some(rules) => self.act(alloc, rules, None),

@@ -3,11 +3,11 @@ use Rattle.std.proofs.Common.{ℕ, ◌≤◌, inl, inr, List, [], ◌∷◌, sym
 use Rattle.spec_core.specs.Code.{Program}
 use Rattle.spec_core.specs.Terms.{TermTree}
 use Rattle.rule_model.specs.Behaviours.{Behaviour}
-use Rattle.candidate_count.specs.Windows.{Windows}
-use Rattle.candidate_count.specs.MarkedTerms.{MarkedAssignment, unmarked}
-use Rattle.candidate_count.specs.Evaluations.{Evaluation}
-use Rattle.node_values.specs.Reached.{ReachesIn, ReachesBelow, Reaches}
-use Rattle.node_values.specs.Spread.{spread_in, spread_below, spread}
+use Rattle.symbolic_rules.specs.Windows.{Windows}
+use Rattle.symbolic_rules.specs.MarkedTerms.{MarkedAssignment, unmarked}
+use Rattle.symbolic_composites.specs.Evaluations.{Evaluation}
+use Rattle.symbolic_reach.specs.Reached.{ReachesIn, ReachesBelow, Reaches}
+use Rattle.symbolic_reach.specs.Spread.{spread_in, spread_below, spread}
 use Rattle.node_trees.specs.Origins.{meaning}
 use Rattle.node_trees.specs.Shapes.{Above, Held, Shape, leaf, over, between, Unary, hidden, relabelled, enabled, Binary, choosing}
 use Rattle.node_trees.specs.Shapes.{beside, disabling, under, first_of, second_of, Stands, stands_for, applied, joined}

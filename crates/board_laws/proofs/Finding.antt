@@ -6,19 +6,19 @@ use Rattle.spec_core.specs.Lists.{IsOneOf}
 use Rattle.spec_core.specs.Theories.{Theory}
 use Rattle.spec_core.proofs.Members.{from_filter, from_flat_map}
 use Rattle.rule_model.specs.Derivations.{Derivation}
-use Rattle.candidate_count.specs.Windows.{Windows}
-use Rattle.candidate_count.specs.Trees.{has_mark}
+use Rattle.symbolic_rules.specs.Windows.{Windows}
+use Rattle.symbolic_rules.specs.Trees.{has_mark}
 use Rattle.decision_trees.specs.Known.{where_known}
 use Rattle.decision_trees.specs.Rules.{meeting, any, unseen, beyond, any_beyond, beyond_or_unseen}
 use Rattle.decision_trees.specs.Gaps.{OrGap, element, gap, first_known, all_known}
-use Rattle.candidate_count.specs.OpenFields.{choices_at_once}
+use Rattle.symbolic_composites.specs.OpenFields.{choices_at_once}
 use Rattle.symbolic_plans.specs.Plans.{trees_of}
 use Rattle.symbolic_plans.specs.OpenPlans.{OpenPlan}
 use Rattle.candidate_laws.specs.Asked.{TreeQuery}
-use Rattle.candidate_count.specs.Numbers.{trees_at_once}
-use Rattle.candidate_verdicts.specs.Searches.{for_offer, is_wanted, slots_asked, trees_searched, asked_from}
+use Rattle.symbolic_trees.specs.Numbers.{trees_at_once}
+use Rattle.candidate_search.specs.Searches.{for_offer, is_wanted, slots_asked, trees_searched, asked_from}
 use Rattle.node_trees.specs.Shapes.{Shape}
-use Rattle.candidate_count.specs.Known.{known_plans, sought_plans}
+use Rattle.candidate_composites.specs.Known.{known_plans, sought_plans}
 use Rattle.candidate_count.proofs.Placed.{sought_plans_are_known}
 use Rattle.candidates.specs.Listed.{kinds_sought, tree_verdict, known_trees}
 use Rattle.board_laws.specs.Complete.{AsksUnmarked, IsSearched}

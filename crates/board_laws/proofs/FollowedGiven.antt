@@ -17,7 +17,7 @@ use Rattle.rule_model.specs.Derivations.{enstep, enend, disstep, disend, distake
 use Rattle.rule_model.specs.Derives.{DerivesWith}
 use Rattle.rule_model.specs.Fields.{FieldsHave, ExitHas}
 use Rattle.rule_model.specs.Substitution.{Assignment, with_term}
-use Rattle.node_work.specs.Laws.{IsGiven}
+use Rattle.node_steps.specs.Laws.{IsGiven}
 use Rattle.node_trees.specs.Rests.{slots_of}
 use Rattle.board_laws.specs.FollowedLaws.{StepsChooseValues}
 

@@ -4,7 +4,7 @@ use Rattle.std.proofs.Common.{Bool, true, false, if◌then◌else◌}
 use Rattle.spec_core.specs.Lists.{IsOneOf}
 use Rattle.spec_core.proofs.Members.{one_parts}
 use Rattle.decision_trees.specs.Gaps.{OrGap, element, gap, in_its_place}
-use Rattle.candidate_count.specs.Composites.{from_option}
+use Rattle.symbolic_composites.specs.Composites.{from_option}
 
 pub from_some : {A B : Type 0} (o : Option A) (f : A → List B) (y : B) → IsOneOf y (from_option o f) → (a : A) × IsOneOf y (f a)
 from_some None f y h = absurd h

@@ -7,18 +7,18 @@ use Rattle.spec_core.specs.Code.{Relabelling, Synchronised}
 use Rattle.spec_core.proofs.Members.{from_flat_map, one_parts, from_map}
 use Rattle.rule_model.specs.declared.rules.Slot.{Slot}
 use Rattle.rule_model.specs.Derivations.{Derivation, chl, chr, parl, parr, both, hiding, pass, enstep, enend, disstep, disend, distake, rel}
-use Rattle.candidate_count.specs.Windows.{Windows}
+use Rattle.symbolic_rules.specs.Windows.{Windows}
 use Rattle.decision_trees.specs.Gaps.{element, gap, in_its_place}
-use Rattle.candidate_count.specs.Kinds.{is_alone, is_joint, is_hidden, is_end, same_kind}
-use Rattle.candidate_count.specs.OpenFields.{OpenField, all_choices, choices_at_once, all_together}
-use Rattle.candidate_count.specs.Composites.{from_option}
+use Rattle.symbolic_composites.specs.Kinds.{is_alone, is_joint, is_hidden, is_end, same_kind}
+use Rattle.symbolic_composites.specs.OpenFields.{OpenField, all_choices, choices_at_once, all_together}
+use Rattle.symbolic_composites.specs.Composites.{from_option}
 use Rattle.symbolic_plans.specs.declared.scheme.Row.{Row}
 use Rattle.symbolic_plans.specs.declared.scheme.Row.TheVariants.{Chl, Chr, Parl, Parr, Pass, Enstep, Disstep, Disend, Distake, Rel}
 use Rattle.symbolic_plans.specs.Plans.{below, hidden, handed_on, together, put_row, trees_of}
 use Rattle.symbolic_plans.specs.OpenPlans.{OpenPlan, under_row, under_relabelling, plans_alone, plans_joint, paired_plan, plan_by_hiding}
 use Rattle.symbolic_plans.specs.OpenPlans.{turned_by, plan_by_enabling, plan_by_disabling}
 use Rattle.node_trees.specs.Shapes.{choosing, beside, disabling}
-use Rattle.candidate_count.specs.Known.{PlanOrGap, turned, each_turned, partners, over_two}
+use Rattle.candidate_composites.specs.Known.{PlanOrGap, turned, each_turned, partners, over_two}
 use Rattle.board_laws.proofs.FollowedLists.{from_some, from_test, only_one, from_elements, from_places}
 use Rattle.board_laws.proofs.FollowedLists.{same_element, no_gap}
 

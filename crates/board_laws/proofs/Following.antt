@@ -9,14 +9,14 @@ use Rattle.rule_model.specs.Actions.{doing}
 use Rattle.rule_model.specs.Behaviours.{Behaviour}
 use Rattle.rule_model.specs.Derivations.{Derivation, chl, chr, parl, parr, hiding, pass, enstep, enend, disstep, disend, distake, rel}
 use Rattle.rule_model.specs.Derives.{Derives}
-use Rattle.candidate_count.specs.Windows.{Windows}
+use Rattle.symbolic_rules.specs.Windows.{Windows}
 use Rattle.decision_trees.specs.Gaps.{element, gap}
 use Rattle.node_trees.specs.Origins.{meaning}
 use Rattle.node_trees.specs.Rests.{Way, Work, Fills}
 use Rattle.node_trees.specs.Shapes.{Held, Shape, leaf, ended, over, between, Unary, hidden, relabelled, enabled, Binary, choosing, beside}
 use Rattle.node_trees.specs.Shapes.{disabling, under, first_of, second_of, stands_for}
-use Rattle.candidate_verdicts.specs.Steps.{AnyFilled, IsDone, Follows}
-use Rattle.candidate_count.specs.Known.{PlanOrGap, plans_at, known_plans}
+use Rattle.board_tree.specs.Steps.{AnyFilled, IsDone, Follows}
+use Rattle.candidate_composites.specs.Known.{PlanOrGap, plans_at, known_plans}
 use Rattle.node_work.specs.Ways.{HasWays}
 use Rattle.board_laws.specs.Complete.{IsComplete, AreComplete}
 use Rattle.board_laws.specs.FollowedLaws.{SearchedTreesFollow}

@@ -19,18 +19,18 @@ use Rattle.rule_model.specs.Behaviours.{hide, enable, disable, call, relabel}
 use Rattle.rule_model.specs.Derivations.{Derivation, pre, exiting, chl, chr, val, gate, guard, letting, parl, parr, both, hiding, pass}
 use Rattle.rule_model.specs.Derivations.{enstep, enend, disstep, disend, distake, calling, rel}
 use Rattle.rule_model.specs.States.{PendingOffer}
-use Rattle.candidate_count.specs.Windows.{Windows, sort_of_value}
-use Rattle.candidate_count.specs.MarkedTerms.{MarkedTerm, plain, mark, MarkedAssignment, unmarked, with_marked, marked_instance}
-use Rattle.candidate_count.specs.Evaluations.{Evaluation, IsExact, premise_may_hold, chosen_term, value_in, marked_value, with_bindings}
-use Rattle.candidate_count.specs.Evaluations.{with_arguments}
-use Rattle.candidate_count.specs.Kinds.{is_alone, is_joint, is_hidden, is_end, same_kind}
-use Rattle.candidate_count.specs.OpenFields as fields_of
-use Rattle.candidate_count.specs.OpenFields.{OpenField, fixed, blank, open_by, together, all_together, open_fields, open_exit}
-use Rattle.candidate_count.specs.OpenFields.{exit_slots_of, mark_unless, is_listed, unless_listed, window_slots, choices}
-use Rattle.candidate_count.specs.OpenFields.{all_choices, given_in, any_marked}
-use Rattle.candidate_count.specs.OpenFields.{one_each, choices_at_once}
-use Rattle.candidate_count.specs.Composites.{Composite, filled, from_option, under, relabelled, turned, alone, paired, joint, by_hiding}
-use Rattle.candidate_count.specs.Composites.{by_enabling, by_disabling, of_relabel, of_gates, composites_in, below_calls, composites}
+use Rattle.symbolic_rules.specs.Windows.{Windows, sort_of_value}
+use Rattle.symbolic_rules.specs.MarkedTerms.{MarkedTerm, plain, mark, MarkedAssignment, unmarked, with_marked, marked_instance}
+use Rattle.symbolic_composites.specs.Evaluations.{Evaluation, IsExact, premise_may_hold, chosen_term, value_in, marked_value, with_bindings}
+use Rattle.symbolic_composites.specs.Evaluations.{with_arguments}
+use Rattle.symbolic_composites.specs.Kinds.{is_alone, is_joint, is_hidden, is_end, same_kind}
+use Rattle.symbolic_composites.specs.OpenFields as fields_of
+use Rattle.symbolic_composites.specs.OpenFields.{OpenField, fixed, blank, open_by, together, all_together, open_fields, open_exit}
+use Rattle.symbolic_composites.specs.OpenFields.{exit_slots_of, mark_unless, is_listed, unless_listed, window_slots, choices}
+use Rattle.symbolic_composites.specs.OpenFields.{all_choices, given_in, any_marked}
+use Rattle.symbolic_composites.specs.OpenFields.{one_each, choices_at_once}
+use Rattle.symbolic_composites.specs.Composites.{Composite, filled, from_option, under, relabelled, turned, alone, paired, joint, by_hiding}
+use Rattle.symbolic_composites.specs.Composites.{by_enabling, by_disabling, of_relabel, of_gates, composites_in, below_calls, composites}
 use Rattle.decision_trees.specs.Rules.{meeting, any, unseen, beyond, any_beyond, beyond_or_unseen, Waiting}
 use Rattle.candidate_laws.specs.Asked.{TreeQuery, offer_in}
 use Rattle.candidate_laws.specs.TreeLaws.{IsSoundWaiting}

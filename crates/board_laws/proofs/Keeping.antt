@@ -10,8 +10,8 @@ use Rattle.node_trees.specs.Origins.{Source}
 use Rattle.node_trees.specs.Rests.{Work}
 use Rattle.node_trees.specs.Shapes.{Held, Shape, leaf, over, between, under, first_of, second_of, Stands, IsNodeOf, AllWait}
 use Rattle.node_trees.specs.Shapes.{with_work, posted}
-use Rattle.candidate_verdicts.specs.Keeping.{IsUntouched}
-use Rattle.candidate_verdicts.specs.Views.{IsStep}
+use Rattle.board_tree.specs.Keeping.{IsUntouched}
+use Rattle.board_tree.specs.Views.{IsStep}
 use Rattle.board_laws.specs.Complete.{EachExpanded, IsComplete, HasItsPlans}
 use Rattle.board_laws.specs.FollowedLaws.{StaysSo, CompletenessStays, ExpansionsStay}
 

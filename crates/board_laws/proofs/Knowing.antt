@@ -3,9 +3,9 @@ use Rattle.std.proofs.Common.{ℕ, ◌≡◌, ◌∙◌, List, [], refl, sym, ap
 use Rattle.std.specs.Prelude.{option_and_then}
 use Rattle.spec_core.specs.Code.{Program}
 use Rattle.rule_model.specs.Derivations.{Derivation}
-use Rattle.candidate_count.specs.Windows.{Windows}
-use Rattle.candidate_count.specs.Composites.{Composite}
-use Rattle.candidate_count.specs.Evaluations.{Evaluation}
+use Rattle.symbolic_rules.specs.Windows.{Windows}
+use Rattle.symbolic_composites.specs.Composites.{Composite}
+use Rattle.symbolic_composites.specs.Evaluations.{Evaluation}
 use Rattle.symbolic_plans.specs.Laws.{composites_of}
 use Rattle.candidate_laws.specs.Asked.{TreeQuery, TestsAsked}
 use Rattle.candidate_laws.specs.Waiting as lists

@@ -8,23 +8,23 @@ use Rattle.spec_core.proofs.Members.{each_one}
 use Rattle.spec_core.proofs.Lists.{each_flat_map, each_append, each_implied}
 use Rattle.rule_model.specs.Derivations.{Derivation}
 use Rattle.rule_model.specs.States.{PendingOffer}
-use Rattle.candidate_count.specs.Windows.{Windows}
+use Rattle.symbolic_rules.specs.Windows.{Windows}
 use Rattle.decision_trees.specs.Decisions.{Question, expand, judge}
 use Rattle.decision_trees.specs.Known.{known_or, unless_known}
 use Rattle.decision_trees.specs.Gaps.{OrGap, element, gap, in_its_place, missing_to_first, all_missing}
 use Rattle.decision_trees.specs.Rules.{Query, meeting, any, unseen, beyond, any_beyond, beyond_or_unseen, Waiting, when}
-use Rattle.candidates.specs.Needed.{first_needed, unseen_needed, asked_needed, marked_needed, unmet_needed, next_needed}
-use Rattle.candidate_count.specs.Kinds.{is_joint}
+use Rattle.decision_order.specs.Needed.{first_needed, unseen_needed, asked_needed, marked_needed, unmet_needed, next_needed}
+use Rattle.symbolic_composites.specs.Kinds.{is_joint}
 use Rattle.symbolic_plans.specs.declared.scheme.Row.TheVariants.{Chl, Chr, Parl, Parr, Distake}
 use Rattle.symbolic_plans.specs.OpenPlans.{OpenPlan, under_row, plans_alone, plans_joint, plan_by_disabling}
 use Rattle.candidate_laws.specs.Asked.{TreeQuery}
-use Rattle.candidate_verdicts.specs.Searches.{for_offer, asked_from}
+use Rattle.candidate_search.specs.Searches.{for_offer, asked_from}
 use Rattle.candidate_laws.specs.Sought.{Sought}
 use Rattle.node_trees.specs.Rests.{Work}
 use Rattle.node_trees.specs.Shapes.{Held, Shape, leaf, ended, over, between, Unary, Binary, choosing, beside, disabling, under, first_of}
 use Rattle.node_trees.specs.Shapes.{second_of, Lives}
-use Rattle.candidate_count.specs.Known.{PlanOrGap, turned, each_turned, over_one, plans_at, partners, over_two, known_plans}
-use Rattle.candidate_count.specs.Known.{sought_plans}
+use Rattle.candidate_composites.specs.Known.{PlanOrGap, turned, each_turned, over_one, plans_at, partners, over_two, known_plans}
+use Rattle.candidate_composites.specs.Known.{sought_plans}
 use Rattle.candidate_count.proofs.Placed.{sought_plans_are_known}
 use Rattle.candidate_verdicts.specs.Known.{Pieces, missing_parts}
 use Rattle.candidate_verdicts.proofs.Missing.{missing_parts_are_missing}

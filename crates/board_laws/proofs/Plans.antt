@@ -7,12 +7,12 @@ use Rattle.spec_core.specs.Theories.{Theory}
 use Rattle.spec_core.proofs.Lists.{each_implied}
 use Rattle.spec_core.proofs.Members.{one_flat_map, one_map, one_left, one_parts, one_right}
 use Rattle.rule_model.specs.Derivations.{Derivation}
-use Rattle.candidate_count.specs.Windows.{Windows}
-use Rattle.candidate_count.specs.MarkedTerms.{unmarked}
+use Rattle.symbolic_rules.specs.Windows.{Windows}
+use Rattle.symbolic_rules.specs.MarkedTerms.{unmarked}
 use Rattle.decision_trees.specs.Gaps.{OrGap, element, gap, in_its_place}
-use Rattle.candidate_count.specs.Evaluations.{Evaluation}
-use Rattle.candidate_count.specs.Composites.{Composite, composites}
-use Rattle.candidate_count.specs.Kinds.{is_joint}
+use Rattle.symbolic_composites.specs.Evaluations.{Evaluation}
+use Rattle.symbolic_composites.specs.Composites.{Composite, composites}
+use Rattle.symbolic_composites.specs.Kinds.{is_joint}
 use Rattle.symbolic_plans.specs.declared.scheme.Row.TheVariants.{Chl, Chr, Parl, Parr, Distake}
 use Rattle.symbolic_plans.specs.OpenPlans.{OpenPlan, composite_of, under_row, plans_alone, plans_joint, plan_by_disabling}
 use Rattle.symbolic_plans.specs.OpenPlans.{plans_of_parallel}
@@ -20,13 +20,13 @@ use Rattle.symbolic_plans.specs.Laws.{composites_of}
 use Rattle.candidate_laws.specs.Asked.{TreeQuery}
 use Rattle.candidate_laws.specs.Sought.{Sought}
 use Rattle.candidate_laws.specs.Waiting.{trees_asked}
-use Rattle.candidate_verdicts.specs.Searches.{for_offer, asked_from}
+use Rattle.candidate_search.specs.Searches.{for_offer, asked_from}
 use Rattle.candidate_verdicts.proofs.Found.{searches_find_all}
 use Rattle.node_trees.specs.Origins.{Source}
 use Rattle.node_trees.specs.Rests.{Work}
 use Rattle.node_trees.specs.Shapes.{Shape, leaf, ended, over, between, Binary, choosing, beside, disabling, stands_for}
-use Rattle.candidate_count.specs.Known.{PlanOrGap, turned, each_turned, over_one, partners, over_two, known_plans, plans_at}
-use Rattle.candidate_count.specs.Known.{sought_plans}
+use Rattle.candidate_composites.specs.Known.{PlanOrGap, turned, each_turned, over_one, partners, over_two, known_plans, plans_at}
+use Rattle.candidate_composites.specs.Known.{sought_plans}
 use Rattle.candidate_count.proofs.Placed.{sought_plans_are_known}
 use Rattle.candidates.specs.Listed.{kinds_sought, known_trees}
 use Rattle.board_laws.proofs.Elements.{AreElements, elements_more, elements_listed, element_holds}

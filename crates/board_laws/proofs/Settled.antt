@@ -6,9 +6,9 @@ use Rattle.decision_trees.specs.Known.{where_known}
 use Rattle.decision_trees.specs.Lazy.{first}
 use Rattle.decision_trees.specs.Rules.{Query, meeting, any, unseen, beyond, any_beyond, beyond_or_unseen, Waiting, Next, takes, is_beyond}
 use Rattle.decision_trees.specs.Rules.{is_not_now, nothing, if_there, when}
-use Rattle.candidates.specs.Rules.{first_decided, stalled_decided, unseen_decided, asked_decided, dead_decided}
-use Rattle.candidates.specs.Rules.{marked_decided, unmet_decided, next_decided}
-use Rattle.candidates.specs.Needed.{first_needed, unseen_needed, asked_needed, marked_needed, unmet_needed, next_needed}
+use Rattle.decision_order.specs.Rules.{first_decided, stalled_decided, unseen_decided, asked_decided, dead_decided}
+use Rattle.decision_order.specs.Rules.{marked_decided, unmet_decided, next_decided}
+use Rattle.decision_order.specs.Needed.{first_needed, unseen_needed, asked_needed, marked_needed, unmet_needed, next_needed}
 
 -- it is decided
 abbrev pub IsDecided : {R : Type 0} → Option R → Type 0

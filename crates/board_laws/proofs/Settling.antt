@@ -7,14 +7,14 @@ use Rattle.spec_core.proofs.Lists.{left_empty}
 use Rattle.spec_core.proofs.Options.{not_mapped}
 use Rattle.rule_model.specs.Derivations.{Derivation}
 use Rattle.rule_model.specs.States.{PendingOffer}
-use Rattle.candidate_count.specs.Windows.{Windows}
+use Rattle.symbolic_rules.specs.Windows.{Windows}
 use Rattle.decision_trees.specs.Decisions.{Question, expand, judge}
 use Rattle.decision_trees.specs.Known.{where_known, known_or, unless_known}
 use Rattle.decision_trees.specs.Lazy.{first}
 use Rattle.decision_trees.specs.Gaps.{OrGap, element, gap, first_known, all_known, missing_to_first, all_missing, known_to_hold}
 use Rattle.decision_trees.specs.Rules.{Waiting}
 use Rattle.candidate_laws.specs.Asked.{TreeQuery}
-use Rattle.candidate_verdicts.specs.Searches.{for_offer}
+use Rattle.candidate_search.specs.Searches.{for_offer}
 use Rattle.node_trees.specs.Shapes.{Shape}
 use Rattle.candidate_verdicts.specs.Known.{Pieces, known_show, missing_parts}
 use Rattle.candidate_verdicts.specs.Asked.{asked_by}

@@ -4,10 +4,10 @@ use Rattle.spec_core.specs.Lists.{IsOneOf}
 use Rattle.spec_core.specs.Code.{Program}
 use Rattle.rule_model.specs.Behaviours.{Behaviour}
 use Rattle.rule_model.specs.Derivations.{Derivation}
-use Rattle.candidate_count.specs.Windows.{Windows}
+use Rattle.symbolic_rules.specs.Windows.{Windows}
 use Rattle.decision_trees.specs.Lazy.{first}
 use Rattle.decision_trees.specs.Rules.{any, any_beyond}
-use Rattle.candidate_count.specs.Evaluations.{Evaluation}
+use Rattle.symbolic_composites.specs.Evaluations.{Evaluation}
 use Rattle.candidate_count.proofs.Lists.{empty_has_none}
 use Rattle.candidate_laws.specs.Asked.{TreeQuery, IsAsked, TestsAsked}
 use Rattle.candidate_laws.specs.TreeLaws.{IsAnswered, lists_of}

@@ -1,22 +1,22 @@
 -- Why a job has no answer that a session needs is a reason to stop in its state.
 use Rattle.std.proofs.Common.{ℕ, ◌≡◌, ◌∙◌, ◌<◌, inl, inr, [], sym, subst, Some, length, arith}
-use Rattle.spec_core.specs.declared.settings.Settings.{Settings}
+use Rattle.run_settings.specs.declared.settings.Settings.{Settings}
 use Rattle.spec_core.specs.Code.{Program}
 use Rattle.spec_core.specs.Lists.{IsOneOf}
 use Rattle.spec_core.specs.Terms.{TermTree, term_of}
 use Rattle.rule_model.specs.declared.reply.LimitKind.TheVariants.{Spread, Steps}
 use Rattle.rule_model.specs.Behaviours.{Behaviour}
 use Rattle.rule_model.specs.States.{State}
-use Rattle.candidate_count.specs.Windows.{Windows}
-use Rattle.candidate_count.specs.MarkedTerms.{unmarked}
-use Rattle.candidate_count.specs.Composites.{composites}
-use Rattle.candidate_count.specs.Evaluations.{Evaluation}
+use Rattle.symbolic_rules.specs.Windows.{Windows}
+use Rattle.symbolic_rules.specs.MarkedTerms.{unmarked}
+use Rattle.symbolic_composites.specs.Composites.{composites}
+use Rattle.symbolic_composites.specs.Evaluations.{Evaluation}
 use Rattle.node_values.specs.declared.stop.Stop.{Stop}
 use Rattle.node_values.specs.declared.stop.Stop.TheVariants as causes
 use Rattle.node_values.specs.Stops.{Stops, Never}
-use Rattle.node_values.specs.Reached.{Reaches}
-use Rattle.node_values.specs.Spread.{spread}
-use Rattle.node_work.specs.Expansions.{IsTooWideFor}
+use Rattle.symbolic_reach.specs.Reached.{Reaches}
+use Rattle.symbolic_reach.specs.Spread.{spread}
+use Rattle.expand.specs.Expansions.{IsTooWideFor}
 use Rattle.node_verdict.specs.Asking.{TreeAsks}
 use Rattle.node_trees.specs.Origins.{meaning}
 use Rattle.node_trees.specs.Shapes.{Held, Shape, IsNodeOf, stands_for}
@@ -25,7 +25,7 @@ use Rattle.board_laws.specs.Needed.{IsPartOfTree}
 use Rattle.board_laws.proofs.Living.{needed_parts_are_of_trees}
 use Rattle.candidate_count.specs.Counts.{offers, offers_limit, offers_of_tree}
 use Rattle.candidate_count.proofs.Below.{trees_have_no_more_offers}
-use Rattle.candidates.specs.Waiting.{waiting_in}
+use Rattle.board_offers.specs.Waiting.{waiting_in}
 use Rattle.board_laws.specs.declared.stop_reason.StopReason.{StopReason}
 use Rattle.board_laws.specs.declared.stop_reason.StopReason.TheVariants.{Spent, TooLarge, Limit}
 use Rattle.board_laws.specs.Given.{reason_of}

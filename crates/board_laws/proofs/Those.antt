@@ -2,7 +2,7 @@
 use Rattle.std.proofs.Common.{ℕ, ◌≡◌, ◌∙◌, List, [], ◌∷◌, map, filter, refl, sym, ap, Option, Some, None, option_map, Bool}
 use Rattle.spec_core.specs.Code.{Program}
 use Rattle.rule_model.specs.Derivations.{Derivation}
-use Rattle.candidate_count.specs.Windows.{Windows}
+use Rattle.symbolic_rules.specs.Windows.{Windows}
 use Rattle.decision_trees.specs.Decisions.{Answers}
 use Rattle.decision_trees.specs.Known.{Knowledge, decided}
 use Rattle.decision_trees.specs.Lazy.{Lazy, whole, first, first_holding}
@@ -10,8 +10,8 @@ use Rattle.decision_trees.specs.Gaps.{first_known}
 use Rattle.decision_trees.proofs.Asking.{decided_is_so}
 use Rattle.decision_trees.proofs.Gaps.{gaps_are_so}
 use Rattle.decision_trees.proofs.Searching as searching
-use Rattle.candidate_count.specs.Composites.{Composite}
-use Rattle.candidate_count.specs.Evaluations.{Evaluation}
+use Rattle.symbolic_composites.specs.Composites.{Composite}
+use Rattle.symbolic_composites.specs.Evaluations.{Evaluation}
 use Rattle.candidate_laws.specs.Asked.{TreeQuery, TestsAsked}
 use Rattle.candidate_laws.specs.TreeLaws.{lists_of}
 use Rattle.candidate_laws.specs.Waiting.{Candidate, waiting_trees}

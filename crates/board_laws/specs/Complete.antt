@@ -4,11 +4,11 @@ use Rattle.spec_core.specs.Lists.{Each, IsOneOf}
 use Rattle.spec_core.specs.Theories.{Theory}
 use Rattle.spec_core.specs.Code.{Program}
 use Rattle.rule_model.specs.Derivations.{Derivation}
-use Rattle.candidate_count.specs.Windows.{Windows}
-use Rattle.candidate_count.specs.MarkedTerms.{unmarked}
+use Rattle.symbolic_rules.specs.Windows.{Windows}
+use Rattle.symbolic_rules.specs.MarkedTerms.{unmarked}
 use Rattle.decision_trees.specs.Rules.{meeting, any, unseen, beyond, any_beyond, beyond_or_unseen}
 use Rattle.decision_trees.specs.Gaps.{element}
-use Rattle.candidate_count.specs.Evaluations.{Evaluation, IsExact}
+use Rattle.symbolic_composites.specs.Evaluations.{Evaluation, IsExact}
 use Rattle.symbolic_plans.specs.OwnPlans.{own_plans}
 use Rattle.candidate_laws.specs.Asked.{TreeQuery}
 use Rattle.node_trees.specs.Origins.{Source, meaning}

@@ -7,16 +7,16 @@ use Rattle.rule_model.specs.declared.action.Action.{Action}
 use Rattle.rule_model.specs.Behaviours.{Behaviour}
 use Rattle.rule_model.specs.Derivations.{Derivation}
 use Rattle.rule_model.specs.Derives.{Derives}
-use Rattle.candidate_count.specs.Windows.{Windows}
-use Rattle.candidate_count.specs.Trees.{has_mark}
-use Rattle.node_work.specs.Laws.{IsGiven}
+use Rattle.symbolic_rules.specs.Windows.{Windows}
+use Rattle.symbolic_rules.specs.Trees.{has_mark}
+use Rattle.node_steps.specs.Laws.{IsGiven}
 use Rattle.candidate_laws.specs.Asked.{TreeQuery}
 use Rattle.node_trees.specs.declared.origin.Gen.{Gen}
 use Rattle.node_trees.specs.Origins.{Source}
 use Rattle.node_trees.specs.Rests.{Work, slots_of}
 use Rattle.node_trees.specs.Shapes.{Held, Shape, IsNodeOf, AllWait, posted, stands_for}
-use Rattle.candidate_verdicts.specs.Steps.{Follows}
-use Rattle.candidate_verdicts.specs.Views.{IsStep}
+use Rattle.board_tree.specs.Steps.{Follows}
+use Rattle.board_tree.specs.Views.{IsStep}
 use Rattle.candidate_verdicts.specs.Known.{Pieces}
 use Rattle.candidates.specs.Listed.{first_tree, all_trees}
 use Rattle.board_laws.specs.Complete.{EachExpanded, IsComplete, HasItsPlans, AreComplete, AsksUnmarked, IsSearched}

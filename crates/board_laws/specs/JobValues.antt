@@ -9,8 +9,8 @@ use Rattle.rule_model.specs.declared.offer.Offer.{Offer}
 use Rattle.rule_model.specs.declared.rules.Slot.TheVariants.{Of}
 use Rattle.rule_model.specs.Derivations.{Derivation}
 use Rattle.rule_model.specs.States.{PendingOffer}
-use Rattle.candidate_count.specs.Windows.{Windows}
-use Rattle.candidate_count.specs.Evaluations.{Evaluation, IsExact}
+use Rattle.symbolic_rules.specs.Windows.{Windows}
+use Rattle.symbolic_composites.specs.Evaluations.{Evaluation, IsExact}
 use Rattle.candidate_count.specs.Laws.{AreOwnPlans}
 use Rattle.decision_trees.specs.Gaps.{element}
 use Rattle.decision_trees.specs.Rules.{Waiting}

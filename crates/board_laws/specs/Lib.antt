@@ -18,8 +18,8 @@ pub use Rattle.decision_trees.specs.Gaps
 pub use Rattle.decision_trees.specs.Known
 pub use Rattle.decision_trees.specs.Lazy
 pub use Rattle.decision_trees.specs.Rules
-pub use Rattle.node_values.specs.Prepared
-pub use Rattle.node_values.specs.Rights
+pub use Rattle.match_code.specs.Prepared
+pub use Rattle.match_code.specs.Rights
 pub use Rattle.node_verdict.specs.Choosing
-pub use Rattle.node_work.specs.Expansions
+pub use Rattle.expand.specs.Expansions
 pub use Rattle.symbolic_plans.specs.Laws

@@ -4,11 +4,11 @@ use Rattle.spec_core.specs.Lists.{IsOneOf}
 use Rattle.spec_core.specs.Theories.{Theory}
 use Rattle.rule_model.specs.Derivations.{Derivation}
 use Rattle.rule_model.specs.States.{PendingOffer}
-use Rattle.candidate_count.specs.Windows.{Windows}
+use Rattle.symbolic_rules.specs.Windows.{Windows}
 use Rattle.decision_trees.specs.Gaps.{element, gap}
 use Rattle.decision_trees.specs.Rules.{Query, meeting, any, unseen, beyond, any_beyond, beyond_or_unseen, Waiting, Next}
-use Rattle.candidates.specs.Rules.{next_decided}
-use Rattle.candidates.specs.Needed.{next_needed}
+use Rattle.decision_order.specs.Rules.{next_decided}
+use Rattle.decision_order.specs.Needed.{next_needed}
 use Rattle.node_trees.specs.Shapes.{Held, Shape, IsNodeOf}
 use Rattle.candidate_laws.specs.Asked.{TreeQuery}
 use Rattle.candidate_verdicts.specs.Known.{NodePart, Pieces, missing_parts}

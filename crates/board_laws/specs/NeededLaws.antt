@@ -6,11 +6,11 @@ use Rattle.spec_core.specs.Code.{Program}
 use Rattle.rule_model.specs.Actions.{Kind}
 use Rattle.rule_model.specs.Derivations.{Derivation}
 use Rattle.rule_model.specs.States.{PendingOffer}
-use Rattle.candidate_count.specs.Windows.{Windows}
-use Rattle.candidate_count.specs.Trees.{IsWindowed, IsBeyond}
+use Rattle.symbolic_rules.specs.Windows.{Windows}
+use Rattle.symbolic_rules.specs.Trees.{IsWindowed, IsBeyond}
 use Rattle.decision_trees.specs.Lazy.{first}
 use Rattle.decision_trees.specs.Rules.{any, any_beyond, Waiting, nothing, next_of}
-use Rattle.candidate_count.specs.Evaluations.{Evaluation}
+use Rattle.symbolic_composites.specs.Evaluations.{Evaluation}
 use Rattle.candidate_laws.specs.Asked.{TreeQuery, TestsAsked}
 use Rattle.candidate_laws.specs.TreeLaws.{lists_of}
 use Rattle.node_trees.specs.Shapes.{Shape, Lives, stands_for}

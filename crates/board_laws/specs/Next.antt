@@ -1,7 +1,7 @@
 -- What comes next in a session, by its rules, over the whole lists of trees of the behaviour that is reached. (This profile.)
 use Rattle.std.specs.Prelude.{ℕ, ◌≡◌, ◌<◌, ◌≤◌, List, [], ◌∷◌, map, length, Option, Some, None, Bool, true}
 use Rattle.std.specs.List.{slice_get}
-use Rattle.spec_core.specs.declared.settings.Settings.{Settings}
+use Rattle.run_settings.specs.declared.settings.Settings.{Settings}
 use Rattle.spec_core.specs.Code.{Program}
 use Rattle.spec_core.specs.Sorts.{IsDeclaredSort}
 use Rattle.rule_model.specs.declared.action.Action.{Action}
@@ -11,12 +11,12 @@ use Rattle.rule_model.specs.Answering.{name_of}
 use Rattle.rule_model.specs.Derivations.{Derivation}
 use Rattle.rule_model.specs.Events.{Event, acted, replied, stalled}
 use Rattle.rule_model.specs.States.{PendingOffer, State}
-use Rattle.candidate_count.specs.Windows.{Windows, AreWindows}
-use Rattle.candidate_count.specs.Evaluations.{Evaluation, IsExact}
+use Rattle.symbolic_rules.specs.Windows.{Windows, AreWindows}
+use Rattle.symbolic_composites.specs.Evaluations.{Evaluation, IsExact}
 use Rattle.decision_trees.specs.Rules.{Next, takes, deadlocks, is_beyond, is_not_now, goes_on, stalls, nothing, next_of}
 use Rattle.candidate_laws.specs.Asked.{TreeQuery, TestsAsked}
 use Rattle.candidate_laws.specs.TreeLaws.{lists_of}
-use Rattle.candidates.specs.Waiting.{by_client, waiting_in}
+use Rattle.board_offers.specs.Waiting.{by_client, waiting_in}
 use Rattle.board_laws.specs.declared.stop_reason.StopReason.{StopReason}
 use Rattle.board_laws.specs.Drawing.{drawn}
 use Rattle.board_laws.specs.Stopping.{answer_by}
@@ -63,8 +63,8 @@ module _ (program : Program) (settings : Settings) where
   IsEventOf s (is_beyond p d) event = event ≡ replied p.client p.number (beyond s.actions d)
   IsEventOf s (is_not_now p) event = event ≡ replied p.client p.number (not_now s.actions)
   IsEventOf s (goes_on trees) event =
-      (s.actions < settings.steps) × (d : Derivation) × (slice_get trees (drawn settings.seed s.actions (length trees)) ≡ Some d) ×
-      (a : Action) × (event ≡ acted a d None)
+      (s.actions < settings.steps) × (d : Derivation) ×
+      (slice_get trees (drawn settings.draw settings.seed s.actions (length trees)) ≡ Some d) × (a : Action) × (event ≡ acted a d None)
   IsEventOf s stalls event = event ≡ stalled (map name_of (by_client s.pending))
   IsEventOf s nothing event = ⊥
 

@@ -1,28 +1,28 @@
 -- Which reasons to stop a session are so in a state. (This profile.)
 use Rattle.std.specs.Prelude.{◌≡◌, ◌<◌, ◌⊎◌, [], length}
-use Rattle.spec_core.specs.declared.settings.Settings.{Settings}
+use Rattle.run_settings.specs.declared.settings.Settings.{Settings}
 use Rattle.spec_core.specs.Budgets.{IsBeyond}
 use Rattle.spec_core.specs.Code.{Program}
 use Rattle.spec_core.specs.Lists.{IsOneOf}
 use Rattle.spec_core.specs.Terms.{TermTree, term_of}
-use Rattle.node_values.specs.Answers.{MeetsTooLarge}
+use Rattle.rewriter.specs.Answers.{MeetsTooLarge}
 use Rattle.rule_model.specs.declared.reply.LimitKind.TheVariants.{Steps, Spread, Offers}
 use Rattle.rule_model.specs.Behaviours.{Behaviour}
 use Rattle.rule_model.specs.Derivations.{Derivation}
 use Rattle.rule_model.specs.Legal.{AllWait}
 use Rattle.rule_model.specs.States.{State}
-use Rattle.candidate_count.specs.Windows.{Windows, AreWindows}
-use Rattle.candidate_count.specs.MarkedTerms.{unmarked}
-use Rattle.candidate_count.specs.Evaluations.{Evaluation, IsExact}
-use Rattle.candidate_count.specs.Composites.{Composite, composites}
-use Rattle.node_values.specs.Reached.{Reaches}
-use Rattle.node_values.specs.Spread.{spread}
+use Rattle.symbolic_rules.specs.Windows.{Windows, AreWindows}
+use Rattle.symbolic_rules.specs.MarkedTerms.{unmarked}
+use Rattle.symbolic_composites.specs.Evaluations.{Evaluation, IsExact}
+use Rattle.symbolic_composites.specs.Composites.{Composite, composites}
+use Rattle.symbolic_reach.specs.Reached.{Reaches}
+use Rattle.symbolic_reach.specs.Spread.{spread}
 use Rattle.candidate_laws.specs.Asked.{TreeQuery}
 use Rattle.candidate_laws.specs.Waiting.{trees_asked}
 use Rattle.node_verdict.specs.Asking.{TreeAsks}
 use Rattle.board_laws.specs.Needed.{IsOfRules}
 use Rattle.candidate_count.specs.Counts.{offers, offers_limit}
-use Rattle.candidates.specs.Waiting.{waiting_in}
+use Rattle.board_offers.specs.Waiting.{waiting_in}
 use Rattle.board_laws.specs.declared.stop_reason.StopReason.{StopReason}
 use Rattle.board_laws.specs.declared.stop_reason.StopReason.TheVariants.{Spent, TooLarge, Limit}
 use Rattle.board_laws.specs.Next.{GoesByRules, IsAtLimit}

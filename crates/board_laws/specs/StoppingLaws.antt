@@ -1,16 +1,16 @@
 -- What follows from the definitions.
 use Rattle.std.specs.Prelude.{ℕ, ◌≡◌, ◌<◌, Some}
-use Rattle.spec_core.specs.declared.settings.Settings.{Settings}
+use Rattle.run_settings.specs.declared.settings.Settings.{Settings}
 use Rattle.spec_core.specs.Code.{Program}
 use Rattle.spec_core.specs.Lists.{IsOneOf}
 use Rattle.rule_model.specs.States.{State}
 use Rattle.rule_model.specs.declared.reply.LimitKind.TheVariants.{Offers}
-use Rattle.candidate_count.specs.Windows.{Windows}
-use Rattle.candidate_count.specs.MarkedTerms.{unmarked}
-use Rattle.candidate_count.specs.Evaluations.{Evaluation, IsExact}
+use Rattle.symbolic_rules.specs.Windows.{Windows}
+use Rattle.symbolic_rules.specs.MarkedTerms.{unmarked}
+use Rattle.symbolic_composites.specs.Evaluations.{Evaluation, IsExact}
 use Rattle.node_values.specs.declared.stop.Stop.{Stop}
 use Rattle.node_values.specs.Stops.{Stops, Never}
-use Rattle.node_work.specs.Expansions.{IsStop}
+use Rattle.expand.specs.Expansions.{IsStop}
 use Rattle.node_verdict.specs.Asking.{TreeAsks}
 use Rattle.node_trees.specs.Origins.{meaning}
 use Rattle.node_trees.specs.Shapes.{Held, Shape, IsNodeOf, stands_for}
@@ -20,7 +20,7 @@ use Rattle.candidates.specs.Laws.{IsKnownTree}
 use Rattle.board_laws.specs.Needed.{jobs_needed}
 use Rattle.candidate_count.specs.Counts.{offers_limit, offers_of_tree}
 use Rattle.candidate_count.specs.Laws.{AreOwnPlans}
-use Rattle.candidates.specs.Waiting.{waiting_in}
+use Rattle.board_offers.specs.Waiting.{waiting_in}
 use Rattle.board_laws.specs.declared.stop_reason.StopReason.{StopReason}
 use Rattle.board_laws.specs.declared.stop_reason.StopReason.TheVariants.{Limit}
 use Rattle.board_laws.specs.Given.{reason_of}

@@ -3,7 +3,7 @@ use Rattle.std.specs.Prelude.{ℕ, ◌≡◌, ◌<◌, None, Some}
 use Rattle.rule_model.specs.Answering.{name_of}
 use Rattle.rule_model.specs.Derivations.{Derivation}
 use Rattle.board_laws.specs.Next.{GoesByRules}
-use Rattle.board_core.specs.Offers.{offer_at}
+use Rattle.board_offers.specs.Offers.{offer_at}
 use Rattle.board_core.specs.Settled.{MayFollow}
 use Rattle.board_core.specs.Views.{BoardView, program, state, tree}
 

@@ -9,9 +9,9 @@ use board_core::board::Board;
 use rule_model::log::End;
 use rule_model::offer::{Field, Fields, Offer};
 use rule_model::reply::{LimitKind, Reply};
+use run_settings::settings::{Draw, Settings};
 use spec_core::items::{Gate, Sort};
 use spec_core::memory::Memory;
-use spec_core::settings::Settings;
 use std::alloc::Global;
 use test_programs::over_small_data;
 
@@ -37,6 +37,7 @@ pub fn board_of(
         values: 2,
         steps,
         seed: 0,
+        draw: Draw::Rotation,
     };
     match over_small_data(alloc, ends, behaviour)? {
         None => Ok(None),

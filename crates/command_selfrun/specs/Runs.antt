@@ -1,7 +1,8 @@
 -- What comes of a generated specification and script. (This profile.)
 use Rattle.std.specs.Prelude.{ℕ, List}
 use Rattle.spec_core.specs.Code.{program_of}
-use Rattle.spec_core.specs.declared.settings.Settings.{Settings}
+use Rattle.run_settings.specs.declared.settings.Draw.TheVariants.{Rotation}
+use Rattle.run_settings.specs.declared.settings.Settings.{Settings}
 use Rattle.lotos_front.specs.Answers.{IsAccepted, IsFirstRefusal}
 use Rattle.spec_generator.specs.Scripts.{script_text}
 use Rattle.spec_generator.specs.Specifications.{specification_text}
@@ -11,7 +12,7 @@ use Rattle.command_selfrun.specs.declared.answer.Answer.TheVariants.{Accepted, R
 
 -- within what the session is run
 abbrev pub settings : Settings
-settings = record { budget = 1000000; values = 16; steps = 1000000; seed = 0 }
+settings = record { budget = 1000000; values = 16; steps = 1000000; seed = 0; draw = Rotation }
 
 -- What comes of a specification and a script.
 --   accepted: the specification is accepted with a program, and over it this comes of the script, as of one in a file;

@@ -8,8 +8,8 @@ use command_run::run_text;
 use front_laws::accepted::accepted_is_ready;
 use lotos_ast::refusal::FrontFault;
 use lotos_front::accept;
+use run_settings::settings::{Draw, Settings};
 use spec_core::memory::Memory;
-use spec_core::settings::Settings;
 use spec_generator::generate;
 use std::alloc::Global;
 use std::sync::Wait;
@@ -25,6 +25,7 @@ fn settings() -> Settings
         values: 16,
         steps: 1_000_000,
         seed: 0,
+        draw: Draw::Rotation,
     }
 }
 

@@ -5,10 +5,10 @@ ghost use Rattle.session.specs.JobValues.{GivesValues};
 
 use rule_model::offer::{Fields, Offer};
 use rule_model::reply::Reply;
+use run_settings::settings::{Draw, Settings};
 use session::calls::CallFault;
 use session::session::Session;
 use spec_core::items::Gate;
-use spec_core::settings::Settings;
 use std::alloc::Global;
 use test_programs::over_small_data;
 
@@ -17,6 +17,7 @@ const SETTINGS: Settings = Settings {
     values: 3,
     steps: 1000,
     seed: 0,
+    draw: Draw::Rotation,
 };
 
 // An offer at a gate, without fields.

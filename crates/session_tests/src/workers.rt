@@ -1,10 +1,10 @@
 // Workers that do jobs beside one another.
 
 use rule_model::log::End;
+use run_settings::settings::{Draw, Settings};
 use session::desk::Did;
 use session::session::Session;
 use session_threads::run::run_in_threads;
-use spec_core::settings::Settings;
 use std::alloc::Global;
 use std::sync::atomic::{AtomicBool, Ordering};
 use test_programs::over_small_data;
@@ -17,6 +17,7 @@ const SETTINGS: Settings = Settings {
     values: 3,
     steps: 1000,
     seed: 0,
+    draw: Draw::Rotation,
 };
 
 /// Holds job 1 until it is told of job 2, for at most 100,000,000 looks.

@@ -4,10 +4,10 @@ use expand::expansion::{expand, expand_code};
 use node_trees::origin::Origin;
 use node_values::stop::Stop;
 use node_values::{Evaluator, Forms, Prepared};
+use run_settings::settings::{Draw, Settings};
 use spec_core::code::{ActField, Checked, CodeNode};
 use spec_core::items::{Gate, Op};
 use spec_core::memory::Memory;
-use spec_core::settings::Settings;
 use spec_core::value::Value;
 use std::alloc::Global;
 use std::test::Fail;
@@ -20,6 +20,7 @@ const SETTINGS: Settings = Settings {
     values: 2,
     steps: 1,
     seed: 0,
+    draw: Draw::Rotation,
 };
 
 // How many composites the behaviour has; None where it is refused or stopped.

@@ -1,6 +1,6 @@
 use Rattle.std.proofs.Common.{sym, subst}
 use Rattle.spec_core.specs.Code.{program_of}
-use Rattle.board_core.specs.Found.{AreBySorts}
+use Rattle.sort_windows.specs.Found.{AreBySorts}
 use Rattle.board_tests.proofs.working.work_of.Goals as goal
 
 pub expand_node-requires-clause-rows : goal.expand_node-requires-clause-rows

@@ -1,6 +1,6 @@
 use Rattle.std.proofs.Common.{◌∙◌, ◌≤◌, IsTrue, ap, map, rules, subst, sym}
 use Rattle.rule_model.specs.Derivations.{derivation_of}
-use Rattle.board_laws.specs.Rules.{takes, deadlocks, is_beyond, is_not_now, goes_on, stalls}
+use Rattle.decision_trees.specs.Rules.{takes, deadlocks, is_beyond, is_not_now, goes_on, stalls}
 use Rattle.board_offers.specs.Offers.{offer_at}
 use Rattle.board_core.specs.Entries.{entry_of}
 use Rattle.board_core.specs.Views.{BoardView, state}

@@ -1,6 +1,6 @@
 use Rattle.std.proofs.Common.{◌≡◌, ◌∙◌, List, ap, map, not, refl, rules, subst, sym}
 use Rattle.std.proofs.lemmas.Fn.{filter_same}
-use Rattle.candidate_verdicts.specs.Views.{TreeView}
+use Rattle.board_tree.specs.Views.{TreeView}
 use Rattle.candidates.specs.Models.{job_of}
 use Rattle.candidate_verdicts.specs.Stored.{is_gone, without}
 use Rattle.board_laws.specs.Needed.{generation_of}
@@ -8,7 +8,7 @@ use Rattle.rule_model.specs.Derivations.{derivation_of}
 use Rattle.spec_core.specs.Code.{program_of}
 use Rattle.spec_core.specs.Theories.{theory_of}
 use Rattle.node_trees.specs.declared.origin.Gen.{Gen}
-use Rattle.board_laws.specs.Rights.{AreForms}
+use Rattle.match_code.specs.Rights.{AreForms}
 use Rattle.board_core.specs.Boards.{AreOfLiving}
 use Rattle.board_core.specs.Views.{BoardView, pieces, program, tree}
 use Rattle.board_core.specs.contracts.board.Board.{the_view}

@@ -1,6 +1,6 @@
 use Rattle.std.proofs.Common.{◌≡◌, subst, Some}
-use Rattle.candidate_verdicts.specs.Views as trees
-use Rattle.board_laws.specs.Rules.{Next}
+use Rattle.board_tree.specs.Views as trees
+use Rattle.decision_trees.specs.Rules.{Next}
 use Rattle.rule_model.specs.Derivations.{Derivation}
 use Rattle.rule_model.specs.States.{PendingOffer}
 use Rattle.node_trees.specs.Generations.{AreApart}

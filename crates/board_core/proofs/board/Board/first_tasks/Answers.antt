@@ -1,6 +1,6 @@
 use Rattle.std.proofs.Common.{◌≡◌, ◌∙◌, ◌+◌, [], ap, arith, map, rules, suc, sym}
 use Rattle.std.proofs.lemmas.Option.{IfSome_then}
-use Rattle.board_laws.specs.Lazy.{first}
+use Rattle.decision_trees.specs.Lazy.{first}
 use Rattle.candidates.specs.Jobs.{with_job}
 use Rattle.candidates.specs.Models.{job_of}
 use Rattle.decision_order.specs.Jobs.{taken_on}

@@ -1,5 +1,5 @@
 use Rattle.std.proofs.Common.{subst}
-use Rattle.candidate_verdicts.specs.Views as trees
+use Rattle.board_tree.specs.Views as trees
 use Rattle.board_laws.specs.NeededLaws.{FirstTreesSay}
 use Rattle.board_laws.specs.Next.{AreSessionWindows}
 use Rattle.node_trees.specs.Generations.{AreApart}

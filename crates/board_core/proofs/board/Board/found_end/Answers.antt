@@ -1,6 +1,6 @@
 use Rattle.std.proofs.Common.{◌∙◌, ap}
 use Rattle.std.proofs.lemmas.Result.{IfOk-weaker}
-use Rattle.board_laws.specs.Rules.{any, any_beyond}
+use Rattle.decision_trees.specs.Rules.{any, any_beyond}
 use Rattle.candidates.specs.KnownTrees.{first_in}
 use Rattle.board_core.specs.Ends.{end_found}
 use Rattle.board_core.specs.Views.{first_at}

@@ -1,5 +1,5 @@
 use Rattle.std.proofs.Common.{subst}
-use Rattle.candidate_verdicts.specs.Views as trees
+use Rattle.board_tree.specs.Views as trees
 use Rattle.node_trees.specs.Generations.{AreApart}
 use Rattle.board_core.specs.contracts.board.Board.{the_view}
 use Rattle.board_core.specs.Working.{NeededChooseValues}

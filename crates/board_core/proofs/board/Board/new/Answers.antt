@@ -1,7 +1,7 @@
 use Rattle.std.proofs.Common.{rules, subst, sym}
 use Rattle.spec_core.specs.Theories.{theory_of}
 use Rattle.sort_windows.specs.Found.{AreBySorts}
-use Rattle.board_laws.specs.Rights.{AreForms}
+use Rattle.match_code.specs.Rights.{AreForms}
 use Rattle.board_core.proofs.Giving.{none_offered}
 use Rattle.board_core.proofs.board.Board.new.Goals as goal
 

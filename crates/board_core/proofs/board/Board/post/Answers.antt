@@ -4,7 +4,7 @@ use Rattle.spec_core.specs.Theories.{theory_of}
 use Rattle.node_trees.specs.Rests.{expansion_of}
 use Rattle.node_trees.specs.Shapes.{Held, IsNodeOf, IsRight, posted}
 use Rattle.candidates.specs.Models.{job_of}
-use Rattle.board_laws.specs.Rights.{AreForms}
+use Rattle.match_code.specs.Rights.{AreForms}
 use Rattle.board_core.specs.Boards.{AreOfLiving, IsWorkAt}
 use Rattle.board_core.specs.Views.{BoardView, program, tree, pieces, windows}
 use Rattle.board_core.specs.contracts.board.Board.{the_view}

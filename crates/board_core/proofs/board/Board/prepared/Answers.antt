@@ -1,6 +1,6 @@
 use Rattle.std.proofs.Common.{sym, subst}
 use Rattle.spec_core.specs.Theories.{theory_of}
-use Rattle.board_laws.specs.Rights.{AreForms}
+use Rattle.match_code.specs.Rights.{AreForms}
 use Rattle.board_core.proofs.board.Board.prepared.Goals as goal
 
 pub new-requires : goal.new-requires

@@ -1,7 +1,7 @@
 use Rattle.std.proofs.Common.{ap, subst, sym}
 use Rattle.spec_core.specs.Theories.{theory_of}
-use Rattle.candidate_verdicts.specs.Views.{TreeView, shape}
-use Rattle.board_laws.specs.Rights.{AreForms}
+use Rattle.board_tree.specs.Views.{TreeView, shape}
+use Rattle.match_code.specs.Rights.{AreForms}
 use Rattle.board_core.specs.contracts.board.Board.{the_view}
 use Rattle.board_core.proofs.Giving.{moved, perhaps_more}
 use Rattle.board_core.proofs.board.Board.reply.Goals as goal

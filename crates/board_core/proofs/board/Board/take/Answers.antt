@@ -1,7 +1,7 @@
 use Rattle.std.proofs.Common.{Some, ap}
 use Rattle.rule_model.specs.Derivations.{derivation_of}
 use Rattle.rule_model.specs.Events.{OfferName, acted}
-use Rattle.board_laws.specs.Rules.{takes}
+use Rattle.decision_trees.specs.Rules.{takes}
 use Rattle.board_offers.specs.Offers.{offer_at}
 use Rattle.board_core.specs.Views.{state}
 use Rattle.board_core.proofs.Entries.{acts, on_ok_both}

@@ -3,7 +3,7 @@ use Rattle.std.proofs.lemmas.Option.{MatchOption-at_some}
 use Rattle.spec_core.specs.Lists.{Each, IsOneOf}
 use Rattle.candidates.specs.declared.job.NodeJob as declared
 use Rattle.candidates.specs.Models.{job_of}
-use Rattle.board_laws.specs.Counts.{offers_limit, offers_of_tree}
+use Rattle.candidate_count.specs.Counts.{offers_limit, offers_of_tree}
 use Rattle.board_laws.specs.Reasons.{LooksForTrees}
 use Rattle.board_core.specs.Views.{BoardView, needed_at, program, state, tree, windows}
 use Rattle.board_core.specs.Working.{AreAsked, IsVerdict, first_free, none_needed}

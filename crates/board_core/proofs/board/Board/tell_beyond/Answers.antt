@@ -3,7 +3,7 @@ use Rattle.rule_model.specs.Answering.{name_of}
 use Rattle.rule_model.specs.Answers.{beyond}
 use Rattle.rule_model.specs.Derivations.{derivation_of}
 use Rattle.rule_model.specs.Events.{replied}
-use Rattle.board_laws.specs.Rules.{is_beyond}
+use Rattle.decision_trees.specs.Rules.{is_beyond}
 use Rattle.board_offers.specs.Offers.{offer_at}
 use Rattle.board_core.specs.Views.{state}
 use Rattle.board_core.proofs.Entries.{by_rules, named, on_ok, same_reply}

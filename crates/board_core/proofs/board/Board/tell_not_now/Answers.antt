@@ -2,7 +2,7 @@ use Rattle.std.proofs.Common.{ap}
 use Rattle.rule_model.specs.Answering.{name_of}
 use Rattle.rule_model.specs.Answers.{not_now}
 use Rattle.rule_model.specs.Events.{replied}
-use Rattle.board_laws.specs.Rules.{is_not_now}
+use Rattle.decision_trees.specs.Rules.{is_not_now}
 use Rattle.board_offers.specs.Offers.{offer_at}
 use Rattle.board_offers.proofs.Sound.{waiting_is_sound}
 use Rattle.board_core.specs.Views.{state}

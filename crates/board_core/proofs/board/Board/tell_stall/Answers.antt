@@ -1,5 +1,5 @@
 use Rattle.std.proofs.Common.{map, refl}
-use Rattle.board_laws.specs.Rules.{stalls}
+use Rattle.decision_trees.specs.Rules.{stalls}
 use Rattle.rule_model.specs.Answering.{name_of}
 use Rattle.rule_model.specs.Events.{stalled}
 use Rattle.board_offers.specs.Waiting.{by_client}
