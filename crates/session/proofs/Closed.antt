@@ -14,13 +14,13 @@ use Rattle.turn_lock.specs.Seats.{AgreesWith, SeatModel}
 use Rattle.rule_model.specs.Events.{Event, event_of, pended, acted, replied, stalled, left}
 use Rattle.rule_model.specs.Legal.{IsDerivation, IsPossible}
 use Rattle.rule_model.specs.States.{PendingOffer, State, start_state, without_taken}
-use Rattle.session_closing.specs.Clients.{numbers_from}
+use Rattle.log_states.specs.Clients.{numbers_from}
 use Rattle.session_closing.proofs.Members.{in_cases}
 use Rattle.session_closing.proofs.Tests.{by_cases, on_either}
 use Rattle.board_core.proofs.Members.{in_filtered}
 use Rattle.board_core.specs.Views.{events, program, state}
-use Rattle.session_closing.specs.Answers.{offers_by}
-use Rattle.session_closing.specs.Logs.{IsOfClient}
+use Rattle.session_laws.specs.Answers.{offers_by}
+use Rattle.session_laws.specs.Logs.{IsOfClient}
 use Rattle.session_closing.proofs.Driven.{driven_derives}
 use Rattle.session_closing.specs.Closing.{IsClosedOff}
 use Rattle.session_board.specs.declared.line.Line.{Line}

@@ -7,7 +7,7 @@ use Rattle.turn_lock.specs.Entries.{Begins}
 use Rattle.turn_lock.specs.Seats.{AgreesWith, IsAtRest, LockModel, SeatModel}
 use Rattle.rule_model.specs.Events.{Ending, Event}
 use Rattle.board_core.specs.Views.{BoardView, program, state}
-use Rattle.session_closing.specs.Sessions.{IsWholeSession}
+use Rattle.session_laws.specs.Sessions.{IsWholeSession}
 use Rattle.session_closing.specs.Closing.{IsClosedOff}
 use Rattle.session_board.specs.declared.fixed.FixedPart.{FixedPart}
 use Rattle.session_board.specs.declared.line.Line.{Line}

@@ -6,11 +6,11 @@ use Rattle.std.proofs.lemmas.List.{same_from_push}
 use Rattle.std.proofs.lemmas.List.FromFn.{length-map-range_with_len, map-range_with_len_more, take-map-range_with_len}
 use Rattle.std.proofs.lemmas.Simd.{map-map}
 use Rattle.spec_core.specs.declared.code.Checked.{Checked}
-use Rattle.spec_core.specs.declared.settings.Settings.{Settings}
+use Rattle.run_settings.specs.declared.settings.Settings.{Settings}
 use Rattle.spec_core.specs.declared.window.Window.{Window}
 use Rattle.spec_core.specs.Code.{Program, program_of}
 use Rattle.spec_core.specs.Ready.{IsReady}
-use Rattle.board_core.specs.Found.{AreBySorts}
+use Rattle.sort_windows.specs.Found.{AreBySorts}
 use Rattle.turn_lock.specs.Seats.{LockId, LockModel, SeatModel, new_seat, new_seats}
 use Rattle.session_board.specs.declared.fixed.FixedPart.{FixedPart}
 use Rattle.session_board.specs.declared.line.Line.{Line}

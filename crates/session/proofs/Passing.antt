@@ -11,9 +11,10 @@ use Rattle.session_board.specs.declared.line.Line.{Line}
 use Rattle.session_board.specs.declared.line.Line.TheVariants.{Happened}
 use Rattle.session_board.specs.declared.spot.Spot.{Spot}
 use Rattle.session_board.specs.Answers.{AnswersAll, EndsWithAnswer, IsSpot}
-use Rattle.session.specs.Calls.{HasItsLines, HasMade, HasSeenMore, IsIdleSeat, StaysSeat}
+use Rattle.session.specs.Calls.{HasItsLines, HasSeenMore, IsIdleSeat, StaysSeat}
 use Rattle.session_board.specs.Lines.{events_in, maker_of}
-use Rattle.session.specs.Passes.{HasHalted, IsPass, KnowsAnswer, KnowsLeave, PassView, made_by_client}
+use Rattle.session.specs.Passes.{HasHalted, IsPass, KnowsAnswer, KnowsLeave, PassView, SamePass, made_by_client}
+use Rattle.session.specs.Waiting.{HasCalled, IsWaiting, WaitingView, pass_view}
 use Rattle.session_board.proofs.Growing.{spot_stays}
 use Rattle.session_board.proofs.Lists.{fronts}
 use Rattle.session.proofs.Owning.{front_made}
@@ -82,22 +83,6 @@ knows_more old new spot place begins is more =
     ap (take spot.lines) begins.1 ∙ take-append-le spot.lines old.seen begins.0 is.within in
     subst (λ l. Begins l (take place.lines new.seen)) same (fronts spot.lines place.lines new.seen more)
 
--- a pass, as contracts see it
-abbrev pub pass_view : SeatModel Line → ℕ → Spot → PassView
-pass_view seat client spot = record { lock = seat.lock; client = client; seen = seat.seen; own = seat.own; known = spot.lines }
-
--- The seat of a pass has made a line of this event, and then seen more; and the pass stands in what it has seen, behind that line.
-pub record HasCalled (old made new : SeatModel Line) (client : ℕ) (event : Event) (spot place : Spot) : Type 0 where
-  pub pass : IsPass old client spot
-  pub running : HasHalted old.seen → ⊥
-  pub first : StaysSeat old made
-  pub makes : HasMade old made event
-  pub owns : HasItsLines made
-  pub stays : StaysSeat made new
-  pub more : HasSeenMore made new
-  pub own : HasItsLines new
-  pub behind : length made.seen ≤ place.lines
-
 module _ (old made new : SeatModel Line) (client : ℕ) (event : Event) (spot place : Spot) (h : HasCalled old made new client event spot place) where
   -- the pass knows more
   begins_more : Begins (take spot.lines old.seen) (take place.lines new.seen)
@@ -145,3 +130,50 @@ knows_leave old new client spot place h last = record {
   own = own_more old new new client (left client) spot place h;
   ends = (h.makes.before, ap (λ k. take k new.seen) last ∙ take-length new.seen ∙ h.makes.seen);
 }
+
+-- a client that waits still waits after a turn
+pub waits_on : (w : WaitingView) (seat new : SeatModel Line) (client number : ℕ) (spot place : Spot) → IsWaiting w seat client number spot →
+    StaysSeat seat new → HasSeenMore seat new → HasItsLines new → spot.lines ≤ place.lines → IsSpot new.seen place →
+    IsWaiting w new client number place
+waits_on w seat new client number spot place h stays more own further is =
+    let c = h.called in
+    let behind = c.behind in
+    record {
+      old = h.old;
+      made = h.made;
+      spot = h.spot;
+      was = h.was;
+      lock = stays.0 ∙ h.lock;
+      rests = stays.2 ∙ h.rests;
+      called = record {
+        pass = c.pass;
+        running = c.running;
+        first = c.first;
+        makes = c.makes;
+        owns = c.owns;
+        stays = (stays.0 ∙ c.stays.0, stays.1 ∙ c.stays.1, stays.2 ∙ c.stays.2);
+        more = (begins_on h.made.seen seat.seen new.seen c.more.0 more.0, more.1 ∙ c.more.1);
+        own = own;
+        behind = omega (arith, behind, further);
+      };
+      spot_is = is;
+    }
+
+-- where it has its answer, it has a pass again
+pub waiting_pass : (w : WaitingView) (seat : SeatModel Line) (client number : ℕ) (spot : Spot) → IsWaiting w seat client number spot →
+    AnswersAll client (events_in (take spot.lines seat.seen)) → IsPass seat client spot
+waiting_pass w seat client number spot h answered =
+    let c = h.called in
+    pass_answered h.old h.made seat client h.spot spot c.pass c.first c.owns c.stays c.more c.own c.behind h.spot_is answered
+
+-- which knows the answer
+pub waiting_knows : (w : WaitingView) (seat : SeatModel Line) (client number : ℕ) (spot : Spot) (answer : Answer) →
+    IsWaiting w seat client number spot → EndsWithAnswer (take spot.lines seat.seen) (client, number) answer →
+    KnowsAnswer w.before w.offer w.ask answer (pass_view seat client spot)
+waiting_knows w seat client number spot answer h ends =
+    subst (λ (p : PassView). KnowsAnswer p w.offer w.ask answer (pass_view seat client spot)) (sym h.was)
+    (knows_answer h.old h.made seat client number w.offer w.ask answer h.spot spot h.called ends)
+
+pub waiting_same : (w : WaitingView) (seat : SeatModel Line) (client number : ℕ) (spot : Spot) → IsWaiting w seat client number spot →
+    SamePass w.before (pass_view seat client spot)
+waiting_same w seat client number spot h = (h.lock, sym (ap (λ (p : PassView). p.client) h.was))

@@ -9,7 +9,7 @@ use Rattle.rule_model.specs.declared.log.Entry.{Entry}
 use Rattle.rule_model.specs.Events.{Event}
 use Rattle.session_closing.proofs.Members.{in_cases}
 use Rattle.session_closing.proofs.Tests.{on_either}
-use Rattle.session_closing.specs.Answers.{offers_by}
+use Rattle.session_laws.specs.Answers.{offers_by}
 use Rattle.session_board.specs.declared.line.Line.{Line}
 use Rattle.session_board.specs.declared.line.Line.TheVariants.{Happened, Halted}
 use Rattle.session_board.specs.Answers.{HasItsAnswers}

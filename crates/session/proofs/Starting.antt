@@ -5,8 +5,8 @@ use Rattle.std.proofs.lemmas.Option.{slice_get-map}
 use Rattle.spec_core.specs.declared.window.Window.{Window}
 use Rattle.spec_core.specs.Theories.{Theory}
 use Rattle.spec_core.specs.Windows.{IsWindow}
-use Rattle.board_core.specs.Found.{AreBySorts}
-use Rattle.session_board.specs.Tables.{complete_of, values_of, windows_in}
+use Rattle.sort_windows.specs.Found.{AreBySorts}
+use Rattle.symbolic_rules.specs.Tables.{complete_of, values_of, windows_in}
 use Rattle.session.specs.Starting.{Content, content_of}
 
 -- what stands at a place of a table, by what the windows hold

@@ -2,6 +2,8 @@ pub mod Passes
 pub mod Sessions
 pub mod Starting
 pub mod Calls
+pub mod Waiting
+pub mod Waited
 pub mod Working
 pub mod Closing
-pub use Rattle.board_core.specs.JobValues
+pub use Rattle.board_laws.specs.JobValues

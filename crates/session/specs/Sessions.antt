@@ -1,13 +1,13 @@
 -- A session, as contracts see it. (This profile.)
 use Rattle.std.specs.Prelude.{ℕ, ◌+◌, ◌≡◌, ◌≤◌, List}
 use Rattle.spec_core.specs.declared.code.Checked.{Checked}
-use Rattle.spec_core.specs.declared.settings.Settings.{Settings}
+use Rattle.run_settings.specs.declared.settings.Settings.{Settings}
 use Rattle.spec_core.specs.declared.window.Window.{Window}
 use Rattle.spec_core.specs.Code.{program_of}
 use Rattle.spec_core.specs.Ready.{IsReady}
-use Rattle.board_core.specs.Found.{AreBySorts}
+use Rattle.sort_windows.specs.Found.{AreBySorts}
 use Rattle.board_core.specs.Working.{IsOfValues}
-use Rattle.session_board.specs.Tables.{windows_in}
+use Rattle.symbolic_rules.specs.Tables.{windows_in}
 use Rattle.turn_lock.specs.Seats.{LockId, LockModel, SeatModel, IsAtRest}
 use Rattle.board_work.specs.declared.outcome.Outcome.{Outcome}
 use Rattle.board_work.specs.Outcomes.{IsOutcome}

@@ -52,7 +52,7 @@ pub enum CallFault {
 
 impl Session {
     // The client makes its offer, or asks for it, in a turn; its number, and where it stands then.
-    fn post<R: Wait>(
+    pub(crate) fn post<R: Wait>(
         &self,
         rt: &R,
         seat: &mut TurnSeat<SharedBoard>,
@@ -92,7 +92,7 @@ impl Session {
     }
 
     // Looks for the answer to an offer, in a turn.
-    fn look<R: Wait>(
+    pub(crate) fn look<R: Wait>(
         &self,
         rt: &R,
         seat: &mut TurnSeat<SharedBoard>,

@@ -6,4 +6,6 @@ pub mod closing;
 pub mod desk;
 pub mod pass;
 pub mod session;
+pub mod waiting;
+pub mod waiting_pass;
 pub mod work_pass;

@@ -11,11 +11,11 @@ use crate::pass::Pass;
 use crate::work_pass::WorkPass;
 use board_core::Forms;
 use board_core::board::Board;
+use run_settings::settings::Settings;
 use session_board::shared::SharedBoard;
 use session_board::spot::Spot;
 use spec_core::code::Checked;
 use spec_core::memory::Memory;
-use spec_core::settings::Settings;
 use spec_core::value::Value;
 use spec_core::window::Window;
 use std::alloc::Global;
@@ -39,7 +39,7 @@ pub struct Session {
 impl Model for Session {
     ghost use Rattle.std.specs.Coded.{codes};
     ghost use Rattle.spec_core.specs.contracts.code.Checked as c;
-    ghost use Rattle.spec_core.specs.contracts.settings.Settings as t;
+    ghost use Rattle.run_settings.specs.contracts.settings.Settings as t;
     ghost use Rattle.spec_core.specs.contracts.window.Window as w;
     ghost use Rattle.spec_core.specs.Theories.{theory_of};
     ghost use Rattle.board_core.specs.Rights.{AreForms};

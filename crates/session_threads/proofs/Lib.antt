@@ -4,3 +4,4 @@ pub mod Crossing
 pub mod Windowing
 pub mod Ending
 pub mod Spawning
+mod Turning

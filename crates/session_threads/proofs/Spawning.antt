@@ -1,25 +1,19 @@
 -- One row behind others.
-use Rattle.std.proofs.Common.{◌≡◌, arith, ap, refl, subst, sym, length, List, [], ◌∷◌, ◌++◌, Bool, Bor, IfOk, Result, Ok, Err, Vec}
-use Rattle.std.specs.declared.alloc.Global.{Global}
-use Rattle.spec_core.specs.declared.memory.Memory.{Memory}
+use Rattle.std.proofs.Common.{◌≡◌, ◌∙◌, ap, append_assoc, map, refl, subst, sym, Bor, List, [], ◌∷◌, ◌++◌}
 use Rattle.spec_core.specs.Lists.{Each}
-use Rattle.rule_model.specs.declared.wish.ClientWish.{ClientWish}
-use Rattle.session.specs.Passes.{PassView, WorkPassView}
-use Rattle.session.specs.Sessions.{SessionView}
 use Rattle.session_threads.specs.declared.rows.Row.{Row}
 use Rattle.session_threads.specs.declared.rows.Row.TheVariants.{Client, Worker}
+use Rattle.rule_model.specs.declared.wish.ClientWish.{ClientWish}
+use Rattle.rule_model.specs.WishViews.{wish_of}
 use Rattle.session_threads.specs.declared.rows.ServedClient.{ServedClient}
 use Rattle.session_threads.specs.declared.rows.ServedWorker.{ServedWorker}
 use Rattle.session_threads.specs.declared.threads.Started.{Started}
 use Rattle.session_threads.specs.declared.threads.Started.TheVariants.{ClientThread, WorkerThread, Here}
-use Rattle.session_threads.specs.Rows.{AreServed, IsReadyRow, IsServed, IsServedClient, IsServedWorker, SameRow}
-use Rattle.session_threads.specs.Started.{AreStarted, IsStarted}
-
--- of rows that are ready, with one behind the others
-pub ready_behind : (s : SessionView) (rows : List Row) (row : Row) → Each (IsReadyRow s) (rows ++ row ∷ []) →
-    Each (IsReadyRow s) rows × IsReadyRow s row
-ready_behind s [] row h = (tt, h.0)
-ready_behind s (first ∷ rows) row h = let rest = ready_behind s rows row h.1 in ((h.0, rest.0), rest.1)
+use Rattle.session_threads.specs.declared.stepping.Stepped.{Stepped}
+use Rattle.session_threads.specs.Rows.{AreServed, IsServed, IsServedClient, IsServedWorker, SameRow}
+use Rattle.session_threads.specs.Started.{AreStarted, IsStarted, StaysStarted}
+use Rattle.session_threads.specs.Stepping.{row_of}
+use Rattle.session_threads.proofs.Turning.{same_row_on}
 
 -- rows that are started, and one more
 pub started_behind : (rows : List Row) (all : List Started) (row : Row) (one : Started) → AreStarted rows all → IsStarted row one →
@@ -28,30 +22,6 @@ started_behind [] [] row one h is = (is, tt)
 started_behind [] (other ∷ all) row one h is = absurd h
 started_behind (first ∷ rows) [] row one h is = absurd h
 started_behind (first ∷ rows) (other ∷ all) row one h is = (h.0, started_behind rows all row one h.1 is)
-
-pub client_here : (rows : List Row) (all : List Started) (pass : PassView) (wishes : Bor (List ClientWish)) (was_done : Bool)
-    (served : ServedClient) → AreStarted rows all → IsServedClient pass wishes.now served →
-    AreStarted (rows ++ Client pass wishes was_done ∷ []) (all ++ Here (Client served.pass wishes served.is_done) ∷ [])
-client_here rows all pass wishes was_done served h is =
-    started_behind rows all (Client pass wishes was_done) (Here (Client served.pass wishes served.is_done)) h ((is.0, refl), is.1)
-
-pub worker_here : (rows : List Row) (all : List Started) (pass : WorkPassView) (was_done : Bool) (served : ServedWorker) →
-    AreStarted rows all → IsServedWorker pass served →
-    AreStarted (rows ++ Worker pass was_done ∷ []) (all ++ Here (Worker served.pass served.is_done) ∷ [])
-worker_here rows all pass was_done served h is =
-    started_behind rows all (Worker pass was_done) (Here (Worker served.pass served.is_done)) h (is, tt)
-
--- where no row is left
-pub none_started : (rows : List Row) → length rows ≡ 0 → AreStarted rows []
-none_started [] h = tt
-none_started (row ∷ rows) h = absurd (omega (arith, h))
-
--- where what was done before is as it was
-pub last_started : (rows others : List Row) (last : Bool → Row) (was_done : Bool) (r : Result (Vec Started Global) Memory) →
-    rows ≡ others ++ last was_done ∷ [] → IfOk r (λ all. (done : Bool) → AreStarted (others ++ last done ∷ []) all.items) →
-    IfOk r (λ all. AreStarted rows all.items)
-last_started rows others last was_done (Ok all) is h = subst (λ l. AreStarted l all.items) (sym is) (h was_done)
-last_started rows others last was_done (Err fault) is h = tt
 
 -- rows that are served, and one more
 served_behind : (rows news : List Row) (row new : Row) → AreServed rows news → SameRow row new → IsServed new →
@@ -92,7 +62,60 @@ worker_joined (Worker pass was_done) (WorkerThread thread) served left h = (h se
 worker_joined row (ClientThread thread were) served left h = absurd left
 worker_joined row (Here new) served left h = absurd left
 
+-- so is what a client's thread leaves, of which this is the row
+abbrev pub IsRowLeft : Started → ServedClient → Row → Type 0
+IsRowLeft (ClientThread thread wishes) served new =
+    IsServedClient thread.promise.pass.value thread.promise.wishes.now served × (new ≡ Client served.pass wishes served.is_done)
+IsRowLeft _ served new = ⊥
+
+pub client_joined : (row : Row) (started : Started) (served : ServedClient) (new : Row) → IsRowLeft started served new → IsStarted row started →
+    SameRow row new × IsServed new
+client_joined (Client pass wishes was_done) (ClientThread thread were) served new left h =
+    let is = h.1 served left.0 in
+    let same : map wish_of wishes.now ≡ map wish_of were.now = ap (λ (l : Bor (List ClientWish)). map wish_of l.now) (sym h.0) in
+    subst (λ r. SameRow (Client pass wishes was_done) r × IsServed r) (sym left.1)
+    ((is.same, h.0), λ done. ((is.done done).0, (is.done done).1 ∙ same))
+client_joined (Worker pass was_done) (ClientThread thread were) served new left h = absurd h
+client_joined row (WorkerThread thread) served new left h = absurd left
+client_joined row (Here state) served new left h = absurd left
+
+-- who is served here, after a turn
+pub here_started : (row : Row) (state next : Stepped) → SameRow (row_of state) (row_of next) → IsStarted row (Here state) → IsStarted row (Here next)
+here_started (Client pass wishes was_done) state next same h =
+    same_row_on (Client pass wishes was_done) (row_of state) (row_of next) h same
+here_started (Worker pass was_done) state next same h = same_row_on (Worker pass was_done) (row_of state) (row_of next) h same
+
+-- and once it has done all
+pub here_joined : (row : Row) (state : Stepped) (new : Row) → new ≡ row_of state → IsServed new → IsStarted row (Here state) →
+    SameRow row new × IsServed new
+here_joined (Client pass wishes was_done) state new is served h = (subst (SameRow (Client pass wishes was_done)) (sym is) h, served)
+here_joined (Worker pass was_done) state new is served h = (subst (SameRow (Worker pass was_done)) (sym is) h, served)
+
 -- no rows
 pub none_joined : (rows : List Row) → AreStarted rows [] → AreServed rows []
 none_joined [] h = tt
 none_joined (row ∷ rows) h = absurd h
+
+-- the rows that are left to be started, after one more has been
+pub more_started : (all left rest : List Row) (old : List Started) (row : Row) (one : Started) →
+    ((more : List Started) → AreStarted left more → AreStarted all (old ++ more)) → left ≡ row ∷ rest → IsStarted row one →
+    (more : List Started) → AreStarted rest more → AreStarted all ((old ++ one ∷ []) ++ more)
+more_started all left rest old row one so is this more h =
+    subst (AreStarted all) (sym (append_assoc old (one ∷ []) more)) (so (one ∷ more) (subst (λ l. AreStarted l (one ∷ more)) (sym is) (this, h)))
+
+-- one more of which something is known
+pub each_behind : {A : Type 0} (P : A → Type 0) (xs : List A) (x : A) → Each P xs → P x → Each P (xs ++ x ∷ [])
+each_behind P [] x h is = (is, tt)
+each_behind P (y ∷ xs) x h is = (h.0, each_behind P xs x h.1 is)
+
+pub each_before : {A : Type 0} (P : A → Type 0) (xs : List A) (x : A) → Each P (xs ++ x ∷ []) → Each P xs × P x
+each_before P [] x h = (tt, h.0)
+each_before P (y ∷ xs) x h = let rest = each_before P xs x h.1 in ((h.0, rest.0), rest.1)
+
+-- of rows that are started, the last, after a turn, behind the others, after theirs
+pub stays_behind : (old new : List Started) (last next : Started) → StaysStarted old new →
+    ((row : Row) → IsStarted row last → IsStarted row next) → StaysStarted (old ++ last ∷ []) (new ++ next ∷ [])
+stays_behind old new last next stays step rows h =
+    let parts = last_of rows old last h in
+    subst (λ l. AreStarted l (new ++ next ∷ [])) (sym parts.2)
+    (started_behind parts.0 new parts.1 next (stays parts.0 parts.3) (step parts.1 parts.4))

@@ -1,7 +1,7 @@
 -- A whole session tells of windows of its specification.
 use Rattle.std.proofs.Common.{ℕ, ◌≤◌, ◌<◌, ◌≡◌, sym, ap, subst, arith, List, [], true, Option, Some, None, nat_lt, cond, length}
 use Rattle.std.proofs.lemmas.Bool.{lt-ltb, le-ltb}
-use Rattle.spec_core.specs.declared.settings.Settings.{Settings}
+use Rattle.run_settings.specs.declared.settings.Settings.{Settings}
 use Rattle.spec_core.specs.Code.{Program}
 use Rattle.spec_core.specs.Theories.{Theory}
 use Rattle.spec_core.specs.Windows.{IsWindow}

@@ -1,4 +1,5 @@
 pub mod Rows
 pub mod Runs
 pub mod Started
+pub mod Stepping
 pub use Rattle.board_laws.specs.JobValues

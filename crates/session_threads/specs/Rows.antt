@@ -45,10 +45,12 @@ abbrev pub IsServed : Row → Type 0
 IsServed (Client pass wishes is_done) = is_done ≡ true → HasLeft pass × (wishes_made pass ≡ map wish_of wishes.now)
 IsServed (Worker pass is_done) = Unit {0}
 
--- the same client; where it has done what it was to do, it has made these offers, in order, and has left
-abbrev pub IsServedClient : PassView → List ClientWish → ServedClient → Type 0
-IsServedClient pass wishes served =
-    SamePass pass served.pass × (served.is_done ≡ true → HasLeft served.pass × (wishes_made served.pass ≡ map wish_of wishes))
+-- the same client, and the same pass where it wasn't begun with; where it has done what it was to do, it has made these offers, in order, and
+-- has left
+pub record IsServedClient (pass : PassView) (wishes : List ClientWish) (served : ServedClient) : Type 0 where
+  pub same : SamePass pass served.pass
+  pub not_begun : served.is_begun ≡ false → served.pass ≡ pass
+  pub done : served.is_done ≡ true → HasLeft served.pass × (wishes_made served.pass ≡ map wish_of wishes)
 
 -- the same worker
 abbrev pub IsServedWorker : WorkPassView → ServedWorker → Type 0

@@ -20,16 +20,19 @@ pub enum Row<'w> {
     },
 }
 
-/// A client as its thread leaves it, and whether it has done all that it was to do, or met want of memory.
+/// A client as its thread leaves it: whether it was begun with, and whether it has done all that it was to do. Where it was begun with and
+/// hasn't, it met want of memory.
 #[derive(Drop)]
 pub struct ServedClient {
     pub pass: Pass,
+    pub is_begun: bool,
     pub is_done: bool,
 }
 
-/// A worker as its thread leaves it, and whether it has done all that it was to do, or met want of memory.
+/// A worker as its thread leaves it, likewise.
 #[derive(Drop)]
 pub struct ServedWorker {
     pub pass: WorkPass,
+    pub is_begun: bool,
     pub is_done: bool,
 }

@@ -13,17 +13,18 @@ ghost use Rattle.session_laws.specs.Sessions.{IsWholeSession};
 ghost use Rattle.session_threads.specs.Rows.{client_passes, worker_passes, worker_row, AreClientRows, AreServed, IsDone, IsReadyRow};
 ghost use Rattle.session_threads.specs.Runs.{all_wishes_of, AnswersClients};
 
+use crate::places::Refusals;
 use crate::rows::Row;
 use crate::threads::serve_rows;
 use rule_model::log::{End, Log};
 use rule_model::wish::ClientWish;
+use run_settings::settings::Settings;
 use session::pass::Pass;
 use session::session::Session;
 use session::work_pass::WorkPass;
 use session_laws::answers::whole_sessions_answer_clients;
 use spec_core::code::Checked;
 use spec_core::memory::Memory;
-use spec_core::settings::Settings;
 use std::alloc::Global;
 use std::sync::Wait;
 use std::thread;
@@ -68,7 +69,7 @@ fn add_client_rows<'w>(
     Ok(())
 }
 
-// Each row in a thread of its own.
+// Each row in a thread of its own, as far as threads can be started.
 fn serve_all<'w, R: Threads + Wait + Sync, P: Probe + Sync>(
     rt: &R,
     alloc: Global,
@@ -79,13 +80,14 @@ fn serve_all<'w, R: Threads + Wait + Sync, P: Probe + Sync>(
     requires ready { Each (IsReadyRow session.now) rows.items }
     ensures served { IfOk result (λ news. AreServed rows.entry.items news.items) }
 {
+    let refusals = &Refusals::new();
     thread::scope(
         thread::scope_env(),
         rt,
         move |scope| -> Result<Vec<Row>, Memory>
             requires { Each (IsReadyRow session.now) rows.items }
             ensures { IfOk result (λ news. AreServed rows.entry.items news.items) }
-        { serve_rows(scope, rt, alloc, session, rows, probe) },
+        { serve_rows(scope, rt, alloc, session, rows, probe, refusals) },
     )
 }
 

@@ -10,6 +10,7 @@ ghost use Rattle.session.specs.Passes.{HasLeft, KnowsAnswer, SamePass};
 ghost use Rattle.session.specs.Sessions.{IsClientOf, IsWorkerOf, who_of};
 ghost use Rattle.session_threads.specs.Rows.{wishes_made, FitSession, IsReadyClient, IsServedClient, IsServedWorker};
 
+use crate::places::Refusals;
 use crate::rows::{ServedClient, ServedWorker};
 use rule_model::reply::Reply;
 use rule_model::wish::ClientWish;
@@ -85,9 +86,9 @@ fn make_all<R: Wait>(
     Ok(())
 }
 
-// The client leaves.
+/// The client leaves.
 #[tactic(auto, using(crate::proofs::Wishing::leaves_now, crate::proofs::Wishing::wishes_no_more))]
-fn leave<R: Wait>(rt: &R, session: &Session, pass: &mut Pass) -> Result<(), Memory>
+pub fn leave<R: Wait>(rt: &R, session: &Session, pass: &mut Pass) -> Result<(), Memory>
     requires ours { IsClientOf session.now pass.old }
     requires stays { HasLeft pass.old → ⊥ }
     ensures same { SamePass pass.old pass.new }
@@ -121,30 +122,57 @@ fn serve_client<R: Wait>(
     leave(rt, session, pass)
 }
 
-/// The client as it is once it has made its offers in order and left, or met want of memory.
+/// The client as it is once it has made its offers in order and left, or met want of memory; or as it was, where its thread couldn't be
+/// started.
 pub fn served_client<R: Wait>(
     rt: &R,
     session: &Session,
     mut pass: Pass,
     wishes: &[ClientWish],
+    refusals: &Refusals,
+    number: u64,
 ) -> ServedClient
     requires ready { IsReadyClient session.now pass wishes.now }
     ensures served { IsServedClient pass wishes.now result }
 {
+    if refusals.has(number) {
+        return ServedClient {
+            pass,
+            is_begun: false,
+            is_done: false,
+        };
+    }
     let is_done = serve_client(rt, session, &mut pass, wishes).is_ok();
-    ServedClient { pass, is_done }
+    ServedClient {
+        pass,
+        is_begun: true,
+        is_done,
+    }
 }
 
-/// The worker as it is once each client has left, or it met want of memory.
+/// The worker as it is once each client has left, or it met want of memory; or as it was, where its thread couldn't be started.
 pub fn served_worker<R: Wait, P: Probe>(
     rt: &R,
     session: &Session,
     mut pass: WorkPass,
     probe: &P,
+    refusals: &Refusals,
+    number: u64,
 ) -> ServedWorker
     requires ours { IsWorkerOf session.now (who_of pass) }
     ensures served { IsServedWorker pass result }
 {
+    if refusals.has(number) {
+        return ServedWorker {
+            pass,
+            is_begun: false,
+            is_done: false,
+        };
+    }
     let is_done = drive(rt, session, &mut pass, probe).is_ok();
-    ServedWorker { pass, is_done }
+    ServedWorker {
+        pass,
+        is_begun: true,
+        is_done,
+    }
 }

@@ -4,7 +4,8 @@ use Rattle.rule_model.specs.Answers.{answer_of}
 use Rattle.rule_model.specs.Events.{pended}
 use Rattle.session.specs.Calls.{ExplainsCall}
 use Rattle.session.specs.Passes.{HasHalted, KnowsAnswer, PassView}
-use Rattle.session.proofs.Passing.{HasCalled, idle_seat, knows_answer, pass_answered, pass_stays, pass_view}
+use Rattle.session.specs.Waiting.{HasCalled, pass_view}
+use Rattle.session.proofs.Passing.{idle_seat, knows_answer, pass_answered, pass_stays}
 use Rattle.session.proofs.Seats.{begins_on, made_begins, not_memory, stays_halted}
 use Rattle.session.proofs.session.Session.call.Goals as goal
 

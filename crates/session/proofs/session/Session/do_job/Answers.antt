@@ -1,6 +1,6 @@
 use Rattle.std.proofs.Common.{sym, subst}
 use Rattle.spec_core.specs.Code.{Program, program_of}
-use Rattle.board_core.specs.Found.{AreBySorts}
+use Rattle.sort_windows.specs.Found.{AreBySorts}
 use Rattle.board_core.specs.Working.{IsOfValues}
 use Rattle.session.specs.Sessions.{SessionView}
 use Rattle.session.proofs.session.Session.do_job.Goals as goal

@@ -3,7 +3,8 @@ use Rattle.turn_lock.specs.Entries.{Begins}
 use Rattle.rule_model.specs.Events.{left}
 use Rattle.session.specs.Calls.{ExplainsLeaving}
 use Rattle.session.specs.Passes.{HasHalted, KnowsLeave, PassView}
-use Rattle.session.proofs.Passing.{HasCalled, idle_seat, knows_leave, pass_stays, pass_view}
+use Rattle.session.specs.Waiting.{HasCalled, pass_view}
+use Rattle.session.proofs.Passing.{idle_seat, knows_leave, pass_stays}
 use Rattle.session.proofs.Seats.{made_begins, not_memory, sees_itself, stays_halted, stays_itself}
 use Rattle.session.proofs.session.Session.leave.Goals as goal
 

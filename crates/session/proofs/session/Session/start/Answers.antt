@@ -2,10 +2,10 @@ use Rattle.std.proofs.Common.{arith, ◌≡◌, sym, ap, subst, ◌∙◌, false
 use Rattle.std.specs.List.{AllByRecursion}
 use Rattle.turn_lock.specs.Seats.{SeatModel}
 use Rattle.spec_core.specs.declared.code.Checked.{Checked}
-use Rattle.spec_core.specs.declared.settings.Settings.{Settings}
+use Rattle.run_settings.specs.declared.settings.Settings.{Settings}
 use Rattle.spec_core.specs.Code.{Program, program_of}
 use Rattle.spec_core.specs.Executable.{IsExecutable}
-use Rattle.board_core.specs.Found.{AreBySorts}
+use Rattle.sort_windows.specs.Found.{AreBySorts}
 use Rattle.session_board.specs.declared.fixed.FixedPart.{FixedPart}
 use Rattle.session_board.specs.declared.line.Line.{Line}
 use Rattle.board_core.specs.Views.{BoardView}
