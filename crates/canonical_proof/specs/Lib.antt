@@ -1,0 +1,4 @@
+pub mod Asking
+pub mod Canonical
+pub mod Laws
+pub mod Lines

@@ -1,0 +1,4 @@
+//! Canonical certificates of equality: the evaluation of both sides, written down as a certificate.
+#![tactic(auto)]
+
+pub mod laws;
