@@ -33,6 +33,14 @@ def library():
     return {one.name.lower(): one for one in Types(found[1], True).read().types}
 
 
+def numeral(word, content):
+    """How a number is written, as a sentence, where a word is one that no operation has and the naturals of the library are there; else nothing."""
+    if not word.isdigit() or content.named(word) or not content.named("succ"):
+        return ""
+    number = int(word[:9])
+    return f"Naturals are written by 0 and Succ{f': {word} is ' + 'Succ(' * number + '0' + ')' * number if number < 10 else ''}."
+
+
 # ------------------------------------------------------------------ expressions
 
 class Expressions:
@@ -451,10 +459,11 @@ def equation_of(content, begin, end, variables, sort, premises, left, right):
     pairs = []
     for first, second in premises:
         readings = content.readings(first, variables, None if second else "bool")
-        others = content.readings(second, variables, readings[0].sort) if second and readings else [Reading(TRUE, (), "bool")]
-        if not readings or not others:
+        others = content.readings(second, variables) if second else [Reading(TRUE, (), "bool")]
+        found = [(one, other) for one in readings for other in others if one.sort == other.sort]
+        if not found:
             return None
-        pairs.append((readings[0], others[0]))
+        pairs.append(found[0])
     lefts, rights = content.readings(left, variables, sort), content.readings(right, variables, sort)
     return Equation(tuple(pairs), lefts[0], rights[0], begin) if lefts and rights else None
 

@@ -5,7 +5,7 @@ import program
 
 DOCUMENTS = ["README.md"] + [f"docs/{name}.md" for name in ("TUTORIAL", "LANGUAGE", "SEMANTICS", "FORMATS", "TESTING", "COMPARISON", "PROMISES", "TRUST", "GLOSSARY")]
 # The tools that are called, and what they are made of.
-TOOLS = ["check_offers", "convert", "draw", "explain", "page", "simulate", "walks"]
+TOOLS = ["check_offers", "check_proof", "convert", "draw", "explain", "page", "simulate", "walks"]
 MODULES = ["boxes", "charts", "commands", "data", "diagrams", "meetings", "offered", "pages", "reach", "refusals", "running", "scripts", "simulation", "simulation_view", "specification", "steps", "traces", "values", "why"]
 SHARE = "share/doc/habuxelo"
 
