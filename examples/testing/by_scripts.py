@@ -12,7 +12,7 @@ import subprocess
 import sys
 import tempfile
 
-from reference import LOTOS
+from reference import lotos
 
 SPEC = os.path.abspath("examples/two_place_buffer/spec.lotos")
 
@@ -21,13 +21,13 @@ class Driver:
     """A script that grows."""
 
     def __init__(self, folder):
-        self.path, self.offers = pathlib.Path(folder, "script.txt"), []
+        self.program, self.path, self.offers = lotos(), pathlib.Path(folder, "offers.script"), []
 
     def offer(self, offer):
         """Adds an offer, runs the script, and gives the answer to the new offer: its action, or the line that answers it."""
         self.offers.append(offer)
         self.path.write_text("".join(f"1: {one}\n" for one in self.offers), encoding="ascii")
-        trace = subprocess.run([LOTOS, "run", SPEC, str(self.path)], capture_output=True, text=True, check=True).stdout
+        trace = subprocess.run([self.program, "run", SPEC, str(self.path)], capture_output=True, text=True, check=True).stdout
         name = f"1.{len(self.offers)}"
         for line in trace.splitlines():
             words = line.split(" ")

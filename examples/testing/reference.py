@@ -1,15 +1,27 @@
 """A specification as a reference: a program that talks to `lotos sim` through a pipe, line by line."""
 import os
+import pathlib
 import subprocess
+import sys
 
-# The program: the one that is named, or the starter of a checkout, or else the one that is installed.
-LOTOS = os.environ.get("LOTOS") or ("./lotos" if os.path.exists("./lotos") else "lotos")
+# Where the tools are, if this file stands beside them.
+TOOLS = pathlib.Path(__file__).resolve().parents[2] / "tools"
 
 
 # A line that changes nothing, with its answer: behind another line it shows where the answer to that ends.
 NOTHING = ("do 0", "no step")
 # The end of the trace where there is no step, by the word of the menu.
 ENDS = {"ended": "exit", "deadlock": "deadlock", "beyond": "beyond"}
+
+
+def lotos():
+    """The program: the one that the environment variable LOTOS names, or the one that is built or installed; without the tools, the command `lotos`.
+    Nothing is built for it: where there is none, this program ends with the status 125."""
+    if not (TOOLS / "running.py").exists():
+        return os.environ.get("LOTOS") or "lotos"
+    sys.path.append(str(TOOLS))
+    import running
+    return running.found_or_end(pathlib.Path(sys.argv[0]).name)
 
 
 class Stopped(Exception):
@@ -19,9 +31,9 @@ class Stopped(Exception):
 class Reference:
     """A session of `lotos sim`: each line is answered before the next one is sent."""
 
-    def __init__(self, spec, *options, program=LOTOS):
+    def __init__(self, spec, *options, program=None):
         pipes = {"stdin": subprocess.PIPE, "stdout": subprocess.PIPE, "text": True, "bufsize": 1}
-        self.run = subprocess.Popen([program, "sim", spec, *options], **pipes)
+        self.run = subprocess.Popen([program or lotos(), "sim", spec, *options], **pipes)
 
     def ask(self, line):
         """Sends a line, and reads the first line of its answer."""

@@ -11,7 +11,7 @@ import subprocess
 import sys
 import tempfile
 
-from reference import LOTOS
+from reference import lotos
 
 SPEC = "examples/two_place_buffer/spec.lotos"
 # By which rules the specification does what a line of a log tells. `{0}` is the item.
@@ -50,7 +50,7 @@ def replayed(lines):
     with tempfile.NamedTemporaryFile("w", suffix=".trace", encoding="ascii") as trace:
         trace.write("".join(text + "\n" for text, _ in lines))
         trace.flush()
-        return subprocess.run([LOTOS, "replay", SPEC, trace.name], capture_output=True, text=True, check=False).stdout.strip()
+        return subprocess.run([lotos(), "replay", SPEC, trace.name], capture_output=True, text=True, check=False).stdout.strip()
 
 
 def main():
