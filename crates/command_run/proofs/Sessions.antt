@@ -4,7 +4,7 @@ use Rattle.std.specs.declared.alloc.Global.{Global}
 use Rattle.std.proofs.lemmas.List.{length-map}
 use Rattle.spec_core.specs.Lists.{Each}
 use Rattle.spec_core.specs.declared.memory.Memory.{Memory}
-use Rattle.spec_core.specs.declared.settings.Settings.{Settings}
+use Rattle.run_settings.specs.declared.settings.Settings.{Settings}
 use Rattle.spec_core.specs.Code.{Program}
 use Rattle.spec_core.specs.Theories.{Theory}
 use Rattle.spec_core.proofs.Lists.{each_implied}
@@ -19,11 +19,11 @@ use Rattle.rule_model.specs.Events.{Event, Ending, ending_of}
 use Rattle.rule_model.specs.Logs.{events_of}
 use Rattle.rule_model.specs.Wishes.{Wish}
 use Rattle.symbolic_rules.specs.Windows.{Windows}
-use Rattle.client_laws.specs.Next.{AreSessionWindows}
+use Rattle.board_laws.specs.Next.{AreSessionWindows}
 use Rattle.rule_model.specs.declared.wish.ClientWish.{ClientWish}
 use Rattle.script_offers.specs.Valued.{all_wishes_of}
 use Rattle.script_offers.specs.Valued as valued
-use Rattle.session_threads.specs.JobValues.{FieldGivesValue, GivesValues}
+use Rattle.board_laws.specs.JobValues.{FieldGivesValue, GivesValues}
 use Rattle.client_laws.specs.Laws.{ClientRunsAnswerEach}
 use Rattle.client_laws.specs.Runs.{IsClientRun}
 use Rattle.session_laws.specs.Answers.{names_of, numbered_for, of_client, AnswersClient}

@@ -4,7 +4,7 @@ use Rattle.spec_core.specs.Budgets.{IsBeyond}
 use Rattle.spec_core.specs.Code.{Program}
 use Rattle.spec_core.specs.Lists.{Each}
 use Rattle.spec_core.specs.Terms.{term_of}
-use Rattle.spec_core.specs.declared.settings.Settings.{Settings}
+use Rattle.run_settings.specs.declared.settings.Settings.{Settings}
 use Rattle.rewriter.specs.Answers.{MeetsTooLarge}
 use Rattle.rule_model.specs.Events.{Event, Ending, ending_of}
 use Rattle.rule_model.specs.Logs.{events_of}

@@ -3,7 +3,7 @@ use Rattle.std.proofs.Common.{ℕ, ◌+◌, ◌-◌, ◌^◌, ◌≡◌, ◌≤�
 use Rattle.std.specs.Prelude.{IsErrOf, OnErr}
 use Rattle.std.proofs.Math.Nat.{le-min, min-le_left, min-le_right}
 use Rattle.std.proofs.lemmas.List.{length-append}
-use Rattle.spec_core.specs.declared.settings.Settings.{Settings}
+use Rattle.run_settings.specs.declared.settings.Settings.{Settings}
 use Rattle.spec_core.specs.Code.{Program}
 use Rattle.lotos_outside.specs.Counts.{Rose, next_count}
 use Rattle.lotos_outside.specs.Source.{with_first}

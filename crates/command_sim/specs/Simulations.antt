@@ -1,7 +1,7 @@
 -- Simulations by hand: what is written in answer to the lines that were read. (This profile.)
 use Rattle.std.specs.Prelude.{ℕ, ◌+◌, ◌≡◌, ◌<◌, ◌≤◌, ◌++◌, List, [], ◌∷◌, Option, Some, None, Result, Ok, Err, codes, length, take}
 use Rattle.spec_core.specs.declared.code.Checked.{Checked}
-use Rattle.spec_core.specs.declared.settings.Settings.{Settings}
+use Rattle.run_settings.specs.declared.settings.Settings.{Settings}
 use Rattle.spec_core.specs.Code.{Program, program_of}
 use Rattle.lotos_outside.specs.Sink.{AppendsPrefix}
 use Rattle.simulator.specs.declared.answer.SimAnswer.{SimAnswer}

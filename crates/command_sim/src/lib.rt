@@ -8,4 +8,3 @@ mod text;
 
 pub use end::End;
 pub use reading::simulate;
-pub use trace_text::print_log;

@@ -15,9 +15,9 @@ use crate::answering::{answer_line, take_bytes};
 use crate::end::End;
 use lotos_outside::sink::{Sink, SinkFault, write_all};
 use lotos_outside::source::{Source, SourceFault};
+use run_settings::settings::Settings;
 use simulator::sim::Sim;
 use spec_core::code::Checked;
-use spec_core::settings::Settings;
 use std::alloc::Global;
 use value_text::vocabulary::Vocabulary;
 

@@ -1,11 +1,11 @@
 -- What is due, as far as a call came.
 use Rattle.std.proofs.Common.{ℕ, ◌≡◌, ◌⊎◌, inl, inr, List, Option, Some, None, refl, subst, take}
-use Rattle.spec_core.specs.declared.settings.Settings.{Settings}
+use Rattle.run_settings.specs.declared.settings.Settings.{Settings}
 use Rattle.spec_core.specs.Code.{Program}
 use Rattle.lotos_front.specs.Answers.{IsAccepted}
 use Rattle.command_sim.specs.declared.end.End.{End}
 use Rattle.command_sim.specs.Simulations.{IsCut, IsSimulated}
-use Rattle.command_words.specs.Commands.{Command, run, check, equal, replay, sim, selfrun}
+use Rattle.command_words.specs.Commands.{Command, run, check, equal, replay, migrate, sim, selfrun}
 use Rattle.lotos_run.specs.declared.status.Status.{Status}
 use Rattle.lotos_run.specs.Due.{IsAnswered, IsBrokenOff, IsCutShort, IsDueRead, IsToSimulate}
 use Rattle.lotos_run.specs.Outside.{Outside}
@@ -19,10 +19,11 @@ module _ (known : Outside) where
     read_due : (command : Option Command) (ending : Option End) (text : List ℕ) → IsToSimulate known.shelf command program settings →
         IsSimulated program settings known.input text ending → IsDueRead known command ending text
     read_due None ending text h simulated = absurd h
-    read_due (Some (run specification script settings workers)) ending text h simulated = absurd h
+    read_due (Some (run specification script settings workers format)) ending text h simulated = absurd h
     read_due (Some (check specification)) ending text h simulated = absurd h
     read_due (Some (equal specification first second budget)) ending text h simulated = absurd h
     read_due (Some (replay specification trace budget)) ending text h simulated = absurd h
+    read_due (Some (migrate specification trace)) ending text h simulated = absurd h
     read_due (Some (sim specification chosen)) ending text (same, accepted) simulated =
         fetched_implied (λ bytes. IsAccepted (take 4194305 bytes) program)
         (λ bytes. (p : Program) × IsAccepted (take 4194305 bytes) p × IsSimulated p chosen known.input text ending)

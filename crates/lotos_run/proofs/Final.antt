@@ -5,7 +5,7 @@ use Rattle.rule_model.specs.declared.log.End.TheVariants as ends
 use Rattle.command_run.specs.declared.answer.Answer.TheVariants as ran
 use Rattle.command_selfrun.specs.declared.answer.Answer.{Answer}
 use Rattle.command_selfrun.specs.declared.answer.Answer.TheVariants as came
-use Rattle.command_words.specs.Commands.{Command, run, check, equal, replay, sim, selfrun}
+use Rattle.command_words.specs.Commands.{Command, run, check, equal, replay, migrate, sim, selfrun}
 use Rattle.lotos_run.specs.declared.status.Status.{Status}
 use Rattle.lotos_run.specs.declared.status.Status.TheVariants.{Done, Refused, Usage, ReadFault, WriteFault, Memory, Spent, Limit}
 use Rattle.lotos_run.specs.declared.status.Status.TheVariants.{ScriptRefused, NotADerivation}
@@ -44,16 +44,18 @@ due_final shelf command Limit text h = tt
 due_final shelf command ScriptRefused text h = tt
 due_final shelf command NotADerivation text h = tt
 due_final shelf None WriteFault text h = absurd h
-due_final shelf (Some (run specification script settings workers)) WriteFault text h = absurd h
+due_final shelf (Some (run specification script settings workers format)) WriteFault text h = absurd h
 due_final shelf (Some (check specification)) WriteFault text h = absurd h
 due_final shelf (Some (equal specification first second budget)) WriteFault text h = absurd h
 due_final shelf (Some (replay specification trace budget)) WriteFault text h = absurd h
+due_final shelf (Some (migrate specification trace)) WriteFault text h = absurd h
 due_final shelf (Some (sim specification settings)) WriteFault text h = absurd h
 due_final shelf (Some (selfrun seed size workers)) WriteFault text h = selfrun_final seed size WriteFault text h
 due_final shelf None Memory text h = absurd h
-due_final shelf (Some (run specification script settings workers)) Memory text h = absurd h
+due_final shelf (Some (run specification script settings workers format)) Memory text h = absurd h
 due_final shelf (Some (check specification)) Memory text h = absurd h
 due_final shelf (Some (equal specification first second budget)) Memory text h = absurd h
 due_final shelf (Some (replay specification trace budget)) Memory text h = absurd h
+due_final shelf (Some (migrate specification trace)) Memory text h = absurd h
 due_final shelf (Some (sim specification settings)) Memory text h = absurd h
 due_final shelf (Some (selfrun seed size workers)) Memory text h = selfrun_final seed size Memory text h

@@ -1,4 +1,5 @@
 mod Calls
+mod Derivations
 mod Equals
 mod Fetched
 mod Fetches

@@ -10,11 +10,14 @@ use Rattle.command_run.specs.declared.answer.Answer.TheVariants as ran
 use Rattle.command_replay.specs.declared.answer.Answer.{Answer}
 use Rattle.command_replay.specs.declared.answer.Answer.TheVariants as came
 use Rattle.lotos_run.specs.declared.second_file.Second.{Second}
-use Rattle.lotos_run.specs.declared.second_file.Second.TheVariants.{Script, Trace}
+use Rattle.lotos_run.specs.declared.second_file.Second.TheVariants.{Script, Trace, Migration}
 use Rattle.lotos_run.specs.declared.status.Status.{Status}
 use Rattle.lotos_run.specs.declared.status.Status.TheVariants.{Done, Refused, Usage, ReadFault, WriteFault, Memory, Spent, Limit}
 use Rattle.lotos_run.specs.declared.status.Status.TheVariants.{ScriptRefused, NotADerivation}
 use Rattle.lotos_run.specs.Checks.{IsReported, OnAccepted}
+use Rattle.command_migrate.specs.declared.answer.Answer as migrations
+use Rattle.command_migrate.specs.declared.answer.Answer.TheVariants as moved
+use Rattle.lotos_run.specs.Migrations as migrated
 use Rattle.lotos_run.specs.Outside.{Shelved}
 use Rattle.lotos_run.specs.ReplayTexts.{status_of}
 use Rattle.lotos_run.specs.RunTexts as runs
@@ -52,10 +55,15 @@ of_scripts (ran.Spent t) = tt
 of_scripts (ran.TooLarge t) = tt
 of_scripts (ran.Refused line kind) = tt
 
+of_migrations : (a : migrations.Answer) → IsOfSecond (migrated.status_of a)
+of_migrations (moved.Migrated trace) = tt
+of_migrations (moved.Refused line kind) = tt
+
 is_of_second : (second : Second) (program : Program) (text : List ℕ) (status : Status) (answer : List ℕ) →
     SecondComes second program text status answer → IsOfSecond status
-is_of_second (Script settings workers) program text status answer h = subst IsOfSecond (sym h.due) (of_scripts h.came)
+is_of_second (Script settings workers format) program text status answer h = subst IsOfSecond (sym h.due) (of_scripts h.came)
 is_of_second (Trace budget) program text status answer h = subst IsOfSecond (sym h.due) (of_traces h.came)
+is_of_second Migration program text status answer h = subst IsOfSecond (sym h.due) (of_migrations h.came)
 
 module _ (shelf : Shelved) (second : Second) (program : Program) (name bytes : List ℕ) (answer : List ℕ)
     (fetched : OnFetched shelf.files name (λ text. bytes ≡ take (most second) text)) where

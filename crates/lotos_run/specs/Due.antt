@@ -1,16 +1,16 @@
 -- Which status a call ends with, and which text it brings.
 use Rattle.std.specs.Prelude.{ℕ, ◌≡◌, ◌⊎◌, List, Option, Some, None, codes, take}
-use Rattle.spec_core.specs.declared.settings.Settings.{Settings}
+use Rattle.run_settings.specs.declared.settings.Settings.{Settings}
 use Rattle.spec_core.specs.Code.{Program, program_of}
 use Rattle.spec_core.specs.Ready.{IsReady}
 use Rattle.lotos_front.specs.Answers.{IsAccepted}
 use Rattle.lotos_outside.specs.Shelf.{OnFetched}
 use Rattle.lotos_run.specs.declared.due.Due.{Due}
 use Rattle.lotos_run.specs.declared.due.Due.TheVariants.{Text, Simulation}
-use Rattle.command_words.specs.Commands.{Command, run, check, equal, replay, sim, selfrun}
+use Rattle.command_words.specs.Commands.{Command, run, check, equal, replay, migrate, sim, selfrun}
 use Rattle.command_sim.specs.declared.end.End.{End}
 use Rattle.lotos_outside.specs.Sink.{with_more, AppendsPrefix}
-use Rattle.lotos_run.specs.declared.second_file.Second.TheVariants.{Script, Trace}
+use Rattle.lotos_run.specs.declared.second_file.Second.TheVariants.{Script, Trace, Migration}
 use Rattle.lotos_run.specs.declared.status.Status.{Status}
 use Rattle.lotos_run.specs.declared.status.Status.TheVariants.{Usage}
 use Rattle.lotos_run.specs.Checks.{IsCheckDue}
@@ -28,11 +28,12 @@ IsUsageDue _ text = ⊥
 -- which status is due, with which text, where the input isn't read
 abbrev pub IsDueUnread : Shelved → Option Command → Status → List ℕ → Type 0
 IsDueUnread shelf None status text = IsUsageDue status text
-IsDueUnread shelf (Some (run specification script settings workers)) status text =
-    IsSecondDue shelf (Script settings workers) specification script status text
+IsDueUnread shelf (Some (run specification script settings workers format)) status text =
+    IsSecondDue shelf (Script settings workers format) specification script status text
 IsDueUnread shelf (Some (check specification)) status text = IsCheckDue shelf specification status text
 IsDueUnread shelf (Some (equal specification first second budget)) status text = IsEqualDue shelf specification first second budget status text
 IsDueUnread shelf (Some (replay specification trace budget)) status text = IsSecondDue shelf (Trace budget) specification trace status text
+IsDueUnread shelf (Some (migrate specification trace)) status text = IsSecondDue shelf Migration specification trace status text
 IsDueUnread shelf (Some (sim specification settings)) status text = IsOpeningDue shelf specification status text
 IsDueUnread shelf (Some (selfrun seed size workers)) status text = IsSelfrunDue seed size status text
 

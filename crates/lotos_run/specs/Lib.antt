@@ -1,10 +1,12 @@
 pub mod CheckTexts
 pub mod Checks
+pub mod Derivations
 pub mod Due
 pub mod EqualTexts
 pub mod Equals
 pub mod Fetches
 pub mod Lines
+pub mod Migrations
 pub mod Outside
 pub mod ReplayTexts
 pub mod Replays

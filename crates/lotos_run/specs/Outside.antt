@@ -1,7 +1,7 @@
 -- What is known of the outside of a call.
 use Rattle.std.specs.Prelude.{ℕ, List, Option}
 use Rattle.lotos_outside.specs.Shelf.{Notes}
-use Rattle.command_sim.specs.Inputs.{Input}
+use Rattle.command_lines.specs.Inputs.{Input}
 
 -- of the shelf: its files, where it tells them, and the names whose fetch failed, before the call and after it
 pub record Shelved : Type 0 where

@@ -6,8 +6,8 @@ use Rattle.rule_model.specs.declared.log.End.{End}
 use Rattle.rule_model.specs.declared.log.End.TheVariants as ends
 use Rattle.rule_model.specs.Events.{Event, Ending, ending_of}
 use Rattle.rule_model.specs.Logs.{events_of}
-use Rattle.command_sim.specs.Names.{names_in}
-use Rattle.command_sim.specs.Trace.{trace_bytes}
+use Rattle.trace_text.specs.Names.{names_in}
+use Rattle.trace_text.specs.Formats.{trace_bytes}
 use Rattle.command_run.specs.declared.answer.Answer.{Answer}
 use Rattle.command_run.specs.declared.answer.Answer.TheVariants as came
 use Rattle.command_selfrun.specs.Lines.{line_of}
@@ -34,9 +34,9 @@ status_of (came.Spent t) = Spent
 status_of (came.TooLarge t) = Limit
 status_of (came.Refused line kind) = ScriptRefused
 
--- what is printed of a session: its trace, or the line with its counts
+-- what is printed of a session: its trace in a format, or the line with its counts
 abbrev pub session_text : SessionText → Program → List Event → Ending → List ℕ
-session_text Trace program log ending = trace_bytes (names_in program) log ending
+session_text (Trace format) program log ending = trace_bytes (names_in program) format log ending
 session_text Counts program log ending = line_of program log ending
 
 -- the text that is due for what comes of a script: what is printed of its session, or why there is none

@@ -4,28 +4,32 @@ use Rattle.lotos_outside.specs.Shelf.{OnFetched}
 use Rattle.lotos_front.specs.Answers.{IsAccepted}
 use Rattle.spec_core.specs.Code.{Program}
 use Rattle.lotos_run.specs.declared.second_file.Second.{Second}
-use Rattle.lotos_run.specs.declared.second_file.Second.TheVariants.{Script, Trace}
+use Rattle.lotos_run.specs.declared.second_file.Second.TheVariants.{Script, Trace, Migration}
 use Rattle.lotos_run.specs.declared.status.Status.{Status}
 use Rattle.lotos_run.specs.declared.status.Status.TheVariants.{Done, Refused, ReadFault, Spent, Limit, ScriptRefused, NotADerivation}
 use Rattle.lotos_run.specs.Checks.{IsReported, OnAccepted}
+use Rattle.lotos_run.specs.Migrations.{IsMigratedDue}
 use Rattle.lotos_run.specs.Outside.{Shelved, IsUnread}
 use Rattle.lotos_run.specs.Replays.{IsReplayed}
 use Rattle.lotos_run.specs.Runs.{IsScripted}
 
 -- how many bytes are fetched: one more than a script, and than a trace, may have
 abbrev pub most : Second → ℕ
-most (Script settings workers) = 1048577
+most (Script settings workers format) = 1048577
 most (Trace budget) = 67108865
+most Migration = 67108865
 
 -- over this program: what comes of the text of the second file, with its status and its text
 abbrev pub SecondComes : Second → Program → List ℕ → Status → List ℕ → Type 0
-SecondComes (Script settings workers) program text status answer = IsScripted program text settings status answer
+SecondComes (Script settings workers format) program text status answer = IsScripted program text settings format status answer
 SecondComes (Trace budget) program text status answer = IsReplayed program text budget status answer
+SecondComes Migration program text status answer = IsMigratedDue program text status answer
 
 -- there are at most 64 workers
 abbrev pub HasFewWorkers : Second → Type 0
-HasFewWorkers (Script settings workers) = workers ≤ 64
+HasFewWorkers (Script settings workers format) = workers ≤ 64
 HasFewWorkers (Trace budget) = Unit {0}
+HasFewWorkers Migration = Unit {0}
 
 module _ (shelf : Shelved) (second : Second) where
   -- the file of this name was fetched, and this comes of its first bytes

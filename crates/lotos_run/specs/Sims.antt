@@ -3,10 +3,10 @@ use Rattle.std.specs.Prelude.{ℕ, ◌≡◌, List, Option, Some, codes, take}
 use Rattle.lotos_outside.specs.Shelf.{OnFetched}
 use Rattle.lotos_outside.specs.Sink.{with_more}
 use Rattle.lotos_front.specs.Answers.{IsAccepted}
-use Rattle.spec_core.specs.declared.settings.Settings.{Settings}
+use Rattle.run_settings.specs.declared.settings.Settings.{Settings}
 use Rattle.spec_core.specs.Code.{Program, program_of}
 use Rattle.spec_core.specs.Ready.{IsReady}
-use Rattle.command_sim.specs.Inputs.{Input}
+use Rattle.command_lines.specs.Inputs.{Input}
 use Rattle.command_sim.specs.declared.end.End.{End}
 use Rattle.command_sim.specs.declared.end.End.TheVariants as ends
 use Rattle.command_sim.specs.Simulations.{IsSimulated}

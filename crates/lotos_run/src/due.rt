@@ -15,9 +15,9 @@ use crate::sim::{Opened, open_file};
 use crate::status::Status;
 use command_words::{Command, read_command};
 use lotos_outside::shelf::Shelf;
+use run_settings::settings::Settings;
 use spec_core::code::Checked;
 use spec_core::memory::Memory;
-use spec_core::settings::Settings;
 use std::alloc::Global;
 use std::sync::Wait;
 use std::thread::Threads;
@@ -70,6 +70,7 @@ pub fn due_for<R: Threads + Wait + Sync, F: Shelf, P: Probe + Sync>(
                 script,
                 settings,
                 workers,
+                format,
             },
         ) => Ok(Due::Text(over_specification(
             rt,
@@ -77,7 +78,7 @@ pub fn due_for<R: Threads + Wait + Sync, F: Shelf, P: Probe + Sync>(
             shelf,
             specification,
             script,
-            Second::Script(settings, workers),
+            Second::Script(settings, workers, format),
             probe,
         )?)),
         Some(Command::Check { specification }) => Ok(Due::Text(check(
@@ -106,6 +107,20 @@ pub fn due_for<R: Threads + Wait + Sync, F: Shelf, P: Probe + Sync>(
             specification,
             trace,
             Second::Trace(budget),
+            probe,
+        )?)),
+        Some(
+            Command::Migrate {
+                specification,
+                trace,
+            },
+        ) => Ok(Due::Text(over_specification(
+            rt,
+            alloc,
+            shelf,
+            specification,
+            trace,
+            Second::Migration,
             probe,
         )?)),
         Some(

@@ -8,6 +8,7 @@ mod due;
 mod equal;
 mod equal_text;
 mod lines;
+mod migrate_text;
 mod replay_text;
 mod run_text;
 mod second_file;
@@ -20,6 +21,7 @@ ghost use Rattle.lotos_outside.specs.Counts.{Rose};
 ghost use Rattle.lotos_outside.specs.Sink.{with_more, AppendsPrefix};
 ghost use Rattle.command_sim.specs.Inputs.{inlet};
 ghost use Rattle.command_words.specs.Commands.{command_of};
+ghost use Rattle.lotos_run.specs.Derivations.{WritesDerivation};
 ghost use Rattle.lotos_run.specs.Due.{IsAnswered, IsBrokenOff, IsCutShort, LeavesInput};
 ghost use Rattle.lotos_run.specs.Fetches.{named_files, IsAskedFor};
 ghost use Rattle.lotos_run.specs.Outside.{outside, shelved};
@@ -80,6 +82,11 @@ pub fn lotos_main<
     ensures memory { result ≡ Status.Memory →
         IsBrokenOff (outside (shelved (F.files shelf.old) (F.failed shelf.old) (F.failed shelf.new))
         (inlet (I.rest input.old) (I.rest input.new) (I.faults input.old) (I.faults input.new)) (O.written out.old) (O.written out.new))
+        (command_of (map string_bytes words.now)) }
+
+    // Whatever the status: a trace that `run` wrote, or as much of it as was written, is that of a log in which each entry is possible by the
+    // inference rules, from the specification's behaviour on.
+    ensures derivation { WritesDerivation (F.files shelf.old) (O.written out.old) (O.written out.new) result
         (command_of (map string_bytes words.now)) }
 
     // Whatever the status: the shelf was asked for files that the words name and for no other, so it is as it was where the words name no

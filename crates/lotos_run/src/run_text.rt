@@ -10,17 +10,17 @@ use crate::lines::{bytes_of, script_refusal, term_line};
 use crate::status::Status;
 use command_run::Answer;
 use command_selfrun::counts_line;
-use command_sim::print_log;
 use rule_model::log::{End, Log};
 use spec_core::code::Checked;
 use spec_core::memory::Memory;
 use std::alloc::Global;
+use trace_text::{Format, print_log};
 
 /// What is printed of a session.
 #[derive(Clone, Copy)]
 pub enum SessionText {
-    /// Its trace.
-    Trace,
+    /// Its trace in a format.
+    Trace(Format),
     /// The line with its counts.
     Counts,
 }
@@ -37,8 +37,8 @@ fn session_text(
         text.items ≡ texts.session_text printed (program_of checked.now) (events_of log.now) (ending_of end.now)) }
 {
     match printed {
-        SessionText::Trace => {
-            let trace = print_log(alloc, log, end, checked)?;
+        SessionText::Trace(format) => {
+            let trace = print_log(alloc, log, end, format, checked)?;
             bytes_of(alloc, &trace)
         }
         SessionText::Counts => {

@@ -1,9 +1,10 @@
-// Commands that read a second file over a specification: `run` and `replay`.
+// Commands that read a second file over a specification: `run`, `replay` and `migrate`.
 
 ghost use Rattle.std.specs.Prelude.{◌≡◌, ◌≤◌, ◌∷◌, [], IfOk};
 ghost use Rattle.spec_core.specs.Code.{program_of};
 ghost use Rattle.spec_core.specs.Ready.{IsReady};
 ghost use Rattle.lotos_run.specs.Fetches.{IsAskedFor};
+ghost use Rattle.lotos_run.specs.Migrations.{IsMigratedDue};
 ghost use Rattle.lotos_run.specs.Outside.{shelved};
 ghost use Rattle.lotos_run.specs.Replays.{IsReplayed};
 ghost use Rattle.lotos_run.specs.Runs.{IsScripted};
@@ -13,28 +14,32 @@ use crate::answer::{Answer, fetch, with_text};
 use crate::check_text::refusal_text;
 use crate::run_text::SessionText;
 use crate::status::Status;
-use crate::{replay_text, run_text};
+use crate::{migrate_text, replay_text, run_text};
+use command_migrate::migrate_text as migrate_trace;
 use command_replay::replay_text as replay_trace;
 use command_run::run_text as run_script;
 use command_selfrun::accepted_is_ready;
 use lotos_ast::refusal::FrontFault;
 use lotos_front::accept;
 use lotos_outside::shelf::{Shelf, ShelfFault};
+use run_settings::settings::Settings;
 use spec_core::code::Checked;
 use spec_core::memory::Memory;
-use spec_core::settings::Settings;
 use std::alloc::Global;
 use std::sync::Wait;
 use std::thread::Threads;
+use trace_text::Format;
 use worker_drive::Probe;
 
 /// What the second file is to be.
 #[derive(Clone, Copy)]
 pub enum Second {
-    /// A script, whose session is run, with so many workers, from 0 to 64.
-    Script(Settings, u32),
+    /// A script, whose session is run, with so many workers, from 0 to 64, and whose trace is printed in a format.
+    Script(Settings, u32, Format),
     /// A trace, which is replayed, with at most so many uses of equations for each term, from 1 to 2^32.
     Trace(u64),
+    /// A trace, which is printed in format 2.
+    Migration,
 }
 
 impl Second {
@@ -45,6 +50,7 @@ impl Second {
         match self {
             Second::Script(..) => 1_048_577,
             Second::Trace(_) => 67_108_865,
+            Second::Migration => 67_108_865,
         }
     }
 }
@@ -57,16 +63,17 @@ fn scripted<R: Threads + Wait + Sync, P: Probe + Sync>(
     text: &[u8],
     settings: Settings,
     workers: u32,
+    format: Format,
     probe: &P,
 ) -> Result<Answer, Memory>
     requires ready { IsReady (program_of checked.now) }
     requires workers { workers ≤ 64 }
-    ensures { IfOk result (λ a. IsScripted (program_of checked.now) text.now settings a.status a.text.items) }
+    ensures { IfOk result (λ a. IsScripted (program_of checked.now) text.now settings format a.status a.text.items) }
 {
     let came = run_script(rt, alloc, checked, text, settings, workers, probe)?;
     Ok(Answer {
         status: run_text::answer_status(&came),
-        text: run_text::answer_text(alloc, checked, &came, SessionText::Trace)?,
+        text: run_text::answer_text(alloc, checked, &came, SessionText::Trace(format))?,
     })
 }
 
@@ -79,6 +86,18 @@ fn replayed(alloc: Global, checked: &Checked, text: &[u8], budget: u64) -> Resul
     Ok(Answer {
         status: replay_text::answer_status(&came),
         text: replay_text::answer_text(alloc, &checked.algebra, &came)?,
+    })
+}
+
+// What comes of a trace that is to be in format 2.
+fn migrated(alloc: Global, checked: &Checked, text: &[u8]) -> Result<Answer, Memory>
+    requires ready { IsReady (program_of checked.now) }
+    ensures { IfOk result (λ a. IsMigratedDue (program_of checked.now) text.now a.status a.text.items) }
+{
+    let came = migrate_trace(alloc, checked, text)?;
+    Ok(Answer {
+        status: migrate_text::answer_status(&came),
+        text: migrate_text::answer_text(alloc, &came)?,
     })
 }
 
@@ -96,10 +115,11 @@ fn come<R: Threads + Wait + Sync, P: Probe + Sync>(
     ensures { IfOk result (λ a. SecondComes second (program_of checked.now) text.now a.status a.text.items) }
 {
     match second {
-        Second::Script(settings, workers) => {
-            scripted(rt, alloc, checked, text, settings, workers, probe)
+        Second::Script(settings, workers, format) => {
+            scripted(rt, alloc, checked, text, settings, workers, format, probe)
         },
         Second::Trace(budget) => replayed(alloc, checked, text, budget),
+        Second::Migration => migrated(alloc, checked, text),
     }
 }
 
@@ -155,7 +175,7 @@ fn read_over<R: Threads + Wait + Sync, F: Shelf, P: Probe + Sync>(
 }
 
 /// What is due for the specification in the one file and the script or the trace in the other: of a script, the trace of its session; of a
-/// trace, whether its log is a derivation; or why that isn't so; or the specification's first refusal.
+/// trace, whether its log is a derivation, or the trace in format 2; or why that isn't so; or the specification's first refusal.
 #[tactic(auto, using(crate::proofs::SecondFiles::text_due, crate::proofs::Fetches::asked_first, crate::proofs::Fetches::asked_more))]
 pub fn over_specification<R: Threads + Wait + Sync, F: Shelf, P: Probe + Sync>(
     rt: &R,

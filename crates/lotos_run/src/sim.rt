@@ -21,9 +21,9 @@ use lotos_front::accept;
 use lotos_outside::shelf::{Shelf, ShelfFault};
 use lotos_outside::sink::{Sink, SinkFault};
 use lotos_outside::source::Source;
+use run_settings::settings::Settings;
 use spec_core::code::Checked;
 use spec_core::memory::Memory;
-use spec_core::settings::Settings;
 use std::alloc::Global;
 
 /// The specification that is to be simulated.

@@ -11,7 +11,7 @@ use Rattle.spec_core.specs.Ready.{IsReady}
 use Rattle.spec_core.specs.Sorts.{FitsData, FitsGround, HasSort, HaveSorts, OnSome, PremiseFits, no_variables}
 use Rattle.spec_core.specs.Terms.{TermTree, TermTrees, and_term, apply, no_terms, variable}
 use Rattle.spec_core.specs.Theories.{Operation, Premise, Theory, premise}
-use Rattle.spec_core.specs.declared.settings.Settings.{Settings}
+use Rattle.run_settings.specs.declared.settings.Settings.{Settings}
 use Rattle.spec_core.proofs.Instances.{on_map}
 use Rattle.rule_model.specs.declared.rules.Slot.{Slot}
 use Rattle.rule_model.specs.declared.rules.Slot.TheVariants.{Blank, Mark, Of}

@@ -9,7 +9,7 @@ use Rattle.spec_core.specs.Ready.{IsReady}
 use Rattle.spec_core.specs.Sorts.{FitsGround, no_variables}
 use Rattle.spec_core.specs.Terms.{TermTree, term_of, variable}
 use Rattle.spec_core.specs.Theories.{Theory}
-use Rattle.spec_core.specs.declared.settings.Settings.{Settings}
+use Rattle.run_settings.specs.declared.settings.Settings.{Settings}
 use Rattle.spec_core.proofs.Lists.{each_implied}
 use Rattle.spec_core.proofs.Members.{contains_none, contains_one, each_from}
 use Rattle.rule_model.specs.declared.action.Action.{Action}

@@ -8,7 +8,7 @@ use Rattle.spec_core.specs.Code.{Program}
 use Rattle.spec_core.specs.Lists.{Each}
 use Rattle.spec_core.specs.Ready.{IsReady}
 use Rattle.spec_core.specs.Terms.{term_of}
-use Rattle.spec_core.specs.declared.settings.Settings.{Settings}
+use Rattle.run_settings.specs.declared.settings.Settings.{Settings}
 use Rattle.spec_core.proofs.Members.{contains_first, contains_later, contains_none, contains_one, one_contained, one_filter}
 use Rattle.log_states.specs.Clients.{numbers_from}
 use Rattle.log_states.proofs.Tests.{by_cases}
@@ -24,8 +24,11 @@ use Rattle.script_text.specs.Wishes.{Wished}
 use Rattle.session_laws.specs.Sessions.{IsLegal, IsWholeSession}
 use Rattle.command_run.specs.Runs.{IsSessionOf}
 use Rattle.script_text.proofs.OneScript.{script_few, script_fits}
+use Rattle.trace_text.specs.declared.format.Format.{Format}
+use Rattle.trace_text.specs.declared.format.Format.TheVariants.{One, Two}
 use Rattle.trace_text.specs.Fits.{HasTrace}
-use Rattle.trace_text.proofs.OneTrace.{one_trace}
+use Rattle.trace_text.specs.Laws.{IsShort}
+use Rattle.trace_text.proofs.OneFormat.{one_trace}
 use Rattle.trace_reader.specs.Lines.{lines_text}
 use Rattle.trace_reader.specs.Traces.{IsBadBehind, IsLineFault, bad_form, bad_line, ends_early, too_long, trace_limit}
 use Rattle.command_replay.specs.Replays as replays
@@ -91,6 +94,11 @@ up_to_last (suc k) g h = h (suc k) (last_number k)
 equal : (a b : ℕ) → a ≤ b → b ≤ a → a ≡ b
 equal a b h k = omega (arith, h, k)
 
+-- a text that `replay` reads has few bytes
+few_bytes : (format : Format) (text : List ℕ) → length text ≤ trace_limit → IsShort format text
+few_bytes One text h = tt
+few_bytes Two text h = omega (arith, h)
+
 module _ (program : Program) (settings : Settings) (ready : IsReady program) (few : HasFewGates program) (clients : List (List Wished))
     (log : List Event) (ending : Ending) (at_most_64 : length clients ≤ 64)
     (short : Each (λ (wishes : List Wished). length wishes < 2 ^ 64) clients) (fit : Each (Each (WishFits program)) clients)
@@ -134,16 +142,21 @@ module _ (program : Program) (settings : Settings) (ready : IsReady program) (fe
   has : HasTrace program log ending
   has = has_trace program settings ready few clients log ending at_most_64 short fit session
 
-  module _ (text : List ℕ) (spelled : IsTextOf program log ending text) where
-    pub one : (other : List Event) (another : Ending) → HasTrace program other another → IsTextOf program other another text →
-        (other ≡ log) × (another ≡ ending)
-    one other another h e = one_trace program ready.executable.fits ready.named other log another ending h has (sym e ∙ spelled)
+  module _ (text : List ℕ) (format : Format) (spelled : IsTextOf program format log ending text) where
+    pub one : IsShort format text → (form : Format) (other : List Event) (another : Ending) → HasTrace program other another →
+        IsTextOf program form other another text → (form ≡ format) × (other ≡ log) × (another ≡ ending)
+    one short form other another h e =
+        let same =
+        one_trace program ready.executable.fits ready.named format form log other ending another has h
+        (subst (IsShort format) spelled short) (sym spelled ∙ e) in
+        (sym same.0, sym same.1, sym same.2)
 
     module _ (fits : length text ≤ trace_limit) where
       never_bad : (before after : List ℕ) → text ≡ before ++ after → IsBadBehind program text before after → ⊥
       never_bad before after e (bad_line line rest f single never) =
           never
           (record {
+            format = format;
             log = log;
             ending = ending;
             behind = rest;
@@ -153,34 +166,39 @@ module _ (program : Program) (settings : Settings) (ready : IsReady program) (fe
                 (sym (append_assoc line (codes "\n") rest))
                 ∙ sym (append_assoc before (line ++ codes "\n") rest);
           })
-      never_bad before after e (ends_early single never) = never log ending (record { has = has; spelled = spelled; short = fits })
+      never_bad before after e (ends_early single never) = never format log ending (record { has = has; spelled = spelled; short = fits })
 
       never_faulty : (number : ℕ) (kind : TextKind) → IsLineFault program text number kind → ⊥
       never_faulty number kind (too_long h e f) = omega (arith, h, fits)
       never_faulty number kind (bad_form h e f) = never_bad (lines_text f.before) f.after f.parts f.bad
 
+      same_log : (form : Format) (other : List Event) (another : Ending) → HasTrace program other another →
+          IsTextOf program form other another text → other ≡ log
+      same_log form other another h e = (one (few_bytes format text fits) form other another h e).1
+
       pub told : (budget : ℕ) (answer : Answer) → replays.Comes program text budget answer → TellsDerivation program log budget answer
       told budget (Derivation actions) h =
-          let same = (one h.log h.ending h.trace.has h.trace.spelled).0 in
+          let same = same_log h.format h.log h.ending h.trace.has h.trace.spelled in
           subst (λ (l : List Event). IsDerivationOf program l actions) same h.comes.0
       told budget (Spent x) h =
-          let same = (one h.log h.ending h.trace.has h.trace.spelled).0 in
+          let same = same_log h.format h.log h.ending h.trace.has h.trace.spelled in
           (subst (λ (l : List Event). LogAsks program l (term_of x)) same h.comes.0, h.comes.1)
       told budget (TooLarge x) h =
-          let same = (one h.log h.ending h.trace.has h.trace.spelled).0 in
+          let same = same_log h.format h.log h.ending h.trace.has h.trace.spelled in
           (subst (λ (l : List Event). LogAsks program l (term_of x)) same h.comes.0, h.comes.1)
       told budget (NotADerivation line) h =
-          let same = (one h.log h.ending h.trace.has h.trace.spelled).0 in
+          let same = same_log h.format h.log h.ending h.trace.has h.trace.spelled in
           (logs_have_one_answer program ready log).derived all.last.actions h.comes.0.0 derived
           (subst (λ (l : List Event). EndsAt program l h.comes.0.0) same h.comes.0.1)
       told budget (Refused line kind) h = never_faulty line kind h
 
 pub traces_are_of_one_session : TracesAreOfOneSession
-traces_are_of_one_session program settings script log end ready few h text spelled =
+traces_are_of_one_session program settings script log end ready few h text format form spelled short other another =
     one program settings ready few h.clients _ _ (script_few program script h.clients h.spelled)
-    (script_short program script h.clients h.spelled) (script_fits program script h.clients h.spelled) h.come text spelled
+    (script_short program script h.clients h.spelled) (script_fits program script h.clients h.spelled) h.come text format spelled short form
+    other another
 
 pub sessions_are_replayed : SessionsAreReplayed
-sessions_are_replayed program settings script log end ready few h text spelled fits =
+sessions_are_replayed program settings script log end ready few h text format spelled fits =
     told program settings ready few h.clients _ _ (script_few program script h.clients h.spelled)
-    (script_short program script h.clients h.spelled) (script_fits program script h.clients h.spelled) h.come text spelled fits
+    (script_short program script h.clients h.spelled) (script_fits program script h.clients h.spelled) h.come text format spelled fits

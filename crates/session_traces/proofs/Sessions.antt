@@ -4,7 +4,7 @@ use Rattle.std.proofs.Common.{inl, inr, Option, Some, Contains}
 use Rattle.spec_core.specs.Code.{Program}
 use Rattle.spec_core.specs.Lists.{Each, IsOneOf}
 use Rattle.spec_core.specs.Ready.{IsReady}
-use Rattle.spec_core.specs.declared.settings.Settings.{Settings}
+use Rattle.run_settings.specs.declared.settings.Settings.{Settings}
 use Rattle.spec_core.proofs.Members.{contains_none}
 use Rattle.log_check.specs.Starting.{greatest_in}
 use Rattle.log_states.specs.Clients.{numbers_from}

@@ -3,7 +3,7 @@ use Rattle.std.specs.Prelude.{ℕ, ◌≡◌, ◌<◌, ◌≤◌, ◌^◌, List,
 use Rattle.spec_core.specs.Code.{Program}
 use Rattle.spec_core.specs.Lists.{Each}
 use Rattle.spec_core.specs.Ready.{IsReady}
-use Rattle.spec_core.specs.declared.settings.Settings.{Settings}
+use Rattle.run_settings.specs.declared.settings.Settings.{Settings}
 use Rattle.rule_model.specs.Events.{Event, Ending, ending_of}
 use Rattle.rule_model.specs.Logs.{events_of}
 use Rattle.rule_model.specs.declared.log.End.{End}
@@ -12,7 +12,9 @@ use Rattle.rule_sorts.specs.Fitting.{HasFewGates}
 use Rattle.script_text.specs.Scripts.{WishFits}
 use Rattle.script_text.specs.Wishes.{Wished}
 use Rattle.trace_reader.specs.Traces.{trace_limit}
+use Rattle.trace_text.specs.declared.format.Format.{Format}
 use Rattle.trace_text.specs.Fits.{HasTrace}
+use Rattle.trace_text.specs.Laws.{IsShort}
 use Rattle.command_run.specs.Runs.{IsSessionOf}
 use Rattle.command_run.specs.Runs as runs
 use Rattle.command_run.specs.declared.answer.Answer.TheVariants.{Ran}
@@ -42,29 +44,30 @@ ScriptsHaveTraces =
     runs.Comes program settings script (Ran log end) →
     HasTrace program (events_of log) (ending_of end)
 
--- its text is the trace of no other log, and of no other end
+-- its text, in either format, is the trace of no other log, of no other end, and in no other format
 abbrev pub TracesAreOfOneSession : Type 0
 TracesAreOfOneSession =
     (program : Program) (settings : Settings) (script : List ℕ) (log : Log) (end : End) →
     IsReady program →
     HasFewGates program →
     runs.Comes program settings script (Ran log end) →
-    (text : List ℕ) →
-    IsTextOf program (events_of log) (ending_of end) text →
+    (text : List ℕ) (format form : Format) →
+    IsTextOf program format (events_of log) (ending_of end) text →
+    IsShort format text →
     (other : List Event) (another : Ending) →
     HasTrace program other another →
-    IsTextOf program other another text →
-    (other ≡ events_of log) × (another ≡ ending_of end)
+    IsTextOf program form other another text →
+    (form ≡ format) × (other ≡ events_of log) × (another ≡ ending_of end)
 
--- whatever `replay` answers to its text, it tells that the log is a derivation, unless a term that it asks is too dear, or too large
+-- whatever `replay` answers to its text, in either format, it tells that the log is a derivation, unless a term that it asks is too dear, or too large
 abbrev pub SessionsAreReplayed : Type 0
 SessionsAreReplayed =
     (program : Program) (settings : Settings) (script : List ℕ) (log : Log) (end : End) →
     IsReady program →
     HasFewGates program →
     runs.Comes program settings script (Ran log end) →
-    (text : List ℕ) →
-    IsTextOf program (events_of log) (ending_of end) text →
+    (text : List ℕ) (format : Format) →
+    IsTextOf program format (events_of log) (ending_of end) text →
     length text ≤ trace_limit →
     (budget : ℕ) (answer : Answer) →
     replays.Comes program text budget answer →

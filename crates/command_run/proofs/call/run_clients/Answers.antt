@@ -4,7 +4,7 @@ use Rattle.spec_core.specs.Lists.{Each}
 use Rattle.rule_model.specs.Wishes.{Wish}
 use Rattle.rule_model.specs.WishViews.{wish_of}
 use Rattle.script_offers.specs.Valued.{all_wishes_of}
-use Rattle.session_threads.specs.JobValues.{GivesValues}
+use Rattle.board_laws.specs.JobValues.{GivesValues}
 use Rattle.command_run.specs.Runs.{wishes_of_one}
 use Rattle.command_run.proofs.Sessions.{each_of_one, run_answers, threads_answer}
 use Rattle.command_run.proofs.call.run_clients.Goals as goal

@@ -3,7 +3,7 @@ use Rattle.spec_core.specs.Code.{program_of}
 use Rattle.spec_core.specs.Lists.{Each}
 use Rattle.rule_model.specs.Wishes.{Wish}
 use Rattle.script_offers.specs.Valued.{all_wishes_of}
-use Rattle.session_threads.specs.JobValues.{GivesValues}
+use Rattle.board_laws.specs.JobValues.{GivesValues}
 use Rattle.command_run.proofs.Sessions.{offers_give}
 use Rattle.command_run.proofs.call.run_script.Goals as goal
 
