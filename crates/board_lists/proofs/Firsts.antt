@@ -17,19 +17,19 @@ use Rattle.rule_model.specs.Derives.{Derives}
 use Rattle.rule_model.specs.States.{State}
 use Rattle.symbolic_rules.proofs.Acting.{windowed_trees_act}
 use Rattle.candidate_laws.proofs.Answers.{exact_answers_exist}
-use Rattle.board_laws.specs.Gaps.{OrGap, element, gap, all_known}
-use Rattle.board_laws.specs.Known.{where_known}
-use Rattle.board_laws.specs.Lazy.{first}
-use Rattle.board_laws.specs.Rules.{any, any_beyond}
+use Rattle.decision_trees.specs.Gaps.{OrGap, element, gap, all_known}
+use Rattle.decision_trees.specs.Known.{where_known}
+use Rattle.decision_trees.specs.Lazy.{first}
+use Rattle.decision_trees.specs.Rules.{any, any_beyond}
 use Rattle.candidate_laws.specs.Asked.{IsAsked, TestsAsked, TreeQuery}
 use Rattle.candidate_laws.specs.TreeLaws.{lists_of}
 use Rattle.candidate_laws.proofs.Listed.{asked_trees_are_listed}
 use Rattle.candidate_laws.proofs.Testing.{asked_can_be_tested}
 use Rattle.candidate_search.specs.Searches.{for_offer}
 use Rattle.candidates.specs.Listed.{known_trees}
-use Rattle.board_work.specs.Generations.{AreApart}
-use Rattle.board_core.specs.Shapes.{IsRight, Shape, stands_for}
-use Rattle.candidate_verdicts.specs.Steps.{Moves}
+use Rattle.node_trees.specs.Generations.{AreApart}
+use Rattle.node_trees.specs.Shapes.{IsRight, Shape, stands_for}
+use Rattle.board_tree.specs.Steps.{Moves}
 use Rattle.board_laws.proofs.Following.{searched_trees_follow}
 use Rattle.board_core.specs.Boards.{IsBoard}
 use Rattle.board_core.specs.Views.{BoardView, pieces, program, state, tree, windows}

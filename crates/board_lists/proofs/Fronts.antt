@@ -1,10 +1,10 @@
 -- What is found in a front of a list that waits stands first among all that holds of the whole list.
 use Rattle.std.proofs.Common.{◌≡◌, ◌++◌, ◌∙◌, List, [], ◌∷◌, filter, refl, sym, ap, subst, Option, Some, None, option_map, Bool}
 use Rattle.std.proofs.Common.{true, false, cond, if◌then◌else◌}
-use Rattle.board_laws.specs.Decisions.{Answers}
-use Rattle.board_laws.specs.Known.{Extends, Knowledge, known_or, unless_known, where_known}
-use Rattle.board_laws.specs.Lazy.{Lazy, nil, cons, waits, whole}
-use Rattle.board_laws.specs.Gaps.{OrGap, element, gap, all_known, with_gaps}
+use Rattle.decision_trees.specs.Decisions.{Answers}
+use Rattle.decision_trees.specs.Known.{Extends, Knowledge, known_or, unless_known, where_known}
+use Rattle.decision_trees.specs.Lazy.{Lazy, nil, cons, waits, whole}
+use Rattle.decision_trees.specs.Gaps.{OrGap, element, gap, all_known, with_gaps}
 
 -- these stand first among all, and are all of them where nothing is left
 pub record IsFront {A B : Type 0} (left : List B) (xs all : List A) : Type 0 where

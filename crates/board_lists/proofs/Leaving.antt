@@ -1,11 +1,11 @@
 -- What stays while trees are looked for.
 use Rattle.std.proofs.Common.{◌≡◌, ◌∙◌, inl, inr, refl, sym, ap, subst, None, Some}
-use Rattle.spec_core.specs.declared.settings.Settings.{Settings}
+use Rattle.run_settings.specs.declared.settings.Settings.{Settings}
 use Rattle.spec_core.specs.Code.{Program, program_of}
 use Rattle.rule_model.specs.declared.reply.LimitKind.TheVariants.{Steps}
 use Rattle.rule_model.specs.States.{State}
 use Rattle.candidates.specs.Jobs.{NodeJob}
-use Rattle.board_core.specs.Origins.{Source}
+use Rattle.node_trees.specs.Origins.{Source}
 use Rattle.board_laws.specs.declared.stop_reason.StopReason.{StopReason}
 use Rattle.board_laws.specs.declared.stop_reason.StopReason.TheVariants.{Limit}
 use Rattle.board_laws.specs.Reasons.{IsReasonToStop}

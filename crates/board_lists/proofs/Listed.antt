@@ -3,19 +3,19 @@ use Rattle.std.proofs.Common.{ℕ, ◌≡◌, ◌++◌, ◌∙◌, List, [], map
 use Rattle.std.proofs.lemmas.List.{map-append}
 use Rattle.spec_core.specs.Code.{Program}
 use Rattle.rule_model.specs.Derivations.{Derivation}
-use Rattle.candidate_composites.specs.Windows.{Windows}
-use Rattle.candidate_composites.specs.Composites.{Composite}
-use Rattle.candidate_composites.specs.Evaluations.{Evaluation}
-use Rattle.board_laws.specs.Decisions.{Answers}
-use Rattle.board_laws.specs.Known.{Knowledge}
-use Rattle.board_laws.specs.Lazy.{Lazy, whole}
-use Rattle.board_laws.specs.Gaps.{OrGap, all_known, with_gaps}
+use Rattle.symbolic_rules.specs.Windows.{Windows}
+use Rattle.symbolic_composites.specs.Composites.{Composite}
+use Rattle.symbolic_composites.specs.Evaluations.{Evaluation}
+use Rattle.decision_trees.specs.Decisions.{Answers}
+use Rattle.decision_trees.specs.Known.{Knowledge}
+use Rattle.decision_trees.specs.Lazy.{Lazy, whole}
+use Rattle.decision_trees.specs.Gaps.{OrGap, all_known, with_gaps}
 use Rattle.candidate_laws.specs.Asked.{TreeQuery, TestsAsked}
 use Rattle.candidate_laws.specs.TreeLaws.{lists_of}
 use Rattle.candidate_laws.specs.Waiting.{Candidate, waiting_trees}
 use Rattle.candidate_laws.specs.ListLaws.{answers_by, IsKnownOf}
 use Rattle.candidate_laws.proofs.Decided.{lists_are_those}
-use Rattle.board_core.specs.Shapes.{Shape, stands_for}
+use Rattle.node_trees.specs.Shapes.{Shape, stands_for}
 use Rattle.candidate_verdicts.specs.Known.{Pieces}
 use Rattle.candidates.specs.Listed.{knowledge, known_trees, tree_verdict}
 use Rattle.candidates.specs.Laws.{IsKnownTree}

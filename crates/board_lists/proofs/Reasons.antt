@@ -7,8 +7,8 @@ use Rattle.spec_core.specs.Theories.{Theory}
 use Rattle.rule_model.specs.declared.offer.Offer.{Offer}
 use Rattle.rule_model.specs.Derivations.{Derivation}
 use Rattle.rule_model.specs.States.{PendingOffer}
-use Rattle.board_laws.specs.Gaps.{OrGap, element, gap}
-use Rattle.board_laws.specs.Rules.{Query, Waiting, any, any_beyond}
+use Rattle.decision_trees.specs.Gaps.{OrGap, element, gap}
+use Rattle.decision_trees.specs.Rules.{Query, Waiting, any, any_beyond}
 use Rattle.candidate_laws.specs.Asked.{TreeQuery, offer_in}
 use Rattle.candidate_laws.proofs.Answers.{exact_answers_exist}
 use Rattle.candidate_verdicts.specs.Known.{NodePart, missing_parts}
@@ -17,18 +17,18 @@ use Rattle.candidates.specs.declared.job.NodeJob as declared
 use Rattle.candidates.specs.Jobs.{NodeJob, to_expand, to_judge}
 use Rattle.candidates.specs.Listed.{known_trees}
 use Rattle.candidates.specs.Models.{job_of}
-use Rattle.candidates.specs.Waiting.{waiting_in}
+use Rattle.board_offers.specs.Waiting.{waiting_in}
 use Rattle.board_laws.specs.JobValues.{GivesValues, JobChoosesValues}
 use Rattle.board_laws.specs.Needed.{IsOfRules, generation_of}
 use Rattle.board_laws.proofs.Living.{gap_waits}
 use Rattle.board_laws.proofs.StoppingGiven.{part_gives}
 use Rattle.board_core.specs.declared.job.Job.{Job}
 use Rattle.board_core.specs.Boards.{IsBoard}
-use Rattle.board_core.specs.Origins.{Source, source_of}
-use Rattle.board_core.specs.Shapes.{Held, IsNodeOf, Lives, stands_for}
+use Rattle.node_trees.specs.Origins.{Source, source_of}
+use Rattle.node_trees.specs.Shapes.{Held, IsNodeOf, Lives, stands_for}
 use Rattle.board_core.specs.Views.{BoardView, pieces, program, state, tree, windows}
 use Rattle.board_core.proofs.Due as due
-use Rattle.board_work.specs.Generations.{AreApart}
+use Rattle.node_trees.specs.Generations.{AreApart}
 use Rattle.board_lists.specs.Looking.{AsksForAll, FindsOut, GivesReason, IsForAll, IsSound, looked_through}
 
 of_all : (state : Waiting PendingOffer) (q : TreeQuery) → AsksForAll q → IsOfRules state q

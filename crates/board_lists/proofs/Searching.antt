@@ -8,15 +8,15 @@ use Rattle.spec_core.specs.Theories.{Theory}
 use Rattle.rule_model.specs.declared.offer.Offer.{Offer}
 use Rattle.rule_model.specs.declared.rules.Rules.{Rules}
 use Rattle.rule_model.specs.Derivations.{Derivation, derivation_of}
-use Rattle.board_laws.specs.Gaps.{OrGap, all_known}
-use Rattle.board_laws.specs.Known.{where_known}
-use Rattle.board_laws.specs.Rules.{Query, any, any_beyond}
+use Rattle.decision_trees.specs.Gaps.{OrGap, all_known}
+use Rattle.decision_trees.specs.Known.{where_known}
+use Rattle.decision_trees.specs.Rules.{Query, any, any_beyond}
 use Rattle.board_laws.proofs.Parts.{searches_in_parts}
-use Rattle.board_laws.specs.Lazy.{first}
-use Rattle.candidate_composites.specs.Windows.{Windows}
+use Rattle.decision_trees.specs.Lazy.{first}
+use Rattle.symbolic_rules.specs.Windows.{Windows}
 use Rattle.candidate_verdicts.specs.Known.{NodePart, Pieces, known_show, missing_parts}
 use Rattle.candidate_verdicts.proofs.Missing.{missing_parts_are_missing}
-use Rattle.board_core.specs.Shapes.{Shape}
+use Rattle.node_trees.specs.Shapes.{Shape}
 use Rattle.board_core.specs.declared.job.Job.{Job}
 use Rattle.board_core.specs.Views.{BoardView, program, tree, windows}
 use Rattle.candidate_laws.specs.Asked.{TreeQuery}

@@ -1,6 +1,6 @@
 -- Listings of the trees by which the behaviour that is reached may act. (This profile.)
 use Rattle.std.specs.Prelude.{ℕ, ◌≡◌, ◌↔◌, ◌<◌, List, length, take, map, option_map, Option, Bool, IsTrue}
-use Rattle.spec_core.specs.declared.settings.Settings.{Settings}
+use Rattle.run_settings.specs.declared.settings.Settings.{Settings}
 use Rattle.spec_core.specs.Code.{Program}
 use Rattle.spec_core.specs.Lists.{Each}
 use Rattle.rule_model.specs.declared.action.Action.{Action}
@@ -8,14 +8,14 @@ use Rattle.rule_model.specs.Behaviours.{Behaviour}
 use Rattle.rule_model.specs.Derivations.{Derivation, derivation_of}
 use Rattle.rule_model.specs.Derives.{Derives}
 use Rattle.rule_model.specs.States.{State}
-use Rattle.candidate_composites.specs.Windows.{Windows}
-use Rattle.candidate_composites.specs.Evaluations.{Evaluation, IsExact}
-use Rattle.board_laws.specs.Lazy.{first}
-use Rattle.board_laws.specs.Rules.{any, any_beyond}
+use Rattle.symbolic_rules.specs.Windows.{Windows}
+use Rattle.symbolic_composites.specs.Evaluations.{Evaluation, IsExact}
+use Rattle.decision_trees.specs.Lazy.{first}
+use Rattle.decision_trees.specs.Rules.{any, any_beyond}
 use Rattle.candidate_laws.specs.Asked.{TreeQuery, TestsAsked}
 use Rattle.candidate_laws.specs.TreeLaws.{lists_of}
-use Rattle.board_core.specs.Shapes.{Shape}
-use Rattle.candidate_verdicts.specs.Steps.{Follows}
+use Rattle.node_trees.specs.Shapes.{Shape}
+use Rattle.board_tree.specs.Steps.{Follows}
 use Rattle.board_laws.specs.Next.{AreSessionWindows}
 use Rattle.board_core.specs.Views.{BoardView}
 use Rattle.board_lists.specs.declared.list.Candidate.{Candidate}

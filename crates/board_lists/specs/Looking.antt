@@ -1,15 +1,15 @@
 -- What a search among the trees of a board's nodes comes to, as far as what is known decides it. (This profile.)
 use Rattle.std.specs.Prelude.{ℕ, ◌≡◌, ◌≤◌, ◌⊎◌, ◌++◌, ◌∷◌, [], List, length, map, Some, Option, Bool}
-use Rattle.spec_core.specs.declared.settings.Settings.{Settings}
+use Rattle.run_settings.specs.declared.settings.Settings.{Settings}
 use Rattle.spec_core.specs.Code.{Program}
 use Rattle.spec_core.specs.Lists.{Each, IsOneOf}
 use Rattle.rule_model.specs.declared.offer.Offer.{Offer}
 use Rattle.rule_model.specs.declared.rules.Rules.{Rules}
 use Rattle.rule_model.specs.Derivations.{Derivation, derivation_of}
 use Rattle.rule_model.specs.States.{State}
-use Rattle.candidate_composites.specs.Windows.{Windows}
-use Rattle.board_laws.specs.Gaps.{OrGap, element, gap, all_known}
-use Rattle.board_laws.specs.Rules.{Query, any, any_beyond}
+use Rattle.symbolic_rules.specs.Windows.{Windows}
+use Rattle.decision_trees.specs.Gaps.{OrGap, element, gap, all_known}
+use Rattle.decision_trees.specs.Rules.{Query, any, any_beyond}
 use Rattle.candidate_laws.specs.Asked.{TreeQuery}
 use Rattle.candidate_search.specs.Searches.{for_offer}
 use Rattle.candidate_composites.specs.Known.{placed_plans}
@@ -19,7 +19,7 @@ use Rattle.candidates.specs.Listed.{trees_sought, verdict_for}
 use Rattle.candidates.specs.Models.{job_of}
 use Rattle.board_laws.specs.declared.stop_reason.StopReason.{StopReason}
 use Rattle.board_laws.specs.Reasons.{IsReasonToStop}
-use Rattle.board_core.specs.Origins.{Source, meaning, source_of}
+use Rattle.node_trees.specs.Origins.{Source, meaning, source_of}
 use Rattle.board_core.specs.declared.job.Job.{Job}
 use Rattle.board_core.specs.Views.{BoardView, pieces, program, state, tree, windows}
 use Rattle.board_core.specs.Working.{IsOfValues}

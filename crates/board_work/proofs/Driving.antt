@@ -1,6 +1,6 @@
 -- What a board does keeps its log driven.
 use Rattle.std.proofs.Common.{◌≡◌, ◌∙◌, ◌⊎◌, sym, ap, subst, List, [], ◌∷◌, ◌++◌, map, Option, Some, None, inl, inr}
-use Rattle.spec_core.specs.declared.settings.Settings.{Settings}
+use Rattle.run_settings.specs.declared.settings.Settings.{Settings}
 use Rattle.spec_core.specs.Code.{Program, program_of}
 use Rattle.spec_core.specs.Lists.{IsOneOf}
 use Rattle.rule_model.specs.declared.reply.LimitKind.TheVariants.{Steps, Offers}

@@ -1,7 +1,7 @@
 -- Where a board settles nothing, and no job is needed.
 use Rattle.std.specs.Prelude.{IfSome, IfNone}
 use Rattle.std.proofs.Common.{ℕ, is_some, true, false, ◌≡◌, ◌⊎◌, inl, inr, ◌∙◌, List, [], ◌∷◌, refl, sym, ap, subst, map, Option, Some, None}
-use Rattle.spec_core.specs.declared.settings.Settings.{Settings}
+use Rattle.run_settings.specs.declared.settings.Settings.{Settings}
 use Rattle.spec_core.specs.declared.window.Window.{Window}
 use Rattle.spec_core.specs.Code.{Program, program_of}
 use Rattle.spec_core.specs.Theories.{Theory}
@@ -10,29 +10,29 @@ use Rattle.rule_model.specs.States.{PendingOffer, State}
 use Rattle.candidate_verdicts.specs.declared.pieces.Pieces.{Pieces}
 use Rattle.candidate_verdicts.specs.Known as known
 use Rattle.candidate_verdicts.specs.Stored.{stored}
-use Rattle.candidate_verdicts.specs.Tables.{windows_in}
-use Rattle.candidate_verdicts.specs.Windows.{Windows}
+use Rattle.symbolic_rules.specs.Tables.{windows_in}
+use Rattle.symbolic_rules.specs.Windows.{Windows}
 use Rattle.candidates.specs.declared.job.NodeJob as declared
 use Rattle.candidates.specs.Jobs.{NodeJob, is_out}
 use Rattle.candidates.specs.Models.{job_of}
-use Rattle.board_laws.specs.Lazy.{first}
+use Rattle.decision_trees.specs.Lazy.{first}
 use Rattle.board_laws.specs.Needed.{entry_decided, jobs_needed}
 use Rattle.board_laws.specs.Next.{GoesByRules, IsNextOf}
-use Rattle.board_laws.specs.Rules.{Waiting, nothing}
+use Rattle.decision_trees.specs.Rules.{Waiting, nothing}
 use Rattle.board_laws.specs.StoppingLaws.{GiveReasons}
 use Rattle.board_laws.specs.declared.stop_reason.StopReason.TheVariants.{Limit}
 use Rattle.board_laws.specs.declared.stop_reason.StopReason.{StopReason}
 use Rattle.board_laws.proofs.Settling.{nothing_needed_is_decided}
 use Rattle.board_core.specs.Awaiting.{AwaitsClients}
-use Rattle.board_core.specs.Jobs.{first_not_out, not_out}
+use Rattle.decision_order.specs.Jobs.{first_not_out, not_out}
 use Rattle.board_core.specs.Settled.{HasSettled, IsQuiet, WhyQuiet, quiet_stopped, quiet_undecided, quiet_nothing, quiet_limit}
-use Rattle.board_core.specs.Shapes.{Shape}
+use Rattle.node_trees.specs.Shapes.{Shape}
 use Rattle.board_core.specs.Views.{BoardView, program, state, tree, windows, pieces, decided_at, needed_at, SameLog, SameNodes, SameSession}
-use Rattle.board_core.specs.Waiting.{waiting_in}
+use Rattle.board_offers.specs.Waiting.{waiting_in}
 use Rattle.board_core.specs.Working.{NoneFree, WhyNone, first_free, first_reason, none_stopped, none_ended, none_awaited, none_needed}
 use Rattle.board_core.proofs.Knowing.{free_is_needed}
 use Rattle.board_work.specs.Handed.{HandsIn}
-use Rattle.board_work.specs.Runs.{IsSettledAt, all_told, none_next}
+use Rattle.client_laws.specs.Runs.{IsSettledAt, all_told, none_next}
 use Rattle.board_work.specs.Settling.{HasComeNext, HasNoJob, IsLike, IsSettledOn}
 use Rattle.board_work.proofs.Driving.{asked_at}
 use Rattle.board_work.proofs.Handing.{handed_twice, nothing_handed}

@@ -2,10 +2,10 @@
 use Rattle.std.proofs.Common.{ℕ, ◌≡◌, ◌∙◌, inl, inr, List, refl, sym, ap, subst, Option, Some, None}
 use Rattle.spec_core.specs.Code.{Program}
 use Rattle.rule_model.specs.Derivations.{Derivation}
-use Rattle.candidate_verdicts.specs.Windows.{Windows}
-use Rattle.candidate_verdicts.specs.MarkedTerms.{unmarked}
+use Rattle.symbolic_rules.specs.Windows.{Windows}
+use Rattle.symbolic_rules.specs.MarkedTerms.{unmarked}
 use Rattle.node_values.specs.Stops.{Stops, Never}
-use Rattle.node_work.specs.Expansions.{IsStop}
+use Rattle.expand.specs.Expansions.{IsStop}
 use Rattle.node_verdict.specs.Asking.{TreeAsks}
 use Rattle.symbolic_actions.specs.Shows.{Show, Shows}
 use Rattle.node_trees.specs.Origins.{Source, meaning}
@@ -14,7 +14,7 @@ use Rattle.node_trees.specs.Shapes.{Above, Held, IsNodeOf, Shape, Stands}
 use Rattle.candidate_verdicts.specs.Known.{NodePart}
 use Rattle.candidates.specs.Jobs.{NodeJob, to_expand, to_judge}
 use Rattle.board_laws.proofs.Living.{needed_jobs_live, needed_jobs_are_undone}
-use Rattle.board_core.specs.Waiting.{waiting_in}
+use Rattle.board_offers.specs.Waiting.{waiting_in}
 use Rattle.board_laws.specs.declared.stop_reason.StopReason.{StopReason}
 use Rattle.board_laws.specs.StoppingLaws.{GiveReasons}
 use Rattle.board_laws.specs.Reasons.{IsAskedByRules, IsReasonToStop}

@@ -5,7 +5,7 @@ use Rattle.node_trees.specs.Origins.{source_of}
 use Rattle.node_trees.specs.Shapes.{Shape}
 use Rattle.candidates.specs.Jobs.{NodeJob, is_out}
 use Rattle.candidates.specs.Models.{job_of}
-use Rattle.board_laws.specs.Lazy.{first}
+use Rattle.decision_trees.specs.Lazy.{first}
 use Rattle.board_laws.specs.declared.stop_reason.StopReason.{StopReason}
 use Rattle.board_laws.specs.Needed.{generation_of}
 use Rattle.board_laws.specs.Reasons.{LooksForTrees}

@@ -4,5 +4,5 @@ pub mod Handed
 pub mod Outcomes
 pub mod Settling
 pub use Rattle.node_trees.specs.Generations
-pub use Rattle.session_laws.specs.Ends
-pub use Rattle.session_laws.specs.Runs
+pub use Rattle.client_laws.specs.Ends
+pub use Rattle.client_laws.specs.Runs

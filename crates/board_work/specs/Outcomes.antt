@@ -3,11 +3,11 @@ use Rattle.std.specs.Prelude.{ℕ, ◌≡◌, Some, option_map}
 use Rattle.spec_core.specs.Code.{Program}
 use Rattle.rule_model.specs.Behaviours.{Behaviour}
 use Rattle.rule_model.specs.Derivations.{Derivation}
-use Rattle.candidate_verdicts.specs.Windows.{Windows}
-use Rattle.candidate_verdicts.specs.MarkedTerms.{unmarked}
+use Rattle.symbolic_rules.specs.Windows.{Windows}
+use Rattle.symbolic_rules.specs.MarkedTerms.{unmarked}
 use Rattle.node_values.specs.declared.stop.Stop.{Stop}
 use Rattle.node_values.specs.Stops.{Stops, Never}
-use Rattle.node_work.specs.Expansions.{IsStop}
+use Rattle.expand.specs.Expansions.{IsStop}
 use Rattle.node_verdict.specs.Asking.{TreeAsks}
 use Rattle.symbolic_actions.specs.Models.{show_of}
 use Rattle.symbolic_actions.specs.Shows.{Shows}

@@ -1,15 +1,15 @@
 -- Boards on which entries are appended and jobs are done, by turns. (This profile.)
 use Rattle.std.specs.Prelude.{◌≡◌, ◌⊎◌, [], None, Some}
 use Rattle.candidates.specs.Jobs.{NodeJob}
-use Rattle.board_laws.specs.Lazy.{first}
-use Rattle.board_laws.specs.Rules.{nothing}
+use Rattle.decision_trees.specs.Lazy.{first}
+use Rattle.decision_trees.specs.Rules.{nothing}
 use Rattle.board_core.specs.Awaiting.{AwaitsClients}
 use Rattle.board_core.specs.Settled.{HasSettled}
 use Rattle.board_core.specs.Views as views
 use Rattle.board_core.specs.Views.{BoardView, SameLog, SameNodes, SameSession}
 use Rattle.board_core.specs.Working.{IsNeeded, NoneFree}
 use Rattle.board_work.specs.Handed.{HandsIn, IsUndoneOn}
-use Rattle.board_work.specs.Runs.{IsSettledAt}
+use Rattle.client_laws.specs.Runs.{IsSettledAt}
 
 -- jobs are done, if any, and then the next entry is appended
 pub record HasComeNext (old new : BoardView) : Type 0 where

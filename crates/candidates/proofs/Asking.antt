@@ -6,7 +6,7 @@ use Rattle.spec_core.specs.Theories.{Theory, theory_of}
 use Rattle.rule_model.specs.declared.offer.Offer.{Offer}
 use Rattle.rule_model.specs.declared.rules.Rules.{Rules}
 use Rattle.rule_model.specs.Derivations.{Derivation, derivation_of}
-use Rattle.candidate_composites.specs.Tables.{windows_in}
+use Rattle.symbolic_rules.specs.Tables.{windows_in}
 use Rattle.decision_trees.specs.Decisions.{Question}
 use Rattle.decision_trees.specs.Gaps.{OrGap}
 use Rattle.decision_trees.specs.Rules.{Query}
@@ -16,7 +16,7 @@ use Rattle.decision_order.specs.declared.listing.First.{First}
 use Rattle.decision_order.specs.declared.listing.First.TheVariants.{Is}
 use Rattle.node_trees.specs.Shapes.{shape_of}
 use Rattle.candidate_verdicts.specs.Stored.{stored}
-use Rattle.candidate_composites.specs.Windows.{Windows}
+use Rattle.symbolic_rules.specs.Windows.{Windows}
 use Rattle.candidate_composites.specs.Known.{PlacedPlan, plans_sought}
 use Rattle.candidate_laws.specs.Sought.{Sought}
 use Rattle.candidates.specs.Listed.{kinds_sought, trees_in, trees_sought, verdict_for}

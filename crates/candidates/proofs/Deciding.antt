@@ -4,7 +4,7 @@ use Rattle.std.specs.Prelude.{option_and_then}
 use Rattle.spec_core.specs.Code.{Program}
 use Rattle.rule_model.specs.Derivations.{Derivation}
 use Rattle.rule_model.specs.States.{PendingOffer}
-use Rattle.candidate_composites.specs.Windows.{Windows}
+use Rattle.symbolic_rules.specs.Windows.{Windows}
 use Rattle.decision_trees.specs.Known.{Knowledge, decided}
 use Rattle.decision_trees.specs.Lazy.{Lazy, whole, first_holding, all_holding}
 use Rattle.decision_trees.specs.Gaps.{first_known, all_known}
@@ -14,8 +14,8 @@ use Rattle.decision_trees.proofs.Following.{decision_is_next}
 use Rattle.decision_trees.proofs.Gaps.{gaps_are_so}
 use Rattle.decision_order.specs.Rules.{next_decided}
 use Rattle.decision_order.proofs.Deciding.{decided_by_rules}
-use Rattle.candidate_composites.specs.Composites.{Composite}
-use Rattle.candidate_composites.specs.Evaluations.{Evaluation}
+use Rattle.symbolic_composites.specs.Composites.{Composite}
+use Rattle.symbolic_composites.specs.Evaluations.{Evaluation}
 use Rattle.symbolic_plans.specs.Laws.{composites_of}
 use Rattle.candidate_laws.specs.Asked.{TreeQuery, TestsAsked}
 use Rattle.candidate_laws.specs.TreeLaws.{EntryHolds, lists_of}

@@ -2,11 +2,11 @@
 use Rattle.std.proofs.Common.{◌≡◌, ◌++◌, ◌∙◌, List, [], ◌∷◌, map, flat_map, refl, sym, ap, Option, Some, None, option_map}
 use Rattle.std.specs.Prelude.{option_and_then}
 use Rattle.spec_core.specs.Theories.{Theory}
-use Rattle.candidate_composites.specs.Windows.{Windows}
+use Rattle.symbolic_rules.specs.Windows.{Windows}
 use Rattle.decision_trees.specs.Lazy.{of_list}
 use Rattle.decision_trees.specs.Gaps.{element, gap, with_gaps, in_its_place}
 use Rattle.decision_trees.proofs.Gaps.{parts_are_so}
-use Rattle.candidate_composites.specs.Composites.{Composite}
+use Rattle.symbolic_composites.specs.Composites.{Composite}
 use Rattle.symbolic_plans.specs.OpenPlans.{OpenPlan, composite_of}
 use Rattle.symbolic_plans.specs.Laws.{composites_of}
 use Rattle.candidate_laws.specs.Asked.{TreeQuery}

@@ -4,7 +4,7 @@ use Rattle.std.specs.Prelude.{is_some}
 use Rattle.std.proofs.lemmas.List.Concat.{flat_map-append}
 use Rattle.spec_core.specs.Theories.{Theory}
 use Rattle.rule_model.specs.States.{PendingOffer}
-use Rattle.candidate_composites.specs.Windows.{Windows}
+use Rattle.symbolic_rules.specs.Windows.{Windows}
 use Rattle.decision_trees.specs.Decisions.{Question}
 use Rattle.decision_trees.specs.Known.{Knowledge, found}
 use Rattle.decision_trees.specs.Lazy.{Lazy, first, first_holding, all_holding}
@@ -14,7 +14,7 @@ use Rattle.decision_trees.proofs.Gaps.{gaps_are_so}
 use Rattle.decision_order.specs.Laws.{is_held}
 use Rattle.decision_order.specs.Needed.{first_needed, unseen_needed, waiting_needed, asked_needed, marked_needed, unmet_needed, next_needed}
 use Rattle.decision_order.proofs.Needing.{needed_by_rules}
-use Rattle.candidate_composites.specs.Composites.{Composite}
+use Rattle.symbolic_composites.specs.Composites.{Composite}
 use Rattle.candidate_laws.specs.Asked.{TreeQuery}
 use Rattle.candidate_laws.specs.Waiting.{Candidate, waiting_trees}
 use Rattle.node_trees.specs.Generations.{AreApart}

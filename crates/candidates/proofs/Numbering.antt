@@ -3,7 +3,7 @@ use Rattle.std.proofs.Common.{ℕ, ◌≡◌, ◌∙◌, List, [], sym, ap, Opti
 use Rattle.spec_core.specs.Theories.{theory_of}
 use Rattle.rule_model.specs.Derivations.{Derivation}
 use Rattle.rule_model.specs.States.{PendingOffer}
-use Rattle.candidate_composites.specs.Tables.{windows_in}
+use Rattle.symbolic_rules.specs.Tables.{windows_in}
 use Rattle.decision_trees.specs.Gaps.{OrGap}
 use Rattle.decision_trees.specs.Rules.{Query, Waiting, Next}
 use Rattle.decision_order.specs.Jobs.{taken_on}

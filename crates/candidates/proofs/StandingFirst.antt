@@ -12,7 +12,7 @@ use Rattle.candidate_laws.specs.Sought.{Sought}
 use Rattle.candidate_search.specs.Searches.{asked_from}
 use Rattle.node_trees.specs.declared.origin.Gen.{Gen}
 use Rattle.node_trees.specs.Shapes.{shape_of}
-use Rattle.candidate_composites.specs.Tables.{windows_in}
+use Rattle.symbolic_rules.specs.Tables.{windows_in}
 use Rattle.candidate_composites.specs.declared.foremost.Foremost.{Foremost}
 use Rattle.candidate_composites.specs.Foremost.{IsForemost, StandFirst, gaps_of}
 use Rattle.candidate_composites.specs.Known.{placed_plans, sought_plans}

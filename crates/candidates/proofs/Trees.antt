@@ -5,7 +5,7 @@ use Rattle.std.specs.Prelude.{is_some}
 use Rattle.std.proofs.lemmas.List.{map-append}
 use Rattle.spec_core.specs.Theories.{Theory}
 use Rattle.rule_model.specs.Derivations.{Derivation}
-use Rattle.candidate_composites.specs.Windows.{Windows}
+use Rattle.symbolic_rules.specs.Windows.{Windows}
 use Rattle.decision_trees.specs.Decisions.{expand, judge}
 use Rattle.decision_trees.specs.Known.{where_known, known_or, unless_known}
 use Rattle.decision_trees.specs.Lazy.{first}

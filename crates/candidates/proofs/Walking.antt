@@ -6,18 +6,18 @@ use Rattle.spec_core.specs.Theories.{Theory}
 use Rattle.rule_model.specs.declared.offer.Offer.{Offer}
 use Rattle.rule_model.specs.declared.rules.Slot.{Slot}
 use Rattle.rule_model.specs.Actions.{inside, ends, at_gate}
-use Rattle.candidate_composites.specs.Windows.{Windows}
+use Rattle.symbolic_rules.specs.Windows.{Windows}
 use Rattle.decision_trees.specs.Gaps.{element, gap}
 use Rattle.decision_trees.specs.Rules.{Query, meeting, any, unseen, beyond, any_beyond, beyond_or_unseen}
-use Rattle.candidate_composites.specs.Kinds.{same_kind}
-use Rattle.candidate_composites.specs.OpenFields.{all_choices, given_in}
-use Rattle.candidate_composites.specs.Composites.{from_option}
+use Rattle.symbolic_composites.specs.Kinds.{same_kind}
+use Rattle.symbolic_composites.specs.OpenFields.{all_choices, given_in}
+use Rattle.symbolic_composites.specs.Composites.{from_option}
 use Rattle.candidate_composites.proofs.Tests.{if_false}
 use Rattle.symbolic_plans.specs.OpenPlans.{OpenPlan}
 use Rattle.candidate_laws.specs.Sought.{Step, is_sought, seeks_some, sought_at}
 use Rattle.candidate_laws.specs.Waiting.{is_unseen}
 use Rattle.candidate_laws.proofs.Asking.{seen_is}
-use Rattle.candidate_search.specs.Numbers.{trees_at_once}
+use Rattle.symbolic_trees.specs.Numbers.{trees_at_once}
 use Rattle.candidate_search.specs.Searches.{is_wanted, all_meeting, slots_taking, slots_asked, asked_from}
 use Rattle.candidate_composites.specs.Known.{PlacedPlan, made, awaited, plans_sought}
 use Rattle.candidates.specs.Listed.{kinds_sought, trees_in, trees_sought}

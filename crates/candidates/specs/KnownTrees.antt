@@ -4,7 +4,7 @@ use Rattle.spec_core.specs.Theories.{theory_of}
 use Rattle.rule_model.specs.declared.offer.Offer.{Offer}
 use Rattle.rule_model.specs.Derivations.{Derivation}
 use Rattle.rule_model.specs.States.{PendingOffer}
-use Rattle.candidate_composites.specs.Tables.{windows_in}
+use Rattle.symbolic_rules.specs.Tables.{windows_in}
 use Rattle.decision_trees.specs.Gaps.{OrGap, first_known, all_known, missing_to_first, all_missing, known_to_hold}
 use Rattle.decision_trees.specs.Lazy.{first}
 use Rattle.decision_trees.specs.Rules.{Query}

@@ -5,13 +5,13 @@ use Rattle.spec_core.specs.Code.{Program}
 use Rattle.spec_core.specs.Ready.{IsReady}
 use Rattle.rule_model.specs.Derivations.{Derivation}
 use Rattle.rule_model.specs.States.{PendingOffer}
-use Rattle.candidate_composites.specs.Windows.{Windows, AreWindows}
+use Rattle.symbolic_rules.specs.Windows.{Windows, AreWindows}
 use Rattle.decision_trees.specs.Known.{found}
 use Rattle.decision_trees.specs.Gaps.{with_gaps}
 use Rattle.decision_trees.specs.Rules.{Waiting, Next, next_of, decision}
 use Rattle.decision_order.specs.Rules.{next_decided}
 use Rattle.decision_order.specs.Needed.{next_needed}
-use Rattle.candidate_composites.specs.Evaluations.{Evaluation, IsExact}
+use Rattle.symbolic_composites.specs.Evaluations.{Evaluation, IsExact}
 use Rattle.symbolic_plans.specs.Laws.{composites_of}
 use Rattle.candidate_laws.specs.Asked.{TreeQuery, TestsAsked}
 use Rattle.candidate_laws.specs.TreeLaws.{IsSoundWaiting, EntryHolds, lists_of}

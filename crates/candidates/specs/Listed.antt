@@ -4,13 +4,13 @@ use Rattle.std.specs.Prelude.{ℕ, List, map, flat_map, Option, Bool, is_some, o
 use Rattle.spec_core.specs.Theories.{Theory}
 use Rattle.rule_model.specs.declared.offer.Offer.{Offer}
 use Rattle.rule_model.specs.Derivations.{Derivation}
-use Rattle.candidate_composites.specs.Windows.{Windows}
+use Rattle.symbolic_rules.specs.Windows.{Windows}
 use Rattle.decision_trees.specs.Decisions.{Question}
 use Rattle.decision_trees.specs.Known.{Knowledge}
 use Rattle.decision_trees.specs.Lazy.{first}
 use Rattle.decision_trees.specs.Rules.{Query}
 use Rattle.decision_trees.specs.Gaps.{OrGap, element, in_its_place, first_known, all_known, missing_to_first, all_missing, known_to_hold}
-use Rattle.candidate_composites.specs.Composites.{Composite}
+use Rattle.symbolic_composites.specs.Composites.{Composite}
 use Rattle.symbolic_plans.specs.OpenPlans.{OpenPlan}
 use Rattle.symbolic_plans.specs.Laws.{composites_of}
 use Rattle.candidate_laws.specs.Asked.{TreeQuery}

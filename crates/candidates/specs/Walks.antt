@@ -3,12 +3,12 @@ use Rattle.std.specs.Prelude.{◌++◌, List, [], map, Option, Some, None}
 use Rattle.spec_core.specs.Theories.{Theory, theory_of}
 use Rattle.rule_model.specs.declared.offer.Offer.{Offer}
 use Rattle.rule_model.specs.Derivations.{Derivation, derivation_of}
-use Rattle.candidate_composites.specs.Windows.{Windows}
-use Rattle.candidate_composites.specs.Tables.{windows_in}
+use Rattle.symbolic_rules.specs.Windows.{Windows}
+use Rattle.symbolic_rules.specs.Tables.{windows_in}
 use Rattle.decision_trees.specs.Gaps.{OrGap, element, gap}
 use Rattle.decision_trees.specs.Rules.{Query}
 use Rattle.symbolic_plans.specs.OpenPlans.{open_plan_of}
-use Rattle.candidate_search.specs.Numbers.{trees_at_once}
+use Rattle.symbolic_trees.specs.Numbers.{trees_at_once}
 use Rattle.candidate_search.specs.Searches.{is_wanted, wanted_from, query_of}
 use Rattle.candidate_composites.specs.Known.{placed_of}
 use Rattle.candidates.specs.Composites.{without_gaps}

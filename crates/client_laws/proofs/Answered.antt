@@ -3,7 +3,7 @@ use Rattle.std.proofs.Common.{ℕ, ◌+◌, ◌≡◌, ◌∙◌, refl, sym, ap,
 use Rattle.std.proofs.Common.{if◌then◌else◌, append_assoc, Option, Some, None}
 use Rattle.std.proofs.lemmas.Bool.{eq-eqb, and_from}
 use Rattle.std.proofs.lemmas.List.{append-nil, length-append, map-append}
-use Rattle.spec_core.specs.declared.settings.Settings.{Settings}
+use Rattle.run_settings.specs.declared.settings.Settings.{Settings}
 use Rattle.spec_core.specs.Code.{Program}
 use Rattle.spec_core.proofs.Members.{contains_first, contains_none}
 use Rattle.rule_model.specs.Answering.{name_of, offers_in, answered_in, numbered}

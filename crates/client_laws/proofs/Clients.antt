@@ -1,6 +1,6 @@
 -- The sessions of clients.
 use Rattle.std.proofs.Common.{◌≡◌, refl, sym, ap, [], Option}
-use Rattle.spec_core.specs.declared.settings.Settings.{Settings}
+use Rattle.run_settings.specs.declared.settings.Settings.{Settings}
 use Rattle.spec_core.specs.Code.{Program}
 use Rattle.spec_core.specs.Ready.{IsReady}
 use Rattle.rule_model.specs.States.{State, start_state}

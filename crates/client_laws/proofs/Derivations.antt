@@ -1,6 +1,6 @@
 -- Each run is a derivation.
 use Rattle.std.proofs.Common.{◌≡◌, sym, subst, List, [], ◌∷◌, ◌++◌, Option, None}
-use Rattle.spec_core.specs.declared.settings.Settings.{Settings}
+use Rattle.run_settings.specs.declared.settings.Settings.{Settings}
 use Rattle.spec_core.specs.Code.{Program}
 use Rattle.rule_model.specs.Events.{Event, pended, left}
 use Rattle.rule_model.specs.Legal.{IsPossible, IsDerivation}

@@ -1,7 +1,7 @@
 -- Where there is one session.
 use Rattle.std.proofs.Common.{ℕ, ◌≡◌, ◌∙◌, refl, sym, ap, subst, List, [], Option, Some}
 use Rattle.std.proofs.lemmas.List.{append-nil}
-use Rattle.spec_core.specs.declared.settings.Settings.{Settings}
+use Rattle.run_settings.specs.declared.settings.Settings.{Settings}
 use Rattle.spec_core.specs.Code.{Program}
 use Rattle.spec_core.specs.Ready.{IsReady}
 use Rattle.spec_core.proofs.Options.{some_none}

@@ -1,7 +1,7 @@
 -- A run that has stopped stopped for its reason where this is so.
 use Rattle.std.proofs.Common.{◌≡◌, ◌∙◌, refl, sym, ap, subst, List, [], ◌∷◌, ◌++◌, Option, Some, None}
 use Rattle.std.proofs.lemmas.List.{append-nil}
-use Rattle.spec_core.specs.declared.settings.Settings.{Settings}
+use Rattle.run_settings.specs.declared.settings.Settings.{Settings}
 use Rattle.spec_core.specs.Code.{Program}
 use Rattle.spec_core.proofs.Lists.{each_push}
 use Rattle.rule_model.specs.Events.{Event, pended, left, Ending, exits, deadlocked, waiting, ends_beyond, ends_spent, ends_too_large}

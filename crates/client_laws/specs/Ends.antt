@@ -1,6 +1,6 @@
 -- How a session ends, over all trees of the behaviour that is reached. (This profile.)
 use Rattle.std.specs.Prelude.{◌≡◌, Option, Some, None}
-use Rattle.spec_core.specs.declared.settings.Settings.{Settings}
+use Rattle.run_settings.specs.declared.settings.Settings.{Settings}
 use Rattle.spec_core.specs.Code.{Program}
 use Rattle.rule_model.specs.Actions.{Kind}
 use Rattle.rule_model.specs.Derivations.{Derivation}

@@ -1,6 +1,6 @@
 -- Why the entries of a log are given, by the steps of the behaviour that is reached. (This profile.)
 use Rattle.std.specs.Prelude.{ℕ, ◌≡◌, List, [], ◌∷◌, ◌++◌, Option, Some, None, true}
-use Rattle.spec_core.specs.declared.settings.Settings.{Settings}
+use Rattle.run_settings.specs.declared.settings.Settings.{Settings}
 use Rattle.spec_core.specs.Code.{Program}
 use Rattle.spec_core.specs.Lists.{Each, IsOneOf}
 use Rattle.decision_trees.specs.Rules.{Next}

@@ -1,6 +1,6 @@
 -- What follows from the definitions.
 use Rattle.std.specs.Prelude.{◌≡◌, ◌⊎◌, List, [], Option, Some}
-use Rattle.spec_core.specs.declared.settings.Settings.{Settings}
+use Rattle.run_settings.specs.declared.settings.Settings.{Settings}
 use Rattle.spec_core.specs.Code.{Program}
 use Rattle.spec_core.specs.Ready.{IsReady}
 use Rattle.rule_model.specs.Answering.{AnswersEach}

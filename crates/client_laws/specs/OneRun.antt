@@ -1,6 +1,6 @@
 -- When there is one session. (This profile.)
 use Rattle.std.specs.Prelude.{◌≡◌, ◌++◌, List}
-use Rattle.spec_core.specs.declared.settings.Settings.{Settings}
+use Rattle.run_settings.specs.declared.settings.Settings.{Settings}
 use Rattle.spec_core.specs.Code.{Program}
 use Rattle.rule_model.specs.declared.reply.LimitKind.{LimitKind}
 use Rattle.rule_model.specs.declared.reply.LimitKind.TheVariants.{Steps, Spread, Offers}

@@ -10,14 +10,14 @@ use Rattle.symbolic_rules.specs.Laws.{NoTree}
 use Rattle.symbolic_rules.specs.Trees.{IsWindowed, IsBeyond}
 use Rattle.decision_trees.specs.Known.{where_known}
 use Rattle.decision_trees.specs.Rules.{Next, Query, Waiting, any, any_beyond, if_there, nothing}
-use Rattle.board_core.specs.Rules.{asked_decided, dead_decided, next_decided}
-use Rattle.board_core.specs.Shapes.{stands_for}
+use Rattle.decision_order.specs.Rules.{asked_decided, dead_decided, next_decided}
+use Rattle.node_trees.specs.Shapes.{stands_for}
 use Rattle.board_laws.specs.NeededLaws.{FirstTreesSay}
 use Rattle.board_laws.specs.declared.stop_reason.StopReason.{StopReason}
 use Rattle.board_laws.specs.Next.{AreSessionWindows, HasEnded}
 use Rattle.board_laws.specs.Stopping.{ending_by}
-use Rattle.board_core.specs.Waiting.{waiting_in}
-use Rattle.board_work.specs.Ends.{IsEndingOf, IsEndOfTrees, ends_by_reason, ends_by_exit, ends_by_trees}
+use Rattle.board_offers.specs.Waiting.{waiting_in}
+use Rattle.client_laws.specs.Ends.{IsEndingOf, IsEndOfTrees, ends_by_reason, ends_by_exit, ends_by_trees}
 use Rattle.board_core.specs.Ends.{end_after, end_found, end_unless, ending_at}
 use Rattle.board_core.specs.Views.{BoardView, program, state, tree, windows, pieces, decided_at, first_at, all_at}
 

@@ -1,7 +1,7 @@
 -- How runs go on, on boards.
 use Rattle.std.proofs.Common.{ℕ, inl, inr, ◌≡◌, ◌⊎◌, ◌∙◌, List, [], ◌∷◌, ◌++◌, length, map, refl, sym, ap, subst, Option, Some, None, append_assoc}
 use Rattle.spec_core.specs.declared.code.Checked.{Checked}
-use Rattle.spec_core.specs.declared.settings.Settings.{Settings}
+use Rattle.run_settings.specs.declared.settings.Settings.{Settings}
 use Rattle.spec_core.specs.Code.{Program, program_of}
 use Rattle.rule_model.specs.declared.reply.LimitKind.TheVariants.{Steps}
 use Rattle.rule_model.specs.Behaviours.{Behaviour}
@@ -16,8 +16,8 @@ use Rattle.log_states.specs.Possible.{MayLeave, MayOffer}
 use Rattle.board_laws.specs.declared.stop_reason.StopReason.{StopReason}
 use Rattle.board_laws.specs.declared.stop_reason.StopReason.TheVariants.{Limit}
 use Rattle.board_laws.specs.Reasons.{IsAskedByRules, IsReasonToStop}
-use Rattle.board_work.specs.Ends.{IsEndingOf}
-use Rattle.board_work.specs.Runs.{IsClientRun, IsRun, IsSettledAt, clients_for, run_begins, run_goes_on, run_leaves, run_offers, run_stops, run_tells}
+use Rattle.client_laws.specs.Ends.{IsEndingOf}
+use Rattle.client_laws.specs.Runs.{IsClientRun, IsRun, IsSettledAt, clients_for, run_begins, run_goes_on, run_leaves, run_offers, run_stops, run_tells}
 use Rattle.board_core.specs.Settled.{HasSettled, IsSettled, settled_next, settled_stopped, settled_limit}
 use Rattle.board_core.specs.Views.{BoardView, program, events, state, SameLog, SameSession, SameSetting}
 use Rattle.board_core.specs.Working.{first_reason}

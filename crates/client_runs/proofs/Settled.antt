@@ -1,6 +1,6 @@
 -- Where nothing is left to be done.
 use Rattle.std.proofs.Common.{ℕ, zero, suc, ◌≡◌, ◌⊎◌, inl, inr, ◌∙◌, List, [], ◌∷◌, refl, sym, subst, Option, Some, None, Contains, arith}
-use Rattle.spec_core.specs.declared.settings.Settings.{Settings}
+use Rattle.run_settings.specs.declared.settings.Settings.{Settings}
 use Rattle.spec_core.specs.Code.{Program}
 use Rattle.spec_core.specs.Ready.{IsReady}
 use Rattle.spec_core.proofs.Members.{contains_none}
@@ -15,9 +15,9 @@ use Rattle.candidate_verdicts.specs.Known as known
 use Rattle.candidates.specs.declared.job.NodeJob as declared
 use Rattle.board_laws.proofs.Pending.{nothing_next_nothing_pending}
 use Rattle.board_laws.specs.declared.stop_reason.StopReason.{StopReason}
-use Rattle.board_core.specs.Waiting.{waiting_in}
+use Rattle.board_offers.specs.Waiting.{waiting_in}
 use Rattle.board_core.proofs.AllWait.{all_wait_is_decided}
-use Rattle.board_work.specs.Runs.{IsSettledAt, all_told, none_next}
+use Rattle.client_laws.specs.Runs.{IsSettledAt, all_told, none_next}
 use Rattle.board_core.specs.Ends.{ending_at}
 use Rattle.board_core.specs.Awaiting.{AwaitsClients}
 use Rattle.board_core.specs.Views.{BoardView, program, state, windows, decided_at}

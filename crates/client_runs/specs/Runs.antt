@@ -1,6 +1,6 @@
 -- Runs of boards.
 use Rattle.std.specs.Prelude.{ℕ, ◌≡◌, List, [], Option}
-use Rattle.spec_core.specs.declared.settings.Settings.{Settings}
+use Rattle.run_settings.specs.declared.settings.Settings.{Settings}
 use Rattle.spec_core.specs.Code.{Program}
 use Rattle.rule_model.specs.Behaviours.{Behaviour}
 use Rattle.rule_model.specs.Code.{IsStart}
@@ -9,8 +9,8 @@ use Rattle.rule_model.specs.Wishes.{Wish}
 use Rattle.rule_model.specs.States.{State, start_state}
 use Rattle.board_laws.specs.declared.stop_reason.StopReason.{StopReason}
 use Rattle.log_states.specs.Clients.{numbers_from}
-use Rattle.board_work.specs.Ends.{IsEndingOf}
-use Rattle.board_work.specs.Runs.{IsRun, IsSettledAt}
+use Rattle.client_laws.specs.Ends.{IsEndingOf}
+use Rattle.client_laws.specs.Runs.{IsRun, IsSettledAt}
 pub use Rattle.board_work.specs.Settling.{IsSettledOn}
 use Rattle.board_core.specs.Views as views
 use Rattle.board_core.specs.Views.{BoardView}

@@ -19,9 +19,9 @@ use board_core::board::Board;
 use board_record::{LeaveFault, PendFault};
 use rule_model::log::{End, Log};
 use rule_model::wish::ClientWish;
+use run_settings::settings::Settings;
 use spec_core::code::Checked;
 use spec_core::memory::Memory;
-use spec_core::settings::Settings;
 use std::alloc::Global;
 
 // The client makes its next offer, once nothing else is left to be done.

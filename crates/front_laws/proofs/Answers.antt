@@ -5,8 +5,8 @@ use Rattle.lotos_ast.specs.declared.spec.Spec.{Spec}
 use Rattle.lotos_ast.specs.TokenLaws.{OneTokenList}
 use Rattle.spec_core.specs.Code.{Program}
 use Rattle.spec_core.specs.Theories.{Theory}
-use Rattle.lotos_front.specs.Compiled.{IsJudged}
-use Rattle.lotos_front.specs.Compiled as static
+use Rattle.static_check.specs.Compiled.{IsJudged}
+use Rattle.static_check.specs.Compiled as static
 use Rattle.static_laws.specs.Specification as specifications
 use Rattle.static_uniqueness.specs.SpecificationsAlike.{AreSpecificationsAlike}
 use Rattle.static_uniqueness.specs.Specifications.{SameIsJudged}

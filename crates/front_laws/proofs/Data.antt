@@ -17,14 +17,14 @@ use Rattle.spec_core.specs.Order.{IsDecreasing}
 use Rattle.spec_core.specs.Orthogonality.{IsOrthogonal}
 use Rattle.spec_core.specs.Sorts.{FitsData}
 use Rattle.spec_core.specs.Theories.{Theory}
-use Rattle.lotos_front.specs.Specifications.{IsNoSpecification, stopped, followed}
-use Rattle.lotos_front.specs.Refusals.{refusals_of}
+use Rattle.behaviour_parser.specs.Specifications.{IsNoSpecification, stopped, followed}
+use Rattle.flattening.specs.Refusals.{refusals_of}
 use Rattle.static_presentation.specs.Presentations.{IsPresentation}
 use Rattle.static_presentation.specs.Presentations as presentation
 use Rattle.type_data.specs.Data.{data_of}
 use Rattle.static_presentation.specs.Laws.{OwnEquationsAreOne}
-use Rattle.equation_laws.specs.Shape as equations
-use Rattle.equation_laws.specs.Decrease as order
+use Rattle.equation_check.specs.Shape as equations
+use Rattle.path_order.specs.Decrease as order
 use Rattle.equation_laws.specs.Laws.{ShapeHasOneAnswer, DecreaseHasOneAnswer}
 use Rattle.syntax_laws.specs.Alike.{AreAlike, AreTypesAlike}
 use Rattle.static_uniqueness.specs.Types.{SameIsRefused, SameIsRead, SameIsPresented}

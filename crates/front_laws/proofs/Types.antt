@@ -34,7 +34,7 @@ use Rattle.lotos_ast.specs.SpecTrees.{spec_tree}
 use Rattle.lotos_ast.specs.TypeTrees.{sort_list_tree, operation_name_tree, two_sorts_tree, both_sorts_tree, infix_end_tree, first_name_tree, prefix_end_tree, names_tree, operation_decl_tree, for_all_tree, sort_equations_tree, equation_body_tree, formal_sorts_tree, formal_operations_tree, formal_equations_tree, sort_pair_tree, operation_pair_tree, sort_pairs_tree, operation_pairs_tree, pairs_tree, optional_sort_part_tree, optional_operation_part_tree, optional_equation_part_tree, declared_items_tree, imports_tree, type_body_tree, type_def_tree}
 use Rattle.spec_core.specs.Lists.{Each}
 use Rattle.spec_core.proofs.Lists.{each_append}
-use Rattle.lotos_front.specs.Written.{gates_in}
+use Rattle.static_constructs.specs.Written.{gates_in}
 use Rattle.static_equations.specs.Variables as variables
 use Rattle.type_contents.specs.Lists.{listed}
 use Rattle.type_contents.specs.Own.{sort_names, part_sort_names, part_operations}

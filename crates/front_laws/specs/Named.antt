@@ -9,7 +9,7 @@ use Rattle.lotos_ast.specs.Parsing.{IsParsed, IsParsedBetween}
 use Rattle.lotos_ast.specs.SpecTrees.{spec_tree}
 use Rattle.lotos_ast.specs.TypeTrees.{type_def_tree}
 use Rattle.spec_core.specs.Lists.{Each}
-use Rattle.lotos_front.specs.Written.{gates_in}
+use Rattle.static_constructs.specs.Written.{gates_in}
 use Rattle.static_laws.specs.NamedTypes.{IsNamed, IsTypeNamed}
 use Rattle.syntax_laws.specs.Tokens.{IsTokenNamed}
 use Rattle.lotos_front.specs.Types.{AreTypesOf}

@@ -14,7 +14,7 @@ use std::thread::{Builder, Threads};
 use std::{env, io, thread};
 use worker_drive::Probe;
 
-// The stack on which a command is carried out, in bytes. `docs/PROMISES.md` says what it holds. What isn't used takes addresses and no
+// The stack on which a command is carried out, in bytes. `docs/TRUST.md` says what it holds. What isn't used takes addresses and no
 // memory.
 const STACK: usize = 0x4000_0000;
 

@@ -8,4 +8,4 @@ pub mod Types
 pub use Rattle.behaviour_parser.specs.Specifications
 pub use Rattle.flattening.specs.Refusals
 pub use Rattle.static_check.specs.Compiled
-pub use Rattle.static_check.specs.Written
+pub use Rattle.static_constructs.specs.Written

@@ -9,7 +9,7 @@ use Rattle.lotos_ast.specs.Parsing.{IsParsedBetween}
 use Rattle.lotos_ast.specs.Tokenizes.{Tokenizes}
 use Rattle.lotos_ast.specs.TypeTrees.{type_def_tree}
 use Rattle.library_text.specs.Texts.{boolean_text, natural_text}
-use Rattle.static_check.specs.Listed.{is_same_name}
+use Rattle.sort_overloads.specs.Listed.{is_same_name}
 use Rattle.type_names.specs.UnknownTypes.{library_names}
 
 -- whether one of the names is this one; letters of ASCII are the same small or large

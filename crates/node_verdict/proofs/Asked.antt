@@ -16,7 +16,7 @@ use Rattle.rule_model.specs.Derivations.{enstep, enend, disstep, disend, distake
 use Rattle.symbolic_rules.specs.Windows.{Windows}
 use Rattle.symbolic_rules.specs.MarkedTerms.{MarkedTerm, MarkedAssignment, with_marked}
 use Rattle.symbolic_rules.specs.MarkedFields.{MarkedField, chosen, IsWithin, Chooses, FieldsMayHave}
-use Rattle.node_values.specs.Reached.{IsWithinOrOther, AcceptsMayHave, Reaches}
+use Rattle.symbolic_reach.specs.Reached.{IsWithinOrOther, AcceptsMayHave, Reaches}
 use Rattle.node_verdict.specs.Asking.{TreeAsks}
 use Rattle.node_verdict.specs.Laws.{values_in, chosen_values, AskedTermsAreReached}
 

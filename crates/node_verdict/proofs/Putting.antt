@@ -12,14 +12,14 @@ use Rattle.rule_model.specs.Derivations.{Derivation, pre, int, exiting, chl, chr
 use Rattle.rule_model.specs.Derivations.{enstep, enend, disstep, disend, distake, calling, rel}
 use Rattle.rule_model.specs.Substitution.{Assignment, with_term, without, put, put_in_guard, put_in_field, put_in_exit}
 use Rattle.rule_model.specs.Substitution.{put_in_binding}
-use Rattle.node_values.specs.Closing.{IsClosing}
+use Rattle.rule_laws.specs.Closing.{IsClosing}
 use Rattle.symbolic_rules.specs.Windows.{Windows}
 use Rattle.symbolic_rules.specs.MarkedTerms.{plain, MarkedAssignment, unmarked, with_marked}
 use Rattle.symbolic_rules.specs.MarkedTerms.{GuardMayHold}
 use Rattle.symbolic_rules.specs.MarkedFields.{MarkedField, FieldsMayHave, ExitMayHave}
 use Rattle.symbolic_rules.specs.MayDerive.{MayDeriveWith}
 use Rattle.symbolic_composites.proofs.Origins.{Leads, with_one_bound, closing_leads}
-use Rattle.node_values.specs.Reached.{FieldAsks, ExitAsks, BindingAsks}
+use Rattle.symbolic_reach.specs.Reached.{FieldAsks, ExitAsks, BindingAsks}
 use Rattle.node_values.proofs.Reaching.{either_way, both_ways, one_of_images, asked, premise_asked, guard_asked, field_asked, exit_asked}
 use Rattle.node_values.proofs.Reaching.{premise_holds, value_there, bindings_to, bindings_from, arguments_same, call_asked}
 use Rattle.node_verdict.specs.Asking.{TreeAsks}

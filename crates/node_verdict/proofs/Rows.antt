@@ -25,7 +25,7 @@ use Rattle.symbolic_rules.specs.MayDerive.{MayDeriveWith}
 use Rattle.symbolic_composites.specs.Evaluations.{Evaluation, IsExact}
 use Rattle.symbolic_composites.proofs.Parts.{one_choice, one_fields, one_binding, one_argument}
 use Rattle.symbolic_composites.proofs.Answers.{exact_answers_exist}
-use Rattle.node_values.specs.Reached.{ArgumentAsks}
+use Rattle.symbolic_reach.specs.Reached.{ArgumentAsks}
 use Rattle.node_values.specs.declared.scope.Given.{Given}
 use Rattle.node_values.specs.declared.stop.Stop.{Stop}
 use Rattle.node_values.specs.Scopes.{marked_of}

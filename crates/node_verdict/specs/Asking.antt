@@ -15,7 +15,7 @@ use Rattle.symbolic_rules.specs.Windows.{Windows}
 use Rattle.symbolic_rules.specs.MarkedTerms.{MarkedTerm, MarkedAssignment, unmarked, with_marked, PremiseMayHold}
 use Rattle.symbolic_rules.specs.MarkedFields.{MarkedField, chosen_by, IsWithin, Chooses, FieldsMayHave, BindingsMayHave, ArgumentsMayHave}
 use Rattle.symbolic_rules.specs.MayDerive.{MayDeriveWith}
-use Rattle.node_values.specs.Reached.{PremiseAsks, GuardAsks, FieldAsks, ExitAsks, BindingAsks, ArgumentAsks}
+use Rattle.symbolic_reach.specs.Reached.{PremiseAsks, GuardAsks, FieldAsks, ExitAsks, BindingAsks, ArgumentAsks}
 
 module _ (program : Program) (w : Windows) where
   -- The tree d asks the term t of the behaviour, with m x, a term or a mark, in the place of each free variable x: it is an expression of

@@ -11,7 +11,7 @@ use Rattle.rule_model.specs.Derivations.{enstep, enend, disstep, disend, distake
 use Rattle.symbolic_rules.specs.Windows.{Windows}
 use Rattle.symbolic_rules.specs.MarkedTerms.{MarkedAssignment}
 use Rattle.symbolic_rules.specs.MarkedFields.{chosen, IsWithin}
-use Rattle.node_values.specs.Reached.{Reaches}
+use Rattle.symbolic_reach.specs.Reached.{Reaches}
 use Rattle.node_verdict.specs.Asking.{TreeAsks}
 
 abbrev pub values_in : List Slot → List (List ℕ)

@@ -5,7 +5,7 @@ use Rattle.std.proofs.Common.{◌&&◌, Option, Some, None}
 use Rattle.std.proofs.lemmas.List.{append_cancel_left, length-append, length-map, nil_from_length}
 use Rattle.std.proofs.lemmas.List.Elements.{filter-append}
 use Rattle.std.proofs.lemmas.Bool.{and_from, and_parts, true≢false}
-use Rattle.spec_core.specs.declared.settings.Settings.{Settings}
+use Rattle.run_settings.specs.declared.settings.Settings.{Settings}
 use Rattle.spec_core.specs.Code.{Program}
 use Rattle.spec_core.specs.Lists.{IsOneOf}
 use Rattle.spec_core.proofs.Members.{one_filter, contains_one, one_contained, contains_none}

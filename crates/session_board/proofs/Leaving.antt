@@ -2,7 +2,7 @@
 use Rattle.std.proofs.Common.{ℕ, zero, suc, ◌+◌, ◌≤◌, ◌<◌, ◌≡◌, ◌∙◌, ◌⊎◌, inl, inr, refl, sym, ap, subst, arith}
 use Rattle.std.proofs.Common.{List, [], ◌∷◌, true, false, Contains, filter, not, nat_eq, Option}
 use Rattle.std.proofs.lemmas.Bool.{eq-eqb, eqb-false, eqb-true, not_from_false, true≢false}
-use Rattle.spec_core.specs.declared.settings.Settings.{Settings}
+use Rattle.run_settings.specs.declared.settings.Settings.{Settings}
 use Rattle.spec_core.specs.Code.{Program}
 use Rattle.spec_core.proofs.Members.{one_filter, contains_first, contains_one, contains_later, one_contained, contains_none}
 use Rattle.board_core.proofs.Lists.{filter_passes}

@@ -4,13 +4,13 @@ use Rattle.spec_core.specs.Code.{program_of}
 use Rattle.spec_core.proofs.Options.{not_some}
 use Rattle.rule_model.specs.States.{State}
 use Rattle.symbolic_rules.specs.Tables.{windows_in}
-use Rattle.board_laws.specs.Rules.{nothing}
+use Rattle.decision_trees.specs.Rules.{nothing}
 use Rattle.board_laws.specs.declared.stop_reason.StopReason.{StopReason}
 use Rattle.board_laws.specs.Next.{GoesByRules, IsNextOf}
-use Rattle.board_core.specs.Jobs.{first_not_out}
+use Rattle.decision_order.specs.Jobs.{first_not_out}
 use Rattle.candidates.specs.Jobs.{is_out}
 use Rattle.candidates.specs.Models.{job_of}
-use Rattle.board_core.specs.Stored.{stored}
+use Rattle.candidate_verdicts.specs.Stored.{stored}
 use Rattle.board_laws.specs.Needed.{entry_decided, jobs_needed}
 use Rattle.board_offers.specs.Waiting.{waiting_in}
 use Rattle.board_core.specs.Awaiting.{AwaitsClients}

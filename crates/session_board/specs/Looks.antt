@@ -5,7 +5,7 @@ use Rattle.rule_model.specs.Events.{OfferName, event_of}
 use Rattle.spec_core.specs.declared.memory.Memory.{Memory}
 use Rattle.candidates.specs.Models.{job_of}
 use Rattle.board_core.specs.declared.job.Job.{Job}
-use Rattle.board_core.specs.Origins.{source_of}
+use Rattle.node_trees.specs.Origins.{source_of}
 use Rattle.board_core.specs.Views.{BoardView, tree}
 use Rattle.board_core.specs.Working.{left_out}
 use Rattle.board_work.specs.declared.outcome.Outcome.{Outcome}

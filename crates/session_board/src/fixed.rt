@@ -1,7 +1,7 @@
 // The part of a session that stays as it is.
 
+use run_settings::settings::Settings;
 use spec_core::code::Checked;
-use spec_core::settings::Settings;
 use spec_core::window::Window;
 use std::collections::LinkedList;
 

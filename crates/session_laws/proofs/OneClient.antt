@@ -1,7 +1,7 @@
 -- A whole session of one client is its run.
 use Rattle.std.proofs.Common.{ℕ, ◌≡◌, ◌∙◌, refl, sym, ap, subst, List, [], ◌∷◌, ◌++◌, map, append_assoc, append-nil, Contains, Option, Some, None}
 use Rattle.std.proofs.Common.{inl, inr, nat_eq, cond, Bool, true, false}
-use Rattle.spec_core.specs.declared.settings.Settings.{Settings}
+use Rattle.run_settings.specs.declared.settings.Settings.{Settings}
 use Rattle.spec_core.specs.Code.{Program}
 use Rattle.spec_core.proofs.Members.{contains_first, contains_none}
 use Rattle.rule_model.specs.Events.{Event, pended, acted, replied, stalled, left}

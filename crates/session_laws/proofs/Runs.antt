@@ -1,6 +1,6 @@
 -- Runs of one client are driven.
 use Rattle.std.proofs.Common.{◌≡◌, sym, subst, List, [], ◌∷◌, ◌++◌, Option, Some, None, inr}
-use Rattle.spec_core.specs.declared.settings.Settings.{Settings}
+use Rattle.run_settings.specs.declared.settings.Settings.{Settings}
 use Rattle.spec_core.specs.Code.{Program}
 use Rattle.rule_model.specs.Events.{Event, pended, left}
 use Rattle.rule_model.specs.Legal.{IsPossible}

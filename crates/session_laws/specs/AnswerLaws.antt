@@ -1,6 +1,6 @@
 -- What follows from the definitions.
 use Rattle.std.specs.Prelude.{ℕ, ◌≡◌, Contains, List, []}
-use Rattle.spec_core.specs.declared.settings.Settings.{Settings}
+use Rattle.run_settings.specs.declared.settings.Settings.{Settings}
 use Rattle.spec_core.specs.Code.{Program}
 use Rattle.rule_model.specs.Events.{Event, Ending}
 use Rattle.rule_model.specs.Wishes.{Wish}

@@ -1,6 +1,6 @@
 -- Sessions of any number of clients. (This profile.)
 use Rattle.std.specs.Prelude.{ℕ, ◌≡◌, [], List, Option, Some}
-use Rattle.spec_core.specs.declared.settings.Settings.{Settings}
+use Rattle.run_settings.specs.declared.settings.Settings.{Settings}
 use Rattle.spec_core.specs.Code.{Program}
 use Rattle.rule_model.specs.Behaviours.{Behaviour}
 use Rattle.rule_model.specs.Code.{IsStart}

@@ -2,7 +2,7 @@
 use Rattle.std.proofs.Common.{ℕ, ◌≡◌, ◌<◌, ap, subst, arith, List, length, take, Option, Some, None}
 use Rattle.spec_core.specs.Code.{program_of}
 use Rattle.spec_core.specs.Ready.{IsReady}
-use Rattle.board_laws.specs.Rules.{any}
+use Rattle.decision_trees.specs.Rules.{any}
 use Rattle.board_core.specs.Views.{BoardView, program, state, SameSetting}
 use Rattle.simulator_lines.specs.Lines.{Asked, menu, step, offered, trace, quit, IsLine}
 use Rattle.simulator_steps.specs.declared.choosing.Chosen.TheVariants as chosen

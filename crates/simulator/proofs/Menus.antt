@@ -3,7 +3,7 @@ use Rattle.std.proofs.Common.{ℕ, zero, suc, ◌≡◌, ◌≤◌, ◌<◌, ◌
 use Rattle.std.proofs.Common.{Option, Some, None, option_map, Bool, true, false, IsTrue, codes}
 use Rattle.std.specs.Prelude.{IsSome}
 use Rattle.std.proofs.lemmas.List.{length-map}
-use Rattle.spec_core.specs.declared.settings.Settings.{Settings}
+use Rattle.run_settings.specs.declared.settings.Settings.{Settings}
 use Rattle.spec_core.specs.Code.{Program}
 use Rattle.spec_core.specs.Lists.{Each}
 use Rattle.spec_core.specs.Ready.{IsReady}
@@ -11,10 +11,10 @@ use Rattle.rule_model.specs.declared.rules.Rules.{Rules}
 use Rattle.rule_model.specs.Derivations.{derivation_of}
 use Rattle.rule_model.specs.States.{State}
 use Rattle.trace_text.specs.Names.{names_in}
-use Rattle.board_core.specs.Shapes.{Shape}
-use Rattle.board_laws.specs.Lazy.{first}
+use Rattle.node_trees.specs.Shapes.{Shape}
+use Rattle.decision_trees.specs.Lazy.{first}
 use Rattle.board_laws.specs.Next.{HasEnded}
-use Rattle.board_laws.specs.Rules.{any, any_beyond}
+use Rattle.decision_trees.specs.Rules.{any, any_beyond}
 use Rattle.board_lists.specs.declared.list.Candidate.{Candidate}
 use Rattle.board_lists.specs.declared.list.Listing.{Listing}
 use Rattle.board_lists.specs.Listings.{AreFirst, IsCandidate, IsFirst, IsListing, tree_in}

@@ -13,7 +13,7 @@ use Rattle.script_offers.specs.Faults.{IsFaultOf}
 use Rattle.script_offers.specs.Given.{IsValuedWithin, given_by}
 use Rattle.script_offers.specs.Valued.{AreValuedFields, IsValuedField, IsValuedWish}
 use Rattle.script_text.specs.Wishes.{WishedField, gives, takes, Wished}
-use Rattle.board_core.specs.JobValues.{FieldGivesValue, GivesValues}
+use Rattle.board_laws.specs.JobValues.{FieldGivesValue, GivesValues}
 use Rattle.board_core.specs.Views.{BoardView, state}
 use Rattle.simulator_steps.specs.declared.asking.Answered.{Answered}
 use Rattle.simulator_steps.specs.declared.asking.Answered.TheVariants.{Told}

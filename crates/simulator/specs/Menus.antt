@@ -1,13 +1,13 @@
 -- Menus: the steps that are possible, as text. (This profile.)
 use Rattle.std.specs.Prelude.{ℕ, ◌+◌, ◌<◌, ◌≡◌, ◌↔◌, ◌++◌, List, [], ◌∷◌, Bool, true, false, IsTrue, codes, decimal, length, take}
-use Rattle.spec_core.specs.declared.settings.Settings.{Settings}
+use Rattle.run_settings.specs.declared.settings.Settings.{Settings}
 use Rattle.spec_core.specs.Code.{Program}
 use Rattle.rule_model.specs.declared.action.Action.{Action}
 use Rattle.rule_model.specs.Behaviours.{Behaviour}
 use Rattle.rule_model.specs.Derivations.{Derivation}
 use Rattle.rule_model.specs.Derives.{Derives}
 use Rattle.rule_model.specs.States.{State}
-use Rattle.board_laws.specs.Rules.{any, any_beyond}
+use Rattle.decision_trees.specs.Rules.{any, any_beyond}
 use Rattle.board_laws.specs.Next.{HasEnded}
 use Rattle.trace_text.specs.Trace.{Names, action_text}
 use Rattle.trace_text.specs.Names.{names_in}

@@ -1,7 +1,7 @@
 -- Simulations: a session of one client, whose user chooses what is done. (docs/FORMATS.md, "The simulator".)
 use Rattle.std.specs.Prelude.{ℕ, ◌≡◌, ◌≤◌, ◌<◌, ◌⊎◌, List, [], Option, Some, None, Bool, true, false, string_bytes}
 use Rattle.spec_core.specs.declared.code.Checked.{Checked}
-use Rattle.spec_core.specs.declared.settings.Settings.{Settings}
+use Rattle.run_settings.specs.declared.settings.Settings.{Settings}
 use Rattle.rule_model.specs.Answers.{answer_of}
 use Rattle.trace_text.specs.Names.{names_in}
 use Rattle.trace_text.specs.Trace.{begun_bytes}

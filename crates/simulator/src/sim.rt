@@ -11,11 +11,11 @@ ghost use Rattle.simulator.specs.Sims.{ExplainsFault, HasBegun, IsAnswerTo, HasA
 use crate::answer::{SimAnswer, SimFault};
 use crate::answering::{answer_line, lacks};
 use board_core::board::Board;
+use run_settings::settings::Settings;
 use simulator_lines::line::SimLine;
 use simulator_lines::read_line;
 use spec_core::code::Checked;
 use spec_core::memory::Memory;
-use spec_core::settings::Settings;
 use std::alloc::Global;
 use std::marker::Model;
 

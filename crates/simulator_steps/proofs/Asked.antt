@@ -2,7 +2,7 @@
 use Rattle.std.proofs.Common.{ℕ, ◌≡◌, ◌⊎◌, ◌∙◌, inl, inr, refl, sym, ap, subst, List, [], ◌∷◌, ◌++◌, Bool, true, Option, Some, None}
 use Rattle.std.proofs.Common.{append_assoc}
 use Rattle.std.proofs.lemmas.Option.{same_Some}
-use Rattle.spec_core.specs.declared.settings.Settings.{Settings}
+use Rattle.run_settings.specs.declared.settings.Settings.{Settings}
 use Rattle.spec_core.specs.Code.{Program, program_of}
 use Rattle.spec_core.specs.Ready.{IsReady}
 use Rattle.rule_model.specs.declared.action.Action.{Action}
@@ -17,10 +17,10 @@ use Rattle.rule_model.specs.Legal.{IsPossible}
 use Rattle.rule_model.specs.States.{PendingOffer, State, after_offer, without}
 use Rattle.candidate_laws.proofs.Answers.{exact_answers_exist}
 use Rattle.candidate_laws.proofs.Testing.{asked_can_be_tested}
-use Rattle.board_laws.specs.Lazy.{first}
-use Rattle.board_laws.specs.Rules.{Next, Query, takes, deadlocks, is_beyond, is_not_now, goes_on, stalls, nothing, meeting, any, any_beyond, if_there, next_of}
-use Rattle.board_laws.specs.Rules as queries
-use Rattle.board_laws.specs.TreeLaws.{lists_of}
+use Rattle.decision_trees.specs.Lazy.{first}
+use Rattle.decision_trees.specs.Rules.{Next, Query, takes, deadlocks, is_beyond, is_not_now, goes_on, stalls, nothing, meeting, any, any_beyond, if_there, next_of}
+use Rattle.decision_trees.specs.Rules as queries
+use Rattle.candidate_laws.specs.TreeLaws.{lists_of}
 use Rattle.board_laws.specs.declared.stop_reason.StopReason.{StopReason}
 use Rattle.board_laws.specs.declared.stop_reason.StopReason.TheVariants.{Limit}
 use Rattle.board_laws.specs.Next.{IsEventOf, IsLeast, IsNextEvent, IsNextOf, IsStopReply, next_by_rules, next_ended}
@@ -28,7 +28,7 @@ use Rattle.board_laws.specs.Reasons.{IsReasonToStop}
 use Rattle.board_laws.specs.Stopping.{answer_by}
 use Rattle.board_core.specs.Settled.{HasSettled, IsSettled, settled_limit, settled_next, settled_stopped}
 use Rattle.board_core.specs.Views.{BoardView, events, program, state, SameSetting}
-use Rattle.board_core.specs.Waiting.{all_have_offers, by_client, only_asks}
+use Rattle.board_offers.specs.Waiting.{all_have_offers, by_client, only_asks}
 use Rattle.board_lists.specs.Leaving.{IsStoppedRightly}
 use Rattle.simulator_steps.specs.declared.asking.Answered.{Answered}
 use Rattle.simulator_steps.specs.declared.asking.Answered.TheVariants.{Done, Told}

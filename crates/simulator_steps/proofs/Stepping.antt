@@ -3,7 +3,7 @@ use Rattle.std.proofs.Common.{ℕ, zero, suc, ◌≡◌, ◌<◌, ◌-◌, ◌�
 use Rattle.std.proofs.Common.{Option, Some, None, false}
 use Rattle.std.specs.List.{slice_get}
 use Rattle.spec_core.specs.declared.items.Gate.{Gate}
-use Rattle.spec_core.specs.declared.settings.Settings.{Settings}
+use Rattle.run_settings.specs.declared.settings.Settings.{Settings}
 use Rattle.spec_core.specs.Code.{Program, program_of}
 use Rattle.spec_core.specs.Lists.{Each}
 use Rattle.spec_core.specs.Ready.{IsReady}
@@ -29,10 +29,10 @@ use Rattle.rule_gates.specs.Acting.{IsAt, IsOfHeading}
 use Rattle.rule_gates.specs.Laws.{ActionsAreAtGatesOfTheHeading}
 use Rattle.board_record.specs.Records.{IsSession}
 use Rattle.board_record.specs.Views.{HasActed}
-use Rattle.board_core.specs.JobValues.{FieldGivesValue, GivesValues}
-use Rattle.board_core.specs.Shapes.{stands_for}
+use Rattle.board_laws.specs.JobValues.{FieldGivesValue, GivesValues}
+use Rattle.node_trees.specs.Shapes.{stands_for}
 use Rattle.board_core.specs.Views.{BoardView, events, program, state, tree, SameLog, SameSession, SameSetting}
-use Rattle.board_laws.specs.Rules.{any}
+use Rattle.decision_trees.specs.Rules.{any}
 use Rattle.board_lists.specs.declared.list.Candidate.{Candidate}
 use Rattle.board_lists.specs.declared.list.Listing.{Listing}
 use Rattle.board_lists.specs.Listings.{AreFirst, HoldsOfTrees, IsCandidate, IsListing, tree_in}

@@ -1,6 +1,6 @@
 -- What holds of the list of all trees.
 use Rattle.std.proofs.Common.{◌≡◌, sym, subst, List}
-use Rattle.spec_core.specs.declared.settings.Settings.{Settings}
+use Rattle.run_settings.specs.declared.settings.Settings.{Settings}
 use Rattle.spec_core.specs.Code.{Program}
 use Rattle.spec_core.specs.Ready.{IsReady}
 use Rattle.rule_model.specs.Behaviours.{Behaviour}
@@ -8,8 +8,8 @@ use Rattle.rule_model.specs.Derivations.{Derivation}
 use Rattle.rule_model.specs.States.{State}
 use Rattle.candidate_laws.proofs.Answers.{exact_answers_exist}
 use Rattle.candidate_laws.proofs.Testing.{asked_can_be_tested}
-use Rattle.board_laws.specs.Asked.{TestsAsked, TreeQuery}
-use Rattle.board_laws.specs.TreeLaws.{lists_of}
+use Rattle.candidate_laws.specs.Asked.{TestsAsked, TreeQuery}
+use Rattle.candidate_laws.specs.TreeLaws.{lists_of}
 use Rattle.client_laws.proofs.OneWindow.{one_windows}
 use Rattle.board_core.specs.Views.{BoardView, program, state}
 use Rattle.board_lists.specs.Listings.{HoldsOfTrees}

@@ -8,7 +8,7 @@ use Rattle.rule_model.specs.declared.reply.LimitKind.TheVariants.{Steps}
 use Rattle.rule_model.specs.Answers.{Answer, answer_of, limit}
 use Rattle.rule_model.specs.Derivations.{Derivation}
 use Rattle.rule_model.specs.Events.{Event, OfferName, pended, acted}
-use Rattle.board_laws.specs.Rules.{any}
+use Rattle.decision_trees.specs.Rules.{any}
 use Rattle.board_core.specs.Views.{BoardView, events, program, state, SameLog}
 use Rattle.board_lists.specs.Listings.{HoldsOfTrees}
 use Rattle.simulator_steps.specs.declared.choosing.Chosen.{Chosen}

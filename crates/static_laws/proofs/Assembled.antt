@@ -9,7 +9,7 @@ use Rattle.std.proofs.lemmas.Option.{same_Some}
 use Rattle.lotos_ast.specs.declared.place.Place.{Place}
 use Rattle.lotos_ast.specs.declared.refusal.RefusalKind.TheVariants.{WrongFunctionality}
 use Rattle.lotos_ast.specs.declared.spec.Spec.{Spec}
-use Rattle.static_call_cycles.specs.Written.{gates_in, behaviour_written}
+use Rattle.static_constructs.specs.Written.{gates_in, behaviour_written}
 use Rattle.spec_core.specs.Code.{Program, Variable}
 use Rattle.spec_core.specs.Functionality.{Functionality, noexit, exits}
 use Rattle.spec_core.specs.Lists.{Each}
@@ -22,8 +22,8 @@ use Rattle.static_readings.specs.Declarations.{numbered_from}
 use Rattle.type_names.specs.DuplicateNames.{names_twice}
 use Rattle.static_readings.specs.Joins.{Read, root}
 use Rattle.static_readings.specs.Readings.{IsRead}
-use Rattle.static_check.specs.Headings.{heading, headings_from, heading_refusals, parameter_refusals, functionality_refusals, declared, parameter_sorts}
-use Rattle.static_check.specs.Processes.{Entry, entries, visible_in}
+use Rattle.static_processes.specs.Headings.{heading, headings_from, heading_refusals, parameter_refusals, functionality_refusals, declared, parameter_sorts}
+use Rattle.static_processes.specs.Processes.{Entry, entries, visible_in}
 use Rattle.static_laws.specs.Assembled.{Definition, body_nodes, HeadingFits, SiteFits, DefinitionFits, IsAssembled, behind_bodies}
 use Rattle.static_laws.specs.Assembled as laws
 use Rattle.static_check.specs.Bodies.{Setting, Placed, headings_within, may_end, refused_unless, ending_refusals, body_ending_refusals, unknown_in}

@@ -10,8 +10,8 @@ use Rattle.static_readings.specs.Declarations.{numbered_from}
 use Rattle.static_readings.specs.Joins.{Read, after}
 use Rattle.static_readings.specs.ReadsAll.{before}
 use Rattle.static_readings.specs.Readings.{IsRead}
-use Rattle.static_check.specs.Headings.{declared}
-use Rattle.static_check.specs.Processes.{Entry}
+use Rattle.static_processes.specs.Headings.{declared}
+use Rattle.static_processes.specs.Processes.{Entry}
 use Rattle.static_call_cycles.specs.AtOnce.{calls_at_once}
 use Rattle.static_laws.specs.Assembled.{Definition, process_nodes, body_nodes, AreBodiesRead, calls_of}
 use Rattle.static_check.specs.Bodies as checked

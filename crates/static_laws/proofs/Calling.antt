@@ -10,7 +10,7 @@ use Rattle.spec_core.specs.Functionality.{Functionality}
 use Rattle.spec_core.specs.Lists.{IsOneOf}
 use Rattle.spec_core.specs.Ready.{CallsAtOnce, here, within, CallsProcess, IsCallOf, IsProcess, LeadsAtOnce, one_call, more_calls}
 use Rattle.spec_core.proofs.Members.{contains_one}
-use Rattle.static_call_cycles.specs.MadeFrom.{IsMadeFrom, directly, through, AreAcyclic}
+use Rattle.type_cycles.specs.MadeFrom.{IsMadeFrom, directly, through, AreAcyclic}
 use Rattle.static_readings.specs.Joins.{root}
 use Rattle.static_call_cycles.specs.AtOnce.{calls_at_once}
 use Rattle.static_call_cycles.specs.Unguarded.{called, links}

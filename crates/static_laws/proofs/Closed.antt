@@ -20,7 +20,7 @@ use Rattle.lotos_ast.specs.declared.types.TypeDef.TheVariants.{Library, Definiti
 use Rattle.spec_core.specs.Lists.{IsOneOf}
 use Rattle.spec_core.proofs.Lists.{both_empty}
 use Rattle.spec_core.proofs.Members.{from_flat_map, one_parts, one_left, one_flat_map, one_map, one_right, one_slice_get, from_map}
-use Rattle.static_call_cycles.specs.MadeFrom.{AreAcyclic}
+use Rattle.type_cycles.specs.MadeFrom.{AreAcyclic}
 use Rattle.type_contents.specs.Contents.{Content, no_content, contents, made_from, content_of, items_by, items_of, formals_of, kept_one, kept}
 use Rattle.type_contents.specs.Images.{Renaming, renaming_of, sort_image, image, kept_renaming, kept_image}
 use Rattle.type_contents.specs.Items.{Item, Described, item_of, is_in, is_sort, small}
@@ -37,7 +37,7 @@ use Rattle.type_copies.specs.BadActuals.{bad_actual, bad_actuals}
 use Rattle.type_copies.specs.BadRenamings.{bad_pairs}
 use Rattle.type_copies.specs.Copies.{copy}
 use Rattle.type_copies.specs.UnknownSorts.{operation_sorts, sorts_in, unknown_sort, unknown_sorts}
-use Rattle.static_presentation.specs.Refusals.{bad_copy, sort_refusals, refusals_of}
+use Rattle.flattening.specs.Refusals.{bad_copy, sort_refusals, refusals_of}
 use Rattle.type_equation_copies.specs.Copies.{image_in}
 use Rattle.static_laws.proofs.Covered.{graph, graph-length, linked, items_at, content-at, sort-covered, operation-covered}
 use Rattle.static_laws.proofs.Items.{IsDescribed, is-among, in-union, union-from}

@@ -25,7 +25,7 @@ use Rattle.static_equations.specs.Variables.{all_variables}
 use Rattle.static_equations.proofs.Judgements.{judged-one}
 use Rattle.static_equations.proofs.Uniqueness.{condition-one}
 use Rattle.type_names.specs.DuplicateNames.{names_twice}
-use Rattle.static_call_cycles.specs.Constructs.{Construct}
+use Rattle.static_constructs.specs.Constructs.{Construct}
 use Rattle.static_readings.specs.Calls as read_calls
 use Rattle.static_readings.specs.Calls.{IsValueRead, sorted, unsorted, fitting, IsArgumentRead, fitted, AreValuesRead, called, IsCallRead, unknown, miscounted, counted}
 use Rattle.static_readings.specs.Calls.{IsBindingRead, bound_to, variable_of}

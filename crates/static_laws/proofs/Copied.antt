@@ -28,8 +28,8 @@ use Rattle.static_presentation.specs.Moved.{number_at, moved_term, moved_terms, 
 use Rattle.static_presentation.specs.Own.{bodies, AreRead, IsOwnOf, AreOwnEquations}
 use Rattle.static_presentation.specs.Signatures.{numbers_had}
 use Rattle.static_equations.specs.Gathered.{Gathers, none, further}
-use Rattle.type_equation_copies.specs.Images.{NewNumbers, new_number, term_image, term_images, premise_image, equation_image}
-use Rattle.type_equation_copies.specs.Same.{is_same_equation, is_in}
+use Rattle.type_images.specs.Images.{NewNumbers, new_number, term_image, term_images, premise_image, equation_image}
+use Rattle.type_images.specs.Same.{is_same_equation, is_in}
 use Rattle.type_equation_copies.specs.Contents.{Equations, no_equations, all_of, brought_by, source_in_order, new_image, copied, newly_copied, all_by, brings_by, made_by, made_from, equations}
 use Rattle.type_equation_copies.specs.Copies.{image_in, image_numbers, copy_numbers}
 use Rattle.static_laws.proofs.Closed.{IsUnrefused, content-there, used-has, actual-has, renamed-has, actualized-has}

@@ -12,7 +12,7 @@ use Rattle.lotos_ast.specs.declared.types.TypeDef.{TypeDef}
 use Rattle.lotos_ast.specs.declared.types.TypeDef.TheVariants.{Library, Definition}
 use Rattle.spec_core.specs.Lists.{IsOneOf}
 use Rattle.spec_core.proofs.Members.{contains_one, one_contained, from_flat_map, one_parts, one_left, one_flat_map, one_map, one_right, from_map}
-use Rattle.static_call_cycles.specs.MadeFrom.{IsMadeFrom, directly, through, AreAcyclic}
+use Rattle.type_cycles.specs.MadeFrom.{IsMadeFrom, directly, through, AreAcyclic}
 use Rattle.static_call_cycles.proofs.Walks.{linked_within}
 use Rattle.type_contents.specs.Contents.{no_content, contents, made_from, content_of, items_by, items_of, formals_of, kept_one, kept}
 use Rattle.type_contents.specs.Images.{Renaming, renaming_of, image, described_image, kept_renaming, kept_image}

@@ -9,7 +9,7 @@ use Rattle.type_contents.specs.Items.{Item, Described, item_of, is_in, is_same_i
 use Rattle.type_contents.specs.Numbering.{number_among}
 use Rattle.type_contents.proofs.Keys.{one_item}
 use Rattle.type_contents.proofs.Unions.{item_self}
-use Rattle.type_equation_copies.specs.Images.{new_number}
+use Rattle.type_images.specs.Images.{new_number}
 use Rattle.type_equation_copies.specs.Copies.{image_numbers}
 use Rattle.static_laws.proofs.Membership.{any-in, in-any, first-there, in-once, once-from, once-unlike, no-two-kept, unlike-one}
 

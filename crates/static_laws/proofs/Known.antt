@@ -8,7 +8,7 @@ use Rattle.lotos_ast.specs.declared.declaration.Functionality.{Functionality}
 use Rattle.lotos_ast.specs.declared.declaration.Functionality.TheVariants.{NoExit, Exit}
 use Rattle.lotos_ast.specs.declared.refusal.RefusalKind.TheVariants.{UnknownSort}
 use Rattle.lotos_ast.specs.declared.token.Token.{Token}
-use Rattle.static_call_cycles.specs.Written.{listed}
+use Rattle.static_constructs.specs.Written.{listed}
 use Rattle.spec_core.specs.Code.{Variable}
 use Rattle.spec_core.specs.Functionality as core
 use Rattle.spec_core.specs.Functionality.{VariableFits}
@@ -23,7 +23,7 @@ use Rattle.static_readings.specs.Declarations.{numbered_from, are_known, declare
 use Rattle.static_readings.specs.ReadsAll.{before}
 use Rattle.static_readings.specs.Sites.{Site}
 use Rattle.type_names.specs.DuplicateNames.{names_twice}
-use Rattle.static_check.specs.Headings.{known_sort, known_sorts, declared, parameter_sorts, functionality_refusals, parameter_refusals}
+use Rattle.static_processes.specs.Headings.{known_sort, known_sorts, declared, parameter_sorts, functionality_refusals, parameter_refusals}
 use Rattle.static_laws.proofs.CompiledVariables.{declared-fit}
 use Rattle.static_check.specs.Compiled.{data_context}
 

@@ -17,7 +17,7 @@ use Rattle.spec_core.specs.Terms.{TermTree}
 use Rattle.spec_core.specs.Theories.{Premise}
 use Rattle.spec_core.proofs.Members.{one_right, one_left}
 use Rattle.sort_overloads.specs.Listed.{is_same_name}
-use Rattle.static_call_cycles.specs.Constructs.{Construct}
+use Rattle.static_constructs.specs.Constructs.{Construct}
 use Rattle.static_readings.specs.Calls.{called, IsCallRead, unknown, miscounted, counted}
 use Rattle.static_readings.specs.Declarations.{gate_numbers, declared_variables}
 use Rattle.static_readings.specs.Joins.{Read, root, after, single, around, over, joined, either, both}

@@ -18,9 +18,9 @@ use Rattle.type_contents.specs.Images.{Renaming, sort_image, kept_renaming, imag
 use Rattle.type_contents.specs.Items.{Item, Described, item_of, is_in, is_sort}
 use Rattle.type_contents.specs.Numbering.{all_items, all_sorts, all_operations, brought, number_among}
 use Rattle.type_contents.specs.Own.{sort_item}
-use Rattle.type_equation_copies.specs.Images.{new_number}
+use Rattle.type_images.specs.Images.{new_number}
 use Rattle.type_equation_copies.specs.Copies.{image_in, image_numbers}
-use Rattle.static_presentation.specs.Data.{sort_numbers, all_but_last, last_number}
+use Rattle.type_data.specs.Data.{sort_numbers, all_but_last, last_number}
 use Rattle.static_presentation.specs.Moved.{number_at}
 use Rattle.static_presentation.specs.Signatures.{had_of, is_had, numbers_had, sort_number, operation_over, type_context}
 use Rattle.static_laws.proofs.Closed.{IsUnrefused, closed, image-in-sorts, image-in-sort}

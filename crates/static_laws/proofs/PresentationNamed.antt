@@ -21,11 +21,11 @@ use Rattle.type_contents.specs.Numbering.{all_items, all_sorts, all_operations, 
 use Rattle.type_contents.specs.Own.{sort_item}
 use Rattle.type_contents.proofs.Unions.{item_self}
 use Rattle.type_names.specs.Acyclic.{CyclesAreRefused, ContentsAreMadeFromContents}
-use Rattle.type_equation_copies.specs.Images.{equation_image}
-use Rattle.type_equation_copies.specs.Same.{is_same_equation}
-use Rattle.type_equation_copies.specs.Same as same
+use Rattle.type_images.specs.Images.{equation_image}
+use Rattle.type_images.specs.Same.{is_same_equation}
+use Rattle.type_images.specs.Same as same
 use Rattle.type_equation_copies.specs.Contents.{Equations, no_equations, equations}
-use Rattle.static_presentation.specs.Data.{data_sorts, data_operations, of_data, all_equations, data_equations, data_numbers, operation_name, sort_numbers, all_but_last, last_number, operation, data_of}
+use Rattle.type_data.specs.Data.{data_sorts, data_operations, of_data, all_equations, data_equations, data_numbers, operation_name, sort_numbers, all_but_last, last_number, operation, data_of}
 use Rattle.type_contents.specs.FormalTypes.{formal_types}
 use Rattle.static_presentation.specs.Own.{AreOwnEquations}
 use Rattle.static_laws.specs.Presentation.{PresentationsAreNamed}

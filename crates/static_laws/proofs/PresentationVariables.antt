@@ -30,8 +30,8 @@ use Rattle.static_equations.specs.Equations.{equation_unless_refused, IsEquation
 use Rattle.static_equations.specs.Gathered.{Gathers, none, further, IfRead}
 use Rattle.static_equations.specs.Numbered.{variables_at, equation_variables}
 use Rattle.static_equations.specs.Variables.{sort_named, declarations, variables_of, all_variables, unknown_sorts, under}
-use Rattle.type_equation_copies.specs.Images.{NewNumbers, equation_image}
-use Rattle.type_equation_copies.specs.Same.{is_same_equation}
+use Rattle.type_images.specs.Images.{NewNumbers, equation_image}
+use Rattle.type_images.specs.Same.{is_same_equation}
 use Rattle.type_equation_copies.specs.Contents.{Equations, no_equations, source_in_order, new_image, newly_copied, brings_by, made_by, made_from}
 use Rattle.type_equation_copies.specs.Copies.{copy_numbers}
 use Rattle.type_contents.specs.Contents.{no_content, contents, formals_of}

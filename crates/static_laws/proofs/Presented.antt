@@ -20,12 +20,12 @@ use Rattle.type_contents.specs.Numbering.{all_sorts, all_operations, number_amon
 use Rattle.type_contents.specs.Own.{sort_item}
 use Rattle.type_contents.proofs.Settled.{rounds_length}
 use Rattle.type_names.specs.Acyclic.{CyclesAreRefused, ContentsAreMadeFromContents}
-use Rattle.type_equation_copies.specs.Images.{new_number, term_image, term_images, premise_image, equation_image}
-use Rattle.type_equation_copies.specs.Same.{is_same_premise, is_same_term, is_same_equation, firsts}
-use Rattle.type_equation_copies.specs.Same as same
+use Rattle.type_images.specs.Images.{new_number, term_image, term_images, premise_image, equation_image}
+use Rattle.type_images.specs.Same.{is_same_premise, is_same_term, is_same_equation, firsts}
+use Rattle.type_images.specs.Same as same
 use Rattle.type_equation_copies.proofs.Terms.{one_term}
 use Rattle.type_equation_copies.specs.Contents.{Equations, no_equations, equations}
-use Rattle.static_presentation.specs.Data.{data_sorts, data_operations, of_data, all_equations, data_equations, data_numbers, sort_numbers, operation, data_of}
+use Rattle.type_data.specs.Data.{data_sorts, data_operations, of_data, all_equations, data_equations, data_numbers, sort_numbers, operation, data_of}
 use Rattle.static_presentation.specs.Own.{AreOwnEquations}
 use Rattle.static_laws.specs.Presentation.{PresentationsFit}
 use Rattle.static_laws.proofs.Closed.{IsUnrefused, unrefused, content-there, closed}

@@ -10,7 +10,7 @@ use Rattle.spec_core.specs.Functionality.{Functionality, HasFunctionality, Proce
 use Rattle.spec_core.specs.Functionality as core
 use Rattle.spec_core.specs.Ready.{PartsFit, NamesBehaviour, AreNamed, IsReady}
 use Rattle.spec_core.specs.Sorts.{no_variables}
-use Rattle.static_call_cycles.specs.MadeFrom.{AreAcyclic}
+use Rattle.type_cycles.specs.MadeFrom.{AreAcyclic}
 use Rattle.static_readings.specs.Joins.{root}
 use Rattle.static_call_cycles.specs.Unguarded.{links}
 use Rattle.static_laws.specs.Assembled.{Placed, Definition, IsAssembled, calls_of, body_nodes}

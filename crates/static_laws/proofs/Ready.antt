@@ -5,7 +5,7 @@ use Rattle.std.specs.List.{slice_get, flat_map}
 use Rattle.lotos_ast.specs.declared.refusal.Refusal.{Refusal}
 use Rattle.lotos_ast.specs.declared.spec.Spec.{Spec}
 use Rattle.lotos_ast.specs.declared.token.Token.{Token}
-use Rattle.static_call_cycles.specs.Written.{gates_in, behaviour_written}
+use Rattle.static_constructs.specs.Written.{gates_in, behaviour_written}
 use Rattle.spec_core.specs.Code.{Program}
 use Rattle.spec_core.specs.Executable.{IsExecutable}
 use Rattle.spec_core.specs.Lists.{Each}
@@ -13,12 +13,12 @@ use Rattle.spec_core.specs.Names.{IsIdentifier}
 use Rattle.spec_core.specs.Ready.{AreNamed, IsReady}
 use Rattle.spec_core.specs.Theories.{Theory}
 use Rattle.spec_core.proofs.Lists.{both_empty}
-use Rattle.static_call_cycles.specs.MadeFrom.{AreAcyclic}
+use Rattle.type_cycles.specs.MadeFrom.{AreAcyclic}
 use Rattle.type_names.specs.DuplicateNames.{names_twice}
 use Rattle.static_readings.specs.Joins.{Read}
 use Rattle.static_readings.specs.Readings.{IsRead}
-use Rattle.static_check.specs.Headings.{declared, heading_refusals, twice_refusals, table_refusals, opening_refusals, functionality_refusals}
-use Rattle.static_check.specs.Processes.{Entry, entries}
+use Rattle.static_processes.specs.Headings.{declared, heading_refusals, twice_refusals, table_refusals, opening_refusals, functionality_refusals}
+use Rattle.static_processes.specs.Processes.{Entry, entries}
 use Rattle.static_call_cycles.specs.Unguarded.{links, unguarded_refusals}
 use Rattle.static_call_cycles.proofs.Acyclic.{nothing_refused_where_acyclic}
 use Rattle.static_laws.proofs.Readiness.{ready}

@@ -7,7 +7,7 @@ use Rattle.lotos_ast.specs.declared.types.TypeDef.{TypeDef}
 use Rattle.spec_core.specs.Lists.{IsOneOf}
 use Rattle.spec_core.specs.Theories.{ConditionalEquation}
 use Rattle.spec_core.proofs.Members.{from_flat_map}
-use Rattle.static_call_cycles.specs.MadeFrom.{IsMadeFrom, directly, through, AreAcyclic}
+use Rattle.type_cycles.specs.MadeFrom.{IsMadeFrom, directly, through, AreAcyclic}
 use Rattle.static_call_cycles.proofs.Walks.{linked_within}
 use Rattle.type_contents.specs.Numbering.{parts_from, parts}
 use Rattle.type_contents.specs.Rounds.{rounds}

@@ -5,14 +5,14 @@ use Rattle.std.proofs.lemmas.Option.{none-some, same_Some}
 use Rattle.lotos_ast.specs.declared.refusal.Refusal.{Refusal}
 use Rattle.lotos_ast.specs.declared.spec.Spec.{Spec}
 use Rattle.lotos_ast.specs.FirstRefusals.{first_refusal}
-use Rattle.static_call_cycles.specs.Written.{behaviour_written}
+use Rattle.static_constructs.specs.Written.{behaviour_written}
 use Rattle.spec_core.specs.Code.{Program}
 use Rattle.spec_core.specs.Theories.{Theory}
 use Rattle.static_readings.specs.Joins.{after}
 use Rattle.static_readings.specs.ReadsAll.{before}
 use Rattle.static_readings.specs.Readings.{IsRead}
-use Rattle.static_check.specs.Headings.{declared, table_refusals, opening_refusals}
-use Rattle.static_check.specs.Processes.{Entry, entries}
+use Rattle.static_processes.specs.Headings.{declared, table_refusals, opening_refusals}
+use Rattle.static_processes.specs.Processes.{Entry, entries}
 use Rattle.static_call_cycles.specs.Unguarded.{unguarded_refusals}
 use Rattle.static_laws.proofs.CompiledOnce.{of-two, construct-one}
 use Rattle.static_check.specs.Bodies.{Setting, Placed, placed, body_site, ending_refusals, body_ending_refusals, AreBodiesRead, none_left, one_more, calls_from}

@@ -41,7 +41,7 @@ use Rattle.type_copies.specs.BadActuals.{bad_actuals}
 use Rattle.type_copies.specs.BadRenamings.{is_bad_operation, is_misplaced, has_clash, has_old_operation, bad_sort_pair, bad_operation_pair, bad_pairs}
 use Rattle.type_copies.specs.Copies.{Change, Copy, change_in, copy, gets}
 use Rattle.type_names.specs.Refused.{each_after}
-use Rattle.static_presentation.specs.Refusals.{bad_copy}
+use Rattle.flattening.specs.Refusals.{bad_copy}
 use Rattle.static_laws.specs.NamedTypes.{IsNamed, IsOperationNamed, HasPlaces, IsDeclarationNamed, ArePairsNamed, AreItemsNamed, IsBodyNamed, IsTypeNamed}
 use Rattle.static_laws.proofs.Closed.{IsUnrefused, each-empty}
 use Rattle.static_laws.proofs.Items.{is-among, firsts-from}

@@ -3,7 +3,7 @@ use Rattle.std.proofs.Common.{ℕ, zero, suc, ◌≡◌, ◌∙◌, ◌<◌, ref
 use Rattle.std.specs.Prelude.{option_map}
 use Rattle.std.specs.List.{Contains, slice_get, slice_index_or}
 use Rattle.std.proofs.lemmas.Option.{slice_get-map, get_or_from_slice_get}
-use Rattle.static_call_cycles.specs.MadeFrom.{AreAcyclic}
+use Rattle.type_cycles.specs.MadeFrom.{AreAcyclic}
 use Rattle.static_call_cycles.proofs.Walks.{Walks, acyclic_short}
 
 -- each walk from the type has fewer steps than these

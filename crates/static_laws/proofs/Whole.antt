@@ -5,7 +5,7 @@ use Rattle.lotos_ast.specs.declared.behaviour.GateChoice.{GateChoice}
 use Rattle.lotos_ast.specs.declared.refusal.Refusal.{Refusal}
 use Rattle.spec_core.specs.Code.{Program}
 use Rattle.spec_core.specs.Functionality.{Functionality}
-use Rattle.static_call_cycles.specs.Constructs.{Construct}
+use Rattle.static_constructs.specs.Constructs.{Construct}
 use Rattle.static_readings.specs.Joins.{Read}
 use Rattle.static_readings.specs.Readings.{IsRead, stopped, exited, acted_inside, acted, chosen_either, asked, bound_to_values}
 use Rattle.static_readings.specs.Readings.{chosen_values, chosen_gates, composed_with, hidden, enabled_by, disabled_by, called_with}

@@ -7,7 +7,7 @@ use Rattle.spec_core.specs.Code.{Node, Variable, Program, process}
 use Rattle.spec_core.specs.Functionality.{Functionality, noexit, VariableFits}
 use Rattle.spec_core.specs.Lists.{Each}
 use Rattle.spec_core.specs.Theories.{Theory}
-use Rattle.static_call_cycles.specs.Constructs.{Construct}
+use Rattle.static_constructs.specs.Constructs.{Construct}
 use Rattle.static_readings.specs.Declarations.{numbered_from}
 use Rattle.static_readings.specs.Joins.{Read, root}
 use Rattle.static_readings.specs.Readings.{IsRead}

@@ -13,11 +13,11 @@ use Rattle.spec_core.specs.Theories.{Theory}
 use Rattle.static_equations.specs.Laws.{IsOne}
 use Rattle.sort_overloads.specs.Expressions.{Expression}
 use Rattle.sort_overloads.specs.Readings.{Context, IsReading}
-use Rattle.static_call_cycles.specs.Constructs.{Construct}
+use Rattle.static_constructs.specs.Constructs.{Construct}
 use Rattle.static_readings.specs.Joins.{Read, root}
 use Rattle.static_readings.specs.Readings.{IsRead}
 use Rattle.static_readings.specs.Sites.{Site}
-use Rattle.static_call_cycles.specs.MadeFrom.{AreAcyclic}
+use Rattle.type_cycles.specs.MadeFrom.{AreAcyclic}
 use Rattle.static_call_cycles.specs.AtOnce.{calls_at_once}
 use Rattle.static_call_cycles.specs.Unguarded.{called, links}
 use Rattle.static_laws.specs.Assembled.{Placed, Definition, IsAssembled, calls_of}

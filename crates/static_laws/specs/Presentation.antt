@@ -6,9 +6,9 @@ use Rattle.spec_core.specs.Lists.{Each}
 use Rattle.spec_core.specs.Sorts.{FitsData}
 use Rattle.spec_core.specs.Theories.{ConditionalEquation, Theory}
 use Rattle.type_contents.specs.Uses.{links}
-use Rattle.static_call_cycles.specs.MadeFrom.{AreAcyclic}
+use Rattle.type_cycles.specs.MadeFrom.{AreAcyclic}
 use Rattle.type_equation_copies.specs.Contents.{Equations, made_from, equations}
-use Rattle.static_presentation.specs.Refusals.{refusals_of}
+use Rattle.flattening.specs.Refusals.{refusals_of}
 use Rattle.static_presentation.specs.Presentations.{IsPresentation}
 use Rattle.static_laws.specs.NamedTypes.{IsTypeNamed}
 use Rattle.static_laws.specs.CompiledNames.{IsDataNamed}

@@ -1,6 +1,6 @@
 -- Names that the heading of a specification has (ISO 8807, lexical tokens; and this profile).
 use Rattle.lotos_ast.specs.declared.spec.Spec.{Spec}
-use Rattle.static_call_cycles.specs.Written.{gates_in}
+use Rattle.static_constructs.specs.Written.{gates_in}
 use Rattle.spec_core.specs.Lists.{Each}
 use Rattle.spec_core.specs.Names.{IsIdentifier}
 

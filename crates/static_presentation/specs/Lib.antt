@@ -6,7 +6,7 @@ pub mod Signatures
 pub mod Views
 pub use Rattle.flattening.specs.Refusals
 pub use Rattle.type_data.specs.Data
-pub use Rattle.type_data.specs.Images
-pub use Rattle.type_data.specs.Same
+pub use Rattle.type_images.specs.Images
+pub use Rattle.type_images.specs.Same
 pub use Rattle.type_equation_copies.specs.Contents
 pub use Rattle.type_equation_copies.specs.Copies

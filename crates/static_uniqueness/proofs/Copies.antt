@@ -25,7 +25,7 @@ use Rattle.type_copies.specs.BadRenamings.{bad_sort_pair, bad_operation_pair, ba
 use Rattle.type_copies.specs.Copies.{Copy, copy}
 use Rattle.type_copies.specs.UnknownSorts.{operation_sorts, sorts_by, sorts_in, unknown_sort, unknown_sorts}
 use Rattle.type_names.specs.Refused.{each_after}
-use Rattle.static_presentation.specs.Refusals.{bad_renaming, bad_actualization, bad_copy_by, bad_copy, refusals_by, refusals_of}
+use Rattle.flattening.specs.Refusals.{bad_renaming, bad_actualization, bad_copy_by, bad_copy, refusals_by, refusals_of}
 use Rattle.syntax_laws.specs.Alike.{AreAlike, AreOperationsAlike, ArePairsAlike, AreBodiesAlike, AreTypesAlike}
 use Rattle.static_uniqueness.proofs.Lists.{AreBesideSame, flat-same, zip-alike, listed-same, listed-alike}
 use Rattle.static_uniqueness.proofs.Own.{part-operations-alike, renaming-same}

@@ -21,8 +21,8 @@ use Rattle.lotos_ast.specs.Reads.{Tree, unkept, leaf, both, left, right, node}
 use Rattle.lotos_ast.specs.SpecTrees.{where_item_tree, process_tree, items_tree, parameters_tree}
 use Rattle.lotos_ast.specs.TypeTrees.{type_def_tree}
 use Rattle.spec_core.specs.Lists.{Each}
-use Rattle.static_call_cycles.specs.Written.{listed, gates_in, declarations_in, behaviour_written}
-use Rattle.static_check.specs.Processes.{Defined, Entries, one_after_another, item_entries, process_entries}
+use Rattle.static_constructs.specs.Written.{listed, gates_in, declarations_in, behaviour_written}
+use Rattle.static_processes.specs.Processes.{Defined, Entries, one_after_another, item_entries, process_entries}
 use Rattle.syntax_laws.proofs.Trees.{IsTreeOf, parts}
 use Rattle.static_uniqueness.proofs.Processes.{IsDefinedBy, SaysItem, SaysProcess, SaysItems, SaysAll}
 use Rattle.static_uniqueness.proofs.Written.{behaviour-said}

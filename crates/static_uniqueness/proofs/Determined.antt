@@ -7,8 +7,8 @@ use Rattle.lotos_ast.specs.Grammar.{where_part}
 use Rattle.lotos_ast.specs.GrammarLaws.{OneTree}
 use Rattle.lotos_ast.specs.Notation.{part, optional, specification, behaviour}
 use Rattle.lotos_ast.specs.SpecTrees.{spec_tree, items_tree}
-use Rattle.static_call_cycles.specs.Written.{listed, behaviour_written}
-use Rattle.static_check.specs.Processes.{item_entries}
+use Rattle.static_constructs.specs.Written.{listed, behaviour_written}
+use Rattle.static_processes.specs.Processes.{item_entries}
 use Rattle.static_uniqueness.specs.SpecificationsAlike.{AreSpecificationsAlike}
 use Rattle.syntax_laws.proofs.Trees.{IsTreeOf, parts, tree-read}
 use Rattle.static_uniqueness.proofs.Defined.{items-said, of-each}

@@ -8,15 +8,15 @@ use Rattle.spec_core.specs.Code.{process, Program}
 use Rattle.spec_core.specs.Theories.{Theory}
 use Rattle.static_equations.specs.Variables.{all_variables}
 use Rattle.type_names.specs.DuplicateNames.{names_twice}
-use Rattle.static_call_cycles.specs.Written.{gates_in, behaviour_written}
+use Rattle.static_constructs.specs.Written.{gates_in, behaviour_written}
 use Rattle.static_readings.specs.Declarations.{numbered_from}
 use Rattle.static_readings.specs.Joins.{Read, root, after}
 use Rattle.static_readings.specs.ReadsAll.{before}
 use Rattle.static_readings.specs.Readings.{IsRead}
 use Rattle.static_call_cycles.specs.AtOnce.{calls_at_once}
 use Rattle.static_call_cycles.specs.Unguarded.{unguarded_refusals}
-use Rattle.static_check.specs.Headings.{declared, opening_refusals, parameter_sorts}
-use Rattle.static_check.specs.Processes.{Entry, entries}
+use Rattle.static_processes.specs.Headings.{declared, opening_refusals, parameter_sorts}
+use Rattle.static_processes.specs.Processes.{Entry, entries}
 use Rattle.static_check.specs.Bodies.{Setting, body_site, ending_refusals, unknown_in, Placed, placed, AreBodiesRead, none_left, one_more, calls_from}
 use Rattle.static_check.specs.Compiled.{data_context, setting, start_site, process_node, process_nodes, body_nodes, program_if_read, IsJudged}
 use Rattle.syntax_laws.specs.Alike.{AreAlike}

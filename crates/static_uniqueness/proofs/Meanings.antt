@@ -18,9 +18,9 @@ use Rattle.lotos_ast.specs.ExpressionTrees.{values_tree}
 use Rattle.lotos_ast.specs.ListTrees.{token_list_tree, list_tree}
 use Rattle.lotos_ast.specs.Reads.{Tree, unkept, leaf, both, left, right, absent, present, node}
 use Rattle.std.specs.Prelude.{map}
-use Rattle.static_call_cycles.specs.Constructs.{Construct, stops, exits, acts_inside, acts, chooses, asks, binds, chooses_values, chooses_gates}
-use Rattle.static_call_cycles.specs.Constructs.{composes, hides, enables, disables, calls, copies}
-use Rattle.static_call_cycles.specs.Written.{listed, gates_in, declarations_in}
+use Rattle.static_constructs.specs.Constructs.{Construct, stops, exits, acts_inside, acts, chooses, asks, binds, chooses_values, chooses_gates}
+use Rattle.static_constructs.specs.Constructs.{composes, hides, enables, disables, calls, copies}
+use Rattle.static_constructs.specs.Written.{listed, gates_in, declarations_in}
 
 abbrev mutual
   pub SaysBehaviour : Tree → Construct → Type 0

@@ -15,7 +15,7 @@ use Rattle.lotos_ast.specs.declared.types.TypeDef.{TypeDef}
 use Rattle.lotos_ast.specs.declared.types.TypeDef.TheVariants.{Library, Definition}
 use Rattle.type_contents.specs.Items.{small}
 use Rattle.type_contents.specs.Uses.{is_called, uses, links}
-use Rattle.static_call_cycles.specs.Cycles.{first_cycle}
+use Rattle.type_cycles.specs.Cycles.{first_cycle}
 use Rattle.type_names.specs.DuplicateNames.{names_twice, item_twice, declared_by, declared_in, lists_of, lists_if_there, part_lists, lists_by, lists_in, variables_twice, duplicate_names}
 use Rattle.type_names.specs.Refused.{refused, each_after}
 use Rattle.type_names.specs.TypeCycles.{type_name, name_at, cycle_refused, names_on, cycle_refusals}

@@ -3,9 +3,9 @@ use Rattle.std.proofs.Common.{◌≡◌, ◌∙◌, sym, subst}
 use Rattle.lotos_ast.specs.declared.place.Place.{Place}
 use Rattle.lotos_ast.specs.BehaviourTrees.{choice_declarations_tree}
 use Rattle.lotos_ast.specs.Reads.{Tree, unkept, leaf, both, left, right, absent, present, node}
-use Rattle.static_call_cycles.specs.Constructs.{Construct}
-use Rattle.static_call_cycles.specs.Constructs.{hides, calls, copies}
-use Rattle.static_call_cycles.specs.Written.{listed}
+use Rattle.static_constructs.specs.Constructs.{Construct}
+use Rattle.static_constructs.specs.Constructs.{hides, calls, copies}
+use Rattle.static_constructs.specs.Written.{listed}
 use Rattle.syntax_laws.proofs.Trees.{tokens-one}
 use Rattle.static_uniqueness.specs.ConstructsAlike.{AreConstructsAlike, alike_stops, alike_exits, alike_inside, alike_acts, alike_chooses, alike_asks}
 use Rattle.static_uniqueness.specs.ConstructsAlike.{alike_binds, alike_values, alike_gates, alike_composes, alike_hides, alike_enables, alike_disables}

@@ -17,11 +17,11 @@ use Rattle.type_contents.specs.Items.{Item, Described, is_in}
 use Rattle.type_contents.specs.Numbering.{all_sorts, all_operations, is_data}
 use Rattle.static_equations.specs.Bodies.{IsBodyJudged}
 use Rattle.static_equations.specs.Gathered.{Gathers}
-use Rattle.static_presentation.specs.Images.{NewNumbers, equation_image}
-use Rattle.static_presentation.specs.Same as same
-use Rattle.static_presentation.specs.Copies.{image_in, image_numbers, copy_numbers}
-use Rattle.static_presentation.specs.Contents.{Equations, no_equations, all_of, in_order, new_image, source_in_order, copied, newly_copied, all_by, brings_by, made_by, made_from, equations}
-use Rattle.static_presentation.specs.Data.{data_sorts, data_operations, equations_in, data_equations, data_numbers, operation, data_of}
+use Rattle.type_images.specs.Images.{NewNumbers, equation_image}
+use Rattle.type_images.specs.Same as same
+use Rattle.type_equation_copies.specs.Copies.{image_in, image_numbers, copy_numbers}
+use Rattle.type_equation_copies.specs.Contents.{Equations, no_equations, all_of, in_order, new_image, source_in_order, copied, newly_copied, all_by, brings_by, made_by, made_from, equations}
+use Rattle.type_data.specs.Data.{data_sorts, data_operations, equations_in, data_equations, data_numbers, operation, data_of}
 use Rattle.static_presentation.specs.Own.{part_body, bodies_by, bodies, AreRead, IsOwnOf, AreOwnEquations}
 use Rattle.static_presentation.specs.Signatures.{type_context}
 use Rattle.syntax_laws.specs.Alike.{AreAlike, IfThere, AreEquationBodiesAlike, AreEquationPartsAlike, ArePairsAlike, AreBodiesAlike, AreTypesAlike}

@@ -6,8 +6,8 @@ use Rattle.lotos_ast.specs.declared.token.Token.{Token}
 use Rattle.lotos_ast.specs.DeclarationTrees.{functionality_tree, optional_gates_tree}
 use Rattle.lotos_ast.specs.Reads.{Tree, unkept, leaf, both, left, right, absent, present, no_more, more, node}
 use Rattle.lotos_ast.specs.SpecTrees.{parameters_tree}
-use Rattle.static_call_cycles.specs.Written.{gates_in, declarations_in}
-use Rattle.static_check.specs.Processes.{Defined, Entry, Entries, one_after_another}
+use Rattle.static_constructs.specs.Written.{gates_in, declarations_in}
+use Rattle.static_processes.specs.Processes.{Defined, Entry, Entries, one_after_another}
 use Rattle.syntax_laws.specs.Alike.{AreAlike, AreDeclarationsAlike}
 use Rattle.static_uniqueness.proofs.Lists.{length-same, append-alike}
 use Rattle.static_uniqueness.specs.SpecificationsAlike.{AreDefinedAlike, AreEntriesAlike}

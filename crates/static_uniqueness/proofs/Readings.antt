@@ -7,7 +7,7 @@ use Rattle.lotos_ast.specs.declared.token.Token.{Token}
 use Rattle.spec_core.specs.Code.{gate_choice, bound}
 use Rattle.sort_overloads.specs.Readings.{Declared}
 use Rattle.type_names.specs.DuplicateNames.{names_twice}
-use Rattle.static_call_cycles.specs.Constructs.{Construct, acts, binds, chooses_values, chooses_gates, composes, enables, copies}
+use Rattle.static_constructs.specs.Constructs.{Construct, acts, binds, chooses_values, chooses_gates, composes, enables, copies}
 use Rattle.static_readings.specs.Calls.{has_counts, IsCallRead, unknown, miscounted, counted}
 use Rattle.static_readings.specs.Declarations.{unknown_gate, unknown_gates, gate_numbers, declaration_refusals, declared_variables}
 use Rattle.static_readings.specs.Joins.{Read, after}

@@ -10,12 +10,12 @@ use Rattle.sort_overloads.specs.Readings.{Context}
 use Rattle.sort_overloads.specs.Refused.{unknown_sort}
 use Rattle.static_equations.specs.Variables.{variables_of, all_variables}
 use Rattle.type_names.specs.DuplicateNames.{names_twice}
-use Rattle.static_call_cycles.specs.Constructs.{Construct}
-use Rattle.static_call_cycles.specs.Written as written
+use Rattle.static_constructs.specs.Constructs.{Construct}
+use Rattle.static_constructs.specs.Written as written
 use Rattle.static_readings.specs.Sites.{Site}
 use Rattle.static_call_cycles.specs.AtOnce.{calls_at_once}
-use Rattle.static_check.specs.Headings.{known_sort, known_sorts, declared, parameter_sorts, heading, headings_from, functionality_refusals, parameter_refusals, heading_refusals, table_refusals}
-use Rattle.static_check.specs.Processes.{Defined, Entry, is_innermost, stands_in, standing_from, visible_in, names_in}
+use Rattle.static_processes.specs.Headings.{known_sort, known_sorts, declared, parameter_sorts, heading, headings_from, functionality_refusals, parameter_refusals, heading_refusals, table_refusals}
+use Rattle.static_processes.specs.Processes.{Defined, Entry, is_innermost, stands_in, standing_from, visible_in, names_in}
 use Rattle.static_check.specs.Bodies.{Setting, headings_within, body_site}
 use Rattle.syntax_laws.specs.Alike.{AreAlike, IfThere, HaveSame, AreDeclarationsAlike}
 use Rattle.static_uniqueness.proofs.Lists.{length-same, flat-same}

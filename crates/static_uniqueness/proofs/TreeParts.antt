@@ -24,7 +24,7 @@ use Rattle.lotos_ast.specs.ExpressionTrees.{expr_tree, values_tree}
 use Rattle.lotos_ast.specs.ListTrees.{token_list_tree, list_tree, repeated_tree, behind}
 use Rattle.lotos_ast.specs.Reads.{Tree, unkept, leaf}
 use Rattle.lotos_ast.specs.SpecTrees.{parameters_tree}
-use Rattle.static_call_cycles.specs.Written.{listed, gates_in, declarations_in}
+use Rattle.static_constructs.specs.Written.{listed, gates_in, declarations_in}
 use Rattle.syntax_laws.specs.Alike.{AreAlike, IfThere, AreDeclarationsAlike, ArePremissesAlike}
 use Rattle.syntax_laws.proofs.Trees.{tokens-one, further-tokens-one, listed-alike, all-alike, behind-list-alike}
 use Rattle.syntax_laws.proofs.Types.{declarations-alike}

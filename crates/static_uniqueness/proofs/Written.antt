@@ -37,11 +37,11 @@ use Rattle.lotos_ast.specs.BehaviourTrees.{accepts_tree, operator_tree, predicat
 use Rattle.lotos_ast.specs.DeclarationTrees.{declaration_tree, gate_list_tree, optional_gates_tree}
 use Rattle.lotos_ast.specs.ExpressionTrees.{values_tree}
 use Rattle.lotos_ast.specs.ListTrees.{token_list_tree, between}
-use Rattle.static_call_cycles.specs.Constructs.{Construct, stops, exits, acts, chooses, asks, binds, chooses_values, chooses_gates}
-use Rattle.static_call_cycles.specs.Constructs.{composes, hides, enables, disables, calls, copies}
-use Rattle.static_call_cycles.specs.Written as written
-use Rattle.static_call_cycles.specs.Written.{Joined, listed, gates_in, declarations_in, action_written}
-use Rattle.static_call_cycles.specs.Written.{behaviour_written, disable_written, parallel_written, choice_written, unary_written, atom_written}
+use Rattle.static_constructs.specs.Constructs.{Construct, stops, exits, acts, chooses, asks, binds, chooses_values, chooses_gates}
+use Rattle.static_constructs.specs.Constructs.{composes, hides, enables, disables, calls, copies}
+use Rattle.static_constructs.specs.Written as written
+use Rattle.static_constructs.specs.Written.{Joined, listed, gates_in, declarations_in, action_written}
+use Rattle.static_constructs.specs.Written.{behaviour_written, disable_written, parallel_written, choice_written, unary_written, atom_written}
 use Rattle.syntax_laws.proofs.Trees.{IsTreeOf, parts}
 use Rattle.static_uniqueness.proofs.Meanings.{SaysBehaviour, SaysDisable, SaysParallel, SaysChoice, SaysUnary, SaysAtom}
 

@@ -4,7 +4,7 @@ use Rattle.lotos_ast.specs.declared.refusal.Refusal.{Refusal}
 use Rattle.static_readings.specs.Joins.{Read}
 use Rattle.static_readings.specs.Readings.{IsRead}
 use Rattle.static_readings.specs.Sites.{Site}
-use Rattle.static_call_cycles.specs.Constructs.{Construct}
+use Rattle.static_constructs.specs.Constructs.{Construct}
 use Rattle.static_uniqueness.specs.ConstructsAlike.{AreConstructsAlike}
 
 abbrev pub SameIsRead : Type 0

@@ -14,8 +14,8 @@ use Rattle.lotos_ast.specs.declared.expression.Premiss.{Premiss}
 use Rattle.lotos_ast.specs.declared.place.Place.{Place}
 use Rattle.lotos_ast.specs.declared.token.Token.{Token}
 use Rattle.lotos_ast.specs.ExpressionTrees.{expr_tree}
-use Rattle.static_call_cycles.specs.Constructs.{Construct, stops, exits, acts_inside, acts, chooses, asks, binds, chooses_values, chooses_gates}
-use Rattle.static_call_cycles.specs.Constructs.{composes, hides, enables, disables, calls, copies}
+use Rattle.static_constructs.specs.Constructs.{Construct, stops, exits, acts_inside, acts, chooses, asks, binds, chooses_values, chooses_gates}
+use Rattle.static_constructs.specs.Constructs.{composes, hides, enables, disables, calls, copies}
 use Rattle.syntax_laws.specs.Alike.{AreAlike, IfThere, HaveSame, AreDeclarationsAlike, ArePremissesAlike}
 
 -- of expressions the trees say all that is asked

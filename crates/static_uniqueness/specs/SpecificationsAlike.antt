@@ -3,8 +3,8 @@ use Rattle.std.specs.Prelude.{◌≡◌}
 use Rattle.lotos_ast.specs.declared.declaration.Functionality.{Functionality}
 use Rattle.lotos_ast.specs.declared.declaration.Functionality.TheVariants.{NoExit, Exit}
 use Rattle.lotos_ast.specs.declared.spec.Spec.{Spec}
-use Rattle.static_call_cycles.specs.Written.{gates_in, behaviour_written}
-use Rattle.static_check.specs.Processes.{Defined, Entry, entries}
+use Rattle.static_constructs.specs.Written.{gates_in, behaviour_written}
+use Rattle.static_processes.specs.Processes.{Defined, Entry, entries}
 use Rattle.syntax_laws.specs.Alike.{AreAlike, IfThere, HaveSame, AreDeclarationsAlike}
 use Rattle.static_uniqueness.specs.ConstructsAlike.{AreConstructsAlike}
 

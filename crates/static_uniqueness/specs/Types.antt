@@ -3,8 +3,8 @@ use Rattle.std.specs.Prelude.{◌≡◌, List}
 use Rattle.lotos_ast.specs.declared.refusal.Refusal.{Refusal}
 use Rattle.lotos_ast.specs.declared.types.TypeDef.{TypeDef}
 use Rattle.spec_core.specs.Theories.{ConditionalEquation}
-use Rattle.static_presentation.specs.Refusals.{refusals_of}
-use Rattle.static_presentation.specs.Data.{data_of}
+use Rattle.flattening.specs.Refusals.{refusals_of}
+use Rattle.type_data.specs.Data.{data_of}
 use Rattle.static_presentation.specs.Own.{AreOwnEquations}
 use Rattle.syntax_laws.specs.Alike.{AreAlike, AreTypesAlike}
 

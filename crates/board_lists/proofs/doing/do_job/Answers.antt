@@ -1,6 +1,6 @@
 use Rattle.std.proofs.Common.{subst, sym}
 use Rattle.spec_core.specs.Code.{program_of}
-use Rattle.board_core.specs.Found.{AreBySorts}
+use Rattle.sort_windows.specs.Found.{AreBySorts}
 use Rattle.board_core.specs.Working.{IsOfValues}
 use Rattle.board_lists.proofs.doing.do_job.Goals as goal
 

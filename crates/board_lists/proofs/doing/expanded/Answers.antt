@@ -1,6 +1,6 @@
 use Rattle.std.proofs.Common.{◌∙◌}
 use Rattle.candidates.specs.Jobs.{to_expand}
-use Rattle.board_core.specs.Origins.{source_of}
+use Rattle.node_trees.specs.Origins.{source_of}
 use Rattle.board_core.specs.Views.{program, tree, windows}
 use Rattle.board_laws.proofs.StoppingGiven.{no_limit_of_steps}
 use Rattle.board_work.proofs.Taking.{work_of_node}

@@ -2,7 +2,7 @@ use Rattle.std.proofs.Common.{◌∙◌}
 use Rattle.rule_model.specs.Derivations.{derivation_of}
 use Rattle.candidate_verdicts.specs.Known.{node_part}
 use Rattle.candidates.specs.Jobs.{to_judge}
-use Rattle.board_core.specs.Origins.{source_of}
+use Rattle.node_trees.specs.Origins.{source_of}
 use Rattle.board_core.specs.Views.{program, tree, windows}
 use Rattle.board_laws.proofs.StoppingGiven.{no_limit_of_steps}
 use Rattle.board_work.proofs.Taking.{shown_of_node}

@@ -1,5 +1,5 @@
 use Rattle.std.proofs.Common.{refl}
-use Rattle.board_laws.specs.Rules.{any, any_beyond}
+use Rattle.decision_trees.specs.Rules.{any, any_beyond}
 use Rattle.board_lists.proofs.list.known_trees.Goals as goal
 
 pub first_trees-requires : goal.first_trees-requires

@@ -4,8 +4,8 @@ use Rattle.spec_core.specs.Code.{program_of}
 use Rattle.rule_model.specs.Derivations.{Derivation, derivation_of}
 use Rattle.rule_model.specs.Derives.{Derives}
 use Rattle.board_tree.specs.Changes.{changed}
-use Rattle.candidate_verdicts.specs.Steps.{Follows, Moves}
-use Rattle.board_core.specs.Shapes.{Shape}
+use Rattle.board_tree.specs.Steps.{Follows, Moves}
+use Rattle.node_trees.specs.Shapes.{Shape}
 use Rattle.board_core.specs.Views.{program, state, tree}
 use Rattle.board_lists.proofs.Firsts.{by_step}
 use Rattle.board_lists.proofs.list.with_action.Goals as goal

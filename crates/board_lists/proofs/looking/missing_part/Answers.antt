@@ -1,10 +1,10 @@
 use Rattle.std.proofs.Common.{◌∙◌, ap, option_map, sym}
 use Rattle.rule_model.specs.Derivations.{derivation_of}
-use Rattle.board_laws.specs.Lazy.{first}
+use Rattle.decision_trees.specs.Lazy.{first}
 use Rattle.candidate_verdicts.specs.declared.pieces.Pieces.{Pieces}
 use Rattle.candidate_verdicts.specs.Known.{missing_parts}
 use Rattle.candidate_verdicts.specs.Stored.{node_part_of, stored}
-use Rattle.board_core.specs.Shapes.{Shape}
+use Rattle.node_trees.specs.Shapes.{Shape}
 use Rattle.board_core.specs.Views.{pieces, program, tree, windows}
 use Rattle.board_lists.proofs.Searching.{some_missing}
 use Rattle.board_lists.proofs.looking.missing_part.Goals as goal

@@ -4,7 +4,7 @@ use Rattle.spec_core.specs.Theories.{theory_of}
 use Rattle.candidate_laws.specs.Sought.{every_kind}
 use Rattle.candidate_search.specs.Searches.{query_of}
 use Rattle.candidate_composites.specs.Known.{placed_of, sought_plans}
-use Rattle.board_core.specs.Shapes.{shape_of}
+use Rattle.node_trees.specs.Shapes.{shape_of}
 use Rattle.board_core.specs.Views.{program}
 use Rattle.board_lists.proofs.Searching.{looks_through}
 use Rattle.board_lists.proofs.looking.parts_of.Goals as goal

@@ -4,8 +4,8 @@ use Rattle.candidates.specs.declared.job.NodeJob.{NodeJob}
 use Rattle.candidates.specs.Models.{job_of}
 use Rattle.board_laws.specs.JobValues.{JobChoosesValues}
 use Rattle.node_trees.specs.Origins.{source_of}
-use Rattle.candidate_verdicts.specs.Tables.{windows_in}
-use Rattle.node_values.specs.Prepared.{program_in}
+use Rattle.symbolic_rules.specs.Tables.{windows_in}
+use Rattle.match_code.specs.Prepared.{program_in}
 use Rattle.board_work.specs.Outcomes.{ComesOf}
 use Rattle.board_work.proofs.performing.perform.Goals as goal
 

@@ -1,5 +1,5 @@
 use Rattle.std.proofs.Common.{◌≡◌, subst, sym}
-use Rattle.board_core.specs.Found.{AreBySorts}
+use Rattle.sort_windows.specs.Found.{AreBySorts}
 use Rattle.board_core.specs.Working.{IsOfValues}
 use Rattle.spec_core.specs.Code.{program_of}
 use Rattle.board_work.proofs.working.found.Goals as goal

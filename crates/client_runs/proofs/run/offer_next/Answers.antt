@@ -2,7 +2,7 @@ use Rattle.std.proofs.Common.{◌∙◌, subst, sym}
 use Rattle.spec_core.specs.Code.{program_of}
 use Rattle.rule_model.specs.WishViews.{wish_of}
 use Rattle.board_record.specs.Faults.{ExplainsPend}
-use Rattle.board_core.specs.JobValues.{GivesValues}
+use Rattle.board_laws.specs.JobValues.{GivesValues}
 use Rattle.board_core.specs.Views.{program, state}
 use Rattle.client_runs.proofs.Running.{offered}
 use Rattle.client_runs.proofs.Settled.{idle_on}

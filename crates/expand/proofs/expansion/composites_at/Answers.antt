@@ -3,7 +3,7 @@ use Rattle.std.proofs.lemmas.List.{length-map}
 use Rattle.spec_core.specs.Code.{relabelling_of, node_of}
 use Rattle.node_values.specs.Scopes.{scope_over}
 use Rattle.symbolic_rules.specs.Tables.{windows_in}
-use Rattle.node_values.specs.Prepared.{program_in}
+use Rattle.match_code.specs.Prepared.{program_in}
 use Rattle.expand.proofs.Top.{source_asked, source_expanded, source_stops}
 use Rattle.expand.proofs.expansion.composites_at.Goals as goal
 

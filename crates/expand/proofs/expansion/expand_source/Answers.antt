@@ -2,7 +2,7 @@ use Rattle.std.proofs.Common.{map, sym, subst}
 use Rattle.spec_core.specs.Code.{relabelling_of}
 use Rattle.sort_windows.specs.Found.{AreBySorts}
 use Rattle.node_trees.specs.Origins.{relabelled_by, scoped}
-use Rattle.node_values.specs.Prepared.{program_in}
+use Rattle.match_code.specs.Prepared.{program_in}
 use Rattle.expand.specs.Expansions.{IsStop}
 use Rattle.symbolic_rules.specs.Tables.{windows_in}
 use Rattle.expand.proofs.Top.{table_windows, stops_at}

@@ -6,7 +6,7 @@ use Rattle.symbolic_plans.specs.Plans.{field_of, prefix}
 use Rattle.node_values.specs.Found.{FieldsOpen}
 use Rattle.node_values.specs.Scopes.{marks_of}
 use Rattle.node_values.proofs.Finding.{of_some}
-use Rattle.node_values.specs.Prepared.{program_in}
+use Rattle.match_code.specs.Prepared.{program_in}
 use Rattle.expand.specs.Joins.{Sized}
 use Rattle.expand.proofs.Rows.{action_comes, no_action_comes}
 use Rattle.expand.proofs.leaves.action_at.Goals as goal

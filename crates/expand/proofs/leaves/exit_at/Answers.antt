@@ -6,7 +6,7 @@ use Rattle.symbolic_plans.specs.Plans.{field_of, termination}
 use Rattle.node_values.specs.Found.{ExitOpen}
 use Rattle.node_values.specs.Scopes.{marks_of}
 use Rattle.node_values.proofs.Finding.{of_some}
-use Rattle.node_values.specs.Prepared.{program_in}
+use Rattle.match_code.specs.Prepared.{program_in}
 use Rattle.expand.specs.Joins.{Sized}
 use Rattle.expand.proofs.Rows.{exit_comes, no_exit_comes}
 use Rattle.expand.proofs.leaves.exit_at.Goals as goal

@@ -6,7 +6,7 @@ use Rattle.node_values.specs.Scopes.{marks_of}
 use Rattle.node_trees.specs.Origins.{relabelled_by}
 use Rattle.symbolic_rules.specs.Tables.{windows_in}
 use Rattle.node_trees.proofs.Tidying.{none_relabelled, some_relabelled}
-use Rattle.node_values.specs.Prepared.{program_in}
+use Rattle.match_code.specs.Prepared.{program_in}
 use Rattle.expand.proofs.Walking.{of_equal}
 use Rattle.expand.proofs.relabelled.expand_relabelled.Goals as goal
 

@@ -3,7 +3,7 @@ use Rattle.spec_core.specs.Code.{relabelling_of}
 use Rattle.rule_origins.specs.Parts.{behaviour_at}
 use Rattle.node_values.specs.Scopes.{marks_of}
 use Rattle.symbolic_rules.specs.Tables.{windows_in}
-use Rattle.node_values.specs.Prepared.{program_in}
+use Rattle.match_code.specs.Prepared.{program_in}
 use Rattle.expand.proofs.Rows.{relabel_comes}
 use Rattle.expand.proofs.relabelled.expand_under.Goals as goal
 

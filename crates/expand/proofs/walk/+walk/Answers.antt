@@ -15,7 +15,7 @@ use Rattle.symbolic_plans.specs.OpenPlans.{open_plan_of, under_relabelling, plan
 use Rattle.node_values.specs.declared.scope.Given.TheVariants.{Value}
 use Rattle.node_values.specs.Scopes.{marks_of, marked_of}
 use Rattle.node_values.proofs.Finding.{of_some}
-use Rattle.node_values.specs.Prepared.{program_in}
+use Rattle.match_code.specs.Prepared.{program_in}
 use Rattle.expand.specs.Choosing.{IsChoice, AddsChoice, ExpandsEach}
 use Rattle.expand.specs.Joins.{Turns}
 use Rattle.expand.specs.Outcomes.{Outcome, BelowOutcome}

@@ -3,7 +3,7 @@ use Rattle.rule_model.specs.declared.rules.Slot.TheVariants.{Of}
 use Rattle.rule_origins.specs.Parts.{behaviour_at}
 use Rattle.symbolic_plans.specs.OpenPlans.{open_plan_of}
 use Rattle.node_values.specs.Scopes.{marks_of}
-use Rattle.node_values.specs.Prepared.{program_in}
+use Rattle.match_code.specs.Prepared.{program_in}
 use Rattle.expand.specs.Choosing.{ExpandsEach}
 use Rattle.symbolic_rules.specs.Tables.{windows_in}
 use Rattle.expand.proofs.walk.+walk.Given as goal

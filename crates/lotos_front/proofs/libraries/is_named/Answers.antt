@@ -1,6 +1,6 @@
 use Rattle.std.proofs.Common.{◌∙◌, sym, refl, Bor}
 use Rattle.lotos_ast.specs.declared.token.Token.{Token}
-use Rattle.static_check.specs.Listed.{is_same_name}
+use Rattle.sort_overloads.specs.Listed.{is_same_name}
 use Rattle.static_check.proofs.Any.{any-at}
 use Rattle.lotos_front.proofs.libraries.is_named.Goals as goal
 

@@ -8,7 +8,7 @@ use Rattle.rule_model.specs.Fields.{ArgumentsHave}
 use Rattle.rule_origins.specs.Parts.{behaviour_at}
 use Rattle.rule_origins.specs.Values.{assignment}
 use Rattle.node_values.proofs.Finding.{of_some}
-use Rattle.node_values.specs.Prepared.{program_in}
+use Rattle.match_code.specs.Prepared.{program_in}
 use Rattle.node_steps.proofs.Calls.{call_enters, no_arguments}
 use Rattle.node_steps.proofs.entering.called_body.Goals as goal
 

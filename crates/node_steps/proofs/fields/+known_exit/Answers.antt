@@ -6,7 +6,7 @@ use Rattle.rule_origins.specs.Values.{assignment}
 use Rattle.node_values.specs.Found.{Spelled}
 use Rattle.node_values.proofs.Finding.{of_some}
 use Rattle.node_values.proofs.Splitting.{others, mapped}
-use Rattle.node_values.specs.Prepared.{program_in}
+use Rattle.match_code.specs.Prepared.{program_in}
 use Rattle.node_steps.specs.Knowing.{AreExitAt}
 use Rattle.node_steps.proofs.Knowing.{told_exit, untold_exit, untold_exit_later, chosen_exit, unchosen_exit}
 use Rattle.node_steps.proofs.fields.+known_exit.Goals as goal

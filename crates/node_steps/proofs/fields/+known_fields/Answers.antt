@@ -6,7 +6,7 @@ use Rattle.rule_origins.specs.Values.{assignment}
 use Rattle.node_values.specs.Found.{Spelled}
 use Rattle.node_values.proofs.Finding.{of_some}
 use Rattle.node_values.proofs.Splitting.{others, mapped}
-use Rattle.node_values.specs.Prepared.{program_in}
+use Rattle.match_code.specs.Prepared.{program_in}
 use Rattle.node_steps.specs.Knowing.{AreFieldsAt}
 use Rattle.node_steps.proofs.Knowing.{told_first, untold_first, untold_later, chosen_first, unchosen_later}
 use Rattle.node_steps.proofs.fields.+known_fields.Goals as goal

@@ -3,7 +3,7 @@ use Rattle.spec_core.specs.Code.{action_field_of, node_of}
 use Rattle.spec_core.proofs.Options.{if_none_at}
 use Rattle.rule_origins.specs.Values.{assignment}
 use Rattle.node_values.proofs.Finding.{of_some}
-use Rattle.node_values.specs.Prepared.{program_in}
+use Rattle.match_code.specs.Prepared.{program_in}
 use Rattle.node_steps.specs.Knowing.{AreFieldsAt, HaveNoFields}
 use Rattle.node_steps.proofs.Making.{action_at, no_action_at}
 use Rattle.node_steps.proofs.leaves.action_acts.Goals as goal

@@ -3,7 +3,7 @@ use Rattle.spec_core.specs.Code.{exit_value_of, node_of}
 use Rattle.spec_core.proofs.Options.{if_none_at}
 use Rattle.rule_origins.specs.Values.{assignment}
 use Rattle.node_values.proofs.Finding.{of_some}
-use Rattle.node_values.specs.Prepared.{program_in}
+use Rattle.match_code.specs.Prepared.{program_in}
 use Rattle.node_steps.specs.Knowing.{AreExitAt, HaveNoExit}
 use Rattle.node_steps.proofs.Making.{exit_at, no_exit_at}
 use Rattle.node_steps.proofs.leaves.exit_terminates.Goals as goal

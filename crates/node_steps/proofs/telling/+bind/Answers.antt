@@ -7,7 +7,7 @@ use Rattle.rule_origins.specs.Values.{assignment}
 use Rattle.node_values.specs.Found.{Spelled}
 use Rattle.node_values.proofs.Finding.{of_some}
 use Rattle.node_values.proofs.Splitting.{others, mapped, some_ok_on, none_ok_on}
-use Rattle.node_values.specs.Prepared.{program_in}
+use Rattle.match_code.specs.Prepared.{program_in}
 use Rattle.node_steps.proofs.Bindings.{bound_by, none_bound}
 use Rattle.node_steps.proofs.telling.+bind.Goals as goal
 

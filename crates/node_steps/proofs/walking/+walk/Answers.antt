@@ -5,7 +5,7 @@ use Rattle.rule_origins.specs.Values.{assignment}
 use Rattle.symbolic_plans.specs.Parts.{plan_of_first, plan_of_part}
 use Rattle.symbolic_plans.specs.Plans.{below, hidden, handed_on, field_of, plan_of}
 use Rattle.symbolic_reach.specs.Asking.{PlanAsks}
-use Rattle.node_values.specs.Prepared.{program_in}
+use Rattle.match_code.specs.Prepared.{program_in}
 use Rattle.node_steps.specs.Asking.{WithinAsks}
 use Rattle.node_steps.specs.Parts.{own_or}
 use Rattle.node_steps.specs.Frames.{standing}

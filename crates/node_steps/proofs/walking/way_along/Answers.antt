@@ -4,7 +4,7 @@ use Rattle.rule_origins.specs.Parts.{behaviour_at}
 use Rattle.rule_origins.specs.Values.{assignment}
 use Rattle.symbolic_plans.specs.Parts.{plan_of_part}
 use Rattle.symbolic_plans.specs.Plans.{plan_of}
-use Rattle.node_values.specs.Prepared.{program_in}
+use Rattle.match_code.specs.Prepared.{program_in}
 use Rattle.node_steps.specs.Blanks.{blank_tree}
 use Rattle.node_steps.specs.Frames.{standing}
 use Rattle.node_steps.specs.Turns.{TurnsOr}

@@ -9,7 +9,7 @@ use Rattle.node_values.proofs.Finding.{of_some}
 use Rattle.node_values.proofs.Splitting.{others, mapped, split_at}
 use Rattle.symbolic_rules.specs.Tables.{windows_in}
 use Rattle.symbolic_actions.specs.Models.{marked_field_of}
-use Rattle.node_values.specs.Prepared.{program_in}
+use Rattle.match_code.specs.Prepared.{program_in}
 use Rattle.node_verdict.specs.Found.{IsChosen}
 use Rattle.node_verdict.proofs.Filling.{exit_told, exit_chosen}
 use Rattle.node_verdict.proofs.choosing.+filled_exit.Goals as goal

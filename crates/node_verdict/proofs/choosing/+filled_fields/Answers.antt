@@ -10,7 +10,7 @@ use Rattle.node_values.proofs.Finding.{of_some}
 use Rattle.node_values.proofs.Splitting.{others, mapped, split_at}
 use Rattle.symbolic_rules.specs.Tables.{windows_in}
 use Rattle.symbolic_actions.specs.Models.{marked_field_of}
-use Rattle.node_values.specs.Prepared.{program_in}
+use Rattle.match_code.specs.Prepared.{program_in}
 use Rattle.node_verdict.specs.Found.{IsChosen}
 use Rattle.node_verdict.proofs.Filling.{field_told, field_chosen, no_field_chosen}
 use Rattle.node_verdict.proofs.choosing.+filled_fields.Goals as goal

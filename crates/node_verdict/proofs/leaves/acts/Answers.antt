@@ -8,7 +8,7 @@ use Rattle.node_values.specs.Scopes.{marks_of}
 use Rattle.node_values.proofs.Finding.{of_some}
 use Rattle.symbolic_rules.specs.Tables.{windows_in}
 use Rattle.symbolic_actions.specs.Models.{marked_field_of}
-use Rattle.node_values.specs.Prepared.{program_in}
+use Rattle.match_code.specs.Prepared.{program_in}
 use Rattle.node_verdict.proofs.Rows.{acts_failing}
 use Rattle.node_verdict.proofs.leaves.acts.Goals as goal
 

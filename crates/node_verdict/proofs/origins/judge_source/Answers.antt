@@ -4,7 +4,7 @@ use Rattle.rule_model.specs.Derivations.{derivation_of}
 use Rattle.rule_origins.specs.Parts.{behaviour_at}
 use Rattle.node_values.specs.Scopes.{scope_over}
 use Rattle.symbolic_rules.specs.Tables.{windows_in}
-use Rattle.node_values.specs.Prepared.{program_in}
+use Rattle.match_code.specs.Prepared.{program_in}
 use Rattle.node_verdict.proofs.Top.{source_judged}
 use Rattle.node_verdict.proofs.origins.judge_source.Goals as goal
 

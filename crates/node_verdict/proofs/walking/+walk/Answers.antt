@@ -13,7 +13,7 @@ use Rattle.node_values.proofs.Finding.{of_some}
 use Rattle.symbolic_rules.specs.Tables.{windows_in}
 use Rattle.symbolic_actions.specs.Deciding.{is_within}
 use Rattle.symbolic_actions.specs.Shows.{left_alone, right_alone, hidden_in, seen_in, before_end, handed_to, undisabled, ended, renamed_by}
-use Rattle.node_values.specs.Prepared.{program_in}
+use Rattle.match_code.specs.Prepared.{program_in}
 use Rattle.node_verdict.specs.Choosing.{ChoosesValue}
 use Rattle.node_verdict.specs.Found.{IsChosen, chosen_field}
 use Rattle.node_verdict.specs.Judged.{Judged}

@@ -10,7 +10,7 @@ use Rattle.symbolic_plans.specs.OpenPlans.{open_plan_of}
 use Rattle.symbolic_reach.specs.Asking.{PlanAsks}
 use Rattle.node_trees.specs.Origins.{meaning, relabelled_by, source_of}
 use Rattle.node_trees.specs.Rests.{way_of}
-use Rattle.node_values.specs.Prepared.{program_in}
+use Rattle.match_code.specs.Prepared.{program_in}
 use Rattle.node_work.specs.Ways.{HasWays, PlansAsk}
 use Rattle.node_work.proofs.Adding.{more_ways, still_has}
 use Rattle.node_work.proofs.alternatives.ways_of_all.Goals as goal

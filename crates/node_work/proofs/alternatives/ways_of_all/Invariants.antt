@@ -3,7 +3,7 @@ use Rattle.spec_core.specs.Lists.{Each}
 use Rattle.symbolic_plans.specs.OpenPlans.{open_plan_of}
 use Rattle.node_trees.specs.Origins.{meaning, source_of}
 use Rattle.node_trees.specs.Rests.{way_of, IsWayOf}
-use Rattle.node_values.specs.Prepared.{program_in}
+use Rattle.match_code.specs.Prepared.{program_in}
 use Rattle.node_work.specs.Ways.{HasWays}
 use Rattle.node_work.proofs.alternatives.ways_of_all.Given as goal
 

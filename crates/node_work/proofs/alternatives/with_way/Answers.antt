@@ -6,7 +6,7 @@ use Rattle.symbolic_plans.specs.Plans.{plan_of}
 use Rattle.node_trees.specs.Origins.{meaning, source_of}
 use Rattle.node_trees.specs.Rests.{way_of, IsWayOf}
 use Rattle.node_steps.specs.Blanks.{blank_tree}
-use Rattle.node_values.specs.Prepared.{program_in}
+use Rattle.match_code.specs.Prepared.{program_in}
 use Rattle.node_work.proofs.Adding.{one_way}
 use Rattle.node_work.proofs.alternatives.with_way.Goals as goal
 

@@ -6,7 +6,7 @@ use Rattle.node_values.specs.Stops.{Stops, Never}
 use Rattle.symbolic_plans.specs.OpenPlans.{open_plan_of}
 use Rattle.node_trees.specs.Origins.{meaning, relabelled_by, source_of}
 use Rattle.symbolic_rules.specs.Tables.{windows_in}
-use Rattle.node_values.specs.Prepared.{program_in}
+use Rattle.match_code.specs.Prepared.{program_in}
 use Rattle.node_work.specs.Ways.{PlansAsk}
 use Rattle.node_work.proofs.Adding.{way_stops}
 use Rattle.node_work.proofs.node.expand_node.Goals as goal

@@ -1,8 +1,8 @@
 use Rattle.std.proofs.Common.{ap, rules, subst}
 use Rattle.std.proofs.lemmas.Result.{IfOk-weaker}
-use Rattle.spec_core.specs.declared.settings.Settings.{Settings}
+use Rattle.run_settings.specs.declared.settings.Settings.{Settings}
 use Rattle.spec_core.specs.Code.{program_of}
-use Rattle.board_core.specs.JobValues.{GivesValues}
+use Rattle.board_laws.specs.JobValues.{GivesValues}
 use Rattle.rule_model.specs.WishViews.{wish_of}
 use Rattle.script_text.specs.Wishes.{wished_of}
 use Rattle.simulator.proofs.Wishing.{asked_so, offer_gives, without_value}

@@ -1,6 +1,6 @@
 use Rattle.std.proofs.Common.{take}
 use Rattle.spec_core.specs.Lists.{Each}
-use Rattle.node_values.specs.Prepared.{program_in}
+use Rattle.match_code.specs.Prepared.{program_in}
 use Rattle.node_verdict.specs.Choosing.{ChoosesValue}
 use Rattle.verdict_tests.proofs.values.have_values.Given as goal
 

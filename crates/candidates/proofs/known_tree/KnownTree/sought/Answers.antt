@@ -2,7 +2,7 @@ use Rattle.std.proofs.Common.{map}
 use Rattle.std.proofs.lemmas.Result.{IfOk-weaker}
 use Rattle.spec_core.specs.Theories.{theory_of}
 use Rattle.node_trees.specs.Shapes.{shape_of}
-use Rattle.candidate_composites.specs.Tables.{windows_in}
+use Rattle.symbolic_rules.specs.Tables.{windows_in}
 use Rattle.candidate_composites.specs.Known.{placed_of, placed_plans, sought_in}
 use Rattle.candidate_search.specs.Searches.{query_of}
 use Rattle.candidates.proofs.Asking.{sought_alone}

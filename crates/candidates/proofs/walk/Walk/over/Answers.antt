@@ -1,7 +1,7 @@
 use Rattle.std.proofs.Common.{ap}
 use Rattle.std.proofs.lemmas.List.{append-nil}
 use Rattle.spec_core.specs.Theories.{theory_of}
-use Rattle.candidate_composites.specs.Tables.{windows_in}
+use Rattle.symbolic_rules.specs.Tables.{windows_in}
 use Rattle.candidate_search.specs.Searches.{query_of}
 use Rattle.candidates.specs.Composites.{without_gaps}
 use Rattle.candidates.specs.Listed.{trees_sought}

@@ -1,7 +1,7 @@
 use Rattle.std.proofs.Common.{rules, ◌≡◌, false, true, subst, sym}
 use Rattle.board_record.specs.Faults.{ExplainsPend}
 use Rattle.board_record.specs.declared.faults.PendFault.TheVariants.{NotOpen, AlreadyPending, NoSuchGate}
-use Rattle.board_core.specs.JobValues.{GivesValues}
+use Rattle.board_laws.specs.JobValues.{GivesValues}
 use Rattle.board_core.specs.Views.{program, state}
 use Rattle.session_board.specs.Growing.{GrowsByNone}
 use Rattle.session_board.specs.Shared.{HasDrivenLog, SharedView}
