@@ -7,6 +7,7 @@ A case is a dictionary with these keys:
   status    the exit status that is due
   files     the files that the program finds: a dictionary from names to texts
   stdin     standard input; empty where it is left out, and None where it is a folder, which can't be read
+  threads   how many threads the system lets the program have, its first included; left out where there is no such limit
   stdout    the texts of which one must be written; or, in its place:
   judge     what is due of a trace that depends on the order of the clients' turns
 A text is a list of pieces, each bytes that stand a number of times, or the path of a file beside the cases.
@@ -14,6 +15,7 @@ A text is a list of pieces, each bytes that stand a number of times, or the path
 import re
 
 HEAD, TEXT, CALL, STATUS = "== ", "-- ", "$ lotos", "status "
+THREADS = "threads"
 PIECES, UNENDED, BESIDE = " (pieces)", " (no line end)", " (from "
 UNREADABLE = "stdin (a folder)"
 ESCAPES = {"\n": "\\n", "\r": "\\r", "\t": "\\t", "\\": "\\\\", '"': '\\"'}
@@ -98,6 +100,8 @@ def written_case(case):
         lines += written_text(name, text)
     if "stdin" in case:
         lines += [TEXT + UNREADABLE] if case["stdin"] is None else written_text("stdin", case["stdin"])
+    if THREADS in case:
+        lines += [TEXT + THREADS, str(case[THREADS])]
     for text in case.get("stdout", []):
         lines += written_text("stdout", text)
     if "judge" in case:
@@ -182,6 +186,11 @@ def add_text(case, head, lines):
         return
     if head == UNREADABLE:
         case["stdin"] = None
+        return
+    if head == THREADS:
+        if len(lines) != 1 or not re.fullmatch(r"[1-9]\d*", lines[0]):
+            raise Unreadable(f"the number of threads of '{case['name']}'")
+        case[THREADS] = int(lines[0])
         return
     name, text = text_of(head, lines)
     if name == "stdout":

@@ -82,7 +82,7 @@ def replay_faults(program, words, place, trace):
 def faults(program, words, place, due, trace):
     """What is wrong with a trace, each as a sentence."""
     lines = trace.decode("latin-1").split("\n")
-    if lines[0] != "lotos-trace 1" or lines[-1] or not lines[-2].startswith("end "):
+    if lines[0] not in ("lotos-trace 1", "lotos-trace 2") or lines[-1] or not lines[-2].startswith("end "):
         return [f"it is no trace: {trace[:80]!r}"]
     own, answers, actions = told(lines)
     wishes = wishes_of((place / os.fsdecode(words[2])).read_text(encoding="latin-1"))

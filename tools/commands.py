@@ -11,10 +11,12 @@ COMMANDS = [
     Command("check", ["SPEC"], [], "Says what an accepted specification has: `accepted`, and the numbers of its sorts, operations, equations and processes."),
     Command("equal", ["SPEC", "TERM", "TERM"], ["budget"],
             "Says whether two terms of the specification are equal by its equations: `true` or `false`."),
-    Command("run", ["SPEC", "SCRIPT"], ["workers", "budget", "values", "steps", "seed"],
+    Command("run", ["SPEC", "SCRIPT"], ["workers", "budget", "values", "steps", "seed", "draw", "format"],
             "Runs a session in which the clients of the script make their offers, and prints its trace. Each client has a thread."),
     Command("replay", ["SPEC", "TRACE"], ["budget"],
             "Checks each line of a trace against the inference rules: `derivation` and the number of actions, or the first line that isn't possible."),
+    Command("migrate", ["SPEC", "TRACE"], [],
+            "Prints the trace of the same log in format 2, which is shorter. Whether the log is a derivation isn't asked."),
     Command("sim", ["SPEC"], ["budget", "values", "steps"],
             "Simulates the specification by hand: each line of standard input is answered at once, `menu`, `do NUMBER`, `offer OFFER`, `trace` or `quit`."),
     Command("selfrun", ["SEED", "SIZE"], ["workers"],
@@ -28,6 +30,8 @@ OPTIONS = [
     Option("values", 1, 256, 16, "How many values of a sort are looked at."),
     Option("steps", 1, 1_000_000, 10_000, "The greatest number of actions."),
     Option("seed", 0, 4_294_967_295, 0, "How one of several unseen steps is chosen."),
+    Option("draw", 1, 2, 1, "How the seed chooses."),
+    Option("format", 1, 2, 1, "In which format the trace is printed."),
 ]
 
 STATUSES = [
@@ -49,13 +53,14 @@ FILES = [
     ("SPEC", 4_194_304, "A specification in Full LOTOS."),
     ("SCRIPT", 1_048_576, "The offers of the clients, one a line: the client, a colon, the gate, and a field `!expression` or `?Sort` for each value. "
                           "A line that begins with # says nothing."),
-    ("TRACE", 67_108_864, "A trace as `run` prints it."),
+    ("TRACE", 67_108_864, "A trace as `run` prints it, in either format."),
 ]
 
 EXAMPLES = [
     ("Judge a specification:", "lotos check spec.lotos"),
-    ("Run a session with two workers; both lines say the same:", "lotos run spec.lotos script.txt --workers 2\nlotos run --workers=2 spec.lotos script.txt"),
-    ("Keep the trace of a session, and check it:", "lotos run spec.lotos script.txt > trace.txt\nlotos replay spec.lotos trace.txt"),
+    ("Run a session with two workers; both lines say the same:", "lotos run spec.lotos offers.script --workers 2\nlotos run --workers=2 spec.lotos offers.script"),
+    ("Keep the trace of a session, and check it:", "lotos run spec.lotos offers.script > session.trace\nlotos replay spec.lotos session.trace"),
+    ("Keep a long trace in fewer bytes, at once or later:", "lotos run spec.lotos offers.script --format 2 > session.trace\nlotos migrate spec.lotos old.trace > session.trace"),
     ("Compare two terms, each with at most 500 uses of equations:", "lotos equal spec.lotos 'Succ(0) + Succ(0)' 'Succ(Succ(0))' --budget 500"),
     ("Count what a chain of 64 cells does:", "lotos selfrun 7 64"),
 ]

@@ -121,11 +121,3 @@ def made(program, between, place, subject, name, words, counts):
     cases = blocks.read((TOP / "conformance" / subject / "cases.txt").read_text(encoding="latin-1"))
     [case] = [case for case in cases if case["name"] == name]
     return Call(str(pathlib.Path(program).resolve()), between, place, case, words, counts)
-
-
-def program_of(given):
-    """The program of a path, or the one that the environment variable LOTOS names, or else the one that ./lotos builds; None where it can't."""
-    path = given or os.environ.get("LOTOS")
-    if not path and subprocess.run([TOP / "tools/build"], check=False).returncode:
-        return None
-    return path or TOP / "crates/lotos/out/lotos"

@@ -72,7 +72,7 @@ def expression_at(text, offset):
 
 
 def unknown_name(text, offset, _check):
-    """Which names there are that are much like one that isn't known."""
+    """Which names there are that are much like one that isn't known, and how a number is written."""
     _, _, content, variables = expression_at(text, offset)
     word = (specification.WORD.match(text, offset) or specification.OPERATION.match(text, offset))[0]
     known = {name: name for name in variables}
@@ -80,6 +80,8 @@ def unknown_name(text, offset, _check):
     near = [told for name, told in known.items() if is_near(name, word.lower())]
     if near:
         yield f"Names like it are: {', '.join(sorted(near))}."
+    if said := data.numeral(word, content):
+        yield said
 
 
 def is_near(one, other):

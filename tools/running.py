@@ -1,9 +1,11 @@
 """Finds the program, and runs it: the one that is named, or the one that LOTOS names, or the one that is built and proved of the sources as they stand,
-or the one that is installed; where there is none of these, the quick build, of which nothing is proved. Nothing is built here.
+or the one that is installed; where there is none of these, the quick build, of which nothing is proved. Nothing is built here: a tool that finds none
+says what to run, and ends with the status 125.
 """
 import hashlib
 import os
 import pathlib
+import shutil
 import subprocess
 import sys
 import tempfile
@@ -12,6 +14,8 @@ TOP = pathlib.Path(__file__).resolve().parent.parent
 # The program of an installation, below which these tools are in share/doc/habuxelo.
 INSTALLED = TOP.parent.parent.parent / "bin/lotos"
 sys.path.append(str(TOP / "examples/testing"))
+# The status of a tool that finds no program, which is none of its own and none of the program.
+NO_PROGRAM = 125
 
 
 class Lacking(Exception):
@@ -46,14 +50,22 @@ def built(program):
     return next(((str(path), False) for kit in kits if (path := quick_build(program, kit)).exists()), None)
 
 
+def executable(named):
+    """The path of a program that is named, by its place or as a command."""
+    path = shutil.which(named)
+    if path is None:
+        raise Lacking(f"there is no program {named}")
+    return str(pathlib.Path(path).resolve())
+
+
 def found(named=None, say=lambda text: print(text, file=sys.stderr)):
     """The path of the program. Where it is the quick build, that is said."""
     if named or os.environ.get("LOTOS"):
-        return str(pathlib.Path(named or os.environ["LOTOS"]).resolve())
+        return executable(named or os.environ["LOTOS"])
     try:
         import program
     except ImportError:
-        return str(INSTALLED)
+        return executable(str(INSTALLED))
     there = built(program)
     if there is None:
         raise Lacking("no program is built of the sources as they stand: run tools/quick (some minutes, nothing proved) or tools/build (an hour, proved), "
@@ -61,6 +73,15 @@ def found(named=None, say=lambda text: print(text, file=sys.stderr)):
     if not there[1]:
         say("note: this asks the quick build, of which nothing is proved")
     return there[0]
+
+
+def found_or_end(tool, named=None):
+    """The path of the program. Where there is none the tool of this name says so, and ends."""
+    try:
+        return found(named)
+    except Lacking as fault:
+        print(f"{tool}: {fault}", file=sys.stderr)
+        sys.exit(NO_PROGRAM)
 
 
 def answer(program, command, *words, seconds=600):

@@ -31,7 +31,7 @@ def fault(kind, line, whole, content):
         return int(column[1]) if column else 0, f"{str(fault_there)[0].upper()}{str(fault_there)[1:]}."
     if kind == "client":
         return client.begin + 1, f"{client.text} is no client: these are 1 to 64."
-    if kind == "gate":
+    if kind == "gate" and gate.text.lower() not in map(str.lower, whole.gates):
         return gate.begin + 1, f"{gate.text} is no gate of {whole.name}: these are {', '.join(whole.gates) or 'none'}."
     for token, behind in fields:
         told = of_field(kind, token, behind, content)
@@ -68,7 +68,7 @@ def of_term(expression, content):
             return told
     token = expression.token
     if not content.named(token.key):
-        return token.begin + 1, f"No operation is named {token.text}."
+        return token.begin + 1, " ".join([f"No operation is named {token.text}.", data.numeral(token.text, content)]).rstrip()
     found = content.readings(expression, {})
     if not found:
         return token.begin + 1, f"{token.text} isn't applied as it is declared: {'; '.join(content.signature(one) for one in content.named(token.key))}."

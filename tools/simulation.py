@@ -103,7 +103,7 @@ class Simulation:
     def follow(self, lines):
         """Follows what is new in a trace: an action, or a reply, for each step."""
         for number, line in list(enumerate(lines, 1))[len(self.entries) + 1:]:
-            entry, done = traces.entry_of(number, line), None
+            entry, done = traces.whole_entry(number, line), None
             self.entries.append(entry)
             if entry.kind == "act" and not self.unfit:
                 try:
@@ -143,7 +143,7 @@ class Simulation:
         action = next(choice.action for choice in self.choices if choice.number == number)
         if "bye" not in told or self.unfit:
             return Seen(action, "", [], [])
-        entry = traces.entry_of(0, told[told.index("bye") - 1])
+        entry = traces.whole_entry(0, told[told.index("bye") - 1])
         try:
             return self.of_step(entry, steps.Step(self.followed.state, entry.tree, self.followed.whole, self.values))
         except (steps.Unfit, RecursionError):

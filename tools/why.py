@@ -51,10 +51,16 @@ class Told:
         """A condition with its place."""
         return f"{self.source(node.condition.begin, node.condition.end)} at {self.place(node.condition.begin)}"
 
+    def known(self, nodes):
+        """The values of the variables in the conditions of constructs, as ` where x is 0`; empty where none is known."""
+        found = [said for node in nodes if (said := self.values.where(node.condition, node.known or {}))]
+        return charts.cut(f" where {listed(dict.fromkeys(found))}", 100) if found else ""
+
     def row(self, offered, one):
         """The row of what could be done: what, where, and on which conditions."""
-        asked = [self.condition(node) for node, holds in one.conditions if holds is None]
-        return charts.cut(offered.shown(one), 60), self.where(one.leaves), f"if {listed(asked)} holds" if asked else ""
+        asked = [node for node, holds in one.conditions if holds is None]
+        told = f"if {listed(map(self.condition, asked))} holds{self.known(asked)}" if asked else ""
+        return charts.cut(offered.shown(one), 60), self.where(one.leaves), told
 
     # ------------------------------------------------------------- what could be done
 
@@ -76,11 +82,10 @@ class Told:
 
     def refused(self, offered):
         """Rows for what stands behind conditions that don't hold."""
-        rows = [(charts.cut(offered.shown(one), 60), self.where(one.leaves), f"{self.condition(node)} doesn't hold")
-                for node, inside in offered.closed for one in inside]
-        rows += [(charts.cut(offered.shown(one), 60), self.where(one.leaves), f"{self.condition(node)} doesn't hold")
-                 for one in offered.could for node, holds in one.conditions if holds is False]
-        return cut_rows(rows)
+        pairs = [(node, one) for node, inside in offered.closed for one in inside]
+        pairs += [(node, one) for one in offered.could for node, holds in one.conditions if holds is False]
+        return cut_rows([(charts.cut(offered.shown(one), 60), self.where(one.leaves), f"{self.condition(node)} doesn't hold{self.known([node])}")
+                         for node, one in pairs])
 
     def state(self, offered):
         """The lines that tell what could be done in a state."""
@@ -201,7 +206,7 @@ def answer(told, followed, entry, offers):
         said = list(dict.fromkeys(told.near(offered, offers[offer])))
         gate = offers[offer].split(" ")[0]
         yield f"  {offer[0]}.{offer[1]} {charts.cut(offers[offer], 60)}: {'' if said else f'no part could do {gate} then'}".rstrip()
-        yield from (f"    {one}" for one in said[:SHOWN])
+        yield from (f"    {one}" for one in said[:SHOWN] + ([f".. and {len(said) - SHOWN} more"] if len(said) > SHOWN else []))
     if word == "beyond" and entry.kind == "reply":
         yield from marks(told, followed, entry.text.partition(" ")[2])
     yield from told.state(offered)

@@ -1,10 +1,10 @@
-" Traces of sessions, format 1.
+" Traces of sessions, formats 1 and 2.
 if exists('b:current_syntax')
   finish
 endif
 
-syntax match lotostraceHead '\%1l^lotos-trace 1$'
-syntax match lotostraceKind '^\(pend\|ask\|act\|reply\|stall\|leave\|end\)\>'
+syntax match lotostraceHead '\%1l^lotos-trace [12]$'
+syntax match lotostraceKind '^\(pend\|ask\|act\|reply\|stall\|leave\|point\|end\)\>'
 syntax match lotostraceOffer '\<\d\+\.\d\+\>'
 syntax match lotostraceWord ' \(by\|rules\) '
 syntax match lotostraceField ' [!?]\@='
